@@ -1,0 +1,105 @@
+//! Blocks of 4,096 bytes, which land sector by sector.
+ghost use Rattle.std.specs.Prelude.{◌≡◌, ◌<◌, ◌+◌, ◌*◌, ◌≤◌, length, IfOk};
+ghost use Rattle.plx_base.specs.Blocks.{filled, written, zeros};
+ghost use Rattle.plx_base.specs.Sectors.{landed};
+
+use std::alloc::{AllocError, Global};
+use std::marker::Model;
+
+/// The bytes of a block.
+pub const BLOCK_LEN: usize = 4096;
+
+/// The bytes of a sector.
+pub const SECTOR_LEN: usize = 512;
+
+/// The sectors of a block.
+pub const SECTORS: u8 = 8;
+
+/// A block of 4,096 bytes.
+#[derive(Drop)]
+pub struct Block {
+    bytes: Box<[u8; BLOCK_LEN]>,
+}
+
+impl Model for Block {
+    ghost use Rattle.std.specs.Prelude.{ℕ, List};
+
+    ghost Value = { List ℕ };
+
+    ghost view = { λ b. b.bytes.value };
+}
+
+impl Block {
+    /// A block of one byte throughout.
+    pub fn filled(alloc: Global, byte: u8) -> Result<Block, AllocError>
+        ensures { IfOk result (λ b. b ≡ filled byte) }
+    {
+        let bytes = Box::new(alloc, [byte; BLOCK_LEN])?;
+        Ok(Block { bytes })
+    }
+
+    /// A block of zeros.
+    pub fn zeros(alloc: Global) -> Result<Block, AllocError>
+        ensures { IfOk result (λ b. b ≡ zeros) }
+    {
+        Block::filled(alloc, 0)
+    }
+
+    /// The block's bytes.
+    pub fn as_slice(&self) -> &[u8]
+        ensures same { result.now ≡ self.now }
+        ensures len { length self.now ≡ 4096 }
+    {
+        &self.bytes[..]
+    }
+
+    /// An equal block.
+    pub fn copy(&self, alloc: Global) -> Result<Block, AllocError>
+        ensures { IfOk result (λ b. b ≡ self.now) }
+    {
+        let bytes = Box::new(alloc, *self.bytes)?;
+        Ok(Block { bytes })
+    }
+
+    /// Makes the block equal to another.
+    pub fn set(&mut self, from: &Block)
+        ensures { self.new ≡ from.now }
+    {
+        *self.bytes = *from.bytes;
+    }
+
+    /// Writes bytes at a place of the block.
+    pub fn copy_from(&mut self, at: usize, bytes: &[u8])
+        requires { at + length bytes.now ≤ 4096 }
+        ensures { self.new ≡ written at bytes.now self.old }
+    {
+        copy_at(&mut self.bytes[..], at, bytes);
+    }
+
+    /// One sector of another block lands.
+    pub fn land(&mut self, sector: u8, from: &Block)
+        requires { sector < 8 }
+        ensures { self.new ≡ landed sector from.now self.old }
+    {
+        land_sector(&mut self.bytes[..], &from.bytes[..], usize::from(sector));
+    }
+}
+
+fn copy_at(bytes: &mut [u8], at: usize, new: &[u8])
+    requires { at + length new.now ≤ length bytes.old }
+    ensures { bytes.new ≡ written at new.now bytes.old }
+{
+    bytes[at..at + new.len()].copy_from_slice(new);
+}
+
+fn land_sector(old: &mut [u8], new: &[u8], sector: usize)
+    requires long_old { length old.old ≡ 4096 }
+    requires long_new { length new.now ≡ 4096 }
+    requires within { sector < 8 }
+    ensures { old.new ≡ landed sector new.now old.old }
+{
+    let start = SECTOR_LEN * sector;
+    let end = start + SECTOR_LEN;
+    let part = &mut old[start..end];
+    part.copy_from_slice(&new[start..end]);
+}
