@@ -46,3 +46,61 @@ number_at-lt (suc width) place bytes h =
     let byte = h place in
     let rest = number_at-lt width (suc place) bytes h in
     rw (pow-succ' 256 width) (omega arith)
+
+-- the bytes of a number read back as it
+pub number_at-little : (width number : ℕ) → number < 256 ^ width → number_at width 0 (little width number) ≡ number
+unfolding number_at little
+number_at-little zero number h = omega arith
+number_at-little (suc width) number h =
+    let power : 256 ^ suc width ≡ 256 * 256 ^ width = pow-succ' 256 width in
+    let small : number / 256 < 256 ^ width = grind (arith, div-add-mod' number 256, mod-lt number, power) in
+    let rest : number_at width 1 (number % 256 ∷ little width (number / 256)) ≡ number / 256 =
+        number_at-along width 1 0 (number % 256 ∷ little width (number / 256)) (little width (number / 256))
+          (λ k below. let a : 1 + k ≡ suc k = omega arith in let b : 0 + k ≡ k = omega arith in rw (a, b) refl)
+        ∙ number_at-little width (number / 256) small in
+    rw rest (omega (arith, div-add-mod' number 256))
+
+-- the first byte and what follows it
+take-suc-drop : (n p : ℕ) (bytes : List ℕ) → p < length bytes → take (suc n) (drop p bytes) ≡ slice_index bytes p ∷ take n (drop (suc p) bytes)
+take-suc-drop n p [] h = absurd (omega arith)
+take-suc-drop n zero (x ∷ xs) h = refl
+take-suc-drop n (suc p) (x ∷ xs) h = take-suc-drop n p xs (omega arith)
+
+-- the bytes of a number that was read are the bytes that were there
+pub little-number_at : (width place : ℕ) (bytes : List ℕ) → ((k : ℕ) → slice_index bytes k < 256) → place + width ≤ length bytes →
+    little width (number_at width place bytes) ≡ take width (drop place bytes)
+unfolding number_at little
+little-number_at zero place bytes h within = refl
+little-number_at (suc width) place bytes h within =
+    let byte = h place in
+    let low : (slice_index bytes place + 256 * number_at width (suc place) bytes) % 256 ≡ slice_index bytes place = omega arith in
+    let high : (slice_index bytes place + 256 * number_at width (suc place) bytes) / 256 ≡ number_at width (suc place) bytes = omega arith in
+    let rest = little-number_at width (suc place) bytes h (omega arith) in
+    rw (low, high, take-suc-drop width place bytes (omega arith)) (ap (λ xs. slice_index bytes place ∷ xs) rest)
+
+-- what was written reads back
+pub number_at-written : (width place number : ℕ) (bytes : List ℕ) → place ≤ length bytes → number < 256 ^ width →
+    number_at width place (written place (little width number) bytes) ≡ number
+number_at-written width place number bytes h small =
+    number_at-along width place 0 (written place (little width number) bytes) (little width number)
+      (λ k below. let a : 0 + k ≡ k = omega arith in
+        rw a (written-inside place (little width number) bytes k h (rw (length-little width number) below)))
+    ∙ number_at-little width number small
+
+-- writing what was read changes nothing
+pub written-number_at : (width place : ℕ) (bytes : List ℕ) → ((k : ℕ) → slice_index bytes k < 256) → place + width ≤ length bytes →
+    written place (little width (number_at width place bytes)) bytes ≡ bytes
+written-number_at width place bytes h within =
+    rw (little-number_at width place bytes h within) (written-again place width bytes within)
+
+-- a field before the place of a write stays
+pub number_at-before : (width place at : ℕ) (new bytes : List ℕ) → at ≤ length bytes → place + width ≤ at →
+    number_at width place (written at new bytes) ≡ number_at width place bytes
+number_at-before width place at new bytes h below =
+    number_at-along width place place (written at new bytes) bytes (λ k less. written-before at new bytes (place + k) h (omega arith))
+
+-- a field after a write stays
+pub number_at-after : (width place at : ℕ) (new bytes : List ℕ) → at ≤ length bytes → at + length new ≤ place →
+    number_at width place (written at new bytes) ≡ number_at width place bytes
+number_at-after width place at new bytes h above =
+    number_at-along width place place (written at new bytes) bytes (λ k less. written-after at new bytes (place + k) h (omega arith))
