@@ -8,6 +8,8 @@ use Rattle.std.specs.Int.{byte_at, bytes_low_first}
 use Rattle.byteorder.specs.Endian.{little_from}
 use Rattle.plx_base.specs.Blocks.{written}
 use Rattle.plx_base.specs.Fields.{little, number_at}
+use Rattle.plx_base.specs.Sectors.{landed}
+use Rattle.plx_base.proofs.Landed.{landed-inside, landed-before, landed-after}
 use Rattle.plx_base.proofs.Written.{written-before, written-inside, written-after, written-again, written-parts}
 
 -- a number has as many bytes as its width says
@@ -146,3 +148,24 @@ written-little width place number bytes h =
     let none : drop (length bytes - place) (drop place bytes) ≡ [] = drop_all (length bytes - place) (drop place bytes) (rw (length-drop place bytes) (omega arith)) in
     rw (rest-is place bytes, none, little-is width number, written-parts place (little width number) bytes, length-little width number, drop-drop width place bytes)
     (ap (λ xs. take place bytes ++ xs) (append-nil (little width number ++ drop (place + width) bytes)))
+
+-- a field in the sector that landed is the new one
+pub number_at-landed : (width place sector : ℕ) (new old : List ℕ) → 512 * sector + 512 ≤ length new → 512 * sector ≤ length old →
+    512 * sector ≤ place → place + width ≤ 512 * sector + 512 → number_at width place (landed sector new old) ≡ number_at width place new
+number_at-landed width place sector new old hn ho low high =
+    number_at-along width place place (landed sector new old) new
+    (λ k less. landed-inside sector new old (place + k) hn ho (omega arith) (omega arith))
+
+-- a field before that sector is the old one
+pub number_at-landed_after : (width place sector : ℕ) (new old : List ℕ) → 512 * sector + 512 ≤ length new → 512 * sector ≤ length old →
+    place + width ≤ 512 * sector → number_at width place (landed sector new old) ≡ number_at width place old
+number_at-landed_after width place sector new old hn ho below =
+    number_at-along width place place (landed sector new old) old
+    (λ k less. landed-before sector new old (place + k) hn ho (omega arith))
+
+-- a field after that sector is the old one
+pub number_at-landed_before : (width place sector : ℕ) (new old : List ℕ) → 512 * sector + 512 ≤ length new → 512 * sector ≤ length old →
+    512 * sector + 512 ≤ place → number_at width place (landed sector new old) ≡ number_at width place old
+number_at-landed_before width place sector new old hn ho above =
+    number_at-along width place place (landed sector new old) old
+    (λ k less. landed-after sector new old (place + k) hn ho (omega arith))
