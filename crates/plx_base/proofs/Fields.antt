@@ -1,13 +1,14 @@
 -- Numbers as bytes: reading gives what was written, and writing gives what was read.
-use Rattle.std.proofs.Common.{◌≡◌, ◌⊎◌, ℕ, zero, suc, ◌+◌, ◌-◌, ◌*◌, ◌/◌, ◌%◌, ◌^◌, ◌≤◌, ◌<◌, List, [], ◌∷◌, ◌++◌, length, take, drop, get_or, refl, ap, sym, inl, inr, ◌∙◌, arith}
+use Rattle.std.proofs.Common.{◌≡◌, ◌⊎◌, ℕ, zero, suc, ◌+◌, ◌-◌, ◌*◌, ◌/◌, ◌%◌, ◌^◌, ◌≤◌, ◌<◌, List, [], ◌∷◌, ◌++◌, length, take, drop, get_or, refl, ap, sym, inl, inr, ◌∙◌, arith, length-drop}
 use Rattle.std.proofs.Math.Nat.{pow-suc, pow-succ', div-add-mod', mod-lt, div-one, div-div-eq-div-mul}
-use Rattle.std.proofs.lemmas.List.{get_or-drop}
+use Rattle.std.proofs.lemmas.List.{get_or-drop, drop-drop, take_all, drop_all, append-nil}
+use borrow.Rule.Slice.PartMut.{put_mid}
 use Rattle.std.specs.Prelude.{slice_index}
 use Rattle.std.specs.Int.{byte_at, bytes_low_first}
 use Rattle.byteorder.specs.Endian.{little_from}
 use Rattle.plx_base.specs.Blocks.{written}
 use Rattle.plx_base.specs.Fields.{little, number_at}
-use Rattle.plx_base.proofs.Written.{written-before, written-inside, written-after, written-again}
+use Rattle.plx_base.proofs.Written.{written-before, written-inside, written-after, written-again, written-parts}
 
 -- a number has as many bytes as its width says
 pub length-little : (width number : ℕ) → length (little width number) ≡ width
@@ -46,3 +47,102 @@ number_at-lt (suc width) place bytes h =
     let byte = h place in
     let rest = number_at-lt width (suc place) bytes h in
     rw (pow-succ' 256 width) (omega arith)
+
+-- the bytes of a number read back as it
+pub number_at-little : (width number : ℕ) → number < 256 ^ width → number_at width 0 (little width number) ≡ number
+unfolding number_at little
+number_at-little zero number h = omega arith
+number_at-little (suc width) number h =
+    let power : 256 ^ suc width ≡ 256 * 256 ^ width = pow-succ' 256 width in
+    let small : number / 256 < 256 ^ width = grind (arith, div-add-mod' number 256, mod-lt number, power) in
+    let rest : number_at width 1 (number % 256 ∷ little width (number / 256)) ≡ number / 256 =
+        number_at-along width 1 0 (number % 256 ∷ little width (number / 256)) (little width (number / 256))
+          (λ k below. let a : 1 + k ≡ suc k = omega arith in let b : 0 + k ≡ k = omega arith in rw (a, b) refl)
+        ∙ number_at-little width (number / 256) small in
+    rw rest (omega (arith, div-add-mod' number 256))
+
+-- the first byte and what follows it
+take-suc-drop : (n p : ℕ) (bytes : List ℕ) → p < length bytes → take (suc n) (drop p bytes) ≡ slice_index bytes p ∷ take n (drop (suc p) bytes)
+take-suc-drop n p [] h = absurd (omega arith)
+take-suc-drop n zero (x ∷ xs) h = refl
+take-suc-drop n (suc p) (x ∷ xs) h = take-suc-drop n p xs (omega arith)
+
+-- the bytes of a number that was read are the bytes that were there
+pub little-number_at : (width place : ℕ) (bytes : List ℕ) → ((k : ℕ) → slice_index bytes k < 256) → place + width ≤ length bytes →
+    little width (number_at width place bytes) ≡ take width (drop place bytes)
+unfolding number_at little
+little-number_at zero place bytes h within = refl
+little-number_at (suc width) place bytes h within =
+    let byte = h place in
+    let low : (slice_index bytes place + 256 * number_at width (suc place) bytes) % 256 ≡ slice_index bytes place = omega arith in
+    let high : (slice_index bytes place + 256 * number_at width (suc place) bytes) / 256 ≡ number_at width (suc place) bytes = omega arith in
+    let rest = little-number_at width (suc place) bytes h (omega arith) in
+    rw (low, high, take-suc-drop width place bytes (omega arith)) (ap (λ xs. slice_index bytes place ∷ xs) rest)
+
+-- what was written reads back
+pub number_at-written : (width place number : ℕ) (bytes : List ℕ) → place ≤ length bytes → number < 256 ^ width →
+    number_at width place (written place (little width number) bytes) ≡ number
+number_at-written width place number bytes h small =
+    number_at-along width place 0 (written place (little width number) bytes) (little width number)
+      (λ k below. let a : 0 + k ≡ k = omega arith in
+        rw a (written-inside place (little width number) bytes k h (rw (length-little width number) below)))
+    ∙ number_at-little width number small
+
+-- writing what was read changes nothing
+pub written-number_at : (width place : ℕ) (bytes : List ℕ) → ((k : ℕ) → slice_index bytes k < 256) → place + width ≤ length bytes →
+    written place (little width (number_at width place bytes)) bytes ≡ bytes
+written-number_at width place bytes h within =
+    rw (little-number_at width place bytes h within) (written-again place width bytes within)
+
+-- a field before the place of a write stays
+pub number_at-before : (width place at : ℕ) (new bytes : List ℕ) → at ≤ length bytes → place + width ≤ at →
+    number_at width place (written at new bytes) ≡ number_at width place bytes
+number_at-before width place at new bytes h below =
+    number_at-along width place place (written at new bytes) bytes (λ k less. written-before at new bytes (place + k) h (omega arith))
+
+-- a field after a write stays
+pub number_at-after : (width place at : ℕ) (new bytes : List ℕ) → at ≤ length bytes → at + length new ≤ place →
+    number_at width place (written at new bytes) ≡ number_at width place bytes
+number_at-after width place at new bytes h above =
+    number_at-along width place place (written at new bytes) bytes (λ k less. written-after at new bytes (place + k) h (omega arith))
+
+-- a byte of a number by its place, as a quotient
+byte_at-is : (i number : ℕ) → byte_at i number ≡ number / 256 ^ i % 256
+byte_at-is zero number = ap (λ x. x % 256) (sym (div-one number))
+byte_at-is (suc i) number = refl
+
+little-above : (width i number : ℕ) → little width (number / 256 ^ i) ≡ bytes_low_first i width number
+unfolding little
+little-above zero i number = refl
+little-above (suc width) i number =
+    let next : number / 256 ^ i / 256 ≡ number / 256 ^ suc i = div-div-eq-div-mul number (256 ^ i) 256 ∙ ap (λ p. number / p) (sym (pow-suc 256 i)) in
+    rw (byte_at-is i number, next) (ap (λ xs. number / 256 ^ i % 256 ∷ xs) (little-above width (suc i) number))
+
+-- the bytes that the crate of byte orders writes
+pub little-is : (width number : ℕ) → bytes_low_first 0 width number ≡ little width number
+little-is width number = sym (little-above width 0 number) ∙ ap (little width) (div-one number)
+
+little_from-is : (width place : ℕ) (bytes : List ℕ) → little_from place width bytes ≡ number_at width place bytes
+unfolding number_at
+little_from-is zero place bytes = refl
+little_from-is (suc width) place bytes = ap (λ n. slice_index bytes place + 256 * n) (little_from-is width (suc place) bytes)
+
+-- all that stands from a place on
+rest-is : (place : ℕ) (bytes : List ℕ) → take (length bytes - place) (drop place bytes) ≡ drop place bytes
+rest-is place bytes = take_all (length bytes - place) (drop place bytes) (rw (length-drop place bytes) (omega arith))
+
+-- the number that it reads from that place on
+pub number_at-is : (width place : ℕ) (bytes : List ℕ) → little_from 0 width (take (length bytes - place) (drop place bytes)) ≡ number_at width place bytes
+number_at-is width place bytes =
+    ap (little_from 0 width) (rest-is place bytes)
+    ∙ (little_from-is width 0 (drop place bytes)
+    ∙ number_at-along width 0 place (drop place bytes) bytes (λ k below. let a : 0 + k ≡ k = omega arith in rw a (get_or-drop place bytes k 0)))
+
+-- the bytes after it wrote a number from that place on
+pub written-little : (width place number : ℕ) (bytes : List ℕ) → place + width ≤ length bytes →
+    put_mid place (length bytes - place) bytes (bytes_low_first 0 width number ++ drop width (take (length bytes - place) (drop place bytes)))
+    ≡ written place (little width number) bytes
+written-little width place number bytes h =
+    let none : drop (length bytes - place) (drop place bytes) ≡ [] = drop_all (length bytes - place) (drop place bytes) (rw (length-drop place bytes) (omega arith)) in
+    rw (rest-is place bytes, none, little-is width number, written-parts place (little width number) bytes, length-little width number, drop-drop width place bytes)
+      (ap (λ xs. take place bytes ++ xs) (append-nil (little width number ++ drop (place + width) bytes)))

@@ -1,0 +1,18 @@
+-- Pointers as numbers.
+use Rattle.std.specs.Prelude.{◌≡◌, ◌<◌, ◌≤◌, ◌+◌, ◌^◌, ◌%◌, ◌⊎◌, ℕ}
+
+-- a pointer without its mark: a block number, or 0 for a hole
+abbrev pub unmarked : ℕ → ℕ
+unmarked pointer = pointer % 2 ^ 63
+
+-- a pointer carries the mark in bit 63
+abbrev pub IsMarked : ℕ → Type 0
+IsMarked pointer = 2 ^ 63 ≤ pointer
+
+-- the pointer to a block with the mark
+abbrev pub marked : ℕ → ℕ
+marked block = block + 2 ^ 63
+
+-- a hole, or a block from 1 to 2 ^ 26 - 1 with or without the mark
+abbrev pub IsPointer : ℕ → Type 0
+IsPointer number = (number ≡ 0) ⊎ ((number < 2 ^ 64) × (1 ≤ unmarked number) × (unmarked number < 2 ^ 26))
