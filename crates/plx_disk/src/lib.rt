@@ -1,0 +1,6 @@
+//! What an appliance asks of its device and clock, and the device on which writes land sector by sector.
+#![tactic(auto)]
+
+mod ask;
+
+pub use ask::{Answer, Ask};

@@ -1,0 +1,6 @@
+//! The records of the device, and how they are spelled.
+#![tactic(auto)]
+
+mod descriptor;
+
+pub use descriptor::Descriptor;

@@ -1,0 +1,126 @@
+-- Which entries the model accepts: the eight rules of the judge.
+use Rattle.std.specs.Prelude.{◌≡◌, ◌+◌, ◌<◌, ℕ, List, [], ◌∷◌, Option, Some, None, IsSome, ◌⊎◌}
+use Rattle.plx_base.specs.Payload.{bytes_of}
+use Rattle.plx_model.specs.Image.{Image, report_of}
+use Rattle.plx_model.specs.Model.{Slot, Model, named}
+use Rattle.plx_model.specs.Moves.{model_of}
+use Rattle.plx_model.specs.Refusals.{refusals, IsAmong}
+use Rattle.plx_model.specs.declared.command.Command.{Command}
+use Rattle.plx_model.specs.declared.command.Command.TheVariants.{Attach, Read, Write}
+use Rattle.plx_model.specs.declared.reply.Report.{Report}
+use Rattle.plx_model.specs.declared.reply.Reply.{Reply}
+use Rattle.plx_model.specs.declared.reply.Reply.TheVariants.{Attached, Data, Written, NotAttached, AlreadyAttached, NoImage, OutOfRange, Lost, ReadFault, WriteFault, Full}
+use Rattle.plx_model.specs.declared.entry.Entry.{Entry}
+use Rattle.plx_model.specs.declared.entry.Entry.TheVariants as entry
+
+-- the reply is one of the command's
+abbrev pub IsListed : Command → Reply → Type 0
+IsListed (Attach slot) (Attached report) = Unit {0}
+IsListed (Attach slot) AlreadyAttached = Unit {0}
+IsListed (Attach slot) NoImage = Unit {0}
+IsListed (Attach slot) (Lost lease until reading) = Unit {0}
+IsListed (Attach slot) (ReadFault block) = Unit {0}
+IsListed (Attach slot) (WriteFault block) = Unit {0}
+IsListed (Read slot vblock) (Data payload) = Unit {0}
+IsListed (Read slot vblock) NotAttached = Unit {0}
+IsListed (Read slot vblock) NoImage = Unit {0}
+IsListed (Read slot vblock) (OutOfRange size) = Unit {0}
+IsListed (Read slot vblock) (Lost lease until reading) = Unit {0}
+IsListed (Read slot vblock) (ReadFault block) = Unit {0}
+IsListed (Write slot vblock payload) (Written number) = Unit {0}
+IsListed (Write slot vblock payload) NotAttached = Unit {0}
+IsListed (Write slot vblock payload) NoImage = Unit {0}
+IsListed (Write slot vblock payload) (OutOfRange size) = Unit {0}
+IsListed (Write slot vblock payload) (Lost lease until reading) = Unit {0}
+IsListed (Write slot vblock payload) (ReadFault block) = Unit {0}
+IsListed (Write slot vblock payload) (WriteFault block) = Unit {0}
+IsListed (Write slot vblock payload) Full = Unit {0}
+IsListed command reply = ⊥
+
+-- data and the number of a write come from the image's owner alone
+abbrev pub IsByOwner : Model → ℕ → Command → Reply → Type 0
+IsByOwner m appliance command (Data payload) = (m.slots (named command)).owner ≡ Some appliance
+IsByOwner m appliance command (Written number) = (m.slots (named command)).owner ≡ Some appliance
+IsByOwner m appliance command reply = Unit {0}
+
+-- a report is the image's, or that of its change
+abbrev pub IsReported : Slot → Report → Type 0
+IsReported slot report = (report ≡ report_of slot.image) ⊎ ((image : Image) × (slot.change ≡ Some image) × (report ≡ report_of image))
+
+-- a value is the one that the model has
+abbrev pub IsValue : Model → Command → Reply → Type 0
+IsValue m (Attach slot) (Attached report) = (slot.0 < m.images) × IsReported (m.slots slot.0) report
+IsValue m (Read slot vblock) (Data payload) = (slot.0 < m.images) × (bytes_of payload ≡ (m.slots slot.0).image.content vblock)
+IsValue m (Write slot vblock payload) (Written number) = (slot.0 < m.images) × (number ≡ (m.slots slot.0).image.writes + 1)
+IsValue m command reply = Unit {0}
+
+-- a refusal that rests on a fact comes where its fact holds, with its value
+abbrev pub IsTrue : Model → ℕ → Command → Reply → Type 0
+IsTrue m appliance command NotAttached = IsAmong NotAttached (refusals m appliance command)
+IsTrue m appliance command AlreadyAttached = IsAmong AlreadyAttached (refusals m appliance command)
+IsTrue m appliance command NoImage = IsAmong NoImage (refusals m appliance command)
+IsTrue m appliance command (OutOfRange size) = IsAmong (OutOfRange size) (refusals m appliance command)
+IsTrue m appliance command reply = Unit {0}
+
+-- an Ok comes where no refusal's fact holds
+abbrev pub IsUnrefused : Model → ℕ → Command → Reply → Type 0
+IsUnrefused m appliance command (Attached report) = refusals m appliance command ≡ []
+IsUnrefused m appliance command (Data payload) = refusals m appliance command ≡ []
+IsUnrefused m appliance command (Written number) = refusals m appliance command ≡ []
+IsUnrefused m appliance command reply = Unit {0}
+
+-- the appliance that an entry names
+abbrev pub appliance_of : Entry → ℕ
+appliance_of (entry.Start appliance command) = appliance.0
+appliance_of (entry.Reply appliance reply) = appliance.0
+appliance_of (entry.Crash appliance) = appliance.0
+
+-- a command starts while the appliance is in none
+abbrev pub IsStartOfIdle : Model → Entry → Type 0
+IsStartOfIdle m (entry.Start appliance command) = m.running appliance.0 ≡ None
+IsStartOfIdle m (entry.Reply appliance reply) = Unit {0}
+IsStartOfIdle m (entry.Crash appliance) = Unit {0}
+
+-- a reply comes while the appliance is in a command
+abbrev pub IsReplyInCommand : Model → Entry → Type 0
+IsReplyInCommand m (entry.Reply appliance reply) = IsSome (m.running appliance.0)
+IsReplyInCommand m (entry.Start appliance command) = Unit {0}
+IsReplyInCommand m (entry.Crash appliance) = Unit {0}
+
+-- what holds of the reply to the command that the appliance is in
+abbrev pub InCommand : (ℕ → Command → Reply → Type 0) → Model → Entry → Type 0
+InCommand Holds m (entry.Reply appliance reply) = (command : Command) → m.running appliance.0 ≡ Some command → Holds appliance.0 command reply
+InCommand Holds m (entry.Start appliance command) = Unit {0}
+InCommand Holds m (entry.Crash appliance) = Unit {0}
+
+-- the model accepts an entry where it keeps all eight rules
+pub record Accepts (m : Model) (entry : Entry) : Type 0 where
+  pub known : appliance_of entry < m.appliances
+  pub idle : IsStartOfIdle m entry
+  pub running : IsReplyInCommand m entry
+  pub listed : InCommand (λ appliance command reply. IsListed command reply) m entry
+  pub owner : InCommand (IsByOwner m) m entry
+  pub value : InCommand (λ appliance command reply. IsValue m command reply) m entry
+  pub refusal : InCommand (IsTrue m) m entry
+  pub unrefused : InCommand (IsUnrefused m) m entry
+
+-- the rules by their numbers, where an entry breaks them
+pub data Breaks : Model → Entry → ℕ → Type 0 where
+  known : {m : Model} {entry : Entry} → ¬ (appliance_of entry < m.appliances) → Breaks m entry 1
+  idle : {m : Model} {entry : Entry} → ¬ IsStartOfIdle m entry → Breaks m entry 2
+  running : {m : Model} {entry : Entry} → ¬ IsReplyInCommand m entry → Breaks m entry 3
+  listed : {m : Model} {entry : Entry} → ¬ InCommand (λ appliance command reply. IsListed command reply) m entry → Breaks m entry 4
+  owner : {m : Model} {entry : Entry} → ¬ InCommand (IsByOwner m) m entry → Breaks m entry 5
+  value : {m : Model} {entry : Entry} → ¬ InCommand (λ appliance command reply. IsValue m command reply) m entry → Breaks m entry 6
+  refusal : {m : Model} {entry : Entry} → ¬ InCommand (IsTrue m) m entry → Breaks m entry 7
+  unrefused : {m : Model} {entry : Entry} → ¬ InCommand (IsUnrefused m) m entry → Breaks m entry 8
+
+-- the least rule that an entry breaks
+pub record IsLeastBroken (m : Model) (entry : Entry) (rule : ℕ) : Type 0 where
+  pub broken : Breaks m entry rule
+  pub least : (other : ℕ) → other < rule → ¬ Breaks m entry other
+
+-- each entry of a trace is accepted, the newest first
+abbrev pub Permitted : Model → List Entry → Type 0
+Permitted first [] = Unit {0}
+Permitted first (entry ∷ older) = Accepts (model_of first older) entry × Permitted first older

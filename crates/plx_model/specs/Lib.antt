@@ -1,0 +1,6 @@
+pub mod Image
+pub mod Judge
+pub mod Model
+pub mod Moves
+pub mod Places
+pub mod Refusals

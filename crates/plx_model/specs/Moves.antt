@@ -1,0 +1,102 @@
+-- How an entry of a trace moves the model.
+use Rattle.std.specs.Prelude.{ℕ, List, [], ◌∷◌, Bool, true, false, ◌&&◌, Option, Some, None, if◌then◌else◌, unwrap_or}
+use Rattle.plx_model.specs.Image.{Image, after, resolved}
+use Rattle.plx_model.specs.Model.{Slot, Model, owns, disowned, named, is_changing}
+use Rattle.plx_model.specs.Places.{at}
+use Rattle.plx_model.specs.Refusals.{refusals, is_none}
+use Rattle.plx_model.specs.declared.command.Command.{Command}
+use Rattle.plx_model.specs.declared.reply.Report.{Report}
+use Rattle.plx_model.specs.declared.reply.Reply.{Reply}
+use Rattle.plx_model.specs.declared.reply.Reply.TheVariants.{Attached, Data, Written, NotAttached, AlreadyAttached, NoImage, OutOfRange, Lost, ReadFault, WriteFault, Full}
+use Rattle.plx_model.specs.declared.entry.Entry.{Entry}
+use Rattle.plx_model.specs.declared.entry.Entry.TheVariants as entry
+
+-- the slot once a change of its image is under way
+abbrev pub under_way : Slot → Command → Slot
+under_way slot command = record { image = slot.image; change = Some (after slot.image command); owner = slot.owner }
+
+-- the slot once the change under way is given up, or made
+abbrev pub given_up : Slot → Slot
+given_up slot = record { image = slot.image; change = None; owner = slot.owner }
+
+abbrev pub made : Slot → Slot
+made slot = record { image = unwrap_or slot.change slot.image; change = None; owner = slot.owner }
+
+-- the slot once an attach reported which image it is
+abbrev pub attached : Slot → ℕ → Report → Slot
+attached slot appliance report = record { image = resolved slot.image slot.change report; change = None; owner = Some appliance }
+
+-- whether the command puts a change under way: it is the owner's, it changes an image, and no refusal's fact holds
+abbrev pub begins_change : Model → ℕ → Command → Bool
+begins_change m appliance command =
+    is_changing command && (owns (m.slots (named command)).owner appliance && is_none (refusals m appliance command))
+
+-- the slots after a start, an Ok of a command, and a refusal of it
+abbrev pub slots_started : Model → ℕ → Command → ℕ → Slot
+slots_started m appliance command =
+    if begins_change m appliance command then at m.slots (named command) (under_way (m.slots (named command)) command) else m.slots
+
+abbrev pub slots_refused : Model → ℕ → Command → ℕ → Slot
+slots_refused m appliance command =
+    if is_changing command && owns (m.slots (named command)).owner appliance then at m.slots (named command) (given_up (m.slots (named command))) else m.slots
+
+-- the model in which the appliance owns nothing and has no session
+abbrev pub forgotten : Model → ℕ → Model
+forgotten m appliance = record {
+  images = m.images;
+  appliances = m.appliances;
+  slots = λ slot. record { image = (m.slots slot).image; change = (m.slots slot).change; owner = disowned (m.slots slot).owner appliance };
+  sessions = at m.sessions appliance (λ slot. false);
+  running = at m.running appliance None;
+}
+
+-- the model in which the appliance is in no command, with these slots
+abbrev pub rested : Model → ℕ → (ℕ → Slot) → Model
+rested m appliance slots = record {
+  images = m.images;
+  appliances = m.appliances;
+  slots = slots;
+  sessions = m.sessions;
+  running = at m.running appliance None;
+}
+
+-- the model after a reply to a command
+abbrev pub replied : Model → ℕ → Command → Reply → Model
+replied m appliance command (Attached report) = record {
+  images = m.images;
+  appliances = m.appliances;
+  slots = at m.slots (named command) (attached (m.slots (named command)) appliance report);
+  sessions = at m.sessions appliance (at (m.sessions appliance) (named command) true);
+  running = at m.running appliance None;
+}
+replied m appliance command (Data payload) = rested m appliance m.slots
+replied m appliance command (Written number) = rested m appliance (at m.slots (named command) (made (m.slots (named command))))
+replied m appliance command (Lost lease until reading) = forgotten m appliance
+replied m appliance command (WriteFault block) = forgotten m appliance
+replied m appliance command NotAttached = rested m appliance (slots_refused m appliance command)
+replied m appliance command AlreadyAttached = rested m appliance (slots_refused m appliance command)
+replied m appliance command NoImage = rested m appliance (slots_refused m appliance command)
+replied m appliance command (OutOfRange size) = rested m appliance (slots_refused m appliance command)
+replied m appliance command (ReadFault block) = rested m appliance (slots_refused m appliance command)
+replied m appliance command Full = rested m appliance (slots_refused m appliance command)
+
+abbrev pub replied_in : Model → ℕ → Option Command → Reply → Model
+replied_in m appliance None reply = m
+replied_in m appliance (Some command) reply = replied m appliance command reply
+
+-- the model after an entry
+abbrev pub moved : Model → Entry → Model
+moved m (entry.Start appliance command) = record {
+  images = m.images;
+  appliances = m.appliances;
+  slots = slots_started m appliance.0 command;
+  sessions = m.sessions;
+  running = at m.running appliance.0 (Some command);
+}
+moved m (entry.Reply appliance reply) = replied_in m appliance.0 (m.running appliance.0) reply
+moved m (entry.Crash appliance) = forgotten m appliance.0
+
+-- the model after a trace, whose newest entry stands first
+abbrev pub model_of : Model → List Entry → Model
+model_of first [] = first
+model_of first (entry ∷ older) = moved (model_of first older) entry
