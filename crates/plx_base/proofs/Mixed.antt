@@ -1,5 +1,5 @@
 -- Writes that land sector by sector, as the bytes of a block on which some sectors have landed.
-use Rattle.std.proofs.Common.{◌≡◌, ℕ, ◌+◌, ◌*◌, ◌≤◌, ◌<◌, List, [], ◌∷◌, ◌++◌, length, take, drop, zero, suc, refl, ap, sym, subst, ◌∙◌, Bool, true, false, Option, Some, None, slice_set, arith, length-append, replicate, inl, inr, ◌⊎◌}
+use Rattle.std.proofs.Common.{◌≡◌, ℕ, ◌*◌, List, [], ◌∷◌, ◌++◌, length, take, drop, zero, suc, refl, ap, sym, ◌∙◌, Bool, true, false, Some, slice_set, arith, length-append, replicate, inl, inr, ◌⊎◌}
 use Rattle.std.specs.Prelude.{slice_get, if◌then◌else◌}
 use Rattle.std.proofs.lemmas.List.{length-take, length-drop, take-append-drop, take_at, drop_at, nil_from_length}
 use Rattle.plx_base.specs.Sectors.{landed, mixed}
@@ -36,7 +36,7 @@ pub mixed-landed : (flags : List Bool) (new old : List ℕ) (sector : ℕ) (flag
 mixed-landed [] new old sector flag at hn ho = cc
 mixed-landed (f ∷ flags) new old zero flag at hn ho =
     ap (λ rest. take 512 new ++ rest)
-      (drop_at (take 512 (if f then new else old)) (mixed flags (drop 512 new) (drop 512 old)) 512 (picked-front f new old (length flags) hn ho))
+    (drop_at (take 512 (if f then new else old)) (mixed flags (drop 512 new) (drop 512 old)) 512 (picked-front f new old (length flags) hn ho))
 mixed-landed (f ∷ flags) new old (suc sector) flag at hn ho =
     let front = take 512 (if f then new else old) in
     let back = mixed flags (drop 512 new) (drop 512 old) in
