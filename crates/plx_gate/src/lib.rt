@@ -4,3 +4,6 @@
 mod descriptor;
 
 pub use descriptor::{Descriptor, read_descriptor, write_descriptor};
+
+#[cfg(test)]
+mod tests;
