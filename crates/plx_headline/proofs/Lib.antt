@@ -1,7 +1,11 @@
 pub mod Begins
+pub mod Crashes
 pub mod FirstWorld
 pub mod Goes
 pub mod Held
 pub mod Journals
+pub mod Landings
 pub mod Lists
+pub mod Starts
 pub mod Steady
+pub mod StepsKept
