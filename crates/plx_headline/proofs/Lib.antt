@@ -2,6 +2,7 @@ pub mod Begins
 pub mod Crashes
 pub mod FirstWorld
 pub mod Goes
+pub mod HeadlineProved
 pub mod Held
 pub mod Journals
 pub mod Landings
@@ -9,3 +10,4 @@ pub mod Lists
 pub mod Starts
 pub mod Steady
 pub mod StepsKept
+pub mod StoredFacts
