@@ -7,6 +7,7 @@ pub mod Held
 pub mod Journals
 pub mod Landings
 pub mod Lists
+pub mod Runs
 pub mod Starts
 pub mod Steady
 pub mod StepsKept
