@@ -55,12 +55,15 @@ crash-steady w steady =
       differs = steady.differs;
       long = subst LongOn (sym same) steady.long;
       others = others-cancelled w.surface pending steady.others;
-      fits = (refl, record {
-        place = record { known = place.known; images = place.images };
-        idle = refl;
-        sessions = λ slot. refl;
-        fits = (record { writes = kept.writes; journal = kept.journal; either = kept.either }, steady.differs);
-      });
+      fits = (
+        refl,
+        record {
+          place = record { known = place.known; images = place.images };
+          idle = refl;
+          sessions = λ slot. refl;
+          fits = (record { writes = kept.writes; journal = kept.journal; either = kept.either }, steady.differs);
+        },
+      );
     }
 
 -- time passes

@@ -46,10 +46,13 @@ first-steady slots least most = record {
   differs = differs-first;
   long = λ block. length-zeros;
   others = λ number write found ne still. cc;
-  fits = (refl, record {
-    place = record { known = omega arith; images = refl };
-    idle = refl;
-    sessions = λ slot. refl;
-    fits = (keeps-first slots, differs-first);
-  });
+  fits = (
+    refl,
+    record {
+      place = record { known = omega arith; images = refl };
+      idle = refl;
+      sessions = λ slot. refl;
+      fits = (keeps-first slots, differs-first);
+    },
+  );
 }

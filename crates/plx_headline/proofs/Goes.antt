@@ -109,9 +109,9 @@ module _ (w : World) (event : Event) (ask : Ask) (bytes : List ℕ) (answer : An
         long = steady.long;
         others = others;
         fits =
-          let P : Position → Type 0 = λ p. Fits w.slots w.surface.device w.surface.writes None n p in
-          let idle : P (Idle end.known) = (refl, right.1) in
-          subst P (sym leads) idle;
+            let P : Position → Type 0 = λ p. Fits w.slots w.surface.device w.surface.writes None n p in
+            let idle : P (Idle end.known) = (refl, right.1) in
+            subst P (sym leads) idle;
       }
   came-steady (ReadThen block rest fault) leads held = record {
     least = steady.least;

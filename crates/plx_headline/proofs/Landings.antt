@@ -57,7 +57,7 @@ issue-steady w kind block bytes guard done fault missed here free steady =
     let write = fresh_write (boot_number 0 (w.seats 0).boots) kind block bytes guard in
     let waits : Waits w.slots w.surface.device w.surface.writes (model_in w) part (w.seats 0).pending = fits-at w (In part) here steady in
     let begun : Begun w.slots first_appliance part w.surface.device (model_in w) =
-      (let P : Option ℕ → Type 0 = λ q. Waits w.slots w.surface.device w.surface.writes (model_in w) part q in subst P free waits) in
+    (let P : Option ℕ → Type 0 = λ q. Waits w.slots w.surface.device w.surface.writes (model_in w) part q in subst P free waits) in
     record {
       least = steady.least;
       most = steady.most;
@@ -72,8 +72,8 @@ issue-steady w kind block bytes guard done fault missed here free steady =
         | inr new ↦ absurd (ne (ap Some (sym new.0)))
       ];
       fits =
-        let P : Position → Type 0 = λ p. Fits w.slots w.surface.device (w.surface.writes ++ write ∷ []) (Some (length w.surface.writes)) (model_in w) p in
-        subst P (sym here) (fresh-landing w kind block bytes guard done fault missed begun steady);
+          let P : Position → Type 0 = λ p. Fits w.slots w.surface.device (w.surface.writes ++ write ∷ []) (Some (length w.surface.writes)) (model_in w) p in
+          subst P (sym here) (fresh-landing w kind block bytes guard done fault missed begun steady);
     }
 
 -- the landing of the write that is waited for
@@ -105,7 +105,7 @@ landed-now device base write sector now missing whole flags long b =
     let bytes_long : length write.bytes ≡ 512 * length write.landed = rw flags whole in
     let base_long : length (base block) ≡ 512 * length write.landed = rw flags long in
     let is : landed sector write.bytes (device block) ≡ mixed (slice_set write.landed sector true) write.bytes (base block) =
-      ap (landed sector write.bytes) was ∙ mixed-landed write.landed write.bytes (base block) sector false missing bytes_long base_long in
+    ap (landed sector write.bytes) was ∙ mixed-landed write.landed write.bytes (base block) sector false missing bytes_long base_long in
     elim (eqb_tells b block) [
       | inl same ↦ rw same.0 is
       | inr other ↦ rw other.0 (now b ∙ put-other base block (mixed write.landed write.bytes (base block)) b other.1)
@@ -128,7 +128,7 @@ module _ (w : World) (back sector number : ℕ) (write : Issued) (may : MayLand 
       let device = w.surface.device in
       let base = landing.base in
       let now : (b : ℕ) → device b ≡ put base write.block (mixed write.landed write.bytes (base write.block)) b =
-        (let P : Issued → Type 0 = λ x. (b : ℕ) → device b ≡ put base x.block (mixed x.landed x.bytes (base x.block)) b in subst P same landing.now) in
+      (let P : Issued → Type 0 = λ x. (b : ℕ) → device b ≡ put base x.block (mixed x.landed x.bytes (base x.block)) b in subst P same landing.now) in
       let count : length write.landed ≡ 8 = (let P : Issued → Type 0 = λ x. length x.landed ≡ 8 in subst P same landing.flags) in
       let asked : IsAskOf part write.block write.bytes = (let P : Issued → Type 0 = λ x. IsAskOf part x.block x.bytes in subst P same landing.asked) in
       let kept = landing-keeps w.slots base landing.regime (model_in w) part write asked landing.looks landing.held in
@@ -136,7 +136,7 @@ module _ (w : World) (back sector number : ℕ) (write : Issued) (may : MayLand 
       let count' : length flags ≡ 8 = length-set write.landed sector true ∙ count in
       let device' : Device = put device write.block (landed sector write.bytes (device write.block)) in
       let now' : (b : ℕ) → device' b ≡ put base write.block (mixed flags write.bytes (base write.block)) b =
-        landed-now device base write sector now may.missing kept.0 count (landing.long write.block) in
+      landed-now device base write sector now may.missing kept.0 count (landing.long write.block) in
       let write' : Issued = with_sector write sector in
       let landing' : Landing w.slots device' (slice_set w.surface.writes number write') (model_in w) part number = record {
         base = base;
@@ -165,9 +165,9 @@ module _ (w : World) (back sector number : ℕ) (write : Issued) (may : MayLand 
           | inr other ↦ steady.others i x (sym (get-set_other w.surface.writes number i write' other.1) ∙ there) ne still
         ];
         fits =
-          let P : Option ℕ → Position → Type 0 = λ q p. Fits w.slots device' (slice_set w.surface.writes number write') q (model_in w) p in
-          let Q : Option ℕ → Type 0 = λ q. P q (stands w 0) in
-          subst Q (sym waited) (subst (P (Some number)) (sym here) landing');
+            let P : Option ℕ → Position → Type 0 = λ q p. Fits w.slots device' (slice_set w.surface.writes number write') q (model_in w) p in
+            let Q : Option ℕ → Type 0 = λ q. P q (stands w 0) in
+            subst Q (sym waited) (subst (P (Some number)) (sym here) landing');
       }
 
 -- the write that is found is the only one in its place
@@ -179,12 +179,12 @@ pub land-steady : (w : World) (back sector number : ℕ) (write : Issued) → Ma
     Steady (with_surface w (event.Land first_appliance back sector) (after_landing w.surface number write sector))
 land-steady w back sector number write may steady = elim (pending-is (w.seats 0).pending number) [
   | inl is ↦
-    let found = landing-of w.slots w.surface.device w.surface.writes (model_in w) (w.seats 0).pending (stands w 0) number is steady.fits in
-    let landing = found.2 in
-    waited-steady w back sector number write may is found.0 found.1 landing (same-write w.surface.writes number landing.write write landing.found may.found) steady
+      let found = landing-of w.slots w.surface.device w.surface.writes (model_in w) (w.seats 0).pending (stands w 0) number is steady.fits in
+      let landing = found.2 in
+      waited-steady w back sector number write may is found.0 found.1 landing (same-write w.surface.writes number landing.write write landing.found may.found) steady
   | inr other ↦
-    let whole : write.landed ≡ all_sectors = steady.others number write may.found other may.open_yet in
-    absurd (landed-whole sector (sym (ap (λ (l : List Bool). slice_get l sector) whole) ∙ may.missing))
+      let whole : write.landed ≡ all_sectors = steady.others number write may.found other may.open_yet in
+      absurd (landed-whole sector (sym (ap (λ (l : List Bool). slice_get l sector) whole) ∙ may.missing))
 ]
 
 -- the device, once all of a write has landed
@@ -193,8 +193,8 @@ whole-now : (device base : Device) (write : Issued) (block : ℕ) (bytes : List 
     length bytes ≡ 4096 → length (base write.block) ≡ 4096 → device ≡ put base block bytes
 whole-now device base write block bytes now all at_block is_bytes whole long =
     let there : mixed write.landed write.bytes (base write.block) ≡ bytes =
-      ap (λ (l : List Bool). mixed l write.bytes (base write.block)) all
-      ∙ (mixed-all 8 write.bytes (base write.block) (ap length is_bytes ∙ whole) long ∙ is_bytes) in
+    ap (λ (l : List Bool). mixed l write.bytes (base write.block)) all
+    ∙ (mixed-all 8 write.bytes (base write.block) (ap length is_bytes ∙ whole) long ∙ is_bytes) in
     fun_ext now ∙ (ap (put base write.block) there ∙ ap (λ (b : ℕ). put base b bytes) at_block)
 
 -- a write is answered
@@ -206,17 +206,17 @@ done-steady w kind block bytes guard done fault missed number here waited all st
     let device = w.surface.device in
     let waits : Waits w.slots device w.surface.writes (model_in w) part (w.seats 0).pending = fits-at w (In part) here steady in
     let landing : Landing w.slots device w.surface.writes (model_in w) part number =
-      (let P : Option ℕ → Type 0 = λ q. Waits w.slots device w.surface.writes (model_in w) part q in subst P waited waits) in
+    (let P : Option ℕ → Type 0 = λ q. Waits w.slots device w.surface.writes (model_in w) part q in subst P waited waits) in
     let base = landing.base in
     let same : landing.write ≡ all.0 = same-write w.surface.writes number landing.write all.0 landing.found all.1 in
     let now : device ≡ put base block bytes =
-      whole-now device base landing.write block bytes landing.now (ap (λ (x : Issued). x.landed) same ∙ all.2) landing.asked.0 landing.asked.1 landing.held.0 (landing.long landing.write.block) in
+    whole-now device base landing.write block bytes landing.now (ap (λ (x : Issued). x.landed) same ∙ all.2) landing.asked.0 landing.asked.1 landing.held.0 (landing.long landing.write.block) in
     came-steady w (event.Done first_appliance) (ask.Write kind (record { 0 = block }) guard) bytes answer.Done steady steady.told
     (λ i x there ne still. elim (pending-is (w.seats 0).pending i) [
       | inl is ↦
-        let at_number : i ≡ number = same-number i number (sym is ∙ waited) in
-        let P : ℕ → Type 0 = λ n. slice_get w.surface.writes n ≡ Some x in
-        ap (λ (y : Issued). y.landed) (same-write w.surface.writes number x all.0 (subst P at_number there) all.1) ∙ all.2
+          let at_number : i ≡ number = same-number i number (sym is ∙ waited) in
+          let P : ℕ → Type 0 = λ n. slice_get w.surface.writes n ≡ Some x in
+          ap (λ (y : Issued). y.landed) (same-write w.surface.writes number x all.0 (subst P at_number there) all.1) ∙ all.2
       | inr other ↦ steady.others i x there other still
     ])
     landing.regime landing.looks done (ap (went_on answer.Done) here)

@@ -77,9 +77,9 @@ pub others-cancelled : (s : Surface) (pending : Option ℕ) → Others s.writes 
 others-cancelled s None others = others
 others-cancelled s (Some number) others = λ i write found ne still. elim (eqb_tells i number) [
   | inl same ↦
-    let P : ℕ → Type 0 = λ n. slice_get (cancelled_at s.writes number) n ≡ Some write in
-    let gone : write.cancelled ≡ true = get-cancelled_same s.writes number write (subst P same.1 found) in
-    absurd (let e : true ≡ false = sym gone ∙ still in let P : ⊥ = cc in P)
+      let P : ℕ → Type 0 = λ n. slice_get (cancelled_at s.writes number) n ≡ Some write in
+      let gone : write.cancelled ≡ true = get-cancelled_same s.writes number write (subst P same.1 found) in
+      absurd (let e : true ≡ false = sym gone ∙ still in let P : ⊥ = cc in P)
   | inr other ↦
-    others i write (sym (get-cancelled_other s.writes number i other.1) ∙ found) (λ e. other.1 (sym (same-number number i e))) still
+      others i write (sym (get-cancelled_other s.writes number i other.1) ∙ found) (λ e. other.1 (sym (same-number number i e))) still
 ]

@@ -86,7 +86,7 @@ no-change m appliance (Write slot vblock payload) none =
     let command = Write slot vblock payload in
     let rest : List Reply = if nat_lt slot.0 m.images then of_block (m.slots slot.0).image vblock else [] in
     let test : begins_change m appliance command ≡ false =
-      ap (λ (b : Bool). owns (m.slots slot.0).owner appliance && is_none (where_holds (not b) NotAttached ++ rest)) (none slot.0) ∙ no-both (owns (m.slots slot.0).owner appliance) in
+    ap (λ (b : Bool). owns (m.slots slot.0).owner appliance && is_none (where_holds (not b) NotAttached ++ rest)) (none slot.0) ∙ no-both (owns (m.slots slot.0).owner appliance) in
     ap (λ (b : Bool). if b then at m.slots slot.0 (under_way (m.slots slot.0) command) else m.slots) test
 
 -- what is stored stays
@@ -121,6 +121,6 @@ start-steady w command known here whole steady =
       long = steady.long;
       others = others-at w.surface.writes (w.seats 0).pending None idle.0 steady.others;
       fits =
-        let P : Position → Type 0 = λ p. Fits w.slots device w.surface.writes None (moved m (entry.Start first_appliance command)) p in
-        subst P (sym (ap (began w.slots command) here)) (begins w.slots first_appliance known device m command steady.least steady.most idle.1 whole);
+          let P : Position → Type 0 = λ p. Fits w.slots device w.surface.writes None (moved m (entry.Start first_appliance command)) p in
+          subst P (sym (ap (began w.slots command) here)) (begins w.slots first_appliance known device m command steady.least steady.most idle.1 whole);
     }

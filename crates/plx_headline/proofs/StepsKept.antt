@@ -38,7 +38,7 @@ keeps-step (world.starts {w = w} {appliance = appliance} {command = command} kno
     subst P (single w appliance below steady) (start-steady w command known here' whole steady)
 keeps-step (world.reads {w = w} {appliance = appliance} block rest fault below here) steady =
     let P : ApplianceNo → Type 0 = λ a.
-      Steady (goes_on w (event.Read a) a (ask.Read (record { 0 = block })) [] (ReadThen block rest fault) (answer.Bytes (w.surface.device block))) in
+    Steady (goes_on w (event.Read a) a (ask.Read (record { 0 = block })) [] (ReadThen block rest fault) (answer.Bytes (w.surface.device block))) in
     let here' = of-single w appliance (λ a. stands w a.0 ≡ In (ReadThen block rest fault)) below steady here in
     subst P (single w appliance below steady) (read-steady w block rest fault here' steady)
 keeps-step (world.issues {w = w} {appliance = appliance} kind block bytes guard done fault missed below here free) steady =
@@ -51,7 +51,7 @@ keeps-step (world.lands {w = w} {appliance = appliance} {back = back} {sector = 
     subst P (single w appliance below steady) (land-steady w back sector number write may steady)
 keeps-step (world.dones {w = w} {appliance = appliance} kind block bytes guard done fault missed number below here waited all) steady =
     let P : ApplianceNo → Type 0 = λ a.
-      Steady (goes_on w (event.Done a) a (ask.Write kind (record { 0 = block }) guard) bytes (WriteThen kind block bytes guard done fault missed) answer.Done) in
+    Steady (goes_on w (event.Done a) a (ask.Write kind (record { 0 = block }) guard) bytes (WriteThen kind block bytes guard done fault missed) answer.Done) in
     let here' = of-single w appliance (λ a. stands w a.0 ≡ In (WriteThen kind block bytes guard done fault missed)) below steady here in
     let waited' = of-single w appliance (λ a. (w.seats a.0).pending ≡ Some number) below steady waited in
     subst P (single w appliance below steady) (done-steady w kind block bytes guard done fault missed number here' waited' all steady)

@@ -54,7 +54,7 @@ module _ (slots : ℕ) (most : slots ≤ 64) (device : Device) (writes : List Jo
       let fits = journal.fits in
       let number = journal.numbers k write found in
       let read : read_descriptor (device (descriptor_at slots 0 k)) ≡ Some (Some (descriptor_of write)) =
-        ap read_descriptor (journal.commits k write found) ∙ read-descriptor (descriptor_of write) (limits k write (omega arith) number (journal.within k write found)) in
+      ap read_descriptor (journal.commits k write found) ∙ read-descriptor (descriptor_of write) (limits k write (omega arith) number (journal.within k write found)) in
       ap (counted_of first_record slots k) read
       ∙ ap (λ (b : Bool). if b then Some (descriptor_of write) else None) (is-counted slots k write (omega arith) number)
 
@@ -134,6 +134,7 @@ latest-is before vblock (x ∷ writes) = elim (eqb_tells vblock x.vblock) [
     by-first : x.vblock ≡ vblock → IsLatest x.block vblock writes (latest x.block vblock writes) → IsLatest before vblock (x ∷ writes) (latest x.block vblock writes)
     by-first names (inl later) = inl (suc later.0, later.1, last-later x writes vblock later.0 later.1 later.2, later.3)
     by-first names (inr none) = inl (0, x, last-first x writes vblock names none.0, none.1)
+
     by-rest : vblock ≢ x.vblock → IsLatest before vblock writes (latest before vblock writes) → IsLatest before vblock (x ∷ writes) (latest before vblock writes)
     by-rest ne (inl later) = inl (suc later.0, later.1, last-later x writes vblock later.0 later.1 later.2, later.3)
     by-rest ne (inr none) = inr (none-more x writes vblock (λ e. ne (sym e)) none.0, none.1)
@@ -145,12 +146,12 @@ module _ (slots : ℕ) (most : slots ≤ 64) (device : Device) (writes : List Jo
     counts = write-counts slots most device writes journal k write is.found;
     names = is.names;
     newest = λ j e counts names. (
-      let found = counts-write slots most device writes journal j e counts in
-      let order : j ≤ k = is.last j found.0 found.1 (sym (ap (λ (d : Descriptor). d.vblock) found.2) ∙ names) in
-      let mine = journal.numbers k write is.found in
-      let tells = counts-number slots most device writes journal j e counts in
-      omega (arith, tells.0)
-    );
+        let found = counts-write slots most device writes journal j e counts in
+        let order : j ≤ k = is.last j found.0 found.1 (sym (ap (λ (d : Descriptor). d.vblock) found.2) ∙ names) in
+        let mine = journal.numbers k write is.found in
+        let tells = counts-number slots most device writes journal j e counts in
+        omega (arith, tells.0)
+        );
   }
 
   -- what the writes leave in a virtual block is its content
@@ -158,10 +159,13 @@ module _ (slots : ℕ) (most : slots ≤ 64) (device : Device) (writes : List Jo
   content-is vblock bytes (inl newest) =
       inl (newest.0, descriptor_of newest.1, newest-write vblock newest.0 newest.1 newest.2, newest.3 ∙ sym (journal.blocks newest.0 newest.1 newest.2.found))
   content-is vblock bytes (inr none) =
-      inr (λ j e counts names. (
-        let found = counts-write slots most device writes journal j e counts in
-        none.0 j found.0 found.1 (sym (ap (λ (d : Descriptor). d.vblock) found.2) ∙ names)
-      ), none.1)
+      inr (
+        λ j e counts names. (
+            let found = counts-write slots most device writes journal j e counts in
+            none.0 j found.0 found.1 (sym (ap (λ (d : Descriptor). d.vblock) found.2) ∙ names)
+            ),
+        none.1,
+      )
 
   -- the device stores the image that its journal's writes leave
   stores-left : (i : Image) → IsLeftBy writes i → Stores slots device 0 first_record i
@@ -172,8 +176,8 @@ module _ (slots : ℕ) (most : slots ≤ 64) (device : Device) (writes : List Jo
     label = left.label;
     writes = write-count slots most device writes journal i.writes left.count;
     content = λ vblock.
-      let P : List ℕ → Type 0 = λ bytes. IsContent slots device 0 first_record vblock bytes in
-      subst P (sym (left.blocks vblock)) (content-is vblock (latest zeros vblock writes) (latest-is zeros vblock writes));
+        let P : List ℕ → Type 0 = λ bytes. IsContent slots device 0 first_record vblock bytes in
+        subst P (sym (left.blocks vblock)) (content-is vblock (latest zeros vblock writes) (latest-is zeros vblock writes));
   }
 
 -- a device that keeps the image stores it
