@@ -1,11 +1,12 @@
 -- What holds stays where an appliance loses its memory, and where time passes.
 use Rattle.std.proofs.Common.{◌≡◌, ℕ, ◌<◌, List, [], ◌∷◌, length, refl, ap, sym, subst, ◌∙◌, Bool, true, false, Option, Some, None, inl, inr}
 use Rattle.std.specs.Prelude.{slice_get}
+use Rattle.std.proofs.lemmas.Bool.Decides.{eqb_tells}
 use Rattle.plx_base.specs.Sectors.{Device}
 use Rattle.plx_base.specs.declared.numbers.ApplianceNo.{ApplianceNo}
 use Rattle.plx_disk.specs.Writes.{Surface, Issued, passed}
 use Rattle.plx_model.specs.Judge.{Accepts}
-use Rattle.plx_model.specs.Model.{Model}
+use Rattle.plx_model.specs.Model.{Model, owns, disowned}
 use Rattle.plx_model.specs.declared.entry.Entry.{Entry}
 use Rattle.plx_model.specs.declared.entry.Entry.TheVariants as entry
 use Rattle.plx_model.specs.declared.event.Event.TheVariants as event
@@ -31,6 +32,11 @@ place-fits slots device writes (Some number) m (In part) landing = place-looks l
 
 pub place-of : (w : World) → Steady w → IsPlace first_appliance (model_in w)
 place-of w steady = place-fits w.slots w.surface.device w.surface.writes (w.seats 0).pending (model_in w) (stands w 0) steady.fits
+
+-- an appliance that is disowned isn't the owner
+stranger-disowned : (owner : Option ℕ) (appliance : ℕ) → owns (disowned owner appliance) appliance ≡ false
+stranger-disowned None appliance = refl
+stranger-disowned (Some owner) appliance = elim (eqb_tells owner appliance) [ inl same ↦ rw same.0 refl | inr other ↦ rw other.0 other.0 ]
 
 -- a crash leaves what stands on the device
 same-device : (s : Surface) (pending : Option ℕ) → (without_pending s pending).device ≡ s.device
@@ -61,7 +67,7 @@ crash-steady w steady =
           place = record { known = place.known; images = place.images };
           idle = refl;
           sessions = λ slot. refl;
-          fits = (record { writes = kept.writes; journal = kept.journal; either = kept.either }, steady.differs);
+          fits = (record { writes = kept.writes; journal = kept.journal; either = kept.either }, steady.differs, stranger-disowned ((model_in w).slots 0).owner 0);
         },
       );
     }

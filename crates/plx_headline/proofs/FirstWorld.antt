@@ -52,7 +52,7 @@ first-steady slots least most = record {
       place = record { known = omega arith; images = refl };
       idle = refl;
       sessions = λ slot. refl;
-      fits = (keeps-first slots, differs-first);
+      fits = (keeps-first slots, differs-first, refl);
     },
   );
 }

@@ -63,7 +63,7 @@ until-waits slots device writes m from rest (Some number) landing = absurd landi
 -- what an idle appliance knows says what is stored, and that a change has one write more than its image
 pub keeps-idle : (slots : ℕ) (appliance : ApplianceNo) (sessions : List Session) (device : Device) (m : Model) →
     FitsSessions slots appliance sessions device m → Keeps slots device 0 (m.slots 0) × Differs (m.slots 0)
-keeps-idle slots appliance [] device m fits = fits
+keeps-idle slots appliance [] device m fits = (fits.0, fits.1)
 keeps-idle slots appliance (session ∷ []) device m fits =
     (record { writes = session.writes; journal = fits.journal; either = inl fits.left }, λ i e. let none = fits.decided in cc)
 keeps-idle slots appliance (session ∷ other ∷ others) device m fits = absurd fits

@@ -1,6 +1,6 @@
 -- In every world that events lead to, the log of each boot is a run.
-use Rattle.std.proofs.Common.{◌≡◌, ℕ, ◌≤◌, List, [], ◌∷◌, length, refl, ap, sym, Option, Some, None, inl, inr}
-use Rattle.std.proofs.lemmas.Bool.Decides.{eqb_tells}
+use Rattle.std.proofs.Common.{◌≡◌, ℕ, ◌≤◌, List, [], ◌∷◌, length, refl, ap}
+use Rattle.plx_model.proofs.Places.{at-all}
 use Rattle.plx_model.specs.Places.{at}
 use Rattle.plx_model.specs.declared.event.Event.{Event}
 use Rattle.plx_rules.specs.Boot as boot
@@ -13,7 +13,7 @@ use Rattle.plx_headline.proofs.StepsKept.{reached-steady}
 -- the logs of all appliances, of which one has changed
 runs-at : (slots : ℕ) (seats : ℕ → Seat) (appliance : ℕ) (seat : Seat) → IsRun slots seat.log → ((b : ℕ) → IsRun slots (seats b).log) →
     (b : ℕ) → IsRun slots (at seats appliance seat b).log
-runs-at slots seats appliance seat here others b = elim (eqb_tells b appliance) [ inl same ↦ rw same.0 here | inr other ↦ rw other.0 (others b) ]
+runs-at slots seats appliance seat here others = at-all (λ b s. IsRun slots s.log) seats appliance seat here (λ b ne. others b)
 
 -- each step keeps them, where what stands in a block has a block's length
 runs-step : {w v : World} {event : Event} → Step w event v → ((block : ℕ) → length (w.surface.device block) ≡ 4096) →
