@@ -1,8 +1,11 @@
-pub mod Commands
+pub mod Attached
+pub mod Begins
 pub mod Held
 pub mod JournalFacts
 pub mod Journals
 pub mod Load
+pub mod Refused
 pub mod Replies
 pub mod Steady
 pub mod Tests
+pub mod Without

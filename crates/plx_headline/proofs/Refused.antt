@@ -1,4 +1,4 @@
--- Each command that an idle appliance begins is right to its end.
+-- A command that is refused, and the rest of a command by its tests.
 use Rattle.std.proofs.Common.{◌≡◌, ◌≢◌, ℕ, zero, suc, ◌+◌, ◌≤◌, ◌<◌, List, [], ◌∷◌, ◌++◌, length, drop, Bool, true, false, Option, Some, None, refl, ap, sym, subst, ◌∙◌, arith, inl, inr, ◌⊎◌}
 use Rattle.std.specs.Prelude.{if◌then◌else◌, ◌==◌, ◌&&◌, nat_lt, nat_le, unwrap_or, is_some}
 use Rattle.std.proofs.lemmas.Bool.Decides.{eqb_tells}
@@ -40,10 +40,9 @@ use Rattle.plx_headline.proofs.Load.{first_slot_no, session_with, knowing, held-
 use Rattle.plx_headline.proofs.Replies.{ended, fits-rested, at-first, owns-own, refusals-access}
 use Rattle.plx_headline.proofs.Tests.{eqb-true, eqb-false, nat_lt-false, nat_le-true, nat_le-false, lt-cases, and-false}
 
-clash : (test : Bool) → test ≡ true → test ≡ false → ⊥
+-- no test answers both
+pub clash : (test : Bool) → test ≡ true → test ≡ false → ⊥
 clash test h e = cc
-
--- ---- refusals
 
 -- the model's refusals of an attach elsewhere, and of a read or write without a session
 attach-elsewhere : (m : Model) (appliance : ℕ) (slot : SlotNo) → m.sessions appliance slot.0 ≡ false → m.images ≡ 1 → slot.0 ≢ 0 →
@@ -57,39 +56,40 @@ not-attached : (m : Model) (appliance slot vblock : ℕ) → m.sessions applianc
 not-attached m appliance slot vblock missing = rw missing (inl refl)
 
 -- how the model looks to an appliance that is about to refuse: it would rest as it stands
-record Still (slots : ℕ) (appliance : ApplianceNo) (command : Command) (known : Known) (device : Device) (m : Model) : Type 0 where
-  place : IsPlace appliance m
-  runs : m.running appliance.0 ≡ Some command
-  sessions : SameSessions appliance known m
-  rests : FitsIdle slots appliance known device (rested m appliance.0 (slots_refused m appliance.0 command))
+pub record Still (slots : ℕ) (appliance : ApplianceNo) (command : Command) (known : Known) (device : Device) (m : Model) : Type 0 where
+  pub place : IsPlace appliance m
+  pub runs : m.running appliance.0 ≡ Some command
+  pub sessions : SameSessions appliance known m
+  pub rests : FitsIdle slots appliance known device (rested m appliance.0 (slots_refused m appliance.0 command))
 
+-- the rest by its tests
 module _ (slots : ℕ) (appliance : ApplianceNo) (regime : Regime) (device : Device) where
-  held-refused : (found : Option Reply) (known : Known) (part : Part End) (refusal : Reply) → found ≡ Some refusal →
+  pub held-refused : (found : Option Reply) (known : Known) (part : Part End) (refusal : Reply) → found ≡ Some refusal →
       Held slots appliance regime (ends refusal known) device → Held slots appliance regime (unless_refused found known part) device
   held-refused None known part refusal is held = cc
   held-refused (Some r) known part refusal is held = subst (λ (x : Reply). Held slots appliance regime (ends x known) device) (cc) held
 
-  held-fine : (found : Option Reply) (known : Known) (part : Part End) → found ≡ None →
+  pub held-fine : (found : Option Reply) (known : Known) (part : Part End) → found ≡ None →
       Held slots appliance regime part device → Held slots appliance regime (unless_refused found known part) device
   held-fine None known part is held = held
   held-fine (Some r) known part is held = cc
 
-  held-then : (test : Bool) (part other : Part End) → test ≡ true → Held slots appliance regime part device → Held slots appliance regime (if test then part else other) device
+  pub held-then : (test : Bool) (part other : Part End) → test ≡ true → Held slots appliance regime part device → Held slots appliance regime (if test then part else other) device
   held-then true part other is held = held
   held-then false part other is held = cc
 
-  held-else : (test : Bool) (part other : Part End) → test ≡ false → Held slots appliance regime other device → Held slots appliance regime (if test then part else other) device
+  pub held-else : (test : Bool) (part other : Part End) → test ≡ false → Held slots appliance regime other device → Held slots appliance regime (if test then part else other) device
   held-else true part other is held = cc
   held-else false part other is held = held
 
 -- a command that isn't the attach of the one image
-abbrev IsOther : Command → Type 0
+abbrev pub IsOther : Command → Type 0
 IsOther (Attach slot) = slot.0 ≢ 0
 IsOther (Read slot vblock) = Unit {0}
 IsOther (Write slot vblock payload) = Unit {0}
 
 -- a command without a session is refused
-held-missing : (slots : ℕ) (appliance : ApplianceNo) (regime : Regime) (device : Device) (known : Known) (command : Command) →
+pub held-missing : (slots : ℕ) (appliance : ApplianceNo) (regime : Regime) (device : Device) (known : Known) (command : Command) →
     ((m : Model) → Looks appliance regime m → Still slots appliance command known device m) → session_of known.sessions (named command) ≡ None → IsOther command →
     Held slots appliance regime (begun_with slots known None command) device
 held-missing slots appliance regime device known (Attach slot) still missing other =
@@ -130,61 +130,3 @@ held-missing slots appliance regime device known (Write slot vblock payload) sti
       unrefused = tt;
     })
     s.rests
-
--- ---- an appliance without a session
-
--- a refusal leaves the image as it is
-without-still : (slots : ℕ) (appliance : ApplianceNo) (command : Command) (writes : List Journaled) (device : Device) → IsJournal slots device 0 writes → (m : Model) →
-    LooksWithout appliance command nothing_known writes m → Still slots appliance command nothing_known device m
-without-still slots appliance command writes device journal m looks = record {
-  place = looks.place;
-  runs = looks.runs;
-  sessions = looks.sessions;
-  rests = fits-rested slots appliance nothing_known device m (slots_refused m appliance.0 command) looks.place looks.sessions
-    (at-first (λ s. Keeps slots device 0 s × Differs s × (owns s.owner appliance.0 ≡ false)) m.slots (named command) (given_up (m.slots (named command)))
-    (is_changing command && owns (m.slots (named command)).owner appliance.0)
-    (record { writes = writes; journal = journal; either = looks.either }, looks.differs, looks.stranger)
-    (λ is here. absurd (clash (is_changing command && owns (m.slots (named command)).owner appliance.0) is
-    (and-false (is_changing command) (owns (m.slots (named command)).owner appliance.0) (ap (λ n. owns (m.slots n).owner appliance.0) here ∙ looks.stranger)))));
-}
-
--- a start puts no change of it under way
-without-started : (appliance : ApplianceNo) (command : Command) (writes : List Journaled) (m : Model) → IsPlace appliance m → SameSessions appliance nothing_known m →
-    LeaveEither writes (m.slots 0) → Differs (m.slots 0) → owns (m.slots 0).owner appliance.0 ≡ false →
-    LooksWithout appliance command nothing_known writes (moved m (entry.Start appliance command))
-without-started appliance command writes m place sessions either differs stranger =
-    let first = at-first (λ s. LeaveEither writes s × Differs s × (owns s.owner appliance.0 ≡ false)) m.slots (named command) (under_way (m.slots (named command)) command)
-      (begins_change m appliance.0 command) (either, differs, stranger)
-      (λ is here. absurd (clash (begins_change m appliance.0 command) is
-      (and-false (is_changing command) (owns (m.slots (named command)).owner appliance.0 && is_none (refusals m appliance.0 command))
-      (ap (λ o. o && is_none (refusals m appliance.0 command)) (ap (λ n. owns (m.slots n).owner appliance.0) here ∙ stranger))))) in
-    record {
-      place = record { known = place.known; images = place.images };
-      runs = at-same m.running appliance.0 (Some command);
-      sessions = sessions;
-      either = first.0;
-      differs = first.1;
-      stranger = first.2;
-    }
-
--- a slot is the first one, or another
-by_slot : (P : SlotNo → Type 0) → P first_slot_no → ((slot : SlotNo) → slot.0 ≢ 0 → P slot) → (slot : SlotNo) → P slot
-by_slot P here other slot = elim (eqb_tells slot.0 0) [
-  | inl same ↦ let numbered : ℕ → SlotNo = λ n. record { 0 = n } in subst P (sym (ap numbered same.1)) here
-  | inr away ↦ other slot away.1
-]
-
-held-without : (slots : ℕ) (appliance : ApplianceNo) (writes : List Journaled) (device : Device) → slots ≤ 64 → IsJournal slots device 0 writes → (command : Command) →
-    Held slots appliance (Without command nothing_known writes) (command_part slots nothing_known command) device
-held-without slots appliance writes device few journal (Attach slot) =
-    by_slot (λ s. Held slots appliance (Without (Attach s) nothing_known writes) (command_part slots nothing_known (Attach s)) device)
-    (λ reading. held-load slots 0 slots appliance writes device (omega arith) few journal)
-    (λ s other. held-missing slots appliance (Without (Attach s) nothing_known writes) device nothing_known (Attach s)
-    (without-still slots appliance (Attach s) writes device journal) refl other)
-    slot
-held-without slots appliance writes device few journal (Read slot vblock) =
-    held-missing slots appliance (Without (Read slot vblock) nothing_known writes) device nothing_known (Read slot vblock)
-    (without-still slots appliance (Read slot vblock) writes device journal) refl tt
-held-without slots appliance writes device few journal (Write slot vblock payload) =
-    held-missing slots appliance (Without (Write slot vblock payload) nothing_known writes) device nothing_known (Write slot vblock payload)
-    (without-still slots appliance (Write slot vblock payload) writes device journal) refl tt
