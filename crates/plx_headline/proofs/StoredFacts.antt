@@ -36,6 +36,7 @@ last-of : (xs : List Journaled) → (length xs ≡ 0) ⊎ ((k : ℕ) × (write :
 last-of [] = inl refl
 last-of (x ∷ xs) = inr (last-place x xs)
 
+-- it is within the limits of a descriptor
 limits : (k : ℕ) (write : Journaled) → k < 64 → write.number ≡ k + 1 → write.vblock < 2 ^ 27 → IsDescriptor (descriptor_of write)
 limits k write below number small = record {
   generation_low = omega arith;
