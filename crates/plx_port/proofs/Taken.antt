@@ -10,21 +10,5 @@ pub Consumes-more : (a b c : Option (List ℕ)) (xs ys : List ℕ) (filled n : �
     → Consumes a b (take filled xs) → Consumes b c (take n (drop filled ys)) → Consumes a c (take (filled + n) ys)
 Consumes-more a b c xs ys filled n same before more =
     let joined : take (filled + n) ys ≡ take filled xs ++ take n (drop filled ys) =
-        take-add filled n ys ∙ ap (λ l. l ++ take n (drop filled ys)) same in
+    take-add filled n ys ∙ ap (λ l. l ++ take n (drop filled ys)) same in
     subst (Consumes a c) (sym joined) (Consumes-trans a b c _ _ before more)
-
--- bytes that were taken are counted
-pub TakesCount-of : (a b : Option (List ℕ)) (bytes : List ℕ) (n : ℕ) → length bytes ≡ n → Consumes a b bytes → TakesCount a b n
-TakesCount-of None b bytes n long taken = tt
-TakesCount-of (Some xs) None bytes n long taken = absurd taken
-TakesCount-of (Some xs) (Some ys) bytes n long taken =
-    let whole : length xs ≡ length bytes + length ys = ap length taken ∙ length-append bytes ys in
-    let rest : drop n xs ≡ ys = ap (λ k. drop k xs) (sym long) ∙ ap (drop (length bytes)) taken ∙ drop-append_seam bytes ys in
-    (omega arith, ap Some (sym rest))
-
--- bytes that were taken up to the end are all that was left
-pub ReadsToEnd-of : (a b : Option (List ℕ)) (bytes : List ℕ) → Consumes a b bytes → IsAtEnd b → ReadsToEnd a b bytes
-ReadsToEnd-of None b bytes taken end = tt
-ReadsToEnd-of (Some xs) None bytes taken end = absurd taken
-ReadsToEnd-of (Some xs) (Some ys) bytes taken end =
-    (sym (taken ∙ ap (λ l. bytes ++ l) end ∙ append-nil bytes), ap Some end)

@@ -25,7 +25,12 @@ impl Model for MemSource {
     ghost Value = { Incoming };
 
     ghost view = { λ s. record {
-        left = drop s.at s.bytes.items; piece = s.piece; fails = s.fails.items; calls = s.calls; faults = s.faults } };
+      left = drop s.at s.bytes.items;
+      piece = s.piece;
+      fails = s.fails.items;
+      calls = s.calls;
+      faults = s.faults;
+    } };
 
     ghost invariant = { λ s. (s.at ≤ vec_len s.bytes) × (0 < s.piece) };
 }
@@ -35,7 +40,12 @@ impl MemSource {
     pub fn new(bytes: Vec<u8>, piece: usize, fails: Vec<u64>) -> MemSource
         requires { 0 < piece }
         ensures { result ≡ record {
-            left = bytes.items; piece = piece; fails = fails.items; calls = 0; faults = 0 } }
+          left = bytes.items;
+          piece = piece;
+          fails = fails.items;
+          calls = 0;
+          faults = 0;
+        } }
     {
         MemSource {
             bytes,
@@ -45,6 +55,13 @@ impl MemSource {
             calls: 0,
             faults: 0,
         }
+    }
+
+    /// The bytes that are left.
+    pub fn left(&self) -> &[u8]
+        ensures { result.now ≡ self.now.left }
+    {
+        &self.bytes[self.at..]
     }
 
     /// How many calls have failed, no higher than 2^64 - 1.
@@ -64,13 +81,17 @@ impl Source for MemSource {
         // A call fails exactly where its number is listed, and changes nothing but the counts.
         ensures fails { IsErr result ↔ Contains self.old.fails self.old.calls }
         ensures err { OnErr result (self.new ≡ record self.old {
-            calls = one_more self.old.calls; faults = one_more self.old.faults }) }
+          calls = one_more self.old.calls;
+          faults = one_more self.old.faults;
+        }) }
 
         // Otherwise it gives as much as the buffer, the piece and what is left allow.
         ensures length { IfOk result (λ n. n ≡ min (length into.old) (min self.old.piece (length self.old.left))) }
         ensures bytes { IfOk result (λ n. into.new ≡ take n self.old.left ++ drop n into.old) }
         ensures ok { IfOk result (λ n. self.new ≡ record self.old {
-            left = drop n self.old.left; calls = one_more self.old.calls }) }
+          left = drop n self.old.left;
+          calls = one_more self.old.calls;
+        }) }
 
         // What each source ensures.
         ensures count { IfOk result (λ n. n ≤ length into.old) }

@@ -4,15 +4,21 @@
 
 mod failed;
 mod incoming;
+mod input;
 mod outgoing;
+mod output;
 mod reading;
 mod sink;
 mod source;
+#[cfg(test)]
+mod tests;
 mod writing;
 
 pub use failed::Failed;
 pub use incoming::MemSource;
+pub use input::ReadSource;
 pub use outgoing::MemSink;
+pub use output::WriteSink;
 pub use reading::{ReadError, read_all};
 pub use sink::Sink;
 pub use source::Source;

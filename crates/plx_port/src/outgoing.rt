@@ -26,7 +26,13 @@ impl Model for MemSink {
     ghost Value = { Outgoing };
 
     ghost view = { λ s. record {
-        held = s.held.items; piece = s.piece; room = s.room; fails = s.fails.items; calls = s.calls; faults = s.faults } };
+      held = s.held.items;
+      piece = s.piece;
+      room = s.room;
+      fails = s.fails.items;
+      calls = s.calls;
+      faults = s.faults;
+    } };
 
     ghost invariant = { λ s. (vec_len s.held ≤ s.room) × (s.room ≤ vec_capacity s.held) × (0 < s.piece) };
 }
@@ -41,7 +47,13 @@ impl MemSink {
     ) -> Result<MemSink, AllocError>
         requires { 0 < piece }
         ensures { IfOk result (λ s. s ≡ record {
-            held = []; piece = piece; room = room; fails = fails.items; calls = 0; faults = 0 }) }
+          held = [];
+          piece = piece;
+          room = room;
+          fails = fails.items;
+          calls = 0;
+          faults = 0;
+        }) }
     {
         let held = Vec::with_capacity(alloc, room)?;
         Ok(MemSink {
@@ -56,7 +68,8 @@ impl MemSink {
 
     /// The bytes that were taken.
     pub fn held(&self) -> &[u8]
-        ensures { result.now ≡ self.now.held }
+        ensures same { result.now ≡ self.now.held }
+        ensures within { length self.now.held ≤ self.now.room }
     {
         self.held.as_slice()
     }
@@ -80,13 +93,17 @@ impl Sink for MemSink {
         ensures fails { IsErr result ↔ (Contains self.old.fails self.old.calls
             ⊎ ((self.old.room ≤ length self.old.held) × (0 < length bytes.now))) }
         ensures err { OnErr result (self.new ≡ record self.old {
-            calls = one_more self.old.calls; faults = one_more self.old.faults }) }
+          calls = one_more self.old.calls;
+          faults = one_more self.old.faults;
+        }) }
 
         // Otherwise it takes as much as the piece and the room allow.
         ensures length { IfOk result (λ n. n ≡ min (length bytes.now)
             (min self.old.piece (self.old.room - length self.old.held))) }
         ensures ok { IfOk result (λ n. self.new ≡ record self.old {
-            held = self.old.held ++ take n bytes.now; calls = one_more self.old.calls }) }
+          held = self.old.held ++ take n bytes.now;
+          calls = one_more self.old.calls;
+        }) }
 
         // What each sink ensures.
         ensures count { IfOk result (λ n. n ≤ length bytes.now) }

@@ -8,8 +8,8 @@ ghost use Rattle.plx_port.specs.declared.reading.ReadError.TheVariants as varian
 use crate::{Failed, Source};
 use std::alloc::{AllocError, Global};
 
-/// The most bytes by which the buffer grows at a time.
-const CHUNK: usize = 64 * 1024;
+/// The most bytes that are asked for at a time.
+pub(crate) const CHUNK: usize = 64 * 1024;
 
 /// Why a source was not read to its end.
 #[derive(Clone, Copy, Debug, PartialEq, Eq)]
@@ -39,7 +39,11 @@ impl From<AllocError> for ReadError {
 }
 
 /// Reads a source to its end, if that comes after at most `limit` bytes.
-pub fn read_all<S: Source>(alloc: Global, source: &mut S, limit: usize) -> Result<Vec<u8>, ReadError>
+pub fn read_all<S: Source>(
+    alloc: Global,
+    source: &mut S,
+    limit: usize,
+) -> Result<Vec<u8>, ReadError>
     requires { limit < 2 ^ 64 - 1 }
 
     ensures ok { IfOk result (λ bytes. ReadsToEnd (S.left source.old) (S.left source.new) bytes.items) }

@@ -10,7 +10,8 @@ loop-filled-preserved g c =
     let items = with_items_is c.make_room.new.bytes c.read_at.new.buffer (search (rules, places)) in
     let same = read.front ∙ ap (take c.loop-filled.filled) c.deref_mut.ensures.value ∙ c.in_ok-make_room.ensures.front in
     record {
-        within = search (rules, places);
-        short = c.in_ok-make_room.ensures.within;
-        taken = rw items (Consumes-more _ _ _ c.loop-filled.bytes.items c.read_at.new.buffer _ _ same before.taken read.given);
-        faults = omega (arith, read.faults, before.faults) }
+      within = search (rules, places);
+      short = c.in_ok-make_room.ensures.within;
+      taken = rw items (Consumes-more _ _ _ c.loop-filled.bytes.items c.read_at.new.buffer _ _ same before.taken read.given);
+      faults = omega (arith, read.faults, before.faults);
+    }

@@ -12,6 +12,7 @@ loop-at-preserved g c =
     let n = c.in_ok-at.field-0 in
     let joined = take-add at n bytes ∙ ap (λ l. take at bytes ++ take n l) (sym (take_rest bytes at)) in
     record {
-        within = omega (arith, c.in_ok-at.ensures.count, ap length (take_rest bytes at), length-drop at bytes, c.loop-at.invariant.within);
-        written = subst (Appends _ _) (sym joined) (Appends-trans _ _ _ _ _ c.loop-at.invariant.written c.in_ok-at.ensures.appended);
-        faults = omega (arith, c.in_ok-at.ensures.faults, c.loop-at.invariant.faults) }
+      within = omega (arith, c.in_ok-at.ensures.count, ap length (take_rest bytes at), length-drop at bytes, c.loop-at.invariant.within);
+      written = subst (Appends _ _) (sym joined) (Appends-trans _ _ _ _ _ c.loop-at.invariant.written c.in_ok-at.ensures.appended);
+      faults = omega (arith, c.in_ok-at.ensures.faults, c.loop-at.invariant.faults);
+    }

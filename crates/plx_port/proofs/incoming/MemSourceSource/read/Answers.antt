@@ -29,5 +29,7 @@ returns-clause-given c =
     let front : c.copy_from_slice.new.self ≡ take n (drop at bytes) = c.copy_from_slice.ensures.after ∙ ap (take n) part in
     let least = c.min.ensures ∙ ap (λ l. min c.self.inside.piece (length l)) part in
     let count = c.min-count.ensures in
-    rw (← c.self.view_is) (given at n bytes c.copy_from_slice.new.self _ (omega (arith, least, count)) front,
-        at_end at n _ _ c.args.into.now c.copy_from_slice.new.self bytes count least c.self.invariant.1 c.copy_from_slice.ensures.len)
+    rw (← c.self.view_is) (
+      given at n bytes c.copy_from_slice.new.self _ (omega (arith, least, count)) front,
+      at_end at n _ _ c.args.into.now c.copy_from_slice.new.self bytes count least c.self.invariant.1 c.copy_from_slice.ensures.len,
+    )
