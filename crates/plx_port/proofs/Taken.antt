@@ -1,9 +1,8 @@
 -- What is taken of a source, from one read to the next and at the end.
-use Rattle.std.proofs.Common.{◌≡◌, ℕ, ◌+◌, List, ◌++◌, Option, None, Some, length, take, drop, sym, ap, subst, ◌∙◌, arith, append-nil, length-append}
-use Rattle.std.proofs.Math.Seq.{take-add, drop-append_seam}
+use Rattle.std.proofs.Common.{◌≡◌, ℕ, ◌+◌, List, ◌++◌, Option, take, drop, sym, ap, subst, ◌∙◌}
+use Rattle.std.proofs.Math.Seq.{take-add}
 use Rattle.std.proofs.KnownBytes.{Consumes-trans}
-use Rattle.std.specs.Io.KnownBytes.{Consumes, IsAtEnd}
-use Rattle.plx_port.specs.Streams.{ReadsToEnd, TakesCount}
+use Rattle.std.specs.Io.KnownBytes.{Consumes}
 
 -- the filled front of a buffer was taken, and then what stands behind it
 pub Consumes-more : (a b c : Option (List ℕ)) (xs ys : List ℕ) (filled n : ℕ) → take filled ys ≡ take filled xs

@@ -1,7 +1,7 @@
 //! A source in memory.
 ghost use Rattle.std.specs.Prelude.{◌≡◌, ◌<◌, ◌≤◌, ◌++◌, ◌↔◌, Contains, IfOk, OnErr, IsErr, IsTrue, MatchResult, Some, length, take, drop, min};
-ghost use Rattle.std.specs.Io.KnownBytes.{ReadConsumes};
 ghost use Rattle.plx_port.specs.Faults.{Rose, one_more};
+ghost use Rattle.plx_port.specs.Streams.{Gives};
 
 use crate::{Failed, Source};
 use std::marker::Model;
@@ -95,7 +95,7 @@ impl Source for MemSource {
 
         // What each source ensures.
         ensures count { IfOk result (λ n. n ≤ length into.old) }
-        ensures given { ReadConsumes (Some self.old.left) (Some self.new.left) result into.new }
+        ensures given { Gives (Some self.old.left) (Some self.new.left) result into.new }
         ensures rest { MatchResult result (λ n. drop n into.new ≡ drop n into.old) (λ _. into.new ≡ into.old) }
         ensures faults { self.old.faults ≤ self.new.faults }
         ensures failed { OnErr result (Rose self.old.faults self.new.faults) }

@@ -1,81 +1,51 @@
 //! A source over a reader of the standard library, such as standard input.
-ghost use Rattle.std.specs.Prelude.{◌≡◌, ◌≤◌, ◌<◌, length, IfOk};
+ghost use Rattle.std.specs.Prelude.{◌≡◌, ◌≤◌, MatchResult, IfOk, length, drop};
+ghost use Rattle.plx_port.specs.Streams.{Gives};
 
-use crate::reading::CHUNK;
 use crate::{Failed, Source};
-use std::alloc::{AllocError, Global};
-use std::io::{ErrorKind, Read};
-use std::marker::Model;
+use std::io::{BufRead, ErrorKind};
 
-/// A source that gives what a reader gives, by way of a buffer. It tells no content. It is seen as the
-/// number of times that the reader has failed, no higher than 2^64 - 1.
+/// A source that gives what a buffered reader gives, and tells what is left where the reader does.
+/// Standard input, of which nothing is known, tells nothing. Give its reader a large buffer.
 #[derive(Drop)]
-pub struct ReadSource<R> {
-    reader: R,
-    buffer: Vec<u8>,
-    start: usize,
-    end: usize,
+pub struct ReadSource<B> {
+    reader: B,
     faults: u64,
 }
 
-impl<R> Model for ReadSource<R> {
-    ghost use Rattle.std.specs.Prelude.{ℕ, ◌≤◌, ◌<◌, vec_len};
-
-    ghost Value = { ℕ };
-
-    ghost view = { λ s. s.faults };
-
-    ghost invariant = { λ s. (s.start ≤ s.end) × (s.end ≤ vec_len s.buffer) };
-}
-
-impl<R: Read> ReadSource<R> {
+impl<B: BufRead> ReadSource<B> {
     /// A source over a reader, which has not failed.
-    pub fn new(alloc: Global, reader: R) -> Result<ReadSource<R>, AllocError>
-    where
-        R: Drop,
-        ensures { IfOk result (λ s. s ≡ 0) }
+    pub fn new(reader: B) -> ReadSource<B>
+        ensures { result ≡ record { reader = reader; faults = 0 } }
     {
-        let mut buffer = Vec::new(alloc);
-        buffer.resize(CHUNK, 0)?;
-        Ok(ReadSource {
-            reader,
-            buffer,
-            start: 0,
-            end: 0,
-            faults: 0,
-        })
+        ReadSource { reader, faults: 0 }
     }
 }
 
-impl<R: Read> Source for ReadSource<R> {
-    ghost faults = { λ s. s };
+impl<B: BufRead> Source for ReadSource<B> {
+    ghost faults = { λ s. s.faults };
+
+    ghost left = { λ s. B.remaining s.reader };
 
     fn read(&mut self, into: &mut [u8]) -> Result<usize, Failed> {
-        if self.start == self.end && !into.is_empty() {
-            match read_once(&mut self.reader, &mut self.buffer) {
-                Ok(count) => {
-                    self.start = 0;
-                    self.end = count;
-                }
-                Err(Failed) => {
-                    self.faults = self.faults.saturating_add(1);
-                    return Err(Failed);
-                }
+        match read_once(&mut self.reader, into) {
+            Ok(count) => Ok(count),
+            Err(Failed) => {
+                self.faults = self.faults.saturating_add(1);
+                Err(Failed)
             }
         }
-        let count = into.len().min(self.end - self.start);
-        into[..count].copy_from_slice(&self.buffer[self.start..self.start + count]);
-        self.start += count;
-        Ok(count)
     }
 }
 
-// One read. A call that a signal interrupted is made again.
-fn read_once<R: Read>(reader: &mut R, buffer: &mut [u8]) -> Result<usize, Failed>
-    ensures { IfOk result (λ n. n ≤ length buffer.new) }
+// One read, made again where a signal interrupted it.
+fn read_once<B: BufRead>(reader: &mut B, into: &mut [u8]) -> Result<usize, Failed>
+    ensures count { IfOk result (λ n. n ≤ length into.old) }
+    ensures given { Gives (B.remaining reader.old) (B.remaining reader.new) result into.new }
+    ensures rest { MatchResult result (λ n. drop n into.new ≡ drop n into.old) (λ _. into.new ≡ into.old) }
 {
     for _ in 0..u64::MAX {
-        match reader.read(buffer) {
+        match take_front(reader, into) {
             Ok(count) => return Ok(count),
             Err(error) => {
                 if error.kind() != ErrorKind::Interrupted {
@@ -85,4 +55,17 @@ fn read_once<R: Read>(reader: &mut R, buffer: &mut [u8]) -> Result<usize, Failed
         }
     }
     Err(Failed)
+}
+
+// Takes the first bytes that the reader shows.
+fn take_front<B: BufRead>(reader: &mut B, into: &mut [u8]) -> std::io::Result<usize>
+    ensures count { IfOk result (λ n. n ≤ length into.old) }
+    ensures given { Gives (B.remaining reader.old) (B.remaining reader.new) result into.new }
+    ensures rest { MatchResult result (λ n. drop n into.new ≡ drop n into.old) (λ _. into.new ≡ into.old) }
+{
+    let shown = reader.fill_buf()?;
+    let count = into.len().min(shown.len());
+    into[..count].copy_from_slice(&shown[..count]);
+    reader.consume(count);
+    Ok(count)
 }

@@ -1,37 +1,31 @@
 //! A sink over a writer of the standard library, such as standard output.
-ghost use Rattle.std.specs.Prelude.{◌≡◌, ◌≤◌, ◌<◌, ℕ, length, IfOk};
+ghost use Rattle.std.specs.Prelude.{◌≡◌, ◌≤◌, ◌<◌, IfOk, length};
+ghost use Rattle.std.specs.Io.KnownBytes.{WriteAppends};
 
 use crate::{Failed, Sink};
 use std::io::{ErrorKind, Write};
-use std::marker::Model;
 
-/// A sink that passes its bytes to a writer. It tells no content. It is seen as the number of times
-/// that the writer has failed, no higher than 2^64 - 1.
+/// A sink that passes its bytes to a writer, and tells what is held where the writer does. Standard
+/// output, of which nothing is known, tells nothing.
 #[derive(Drop)]
 pub struct WriteSink<W> {
     writer: W,
     faults: u64,
 }
 
-impl<W> Model for WriteSink<W> {
-    ghost use Rattle.std.specs.Prelude.{ℕ};
-
-    ghost Value = { ℕ };
-
-    ghost view = { λ s. s.faults };
-}
-
 impl<W: Write> WriteSink<W> {
     /// A sink over a writer, which has not failed.
     pub fn new(writer: W) -> WriteSink<W>
-        ensures { result ≡ 0 }
+        ensures { result ≡ record { writer = writer; faults = 0 } }
     {
         WriteSink { writer, faults: 0 }
     }
 }
 
 impl<W: Write> Sink for WriteSink<W> {
-    ghost faults = { λ s. s };
+    ghost faults = { λ s. s.faults };
+
+    ghost held = { λ s. W.contents s.writer };
 
     fn write(&mut self, bytes: &[u8]) -> Result<usize, Failed> {
         if bytes.is_empty() {
@@ -47,10 +41,11 @@ impl<W: Write> Sink for WriteSink<W> {
     }
 }
 
-// One write, which fails where nothing is taken. A call that a signal interrupted is made again.
+// One write, made again where a signal interrupted it. It fails where nothing is taken.
 fn write_once<W: Write>(writer: &mut W, bytes: &[u8]) -> Result<usize, Failed>
     ensures count { IfOk result (λ n. n ≤ length bytes.now) }
     ensures some { IfOk result (λ n. 0 < n) }
+    ensures appended { WriteAppends (W.contents writer.old) (W.contents writer.new) result bytes.now }
 {
     for _ in 0..u64::MAX {
         match writer.write(bytes) {

@@ -9,7 +9,7 @@ use crate::{Failed, Source};
 use std::alloc::{AllocError, Global};
 
 /// The most bytes that are asked for at a time.
-pub(crate) const CHUNK: usize = 64 * 1024;
+const CHUNK: usize = 64 * 1024;
 
 /// Why a source was not read to its end.
 #[derive(Clone, Copy, Debug, PartialEq, Eq)]
@@ -96,7 +96,7 @@ fn read_at<S: Source>(source: &mut S, buffer: &mut [u8], at: usize) -> Result<us
     ensures count { IfOk result (λ n. at + n ≤ length buffer.new) }
     ensures front { take at buffer.new ≡ take at buffer.old }
     ensures given { IfOk result (λ n. Consumes (S.left source.old) (S.left source.new) (take n (drop at buffer.new))) }
-    ensures end { IfOk result (λ n. n ≡ 0 → IsAtEnd (S.left source.new)) }
+    ensures end { IfOk result (λ n. n ≡ 0 → IsAtEnd (S.left source.old)) }
     ensures kept { OnErr result (Keeps (S.left source.old) (S.left source.new)) }
 
     ensures faults { S.faults source.old ≤ S.faults source.new }

@@ -1,7 +1,7 @@
 //! What gives bytes.
 ghost use Rattle.std.specs.Prelude.{◌≡◌, ◌≤◌, ℕ, List, Option, None, IfOk, OnErr, MatchResult, length, drop};
-ghost use Rattle.std.specs.Io.KnownBytes.{ReadConsumes};
 ghost use Rattle.plx_port.specs.Faults.{Rose};
+ghost use Rattle.plx_port.specs.Streams.{Gives};
 
 use crate::Failed;
 
@@ -19,7 +19,7 @@ pub trait Source {
         ensures count { IfOk result (λ n. n ≤ length into.old) }
 
         // What is left loses the bytes given, and tells on. It loses none where the call fails.
-        ensures given { ReadConsumes (left self.old) (left self.new) result into.new }
+        ensures given { Gives (left self.old) (left self.new) result into.new }
 
         // Of the buffer only the bytes given change.
         ensures rest { MatchResult result (λ n. drop n into.new ≡ drop n into.old) (λ _. into.new ≡ into.old) }

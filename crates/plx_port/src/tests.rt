@@ -1,6 +1,6 @@
 use super::*;
 use std::io;
-use std::io::{ErrorKind, Read, Write};
+use std::io::{BufReader, ErrorKind, Read, Write};
 use std::test::Fail;
 
 #[test]
@@ -90,7 +90,7 @@ fn a_reader_that_fails_goes_on(rt: HostRuntime) -> Result<(), Fail> {
         calls: 0,
         taken: Vec::new(alloc),
     };
-    let mut source = ReadSource::new(alloc, reader)?;
+    let mut source = ReadSource::new(BufReader::with_capacity(alloc, 4, reader)?);
     let mut into = [0u8; 1];
     assert_eq!(rt; source.read(&mut into), Ok(1));
     assert_eq!(rt; read_all(alloc, &mut source, 9), Err(ReadError::Failed));

@@ -14,7 +14,7 @@ given at n bytes front rest short e =
 
 -- no byte is given to a buffer that isn't empty only where none is left
 at_end : (at n piece least : ℕ) (into front bytes : List ℕ) → n ≡ min (length into) least → least ≡ min piece (length (drop at bytes)) → 0 < piece
-    → length front ≡ length (take n into) → n ≡ 0 → 0 < length (front ++ drop n into) → drop (at + n) bytes ≡ []
+    → length front ≡ length (take n into) → n ≡ 0 → 0 < length (front ++ drop n into) → drop at bytes ≡ []
 at_end at n piece least into front bytes count less some same none room =
     let within : 0 < length into = omega (arith, length-append front (drop n into), length-drop n into, length-take n into) in
     drop_of_length-le bytes (omega (arith, length-drop at bytes))
