@@ -1,1 +1,5 @@
+pub mod Landing
+pub mod Missing
+pub mod Standing
+pub mod Stored
 pub mod Writes

@@ -2,5 +2,9 @@
 #![tactic(auto)]
 
 mod ask;
+mod blocks;
+mod disk;
+mod write;
 
 pub use ask::{Answer, Ask};
+pub use disk::Disk;
