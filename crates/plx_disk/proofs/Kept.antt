@@ -1,9 +1,12 @@
 -- Issued writes and what the code keeps of them, one by one.
 use Rattle.std.proofs.Common.{◌≡◌, ◌≢◌, ◌<◌, ◌≤◌, ◌+◌, ℕ, zero, suc, List, [], ◌∷◌, ◌++◌, length, Option, Some, None, Bool, true, false, refl, ap, sym, subst, ◌∙◌, arith, slice_set}
 use Rattle.std.specs.Prelude.{slice_get}
-use Rattle.plx_disk.specs.Writes.{Issued, Surface, HasLanded, all_sectors, cancelled_at, with_cancel}
+use Rattle.std.proofs.lemmas.Option.{slice_get_within}
+use Rattle.plx_disk.specs.Writes.{Issued, Surface, HasLanded, all_sectors, no_sectors, fresh_write, cancelled_at, with_cancel}
 use Rattle.plx_disk.specs.Stored.{Blocks, has_its_place, has_place, is_stored, ArePlaced}
 use Rattle.plx_disk.specs.Standing.{StandForAll, StandsFor, Proceeds, Stands}
+use Rattle.plx_base.specs.declared.numbers.Boot.{Boot}
+use Rattle.plx_base.specs.declared.write_kind.WriteKind.{WriteKind}
 use Rattle.plx_disk.specs.declared.write.Progress.{Progress}
 use Rattle.plx_disk.specs.declared.write.Progress.TheVariants.{Open, Whole, Closed}
 use Rattle.plx_disk.specs.declared.write.Write.{Write}
@@ -61,6 +64,19 @@ kept-of (j ∷ kept) (v ∷ writes) zero w h e =
     (j, refl, subst P same h.0)
 kept-of (j ∷ kept) (v ∷ writes) (suc n) w h e = kept-of kept writes n w h.1 e
 
+-- the issued write with the number of a kept one
+pub kept-at : (kept : List Write) (writes : List Issued) (n : ℕ) (k : Write) (w : Issued) → StandForAll kept writes →
+    slice_get kept n ≡ Some k → slice_get writes n ≡ Some w → StandsFor k w
+kept-at kept writes n k w h ek ew =
+    let found = kept-issued kept writes n k h ek in
+    let P : Issued → Type 0 = λ x. StandsFor k x in
+    let same : found.0 ≡ w = let f : slice_get writes n ≡ Some found.0 = found.1 in cc in
+    subst P same found.2
+
+-- past the last number nothing was issued
+pub kept-past : (kept : List Write) (writes : List Issued) (n : ℕ) (w : Issued) → StandForAll kept writes → length kept ≤ n → slice_get writes n ≡ Some w → ⊥
+kept-past kept writes n w h past e = omega (arith, kept-length kept writes h, slice_get_within writes n w e)
+
 -- one of them changes
 pub kept-set : (kept : List Write) (writes : List Issued) (n : ℕ) (k : Write) (w : Issued) → StandForAll kept writes → StandsFor k w →
     StandForAll (slice_set kept n k) (slice_set writes n w)
@@ -78,6 +94,18 @@ kept-set_same [] (v ∷ writes) n k h e = absurd h
 kept-set_same (j ∷ kept) [] n k h e = absurd h
 kept-set_same (j ∷ kept) (v ∷ writes) zero k h e = (e v refl, h.1)
 kept-set_same (j ∷ kept) (v ∷ writes) (suc n) k h e = (h.0, kept-set_same kept writes n k h.1 e)
+
+-- a write that has just been issued, with these bytes kept
+abbrev pub fresh_kept : Boot → WriteKind → ℕ → List ℕ → ℕ → Write
+fresh_kept owner kind block bytes guard =
+    record { owner = owner; progress = Open (record { kind = kind; block = block; bytes = bytes; guard = guard; landed = no_sectors }) }
+
+pub kept-fresh : (owner : Boot) (kind : WriteKind) (block : ℕ) (given bytes : List ℕ) (guard : ℕ) → given ≡ bytes →
+    StandsFor (fresh_kept owner kind block given guard) (fresh_write owner.0 kind block bytes guard)
+kept-fresh owner kind block given bytes guard same = record {
+  owner = refl;
+  progress = record { kind = refl; block = refl; bytes = same; guard = refl; landed = refl; open_yet = refl; not_whole = λ e. cc };
+}
 
 -- one more is issued
 pub kept-push : (kept : List Write) (writes : List Issued) (k : Write) (w : Issued) → StandForAll kept writes → StandsFor k w →
@@ -124,6 +152,12 @@ all-placed-more old new writes more h = λ n. go (slice_get writes n) (h n)
   go : (o : Option Write) → has_its_place old o ≡ true → has_its_place new o ≡ true
   go None e = refl
   go (Some write) e = placed-more old new more write.progress e
+
+-- the place of one write
+pub placed-at : (blocks : Blocks) (writes : List Write) (n : ℕ) (k : Write) → ArePlaced blocks writes → slice_get writes n ≡ Some k → has_place blocks k.progress ≡ true
+placed-at blocks writes n k all e =
+    let P : Option Write → Type 0 = λ o. has_its_place blocks o ≡ true in
+    subst P e (all n)
 
 -- one of them changes
 pub placed-set : (blocks : Blocks) (writes : List Write) (n : ℕ) (k : Write) →

@@ -1,3 +1,6 @@
+pub mod Asked
+pub mod Devices
 pub mod Flags
 pub mod Kept
+pub mod Landings
 pub mod Whole

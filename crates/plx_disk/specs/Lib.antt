@@ -1,3 +1,4 @@
+pub mod Filled
 pub mod Landing
 pub mod Missing
 pub mod Standing

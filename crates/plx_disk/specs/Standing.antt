@@ -1,5 +1,5 @@
 -- What the code's device stands for.
-use Rattle.std.specs.Prelude.{◌≡◌, ◌≢◌, ◌+◌, ◌<◌, ◌≤◌, ℕ, List, [], ◌∷◌, Option, Some, None, Bool, true, false, slice_get}
+use Rattle.std.specs.Prelude.{◌≡◌, ◌≢◌, ◌+◌, ◌<◌, ◌≤◌, ℕ, List, [], ◌∷◌, Option, Some, None, Bool, true, false, length}
 use Rattle.plx_disk.specs.Stored.{device_of}
 use Rattle.plx_disk.specs.Writes.{Issued, Surface, all_sectors}
 use Rattle.plx_disk.specs.declared.write.Pending.{Pending}
@@ -42,3 +42,15 @@ pub record Stands (disk : Disk) (s : Surface) : Type 0 where
   pub device : (b : ℕ) → device_of disk.stored b ≡ s.device b
   pub writes : StandForAll disk.writes.items s.writes
   pub time : disk.time ≡ s.time
+
+-- each device that the old one stands for leads to one that the new one stands for
+abbrev pub Turns : Disk → Disk → (Surface → Surface) → Type 0
+Turns old new change = (s : Surface) → Stands old s → Stands new (change s)
+
+-- the new one stands for what the old one stood for
+abbrev pub Stays : Disk → Disk → Type 0
+Stays old new = (s : Surface) → Stands old s → Stands new s
+
+-- how many writes were issued
+abbrev pub issued_count : Disk → ℕ
+issued_count disk = length disk.writes.items

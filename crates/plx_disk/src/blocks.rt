@@ -52,3 +52,23 @@ pub fn make_place(alloc: Global, blocks: &mut BTreeMap<u64, Block>, block: u64) 
     blocks.insert(block, empty)?;
     Ok(())
 }
+
+/// Puts bytes into a block.
+pub fn store(blocks: &mut BTreeMap<u64, Block>, block: u64, bytes: Block) -> Result<(), NoMemory>
+    ensures ok { OnOk result ((b : ℕ) → device_of blocks.new b ≡ put (device_of blocks.old) block bytes b) }
+    ensures err { OnErr result ((b : ℕ) → device_of blocks.new b ≡ device_of blocks.old b) }
+    ensures others { (b : ℕ) → is_stored blocks.old b ≡ true → is_stored blocks.new b ≡ true }
+{
+    blocks.insert(block, bytes)?;
+    Ok(())
+}
+
+/// What stands in a block.
+pub fn copy_out(blocks: &BTreeMap<u64, Block>, block: u64, into: &mut Block)
+    ensures { into.new ≡ device_of blocks.now block }
+{
+    match blocks.get(&block) {
+        Some(bytes) => into.set(bytes),
+        None => clear(into),
+    }
+}
