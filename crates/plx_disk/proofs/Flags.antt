@@ -1,5 +1,5 @@
 -- Flags of the sectors that have landed.
-use Rattle.std.proofs.Common.{◌≡◌, ◌<◌, ◌∙◌, ℕ, zero, suc, List, [], ◌∷◌, length, Some, Bool, true, false, ap, sym, refl, arith, replicate}
+use Rattle.std.proofs.Common.{◌≡◌, ◌<◌, ◌∙◌, ℕ, suc, List, [], ◌∷◌, length, Some, Bool, true, ap, refl, arith, replicate}
 use Rattle.std.specs.Prelude.{slice_get}
 use Rattle.plx_disk.specs.Writes.{all_sectors}
 
@@ -14,4 +14,3 @@ all-true (flag ∷ flags) h =
 pub all-eight : (flags : List Bool) → length flags ≡ 8 → ((k : ℕ) → k < 8 → slice_get flags k ≡ Some true) → flags ≡ all_sectors
 all-eight flags long h =
     all-true flags (λ k below. h k (omega arith)) ∙ ap (λ n. replicate n true) long
-

@@ -1,37 +1,15 @@
 -- Issued writes and what the code keeps of them, one by one.
-use Rattle.std.proofs.Common.{◌≡◌, ◌≢◌, ◌<◌, ◌≤◌, ◌+◌, ℕ, zero, suc, List, [], ◌∷◌, ◌++◌, length, Option, Some, None, Bool, true, false, refl, ap, sym, subst, ◌∙◌, arith, slice_set}
+use Rattle.std.proofs.Common.{◌≡◌, ◌≤◌, ℕ, zero, suc, List, [], ◌∷◌, ◌++◌, length, Option, Some, None, true, refl, ap, subst, arith, slice_set}
 use Rattle.std.specs.Prelude.{slice_get}
 use Rattle.std.proofs.lemmas.Option.{slice_get_within}
-use Rattle.plx_disk.specs.Writes.{Issued, Surface, HasLanded, all_sectors, no_sectors, fresh_write, cancelled_at, with_cancel}
+use Rattle.plx_disk.specs.Writes.{Issued, no_sectors, fresh_write, cancelled_at, with_cancel}
 use Rattle.plx_disk.specs.Stored.{Blocks, has_its_place, has_place, is_stored, ArePlaced}
-use Rattle.plx_disk.specs.Standing.{StandForAll, StandsFor, Proceeds, Stands}
+use Rattle.plx_disk.specs.Standing.{StandForAll, StandsFor}
 use Rattle.plx_base.specs.declared.numbers.Boot.{Boot}
 use Rattle.plx_base.specs.declared.write_kind.WriteKind.{WriteKind}
 use Rattle.plx_disk.specs.declared.write.Progress.{Progress}
 use Rattle.plx_disk.specs.declared.write.Progress.TheVariants.{Open, Whole, Closed}
 use Rattle.plx_disk.specs.declared.write.Write.{Write}
-
--- an element, where the list is known to go on to it
-pub set-same : {A : Type 0} (xs : List A) (n : ℕ) (x y : A) → slice_get xs n ≡ Some y → slice_get (slice_set xs n x) n ≡ Some x
-set-same [] n x y h = cc
-set-same (z ∷ xs) zero x y h = refl
-set-same (z ∷ xs) (suc n) x y h = set-same xs n x y h
-
-pub set-other : {A : Type 0} (xs : List A) (n k : ℕ) (x : A) → k ≢ n → slice_get (slice_set xs n x) k ≡ slice_get xs k
-set-other [] n k x h = refl
-set-other (z ∷ xs) zero zero x h = absurd (h refl)
-set-other (z ∷ xs) zero (suc k) x h = refl
-set-other (z ∷ xs) (suc n) zero x h = refl
-set-other (z ∷ xs) (suc n) (suc k) x h = set-other xs n k x (λ e. h (ap suc e))
-
-pub push-last : {A : Type 0} (xs : List A) (x : A) → slice_get (xs ++ x ∷ []) (length xs) ≡ Some x
-push-last [] x = refl
-push-last (y ∷ xs) x = push-last xs x
-
-pub push-before : {A : Type 0} (xs : List A) (x y : A) (n : ℕ) → slice_get xs n ≡ Some y → slice_get (xs ++ x ∷ []) n ≡ Some y
-push-before [] x y n h = cc
-push-before (z ∷ xs) x y zero h = h
-push-before (z ∷ xs) x y (suc n) h = push-before xs x y n h
 
 -- as many are kept as were issued
 pub kept-length : (kept : List Write) (writes : List Issued) → StandForAll kept writes → length kept ≡ length writes
@@ -124,20 +102,6 @@ kept-cancelled (j ∷ kept) [] n k h e = absurd h
 kept-cancelled (j ∷ kept) (v ∷ writes) zero k h e = (e v refl, h.1)
 kept-cancelled (j ∷ kept) (v ∷ writes) (suc n) k h e = (h.0, kept-cancelled kept writes n k h.1 e)
 
--- a write that was never issued can't be cancelled
-pub cancelled-past : (writes : List Issued) (n : ℕ) → length writes ≤ n → cancelled_at writes n ≡ writes
-cancelled-past [] n h = refl
-cancelled-past (v ∷ writes) zero h = absurd (omega arith)
-cancelled-past (v ∷ writes) (suc n) h = ap (λ rest. v ∷ rest) (cancelled-past writes n (omega arith))
-
--- a cancelled write is one write changed
-pub cancelled-set : (writes : List Issued) (n : ℕ) (w : Issued) → slice_get writes n ≡ Some w → cancelled_at writes n ≡ slice_set writes n (with_cancel w)
-cancelled-set [] n w h = cc
-cancelled-set (v ∷ writes) zero w h =
-    let same : v ≡ w = cc in
-    ap (λ x. with_cancel x ∷ writes) same
-cancelled-set (v ∷ writes) (suc n) w h = ap (λ rest. v ∷ rest) (cancelled-set writes n w h)
-
 -- every place stays where one more block may be stored
 pub placed-more : (old new : Blocks) → ((b : ℕ) → is_stored old b ≡ true → is_stored new b ≡ true) →
     (p : Progress) → has_place old p ≡ true → has_place new p ≡ true
@@ -149,9 +113,9 @@ pub all-placed-more : (old new : Blocks) (writes : List Write) → ((b : ℕ) �
     ArePlaced old writes → ArePlaced new writes
 all-placed-more old new writes more h = λ n. go (slice_get writes n) (h n)
   where
-  go : (o : Option Write) → has_its_place old o ≡ true → has_its_place new o ≡ true
-  go None e = refl
-  go (Some write) e = placed-more old new more write.progress e
+    go : (o : Option Write) → has_its_place old o ≡ true → has_its_place new o ≡ true
+    go None e = refl
+    go (Some write) e = placed-more old new more write.progress e
 
 -- the place of one write
 pub placed-at : (blocks : Blocks) (writes : List Write) (n : ℕ) (k : Write) → ArePlaced blocks writes → slice_get writes n ≡ Some k → has_place blocks k.progress ≡ true
@@ -165,25 +129,25 @@ pub placed-set : (blocks : Blocks) (writes : List Write) (n : ℕ) (k : Write) �
 placed-set blocks [] n k all h = all
 placed-set blocks (j ∷ writes) zero k all h = λ i. go i
   where
-  go : (i : ℕ) → has_its_place blocks (slice_get (k ∷ writes) i) ≡ true
-  go zero = h
-  go (suc i) = all (suc i)
+    go : (i : ℕ) → has_its_place blocks (slice_get (k ∷ writes) i) ≡ true
+    go zero = h
+    go (suc i) = all (suc i)
 placed-set blocks (j ∷ writes) (suc n) k all h = λ i. go (placed-set blocks writes n k (λ i. all (suc i)) h) i
   where
-  go : ArePlaced blocks (slice_set writes n k) → (i : ℕ) → has_its_place blocks (slice_get (j ∷ slice_set writes n k) i) ≡ true
-  go rest zero = all 0
-  go rest (suc i) = rest i
+    go : ArePlaced blocks (slice_set writes n k) → (i : ℕ) → has_its_place blocks (slice_get (j ∷ slice_set writes n k) i) ≡ true
+    go rest zero = all 0
+    go rest (suc i) = rest i
 
 -- one more is issued
 pub placed-push : (blocks : Blocks) (writes : List Write) (k : Write) →
     ArePlaced blocks writes → has_place blocks k.progress ≡ true → ArePlaced blocks (writes ++ k ∷ [])
 placed-push blocks [] k all h = λ i. go i
   where
-  go : (i : ℕ) → has_its_place blocks (slice_get (k ∷ []) i) ≡ true
-  go zero = h
-  go (suc i) = refl
+    go : (i : ℕ) → has_its_place blocks (slice_get (k ∷ []) i) ≡ true
+    go zero = h
+    go (suc i) = refl
 placed-push blocks (j ∷ writes) k all h = λ i. go (placed-push blocks writes k (λ i. all (suc i)) h) i
   where
-  go : ArePlaced blocks (writes ++ k ∷ []) → (i : ℕ) → has_its_place blocks (slice_get (j ∷ (writes ++ k ∷ [])) i) ≡ true
-  go rest zero = all 0
-  go rest (suc i) = rest i
+    go : ArePlaced blocks (writes ++ k ∷ []) → (i : ℕ) → has_its_place blocks (slice_get (j ∷ (writes ++ k ∷ [])) i) ≡ true
+    go rest zero = all 0
+    go rest (suc i) = rest i

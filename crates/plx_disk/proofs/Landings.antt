@@ -42,4 +42,4 @@ pub stays : (s : Surface) (kept : List Write) (number sector time : ℕ) (k : Wr
 stays s kept number sector time k stand at now refused w may =
     let P : ℕ → Type 0 = λ x. x ≤ w.guard + 50 in
     refused w (kept-at kept s.writes number k w stand at may.found)
-      (record { open_yet = may.open_yet; missing = may.missing; early = subst P (sym now) may.early })
+    (record { open_yet = may.open_yet; missing = may.missing; early = subst P (sym now) may.early })

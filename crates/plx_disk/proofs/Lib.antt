@@ -3,4 +3,6 @@ pub mod Devices
 pub mod Flags
 pub mod Kept
 pub mod Landings
+pub mod Lists
+pub mod Told
 pub mod Whole

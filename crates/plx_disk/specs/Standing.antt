@@ -1,5 +1,5 @@
 -- What the code's device stands for.
-use Rattle.std.specs.Prelude.{◌≡◌, ◌≢◌, ◌+◌, ◌<◌, ◌≤◌, ℕ, List, [], ◌∷◌, Option, Some, None, Bool, true, false, length}
+use Rattle.std.specs.Prelude.{◌≡◌, ◌≢◌, ℕ, List, [], ◌∷◌, true, false, length}
 use Rattle.plx_disk.specs.Stored.{device_of}
 use Rattle.plx_disk.specs.Writes.{Issued, Surface, all_sectors}
 use Rattle.plx_disk.specs.declared.write.Pending.{Pending}

@@ -40,7 +40,11 @@ pub fn land_on(blocks: &mut BTreeMap<u64, Block>, block: u64, sector: u8, bytes:
 }
 
 /// The block has a place, in which a write can land.
-pub fn make_place(alloc: Global, blocks: &mut BTreeMap<u64, Block>, block: u64) -> Result<(), NoMemory>
+pub fn make_place(
+    alloc: Global,
+    blocks: &mut BTreeMap<u64, Block>,
+    block: u64,
+) -> Result<(), NoMemory>
     ensures same { (b : ℕ) → device_of blocks.new b ≡ device_of blocks.old b }
     ensures present { OnOk result (is_stored blocks.new block ≡ true) }
     ensures others { (b : ℕ) → is_stored blocks.old b ≡ true → is_stored blocks.new b ≡ true }

@@ -1,4 +1,6 @@
 //! A device with issued writes that land sector by sector, and its time.
+ghost use Rattle.std.specs.Prelude.{◌<◌, ◌^◌};
+ghost use Rattle.plx_disk.specs.Stored.{ArePlaced};
 
 use crate::blocks::{block_of, copy_out, make_place, store};
 use crate::write::{Pending, Progress, Write};
@@ -6,10 +8,7 @@ use plx_base::{Block, BlockNo, Boot, NoMemory, WriteKind};
 use std::alloc::Global;
 use std::collections::BTreeMap;
 
-ghost use Rattle.std.specs.Prelude.{◌<◌, ◌^◌};
-ghost use Rattle.plx_disk.specs.Stored.{ArePlaced};
-
-/// The time at which a device's time stands still, in milliseconds.
+/// The time of a device stays below this, in milliseconds.
 const END_OF_TIME: u64 = 1 << 47;
 
 /// A device and its time. A block that was never written is zeros and isn't stored.
@@ -92,7 +91,14 @@ impl Disk {
     }
 
     /// A write is issued. Its number is the count of those before.
-    pub fn issue(&mut self, owner: Boot, kind: WriteKind, block: BlockNo, bytes: &[u8], guard: u64) -> Result<u64, NoMemory>
+    pub fn issue(
+        &mut self,
+        owner: Boot,
+        kind: WriteKind,
+        block: BlockNo,
+        bytes: &[u8],
+        guard: u64,
+    ) -> Result<u64, NoMemory>
         requires within { block.0 < self.old.blocks }
         requires whole { length bytes.now ≡ 4096 }
         requires guarded { guard < 2 ^ 49 }

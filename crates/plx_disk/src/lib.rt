@@ -4,6 +4,8 @@
 mod ask;
 mod blocks;
 mod disk;
+#[cfg(test)]
+mod tests;
 mod write;
 
 pub use ask::{Answer, Ask};

@@ -1,5 +1,4 @@
-use Rattle.std.proofs.Common.{◌≡◌, ◌∙◌, sym, ap, length}
-use Rattle.plx_base.specs.Blocks.{zeros, written}
+use Rattle.std.proofs.Common.{◌∙◌, sym, ap, length}
 use Rattle.plx_disk.proofs.Whole.{written-whole, length-zeros}
 use Rattle.plx_disk.proofs.blocks.block_of.Goals as goal
 

@@ -1,5 +1,5 @@
-use Rattle.std.proofs.Common.{◌≡◌, ◌∙◌, sym, length, replicate}
-use Rattle.plx_base.specs.Blocks.{zeros, written}
+use Rattle.std.proofs.Common.{◌∙◌, sym, replicate}
+use Rattle.plx_base.specs.Blocks.{zeros}
 use Rattle.plx_disk.proofs.Whole.{written-whole, length-zeros}
 use Rattle.plx_disk.proofs.blocks.clear.Goals as goal
 

@@ -1,13 +1,8 @@
-use Rattle.std.proofs.Common.{◌≡◌, ◌≤◌, ◌<◌, ◌++◌, ◌∷◌, [], ℕ, List, Option, Some, None, length, Bool, true, false, refl, ap, sym, subst, ◌∙◌, arith}
-use Rattle.std.specs.Prelude.{slice_get, slice_set}
-use Rattle.std.proofs.lemmas.Option.{slice_get_read, slice_get_past}
+use Rattle.std.proofs.Common.{◌++◌, ◌∷◌, [], List, sym, subst, ◌∙◌, arith}
 use Rattle.plx_disk.proofs.Kept as kept
-use Rattle.plx_disk.proofs.Asked.{missing-says}
-use Rattle.plx_disk.proofs.Devices.{put-along}
 use Rattle.plx_disk.specs.Standing.{StandForAll}
-use Rattle.plx_disk.specs.Writes.{Issued, Surface, MayLand, HasLanded, all_sectors, fresh_write}
+use Rattle.plx_disk.specs.Writes.{fresh_write}
 use Rattle.plx_disk.specs.declared.write.Write.{Write}
-use Rattle.plx_base.specs.Sectors.{landed}
 use Rattle.plx_disk.proofs.disk.Disk.issue.Goals as goal
 
 pub returns-clause-number : goal.returns-clause-number
@@ -17,13 +12,13 @@ returns-clause-number c =
 
 pub returns-clause-ok : goal.returns-clause-ok
 returns-clause-ok c = λ s stands. record {
-    blocks = stands.blocks;
-    device = λ b. c.in_ok-make_place.ensures.same b ∙ stands.device b;
-    writes =
+  blocks = stands.blocks;
+  device = λ b. c.in_ok-make_place.ensures.same b ∙ stands.device b;
+  writes =
       let v = c.args.self.now.writes in
       let fresh = fresh_write c.args.owner.0 c.args.kind c.args.block.0 c.args.bytes.now c.args.guard in
       let P : List Write → Type 0 = λ xs. StandForAll xs (s.writes ++ fresh ∷ []) in
       subst P (sym c.in_ok-push.ensures.items) (kept.kept-push v.items s.writes _ fresh stands.writes
-          (kept.kept-fresh c.args.owner c.args.kind c.args.block.0 c.in_ok-bytes.bytes c.args.bytes.now c.args.guard c.in_ok-bytes.ensures));
-    time = stands.time;
+      (kept.kept-fresh c.args.owner c.args.kind c.args.block.0 c.in_ok-bytes.bytes c.args.bytes.now c.args.guard c.in_ok-bytes.ensures));
+  time = stands.time;
 }

@@ -1,13 +1,8 @@
-use Rattle.std.proofs.Common.{◌≡◌, ◌≤◌, ◌<◌, ◌++◌, ◌∷◌, [], ℕ, List, Option, Some, None, length, Bool, true, false, refl, ap, sym, subst, ◌∙◌, arith}
-use Rattle.std.specs.Prelude.{slice_get, slice_set}
-use Rattle.std.proofs.lemmas.Option.{slice_get_read, slice_get_past}
+use Rattle.std.proofs.Common.{◌≡◌, ◌≤◌, Some, length, arith}
+use Rattle.std.specs.Prelude.{slice_get}
+use Rattle.std.proofs.lemmas.Option.{slice_get_read}
 use Rattle.plx_disk.proofs.Kept as kept
-use Rattle.plx_disk.proofs.Asked.{missing-says}
 use Rattle.plx_disk.proofs.Landings.{lands, stays}
-use Rattle.plx_disk.specs.Standing.{StandForAll}
-use Rattle.plx_disk.specs.Writes.{Issued, Surface, MayLand, HasLanded, all_sectors}
-use Rattle.plx_disk.specs.declared.write.Write.{Write}
-use Rattle.plx_base.specs.Sectors.{landed}
 use Rattle.plx_disk.proofs.disk.Disk.land.Goals as goal
 
 pub returns-then-index-len-clause-refused : goal.returns-then-index-len-clause-refused
@@ -37,7 +32,7 @@ returns-clause-landed c =
     let at : slice_get v.items c.args.write ≡ Some c.index_mut.result.now = slice_get_read v.items c.len.result c.args.write c.index_mut.result.now (omega (arith, v.ok.0)) (omega arith) c.index_mut.ensures.value in
     λ t s stands.
     let l = lands s _ _ v.items c.args.write c.args.sector c.args.self.now.time c.index_mut.result.now c.land.new.self stands.writes at stands.time stands.device
-      (λ w e. c.land.ensures.allowed w e t) (λ w e. c.land.ensures.landed w e t) (λ w e. c.land.ensures.bytes w e t) in
+    (λ w e. c.land.ensures.allowed w e t) (λ w e. c.land.ensures.landed w e t) (λ w e. c.land.ensures.bytes w e t) in
     (l.write, l.may, record { blocks = stands.blocks; device = l.device; writes = l.writes; time = stands.time })
 
 pub returns-clause-refused : goal.returns-clause-refused
@@ -46,4 +41,4 @@ returns-clause-refused c =
     let at : slice_get v.items c.args.write ≡ Some c.index_mut.result.now = slice_get_read v.items c.len.result c.args.write c.index_mut.result.now (omega (arith, v.ok.0)) (omega arith) c.index_mut.ensures.value in
     λ e s stands.
     stays s v.items c.args.write c.args.sector c.args.self.now.time c.index_mut.result.now stands.writes at stands.time
-      (λ w f may. c.land.ensures.refused w f e may)
+    (λ w f may. c.land.ensures.refused w f e may)

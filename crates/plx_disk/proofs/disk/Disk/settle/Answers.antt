@@ -1,13 +1,7 @@
-use Rattle.std.proofs.Common.{◌≡◌, ◌≤◌, ◌<◌, ◌++◌, ◌∷◌, [], ℕ, List, Option, Some, None, length, Bool, true, false, refl, ap, sym, subst, ◌∙◌, arith}
-use Rattle.std.specs.Prelude.{slice_get, slice_set}
-use Rattle.std.proofs.lemmas.Option.{slice_get_read, slice_get_past}
+use Rattle.std.proofs.Common.{◌≡◌, ◌≤◌, Some, length, arith}
+use Rattle.std.specs.Prelude.{slice_get}
+use Rattle.std.proofs.lemmas.Option.{slice_get_read}
 use Rattle.plx_disk.proofs.Kept as kept
-use Rattle.plx_disk.proofs.Asked.{missing-says}
-use Rattle.plx_disk.proofs.Devices.{put-along}
-use Rattle.plx_disk.specs.Standing.{StandForAll}
-use Rattle.plx_disk.specs.Writes.{Issued, Surface, MayLand, HasLanded, all_sectors}
-use Rattle.plx_disk.specs.declared.write.Write.{Write}
-use Rattle.plx_base.specs.Sectors.{landed}
 use Rattle.plx_disk.proofs.disk.Disk.settle.Goals as goal
 
 pub returns-then-index-len-clause-whole : goal.returns-then-index-len-clause-whole
@@ -20,8 +14,7 @@ pub returns-clause-whole : goal.returns-clause-whole
 returns-clause-whole c =
     let v = c.args.self.now.writes in
     let at : slice_get v.items c.args.write ≡ Some c.index.result.now = slice_get_read v.items c.len.result c.args.write c.index.result.now (omega (arith, v.ok.0)) (omega arith) c.index.ensures in
-    λ s stands.
-    (
+    λ s stands. (
       λ t. let i = kept.kept-issued v.items s.writes c.args.write c.index.result.now stands.writes at in (i.0, i.1, (c.has_landed.ensures i.0 i.2).0 t),
-      λ l. (c.has_landed.ensures l.0 (kept.kept-at v.items s.writes c.args.write c.index.result.now l.0 stands.writes at l.1)).1 l.2
+      λ l. (c.has_landed.ensures l.0 (kept.kept-at v.items s.writes c.args.write c.index.result.now l.0 stands.writes at l.1)).1 l.2,
     )
