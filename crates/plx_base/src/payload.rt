@@ -1,6 +1,7 @@
 //! What a block holds, without a block where one byte says it.
 ghost use Rattle.std.specs.Prelude.{◌≡◌, ◌↔◌, IfOk, IsTrue};
 ghost use Rattle.std.specs.List.{All};
+ghost use Rattle.plx_base.specs.Canonical.{payload_of};
 ghost use Rattle.plx_base.specs.Payload.{IsAll, IsUniform, bytes_of};
 
 use crate::block::Block;
@@ -18,6 +19,7 @@ impl Payload {
     pub fn of(alloc: Global, block: &Block) -> Result<Payload, AllocError>
         ensures same { IfOk result (λ p. bytes_of p ≡ block.now) }
         ensures all { IfOk result (λ p. IsAll p ↔ IsUniform block.now) }
+        ensures canonical { IfOk result (λ p. p ≡ payload_of block.now) }
     {
         let bytes = block.as_slice();
         let first = bytes[0];

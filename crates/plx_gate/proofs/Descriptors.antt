@@ -25,7 +25,7 @@ number_at-between width number place front back long small =
     ∙ (get_or-append_right front (little width number) place (place + k) 0 long (omega arith) ∙ ap (λ j. get_or (little width number) j 0) e)))
     ∙ number_at-little width number small
 
--- the same, with more bytes after it
+-- the same, with three parts after it
 number_at-first : (width number place : ℕ) (front b c d : List ℕ) → length front ≡ place → number < 256 ^ width →
     number_at width place ((((front ++ little width number) ++ b) ++ c) ++ d) ≡ number
 number_at-first width number place front b c d long small =
@@ -33,13 +33,14 @@ number_at-first width number place front b c d long small =
     (append_assoc ((front ++ little width number) ++ b) c d ∙ append_assoc (front ++ little width number) b (c ++ d))
     ∙ number_at-between width number place front (b ++ (c ++ d)) long small
 
+-- the same, with two parts after it
 number_at-second : (width number place : ℕ) (front c d : List ℕ) → length front ≡ place → number < 256 ^ width →
     number_at width place (((front ++ little width number) ++ c) ++ d) ≡ number
 number_at-second width number place front c d long small =
     ap (number_at width place) (append_assoc (front ++ little width number) c d)
     ∙ number_at-between width number place front (c ++ d) long small
 
--- the parts of a descriptor's block, each of a fixed length
+-- the bytes up to the end of the fields
 pub length-head : (g v n : ℕ) → length (((magic ++ little 4 g) ++ little 4 v) ++ little 8 n) ≡ 24
 length-head g v n =
     rw (

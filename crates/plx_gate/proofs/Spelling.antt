@@ -18,6 +18,7 @@ pub zeros-All : (bytes : List ℕ) → length bytes ≡ 4096 → All (λ b. b �
 unfolding filled zeros
 zeros-All bytes long h = filled-All 0 bytes long h
 
+-- and the other way round
 pub All-zeros : (bytes : List ℕ) → bytes ≡ zeros → All (λ b. b ≡ 0) bytes
 unfolding filled zeros
 All-zeros bytes e = All-filled 0 bytes e
@@ -32,7 +33,7 @@ replicate-zeros (suc n) (x ∷ xs) e h =
     let rest = replicate-zeros n xs (omega arith) (λ k d below. h (suc k) d (omega arith)) in
     rw first (ap (λ ys. 0 ∷ ys) rest)
 
--- after its first bytes, its fields and zeros, nothing of a descriptor is left open
+-- a block with the first bytes of a descriptor, and zeros after the fields, spells its fields
 pub spelled : (bytes : List ℕ) → ((k : ℕ) → slice_index bytes k < 256) → length bytes ≡ 4096 → bytes ≡ magic ++ drop 8 bytes → All (λ b. b ≡ 0) (drop 24 bytes) →
     bytes ≡ descriptor_bytes (fields_of bytes)
 unfolding descriptor_bytes
@@ -54,7 +55,7 @@ spelled bytes small long begins ends =
 pub after_magic : Descriptor → List ℕ
 after_magic d = little 4 d.generation ++ (little 4 d.vblock ++ (little 8 d.number ++ replicate 4072 0))
 
--- a descriptor begins so, and its last bytes are zeros
+-- a descriptor begins so
 pub spelled-begins : (d : Descriptor) → descriptor_bytes d ≡ magic ++ after_magic d
 unfolding descriptor_bytes after_magic
 spelled-begins d = regroup magic (little 4 d.generation) (little 4 d.vblock) (little 8 d.number) (replicate 4072 0)
@@ -62,6 +63,7 @@ spelled-begins d = regroup magic (little 4 d.generation) (little 4 d.vblock) (li
     regroup : (a b c e f : List ℕ) → (((a ++ b) ++ c) ++ e) ++ f ≡ a ++ (b ++ (c ++ (e ++ f)))
     regroup a b c e f = simp append_assoc
 
+-- its last bytes are zeros
 pub spelled-ends : (d : Descriptor) → All (λ b. b ≡ 0) (drop 24 (descriptor_bytes d))
 unfolding descriptor_bytes
 spelled-ends d =
@@ -75,6 +77,7 @@ unfolding written
 written-next at front new rest long =
     rw (take_at front rest at long, ← drop-drop (length new) at (front ++ rest), drop_at front rest at long) refl
 
+-- three writes, each at the end of the one before
 fields-next : (m g v n z : List ℕ) → length m ≡ 8 → length g ≡ 4 → length v ≡ 4 → length n ≡ 8 →
     written 16 n (written 12 v (written 8 g (m ++ drop 8 z))) ≡ (((m ++ g) ++ v) ++ n) ++ drop 24 z
 fields-next m g v n z hm hg hv hn =

@@ -1,7 +1,7 @@
 //! The descriptor that commits a journal slot.
-ghost use Rattle.std.specs.Prelude.{◌≡◌, ◌↔◌, drop, length, take, IsTrue};
+ghost use Rattle.std.specs.Prelude.{◌≡◌, ◌↔◌, length, IsTrue};
 ghost use Rattle.std.specs.List.{All};
-ghost use Rattle.plx_gate.specs.Descriptors.{IsDescriptor, descriptor_bytes, fields_of, is_descriptor, magic};
+ghost use Rattle.plx_gate.specs.Descriptors.{IsDescriptor, descriptor_bytes, fields_of, is_descriptor};
 ghost use Rattle.plx_gate.specs.Descriptors.{read_descriptor as descriptor_in};
 
 use plx_base::{get_u32, get_u64, put_u32, put_u64};
