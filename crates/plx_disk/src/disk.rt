@@ -24,7 +24,7 @@ pub struct Disk {
 }
 
 impl Disk {
-    ghost use Rattle.std.specs.Prelude.{◌≡◌, ◌<◌, ◌+◌, ◌^◌, ◌↔◌, ℕ, Option, Some, None, true, false, length, slice_get, IfOk, IsOkAnd, OnOk, OnErr, IsTrue, MatchOption};
+    ghost use Rattle.std.specs.Prelude.{◌≡◌, ◌<◌, ◌+◌, ◌^◌, ◌↔◌, None, false, length, slice_get, IfOk, IsOkAnd, OnOk, OnErr, IsTrue, MatchOption};
     ghost use Rattle.plx_disk.specs.Filled.{with_block};
     ghost use Rattle.plx_disk.specs.Missing.{IsMissing, IsOwner, MissesNone};
     ghost use Rattle.plx_disk.specs.Standing.{Stands, Stays, Turns, issued_count};
