@@ -40,12 +40,16 @@ abbrev pub slots_refused : Model → ℕ → Command → ℕ → Slot
 slots_refused m appliance command =
     if is_changing command && owns (m.slots (named command)).owner appliance then at m.slots (named command) (given_up (m.slots (named command))) else m.slots
 
+-- the slot once the appliance owns it no longer
+abbrev pub given_back : Slot → ℕ → Slot
+given_back slot appliance = record { image = slot.image; change = slot.change; owner = disowned slot.owner appliance }
+
 -- the model in which the appliance owns nothing and has no session
 abbrev pub forgotten : Model → ℕ → Model
 forgotten m appliance = record {
   images = m.images;
   appliances = m.appliances;
-  slots = λ slot. record { image = (m.slots slot).image; change = (m.slots slot).change; owner = disowned (m.slots slot).owner appliance };
+  slots = λ slot. given_back (m.slots slot) appliance;
   sessions = at m.sessions appliance (λ slot. false);
   running = at m.running appliance None;
 }

@@ -5,6 +5,8 @@ mod command;
 mod entry;
 mod event;
 mod reply;
+mod seat;
+mod slot;
 
 pub use command::Command;
 pub use entry::Entry;
