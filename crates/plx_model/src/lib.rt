@@ -2,6 +2,7 @@
 #![tactic(auto)]
 
 mod command;
+mod content;
 mod entry;
 mod event;
 mod reply;
