@@ -1,3 +1,4 @@
 mod Filled
 mod Reports
 mod SameBytes
+mod Tables

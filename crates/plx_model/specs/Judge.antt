@@ -55,12 +55,12 @@ IsValue m (Write slot vblock payload) (Written number) = (slot.0 < m.images) × 
 IsValue m command reply = Unit {0}
 
 -- a refusal that rests on a fact comes where its fact holds, with its value
-abbrev pub IsTrue : Model → ℕ → Command → Reply → Type 0
-IsTrue m appliance command NotAttached = IsAmong NotAttached (refusals m appliance command)
-IsTrue m appliance command AlreadyAttached = IsAmong AlreadyAttached (refusals m appliance command)
-IsTrue m appliance command NoImage = IsAmong NoImage (refusals m appliance command)
-IsTrue m appliance command (OutOfRange size) = IsAmong (OutOfRange size) (refusals m appliance command)
-IsTrue m appliance command reply = Unit {0}
+abbrev pub IsFounded : Model → ℕ → Command → Reply → Type 0
+IsFounded m appliance command NotAttached = IsAmong NotAttached (refusals m appliance command)
+IsFounded m appliance command AlreadyAttached = IsAmong AlreadyAttached (refusals m appliance command)
+IsFounded m appliance command NoImage = IsAmong NoImage (refusals m appliance command)
+IsFounded m appliance command (OutOfRange size) = IsAmong (OutOfRange size) (refusals m appliance command)
+IsFounded m appliance command reply = Unit {0}
 
 -- an Ok comes where no refusal's fact holds
 abbrev pub IsUnrefused : Model → ℕ → Command → Reply → Type 0
@@ -101,7 +101,7 @@ pub record Accepts (m : Model) (entry : Entry) : Type 0 where
   pub listed : InCommand (λ appliance command reply. IsListed command reply) m entry
   pub owner : InCommand (IsByOwner m) m entry
   pub value : InCommand (λ appliance command reply. IsValue m command reply) m entry
-  pub refusal : InCommand (IsTrue m) m entry
+  pub refusal : InCommand (IsFounded m) m entry
   pub unrefused : InCommand (IsUnrefused m) m entry
 
 -- the rules by their numbers, where an entry breaks them
@@ -112,7 +112,7 @@ pub data Breaks : Model → Entry → ℕ → Type 0 where
   listed : {m : Model} {entry : Entry} → ¬ InCommand (λ appliance command reply. IsListed command reply) m entry → Breaks m entry 4
   owner : {m : Model} {entry : Entry} → ¬ InCommand (IsByOwner m) m entry → Breaks m entry 5
   value : {m : Model} {entry : Entry} → ¬ InCommand (λ appliance command reply. IsValue m command reply) m entry → Breaks m entry 6
-  refusal : {m : Model} {entry : Entry} → ¬ InCommand (IsTrue m) m entry → Breaks m entry 7
+  refusal : {m : Model} {entry : Entry} → ¬ InCommand (IsFounded m) m entry → Breaks m entry 7
   unrefused : {m : Model} {entry : Entry} → ¬ InCommand (IsUnrefused m) m entry → Breaks m entry 8
 
 -- the least rule that an entry breaks

@@ -64,15 +64,19 @@ rested m appliance slots = record {
   running = at m.running appliance None;
 }
 
--- the model after a reply to a command
-abbrev pub replied : Model → ℕ → Command → Reply → Model
-replied m appliance command (Attached report) = record {
+-- the model in which the appliance has a session of the slot and owns it, since an attach reported which image it is
+abbrev pub entered : Model → ℕ → ℕ → Report → Model
+entered m appliance slot report = record {
   images = m.images;
   appliances = m.appliances;
-  slots = at m.slots (named command) (attached (m.slots (named command)) appliance report);
-  sessions = at m.sessions appliance (at (m.sessions appliance) (named command) true);
+  slots = at m.slots slot (attached (m.slots slot) appliance report);
+  sessions = at m.sessions appliance (at (m.sessions appliance) slot true);
   running = at m.running appliance None;
 }
+
+-- the model after a reply to a command
+abbrev pub replied : Model → ℕ → Command → Reply → Model
+replied m appliance command (Attached report) = entered m appliance (named command) report
 replied m appliance command (Data payload) = rested m appliance m.slots
 replied m appliance command (Written number) = rested m appliance (at m.slots (named command) (made (m.slots (named command))))
 replied m appliance command (Lost lease until reading) = forgotten m appliance
