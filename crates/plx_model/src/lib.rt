@@ -7,6 +7,7 @@ mod entry;
 mod event;
 mod first;
 mod judge;
+mod listed;
 mod model;
 mod moves;
 mod refusals;

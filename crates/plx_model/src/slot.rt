@@ -26,7 +26,7 @@ pub struct SlotState {
 }
 
 impl SlotState {
-    ghost use Rattle.std.specs.Prelude.{◌≡◌, ◌+◌, ◌↔◌, IsTrue, OnOk, OnErr, if◌then◌else◌};
+    ghost use Rattle.std.specs.Prelude.{◌≡◌, ◌==◌, ◌+◌, ◌↔◌, IsTrue, OnOk, OnErr, if◌then◌else◌};
     ghost use Rattle.plx_model.specs.Image.{report_of, same_report};
     ghost use Rattle.plx_model.specs.Judge.{IsReported};
     ghost use Rattle.plx_model.specs.Model.{first_slot, is_changing, owns};
@@ -78,7 +78,14 @@ impl SlotState {
         if self.change.is_none() {
             return false;
         }
-        report.writes.checked_sub(1) == Some(self.writes) && self.is_alike(report)
+        self.is_next(report.writes) && self.is_alike(report)
+    }
+
+    // Whether the number is that of the image's next write.
+    pub fn is_next(&self, number: u64) -> bool
+        ensures { result ≡ (number == self.now.writes + 1) }
+    {
+        number.checked_sub(1) == Some(self.writes)
     }
 
     // Whether the report is the image's but for the number of writes.
