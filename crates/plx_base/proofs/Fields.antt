@@ -1,5 +1,5 @@
 -- Numbers as bytes: reading gives what was written, and writing gives what was read.
-use Rattle.std.proofs.Common.{◌≡◌, ◌⊎◌, ℕ, zero, suc, ◌+◌, ◌-◌, ◌*◌, ◌/◌, ◌%◌, ◌^◌, ◌≤◌, ◌<◌, List, [], ◌∷◌, ◌++◌, length, take, drop, get_or, refl, ap, sym, inl, inr, ◌∙◌, arith, length-drop}
+use Rattle.std.proofs.Common.{◌≡◌, ℕ, zero, suc, ◌+◌, ◌-◌, ◌*◌, ◌/◌, ◌%◌, ◌^◌, ◌≤◌, ◌<◌, List, [], ◌∷◌, ◌++◌, length, take, drop, refl, ap, sym, ◌∙◌, arith, length-drop}
 use Rattle.std.proofs.Math.Nat.{pow-suc, pow-succ', div-add-mod', mod-lt, div-one, div-div-eq-div-mul}
 use Rattle.std.proofs.lemmas.List.{get_or-drop, drop-drop, take_all, drop_all, append-nil}
 use borrow.Rule.Slice.PartMut.{put_mid}
@@ -8,6 +8,8 @@ use Rattle.std.specs.Int.{byte_at, bytes_low_first}
 use Rattle.byteorder.specs.Endian.{little_from}
 use Rattle.plx_base.specs.Blocks.{written}
 use Rattle.plx_base.specs.Fields.{little, number_at}
+use Rattle.plx_base.specs.Sectors.{landed}
+use Rattle.plx_base.proofs.Landed.{landed-inside, landed-before, landed-after}
 use Rattle.plx_base.proofs.Written.{written-before, written-inside, written-after, written-again, written-parts}
 
 -- a number has as many bytes as its width says
@@ -30,13 +32,13 @@ unfolding number_at
 number_at-along zero p q xs ys h = refl
 number_at-along (suc width) p q xs ys h =
     let first : slice_index xs p ≡ slice_index ys q =
-        let a : p + 0 ≡ p = omega arith in
-        let b : q + 0 ≡ q = omega arith in
-        rw (← a, ← b) (h 0 (omega arith)) in
+    let a : p + 0 ≡ p = omega arith in
+    let b : q + 0 ≡ q = omega arith in
+    rw (← a, ← b) (h 0 (omega arith)) in
     let rest = number_at-along width (suc p) (suc q) xs ys
-        (λ k below. let a : suc p + k ≡ p + suc k = omega arith in
-          let b : suc q + k ≡ q + suc k = omega arith in
-          rw (a, b) (h (suc k) (omega arith))) in
+    (λ k below. let a : suc p + k ≡ p + suc k = omega arith in
+    let b : suc q + k ≡ q + suc k = omega arith in
+    rw (a, b) (h (suc k) (omega arith))) in
     rw (first, rest) refl
 
 -- below the power of its width, where each byte is below 256
@@ -56,9 +58,9 @@ number_at-little (suc width) number h =
     let power : 256 ^ suc width ≡ 256 * 256 ^ width = pow-succ' 256 width in
     let small : number / 256 < 256 ^ width = grind (arith, div-add-mod' number 256, mod-lt number, power) in
     let rest : number_at width 1 (number % 256 ∷ little width (number / 256)) ≡ number / 256 =
-        number_at-along width 1 0 (number % 256 ∷ little width (number / 256)) (little width (number / 256))
-          (λ k below. let a : 1 + k ≡ suc k = omega arith in let b : 0 + k ≡ k = omega arith in rw (a, b) refl)
-        ∙ number_at-little width (number / 256) small in
+    number_at-along width 1 0 (number % 256 ∷ little width (number / 256)) (little width (number / 256))
+    (λ k below. let a : 1 + k ≡ suc k = omega arith in let b : 0 + k ≡ k = omega arith in rw (a, b) refl)
+    ∙ number_at-little width (number / 256) small in
     rw rest (omega (arith, div-add-mod' number 256))
 
 -- the first byte and what follows it
@@ -84,8 +86,8 @@ pub number_at-written : (width place number : ℕ) (bytes : List ℕ) → place 
     number_at width place (written place (little width number) bytes) ≡ number
 number_at-written width place number bytes h small =
     number_at-along width place 0 (written place (little width number) bytes) (little width number)
-      (λ k below. let a : 0 + k ≡ k = omega arith in
-        rw a (written-inside place (little width number) bytes k h (rw (length-little width number) below)))
+    (λ k below. let a : 0 + k ≡ k = omega arith in
+    rw a (written-inside place (little width number) bytes k h (rw (length-little width number) below)))
     ∙ number_at-little width number small
 
 -- writing what was read changes nothing
@@ -145,4 +147,25 @@ pub written-little : (width place number : ℕ) (bytes : List ℕ) → place + w
 written-little width place number bytes h =
     let none : drop (length bytes - place) (drop place bytes) ≡ [] = drop_all (length bytes - place) (drop place bytes) (rw (length-drop place bytes) (omega arith)) in
     rw (rest-is place bytes, none, little-is width number, written-parts place (little width number) bytes, length-little width number, drop-drop width place bytes)
-      (ap (λ xs. take place bytes ++ xs) (append-nil (little width number ++ drop (place + width) bytes)))
+    (ap (λ xs. take place bytes ++ xs) (append-nil (little width number ++ drop (place + width) bytes)))
+
+-- a field in the sector that landed is the new one
+pub number_at-landed : (width place sector : ℕ) (new old : List ℕ) → 512 * sector + 512 ≤ length new → 512 * sector ≤ length old →
+    512 * sector ≤ place → place + width ≤ 512 * sector + 512 → number_at width place (landed sector new old) ≡ number_at width place new
+number_at-landed width place sector new old hn ho low high =
+    number_at-along width place place (landed sector new old) new
+    (λ k less. landed-inside sector new old (place + k) hn ho (omega arith) (omega arith))
+
+-- a field before that sector is the old one
+pub number_at-landed_after : (width place sector : ℕ) (new old : List ℕ) → 512 * sector + 512 ≤ length new → 512 * sector ≤ length old →
+    place + width ≤ 512 * sector → number_at width place (landed sector new old) ≡ number_at width place old
+number_at-landed_after width place sector new old hn ho below =
+    number_at-along width place place (landed sector new old) old
+    (λ k less. landed-before sector new old (place + k) hn ho (omega arith))
+
+-- a field after that sector is the old one
+pub number_at-landed_before : (width place sector : ℕ) (new old : List ℕ) → 512 * sector + 512 ≤ length new → 512 * sector ≤ length old →
+    512 * sector + 512 ≤ place → number_at width place (landed sector new old) ≡ number_at width place old
+number_at-landed_before width place sector new old hn ho above =
+    number_at-along width place place (landed sector new old) old
+    (λ k less. landed-after sector new old (place + k) hn ho (omega arith))

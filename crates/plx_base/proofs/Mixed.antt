@@ -1,7 +1,7 @@
 -- Writes that land sector by sector, as the bytes of a block on which some sectors have landed.
-use Rattle.std.proofs.Common.{◌≡◌, ℕ, ◌+◌, ◌*◌, ◌≤◌, ◌<◌, List, [], ◌∷◌, ◌++◌, length, take, drop, zero, suc, refl, ap, sym, subst, ◌∙◌, Bool, true, false, Option, Some, None, slice_set, arith, length-append, replicate, inl, inr, ◌⊎◌}
-use Rattle.std.specs.Prelude.{slice_get, if◌then◌else◌}
-use Rattle.std.proofs.lemmas.List.{length-take, length-drop, take-append-drop, take_at, drop_at, nil_from_length}
+use Rattle.std.proofs.Common.{◌≡◌, ℕ, ◌+◌, ◌-◌, ◌*◌, ◌≤◌, ◌<◌, List, [], ◌∷◌, ◌++◌, length, take, drop, zero, suc, refl, ap, sym, ◌∙◌, Bool, true, false, Some, slice_set, arith, length-append, replicate, inl, inr, ◌⊎◌}
+use Rattle.std.specs.Prelude.{slice_get, slice_index, if◌then◌else◌}
+use Rattle.std.proofs.lemmas.List.{length-take, length-drop, take-append-drop, take_at, drop_at, nil_from_length, get_or-drop, get_or-take, get_or_append_left, get_or-append_right}
 use Rattle.plx_base.specs.Sectors.{landed, mixed}
 
 -- the first sector
@@ -21,6 +21,12 @@ length-picked false new old n hn ho = ho
 picked-front : (flag : Bool) (new old : List ℕ) (n : ℕ) → length new ≡ 512 * suc n → length old ≡ 512 * suc n → length (take 512 (if flag then new else old)) ≡ 512
 picked-front flag new old n hn ho = length-front (if flag then new else old) n (length-picked flag new old (512 * suc n) hn ho)
 
+-- a byte after the first sector of either
+picked-drop : (flag : Bool) (new old : List ℕ) (k : ℕ) →
+    slice_index (if flag then (drop 512 new) else (drop 512 old)) k ≡ slice_index (if flag then new else old) (512 + k)
+picked-drop true new old k = get_or-drop 512 new k 0
+picked-drop false new old k = get_or-drop 512 old k 0
+
 -- a block keeps its length
 pub length-mixed : (flags : List Bool) (new old : List ℕ) → length new ≡ 512 * length flags → length old ≡ 512 * length flags →
     length (mixed flags new old) ≡ 512 * length flags
@@ -36,7 +42,7 @@ pub mixed-landed : (flags : List Bool) (new old : List ℕ) (sector : ℕ) (flag
 mixed-landed [] new old sector flag at hn ho = cc
 mixed-landed (f ∷ flags) new old zero flag at hn ho =
     ap (λ rest. take 512 new ++ rest)
-      (drop_at (take 512 (if f then new else old)) (mixed flags (drop 512 new) (drop 512 old)) 512 (picked-front f new old (length flags) hn ho))
+    (drop_at (take 512 (if f then new else old)) (mixed flags (drop 512 new) (drop 512 old)) 512 (picked-front f new old (length flags) hn ho))
 mixed-landed (f ∷ flags) new old (suc sector) flag at hn ho =
     let front = take 512 (if f then new else old) in
     let back = mixed flags (drop 512 new) (drop 512 old) in
@@ -69,3 +75,21 @@ mixed-first_sector (false ∷ flags) new old h =
 pub mixed-none : (n : ℕ) (new old : List ℕ) → mixed (replicate n false) new old ≡ old
 mixed-none zero new old = refl
 mixed-none (suc n) new old = ap (λ rest. take 512 old ++ rest) (mixed-none n (drop 512 new) (drop 512 old)) ∙ take-append-drop 512 old
+
+-- a byte of a mix, by the flag of its sector
+pub mixed-byte : (flags : List Bool) (new old : List ℕ) (sector k : ℕ) (flag : Bool) → slice_get flags sector ≡ Some flag →
+    length new ≡ 512 * length flags → length old ≡ 512 * length flags → 512 * sector ≤ k → k < 512 * sector + 512 →
+    slice_index (mixed flags new old) k ≡ slice_index (if flag then new else old) k
+mixed-byte [] new old sector k flag at hn ho low high = cc
+mixed-byte (f ∷ flags) new old zero k flag at hn ho low high =
+    let same : f ≡ flag = cc in
+    let front = picked-front f new old (length flags) hn ho in
+    rw (← same)
+    (get_or_append_left (take 512 (if f then new else old)) (mixed flags (drop 512 new) (drop 512 old)) 0 k (omega (arith, front))
+    ∙ get_or-take 512 (if f then new else old) k 0 (omega arith))
+mixed-byte (f ∷ flags) new old (suc sector) k flag at hn ho low high =
+    let front = picked-front f new old (length flags) hn ho in
+    let e : 512 + (k - 512) ≡ k = omega arith in
+    get_or-append_right (take 512 (if f then new else old)) (mixed flags (drop 512 new) (drop 512 old)) 512 k 0 front (omega arith)
+    ∙ (mixed-byte flags (drop 512 new) (drop 512 old) sector (k - 512) flag at (length-back new (length flags) hn) (length-back old (length flags) ho) (omega arith) (omega arith)
+    ∙ (picked-drop flag new old (k - 512) ∙ ap (λ j. slice_index (if flag then new else old) j) e))

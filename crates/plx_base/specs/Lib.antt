@@ -1,4 +1,5 @@
 pub mod Blocks
+pub mod Canonical
 pub mod Fields
 pub mod Labels
 pub mod Payload

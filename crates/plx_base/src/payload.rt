@@ -1,6 +1,7 @@
 //! What a block holds, without a block where one byte says it.
-ghost use Rattle.std.specs.Prelude.{◌≡◌, IfOk};
-ghost use Rattle.plx_base.specs.Payload.{bytes_of};
+ghost use Rattle.std.specs.Prelude.{◌≡◌, ◌↔◌, IfOk, IsTrue};
+ghost use Rattle.std.specs.List.{All};
+ghost use Rattle.plx_base.specs.Payload.{IsAll, IsUniform, bytes_of};
 
 use crate::block::Block;
 use std::alloc::{AllocError, Global};
@@ -15,8 +16,14 @@ pub enum Payload {
 impl Payload {
     /// What the block holds.
     pub fn of(alloc: Global, block: &Block) -> Result<Payload, AllocError>
-        ensures { IfOk result (λ p. bytes_of p ≡ block.now) }
+        ensures same { IfOk result (λ p. bytes_of p ≡ block.now) }
+        ensures all { IfOk result (λ p. IsAll p ↔ IsUniform block.now) }
     {
+        let bytes = block.as_slice();
+        let first = bytes[0];
+        if are_all(bytes, first) {
+            return Ok(Payload::All(first));
+        }
         Ok(Payload::Whole(block.copy(alloc)?))
     }
 
@@ -39,4 +46,11 @@ impl Payload {
             Payload::Whole(block) => Ok(Payload::Whole(block.copy(alloc)?)),
         }
     }
+}
+
+// Whether each byte is this one.
+fn are_all(bytes: &[u8], byte: u8) -> bool
+    ensures { IsTrue result ↔ All (λ b. b ≡ byte) bytes.now }
+{
+    bytes.iter().all(|b| *b == byte)
 }

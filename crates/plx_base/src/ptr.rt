@@ -1,5 +1,5 @@
 //! Pointers of the trees.
-ghost use Rattle.std.specs.Prelude.{◌≡◌, ◌<◌, ◌≤◌, ◌+◌, ◌^◌, ◌↔◌, IsSome, IfSome, IsTrue};
+ghost use Rattle.std.specs.Prelude.{◌≡◌, ◌<◌, ◌≤◌, ◌+◌, ◌^◌, ◌↔◌, IsNone, IsSome, IfSome, IsTrue};
 ghost use Rattle.plx_base.specs.Pointers.{IsPointer, IsMarked, unmarked, marked};
 
 use crate::numbers::BlockNo;
@@ -60,7 +60,7 @@ impl Ptr {
 
     /// The block that it points to, or nothing for a hole.
     pub fn block(self) -> Option<BlockNo>
-        ensures hole { IsSome result ↔ (1 ≤ self) }
+        ensures hole { IsNone result ↔ (self ≡ 0) }
         ensures block { IfSome result (λ b. b.0 ≡ unmarked self) }
         ensures range { IfSome result (λ b. (1 ≤ b.0) × (b.0 < 2 ^ 26)) }
     {

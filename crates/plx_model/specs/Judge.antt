@@ -83,6 +83,12 @@ IsValue m command (Data payload) = IsDataFor m command payload
 IsValue m command (Written number) = IsNumberFor m command number
 IsValue m command reply = Unit {0}
 
+-- what a reply brings to this slot is what the model has
+abbrev pub IsFitFor : Model → ℕ → Reply → Type 0
+IsFitFor m slot (Attached report) = (slot < m.images) × IsReported (m.slots slot) report
+IsFitFor m slot (Written number) = (slot < m.images) × (number ≡ (m.slots slot).image.writes + 1)
+IsFitFor m slot reply = Unit {0}
+
 -- a refusal that rests on a fact is among those whose fact holds
 abbrev pub IsFoundedIn : List Reply → Reply → Type 0
 IsFoundedIn facts NotAttached = IsAmong NotAttached facts

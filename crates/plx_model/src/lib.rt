@@ -3,10 +3,12 @@
 
 mod command;
 mod content;
+mod disown;
 mod entry;
 mod event;
 mod first;
 mod judge;
+mod list;
 mod listed;
 mod model;
 mod moves;
@@ -20,5 +22,6 @@ pub use command::Command;
 pub use entry::Entry;
 pub use event::{Event, Region, Stop};
 pub use judge::JudgeError;
+pub use list::{Entries, EventList};
 pub use model::Model;
 pub use reply::{Reply, Report};

@@ -1,0 +1,39 @@
+-- Pointers with and without their mark.
+use Rattle.std.proofs.Common.{◌≡◌, ◌^◌, ◌<◌, ◌≤◌, ℕ, inl, inr, arith}
+use Rattle.plx_base.specs.Pointers.{IsMarked, IsPointer, marked, unmarked}
+
+-- a number below the mark is its own block
+pub unmarked-same : (block : ℕ) → block < 2 ^ 63 → unmarked block ≡ block
+unmarked-same block h = omega arith
+
+-- the block of a marked pointer
+pub unmarked-marked : (block : ℕ) → block < 2 ^ 63 → unmarked (marked block) ≡ block
+unmarked-marked block h = omega arith
+
+-- a pointer with the mark is its block with the mark
+pub marked-unmarked : (pointer : ℕ) → pointer < 2 ^ 64 → IsMarked pointer → marked (unmarked pointer) ≡ pointer
+marked-unmarked pointer h mark = omega arith
+
+-- the mark is taken off once
+pub unmarked-unmarked : (pointer : ℕ) → unmarked (unmarked pointer) ≡ unmarked pointer
+unmarked-unmarked pointer = omega arith
+
+-- a pointer has 64 bits
+pub IsPointer-lt : (pointer : ℕ) → IsPointer pointer → pointer < 2 ^ 64
+IsPointer-lt pointer (inl hole) = omega arith
+IsPointer-lt pointer (inr block) = block.0
+
+-- without the mark it is a pointer still
+pub IsPointer-unmarked : (pointer : ℕ) → IsPointer pointer → IsPointer (unmarked pointer)
+IsPointer-unmarked pointer (inl hole) = inl (omega arith)
+IsPointer-unmarked pointer (inr block) =
+    let same = unmarked-unmarked pointer in
+    inr (omega arith, omega arith, omega arith)
+
+-- a block's frozen pointer
+pub IsPointer-frozen : (block : ℕ) → 1 ≤ block → block < 2 ^ 26 → IsPointer block
+IsPointer-frozen block low high = inr (omega arith, omega arith, omega arith)
+
+-- a block's writable pointer
+pub IsPointer-marked : (block : ℕ) → 1 ≤ block → block < 2 ^ 26 → IsPointer (marked block)
+IsPointer-marked block low high = inr (omega arith, omega arith, omega arith)

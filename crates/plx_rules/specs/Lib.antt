@@ -1,0 +1,9 @@
+pub mod Boot
+pub mod Commands
+pub mod Headline
+pub mod Journal
+pub mod Part
+pub mod Sequences
+pub mod Session
+pub mod Stored
+pub mod World
