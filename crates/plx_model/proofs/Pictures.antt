@@ -29,8 +29,8 @@ pub models-equal : (m n : Model) → m.images ≡ n.images → m.appliances ≡ 
 models-equal m n p q r s t = λ i. record { images = p i; appliances = q i; slots = r i; sessions = s i; running = t i }
 
 -- what stands at a place may be written there again
-pub at-same : {X : Type 0} (f : ℕ → X) (k : ℕ) (x : X) → f k ≡ x → at f k x ≡ f
-at-same {X} f k x e = fun_ext (λ j. each j (eqb_tells j k))
+pub at-again : {X : Type 0} (f : ℕ → X) (k : ℕ) (x : X) → f k ≡ x → at f k x ≡ f
+at-again {X} f k x e = fun_ext (λ j. each j (eqb_tells j k))
   where
     each : (j : ℕ) → (((j == k) ≡ true) × (j ≡ k)) ⊎ (((j == k) ≡ false) × (j ≢ k)) → (if j == k then x else f j) ≡ f j
     each j (inl h) = rw h.0 (sym e ∙ ap f (sym h.1))
@@ -61,14 +61,14 @@ picture-slot slots seats k x in_slots = models-equal _ _ (length-set slots k x) 
 pub picture-same : (slots : List SlotState) (seats : List Seat) (k : ℕ) (x y : SlotState) → k < length slots → x ≡ get_or slots k x → slot_of y ≡ slot_of x → picture (slice_set slots k y) seats ≡ picture slots seats
 picture-same slots seats k x y in_slots is same =
     picture-slot slots seats k y in_slots
-    ∙ models-equal _ _ refl refl (at-same (picture slots seats).slots k (slot_of y) (table-at slot_of slots k x first_slot in_slots is ∙ sym same)) refl refl
+    ∙ models-equal _ _ refl refl (at-again (picture slots seats).slots k (slot_of y) (table-at slot_of slots k x first_slot in_slots is ∙ sym same)) refl refl
 
 -- an appliance is in another command
 pub picture-run : (slots : List SlotState) (seats : List Seat) (a : ℕ) (s t : Seat) → a < length seats → s ≡ get_or seats a s → sessions_of t ≡ sessions_of s → picture slots (slice_set seats a t) ≡ record (picture slots seats) { running = at (picture slots seats).running a t.running }
 picture-run slots seats a s t in_seats is same =
     models-equal _ _ refl (length-set seats a t) refl
     (table-map-set sessions_of seats a t (λ slot. false) in_seats
-    ∙ at-same (picture slots seats).sessions a (sessions_of t) (table-at sessions_of seats a s (λ slot. false) in_seats is ∙ sym same))
+    ∙ at-again (picture slots seats).sessions a (sessions_of t) (table-at sessions_of seats a s (λ slot. false) in_seats is ∙ sym same))
     (table-map-set running_of seats a t None in_seats)
 
 -- a change begins
@@ -100,7 +100,7 @@ picture-made slots seats k a x y s t in_slots is e in_seats sits same idle =
     let here : m.slots k ≡ slot_of x = table-at slot_of slots k x first_slot in_slots is in
     picture-both slots seats k a y t in_slots in_seats
     ∙ models-equal _ _ refl refl (ap (λ (z : Slot). at m.slots k z) (e ∙ ap made (sym here)))
-    (at-same m.sessions a (sessions_of t) (table-at sessions_of seats a s (λ slot. false) in_seats sits ∙ sym same))
+    (at-again m.sessions a (sessions_of t) (table-at sessions_of seats a s (λ slot. false) in_seats sits ∙ sym same))
     (ap (λ (r : Option Command). at m.running a r) idle)
 
 -- an image is attached
