@@ -9,6 +9,8 @@ mod lease;
 mod numbers;
 mod payload;
 mod ptr;
+#[cfg(test)]
+mod tests;
 mod write_kind;
 
 pub use block::{BLOCK_LEN, Block, SECTOR_LEN, SECTORS};
