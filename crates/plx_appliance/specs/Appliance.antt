@@ -1,8 +1,7 @@
 -- An appliance, by the log of its boot.
 use Rattle.std.specs.Prelude.{◌≡◌, ℕ, List, IsSome}
 use Rattle.plx_rules.specs.Boot.{Position, Idle, Happening, position, asks}
-use Rattle.plx_rules.specs.Session.{Known}
-use Rattle.plx_appliance.specs.Places.{place_of, left_of}
+use Rattle.plx_appliance.specs.Places.{place_of, left_of, known_in}
 use Rattle.plx_appliance.specs.declared.appliance.Appliance.{Appliance}
 
 -- where an appliance stands
@@ -15,7 +14,7 @@ StandsFor appliance log = position appliance.slots log ≡ place appliance
 
 -- an appliance is in no command, or in one
 abbrev pub IsIdle : Appliance → Type 0
-IsIdle appliance = (known : Known) × (place appliance ≡ Idle known)
+IsIdle appliance = place appliance ≡ Idle (known_in appliance.state)
 
 abbrev pub IsRunning : Appliance → Type 0
 IsRunning appliance = IsSome (asks (place appliance))

@@ -75,11 +75,16 @@ place_of slots (state.Filling change) = In (fill_rest slots change)
 place_of slots (state.Committing change) = In (commit_rest slots change)
 place_of slots (state.Confirming change) = In (confirm_rest change)
 
+-- what is known, between commands
+abbrev pub known_in : State → Known
+known_in (state.Idle session) = known_of session
+known_in other = nothing_known
+
 -- how many asks are left at most
 abbrev pub left_of : ℕ → State → ℕ
 left_of slots (state.Idle session) = 0
 left_of slots (state.Refusing session reply) = 1
-left_of slots (state.Attaching load) = 2 * slots + 2
+left_of slots (state.Attaching load) = 2 * (slots - load.at) + 2
 left_of slots (state.Loading load) = 2 * (slots - load.at) + 1
 left_of slots (state.Fetching fetch) = 2 * (slots - fetch.load.at)
 left_of slots (state.Opening session block) = 2

@@ -57,8 +57,7 @@ fn new_load(alloc: Global, slots: u32) -> Result<Load, NoMemory>
 
 /// The first clock reading of an attach is answered.
 pub fn after_attaching(slots: u32, load: Load, answer: &Answer) -> Turn
-    requires start { load.at ≡ 0 }
-    requires room { load.session.slots ≡ slots }
+    requires { load.session.slots ≡ slots }
     ensures { Follows slots (State.Attaching load) answer.now result }
 {
     match answer {

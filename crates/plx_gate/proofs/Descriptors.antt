@@ -1,5 +1,5 @@
 -- Descriptors as bytes: each is read back as itself, and what is read is spelled in one way.
-use Rattle.std.proofs.Common.{◌≡◌, ℕ, ◌+◌, ◌-◌, ◌^◌, ◌<◌, List, ◌++◌, length, drop, get_or, replicate, refl, ap, sym, ◌∙◌, arith, subst, Bool, true, false, Some, None, append_assoc, length-append}
+use Rattle.std.proofs.Common.{inl, inr, ◌⊎◌, ◌≡◌, ℕ, ◌+◌, ◌-◌, ◌^◌, ◌<◌, List, ◌++◌, length, drop, get_or, replicate, refl, ap, sym, ◌∙◌, arith, subst, Bool, true, false, Some, None, append_assoc, length-append}
 use Rattle.std.proofs.lemmas.List.{get_or_append_left, get_or-append_right, drop_at, drop-drop, drop-replicate, length-replicate}
 use Rattle.std.proofs.lemmas.Bool.Decides.{nat_tests}
 use Rattle.std.proofs.lemmas.Slice.Eq.{bytes_eq-Decides}
@@ -25,7 +25,7 @@ number_at-between width number place front back long small =
     ∙ (get_or-append_right front (little width number) place (place + k) 0 long (omega arith) ∙ ap (λ j. get_or (little width number) j 0) e)))
     ∙ number_at-little width number small
 
--- the same, with more bytes after it
+-- the same, with three parts after it
 number_at-first : (width number place : ℕ) (front b c d : List ℕ) → length front ≡ place → number < 256 ^ width →
     number_at width place ((((front ++ little width number) ++ b) ++ c) ++ d) ≡ number
 number_at-first width number place front b c d long small =
@@ -33,14 +33,15 @@ number_at-first width number place front b c d long small =
     (append_assoc ((front ++ little width number) ++ b) c d ∙ append_assoc (front ++ little width number) b (c ++ d))
     ∙ number_at-between width number place front (b ++ (c ++ d)) long small
 
+-- the same, with two parts after it
 number_at-second : (width number place : ℕ) (front c d : List ℕ) → length front ≡ place → number < 256 ^ width →
     number_at width place (((front ++ little width number) ++ c) ++ d) ≡ number
 number_at-second width number place front c d long small =
     ap (number_at width place) (append_assoc (front ++ little width number) c d)
     ∙ number_at-between width number place front (c ++ d) long small
 
--- the parts of a descriptor's block, each of a fixed length
-length-head : (g v n : ℕ) → length (((magic ++ little 4 g) ++ little 4 v) ++ little 8 n) ≡ 24
+-- the bytes up to the end of the fields
+pub length-head : (g v n : ℕ) → length (((magic ++ little 4 g) ++ little 4 v) ++ little 8 n) ≡ 24
 length-head g v n =
     rw (
       length-append ((magic ++ little 4 g) ++ little 4 v) (little 8 n),
@@ -149,6 +150,14 @@ told-descriptor false false d e h = cc
 reads-whole : (a b : Bool) (d e : Descriptor) → a ≡ false → b ≡ true → d ≡ e → (if a then Some None else (if b then Some (Some d) else None)) ≡ Some (Some e)
 reads-whole a b d e ha hb hd = rw (ha, hb, hd) refl
 
+reads-nothing : (a b c : Bool) (d : Descriptor) → a ≡ false → (b ≡ false) ⊎ (c ≡ false) →
+    (if a then Some None else (if b && c then Some (Some d) else None)) ≡ None
+reads-nothing true b c d ha h = cc
+reads-nothing false false c d ha h = refl
+reads-nothing false true false d ha h = refl
+reads-nothing false true true d ha (inl e) = cc
+reads-nothing false true true d ha (inr e) = cc
+
 both-left : (a b : Bool) → (a && b) ≡ true → a ≡ true
 both-left true b h = refl
 both-left false b h = cc
@@ -190,3 +199,25 @@ unfolding read_descriptor
 read-empty bytes h =
     let f = fields_of bytes in
     (bytes_eq-Decides bytes zeros).0 (told-empty (bytes_eq bytes zeros) (is_descriptor f && bytes_eq bytes (descriptor_bytes f)) f h)
+
+-- bytes that are spelled as their fields say, and whose fields are within the limits, are read as these
+pub read-fields : (bytes : List ℕ) → bytes ≡ descriptor_bytes (fields_of bytes) → is_descriptor (fields_of bytes) ≡ true →
+    read_descriptor bytes ≡ Some (Some (fields_of bytes))
+read-fields bytes spelled within =
+    let whole = read-descriptor (fields_of bytes) (true-is_descriptor (fields_of bytes) within) in
+    ap read_descriptor spelled ∙ whole
+
+-- bytes that are neither zeros nor spelled as their fields say are outside the format
+pub read-unspelled : (bytes : List ℕ) → ¬ (bytes ≡ zeros) → ¬ (bytes ≡ descriptor_bytes (fields_of bytes)) → read_descriptor bytes ≡ None
+unfolding read_descriptor
+read-unspelled bytes other unspelled =
+    let f = fields_of bytes in
+    reads-nothing (bytes_eq bytes zeros) (is_descriptor f) (bytes_eq bytes (descriptor_bytes f)) f (bytes_eq-other bytes zeros other)
+    (inr (bytes_eq-other bytes (descriptor_bytes f) unspelled))
+
+-- and so are bytes that aren't zeros and whose fields are past the limits
+pub read-past : (bytes : List ℕ) → ¬ (bytes ≡ zeros) → is_descriptor (fields_of bytes) ≡ false → read_descriptor bytes ≡ None
+unfolding read_descriptor
+read-past bytes other past =
+    let f = fields_of bytes in
+    reads-nothing (bytes_eq bytes zeros) (is_descriptor f) (bytes_eq bytes (descriptor_bytes f)) f (bytes_eq-other bytes zeros other) (inl past)

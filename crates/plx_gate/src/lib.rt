@@ -3,4 +3,7 @@
 
 mod descriptor;
 
-pub use descriptor::Descriptor;
+pub use descriptor::{Descriptor, read_descriptor, write_descriptor};
+
+#[cfg(test)]
+mod tests;

@@ -1,5 +1,5 @@
 -- The events that stand for several, and whole schedules.
-use Rattle.std.specs.Prelude.{◌≡◌, ◌+◌, ◌*◌, ◌<◌, ◌≤◌, ℕ, List, [], ◌∷◌, slice_get, Option, Some, None, Bool, true, false, if◌then◌else◌, ◌&&◌, nat_lt, nat_le, zero, suc, ◌⊎◌}
+use Rattle.std.specs.Prelude.{◌≡◌, ◌+◌, ◌*◌, ◌<◌, ◌≤◌, ℕ, List, [], ◌∷◌, slice_get, drop, Option, Some, None, Bool, true, false, if◌then◌else◌, ◌&&◌, nat_lt, nat_le, zero, suc, ◌⊎◌}
 use Rattle.plx_base.specs.declared.numbers.ApplianceNo.{ApplianceNo}
 use Rattle.plx_base.specs.declared.write_kind.WriteKind.{WriteKind}
 use Rattle.plx_base.specs.declared.write_kind.WriteKind.TheVariants as kind
@@ -14,7 +14,7 @@ use Rattle.plx_rules.specs.Boot.{Position, Idle, In}
 use Rattle.plx_rules.specs.Commands.{End}
 use Rattle.plx_rules.specs.Journal.{first_journal_block}
 use Rattle.plx_rules.specs.Part.{Part, Ends, ReadThen, WriteThen, ClockThen, UntilThen}
-use Rattle.plx_rules.specs.World.{World, Step, stands}
+use Rattle.plx_rules.specs.World.{World, Step, stands, is_boot_of, issued_by}
 
 -- the least sector that hasn't landed
 abbrev pub one_more : Option ℕ → Option ℕ
@@ -26,18 +26,21 @@ missing [] = None
 missing (false ∷ flags) = Some 0
 missing (true ∷ flags) = one_more (missing flags)
 
--- a run lands the sectors of the newest write that are missing, in ascending order, and then has it answered
-abbrev pub landing : ApplianceNo → Option ℕ → Option Event
-landing appliance None = Some (event.Done appliance)
-landing appliance (Some sector) = Some (event.Land appliance 0 sector)
+-- a run lands the sectors of a write that are missing, in ascending order, and then has it answered
+abbrev pub landing : ApplianceNo → ℕ → Option ℕ → Option Event
+landing appliance back None = Some (event.Done appliance)
+landing appliance back (Some sector) = Some (event.Land appliance back sector)
 
-abbrev pub next_landing : ApplianceNo → Option Issued → Option Event
-next_landing appliance None = None
-next_landing appliance (Some write) = if write.cancelled then None else landing appliance (missing write.landed)
+-- the same of an issued write, where it is the appliance's and wasn't cancelled; so many newer ones were issued
+abbrev pub next_landing : ApplianceNo → ℕ → Option Issued → Option Event
+next_landing appliance back None = None
+next_landing appliance back (Some write) =
+    if write.cancelled then None else (if is_boot_of appliance.0 write.owner then landing appliance back (missing write.landed) else None)
 
 abbrev pub next_of_write : World → ApplianceNo → Option ℕ → Option Event
 next_of_write w appliance None = Some (event.Issue appliance)
-next_of_write w appliance (Some number) = next_landing appliance (slice_get w.surface.writes number)
+next_of_write w appliance (Some number) =
+    next_landing appliance (issued_by appliance.0 (drop (number + 1) w.surface.writes)) (slice_get w.surface.writes number)
 
 -- the event that a run makes next, by what the appliance asks: a clock reading is the time
 abbrev pub next_at : World → ApplianceNo → Position → Option Event

@@ -1,0 +1,4 @@
+pub mod Lines
+pub mod Schedules
+pub mod Traces
+pub mod Words

@@ -1,0 +1,41 @@
+-- What the program's world stands for, and what its calls make of that.
+use Rattle.std.specs.Prelude.{◌≡◌, ℕ, List, reverse, Bool, MatchBool}
+use Rattle.plx_appliance.specs.Appliance.{StandsFor}
+use Rattle.plx_disk.specs.Standing.{Stands as DiskStands}
+use Rattle.plx_model.specs.declared.event.Event.{Event}
+use Rattle.plx_rules.specs.Headline.{Headline}
+use Rattle.plx_rules.specs.Sequences.{Makes, MakesPartly, Plays, PlaysPartly}
+use Rattle.plx_rules.specs.World as rules
+use Rattle.plx_rules.specs.World.{Reached}
+use Rattle.plx_world.specs.declared.world.World.{World}
+
+-- equal device, issued writes, time and trace, and the appliance stands for the log of its boot
+pub record Stands (world : World) (w : rules.World) : Type 0 where
+  pub slots : world.slots ≡ w.slots
+  pub single : w.appliances ≡ 1
+  pub surface : DiskStands world.disk w.surface
+  pub boots : world.boots ≡ (w.seats 0).boots
+  pub log : StandsFor world.appliance (w.seats 0).log
+  pub pending : world.pending ≡ (w.seats 0).pending
+  pub trace : world.trace ≡ reverse w.trace
+
+-- each world that the old one stands for leads by an event to one that the new one stands for, where the event is possible; else it isn't possible in any
+abbrev pub Leads : World → World → Event → Bool → Type 0
+Leads old new event possible =
+    (w : rules.World) → Stands old w →
+      MatchBool possible ((v : rules.World) × Makes w event v × Stands new v) (((v : rules.World) → ¬ Makes w event v) × Stands new w)
+
+-- some plain events of an event were made
+abbrev pub LeadsPartly : World → World → Event → Type 0
+LeadsPartly old new event = (w : rules.World) → Stands old w → (v : rules.World) × MakesPartly w event v × Stands new v
+
+-- all events of a schedule were played, or some of its plain events, from the first one on
+abbrev pub PlaysAll : World → World → List Event → Type 0
+PlaysAll old new events = (w : rules.World) → Stands old w → (v : rules.World) × Plays w events v × Stands new v
+
+abbrev pub PlaysSome : World → World → List Event → Type 0
+PlaysSome old new events = (w : rules.World) → Stands old w → (v : rules.World) × PlaysPartly w events v × Stands new v
+
+-- from a world that was reached to one that is, of which the headline holds
+abbrev pub KeepsHeadline : World → World → Type 0
+KeepsHeadline old new = (w : rules.World) → Reached w → Stands old w → (v : rules.World) × Reached v × Headline v × Stands new v
