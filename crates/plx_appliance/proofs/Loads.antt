@@ -1,17 +1,15 @@
 -- How a load goes on.
-use Rattle.std.proofs.Common.{◌≡◌, ℕ, zero, suc, ◌+◌, ◌-◌, ◌*◌, ◌≤◌, ◌<◌, List, [], ◌∷◌, ◌++◌, refl, ap, sym, ◌∙◌, subst, arith, Option, Some, None, length}
+use Rattle.std.proofs.Common.{◌≡◌, ℕ, zero, suc, ◌+◌, ◌-◌, ◌<◌, List, [], ◌∷◌, ◌++◌, refl, sym, arith, Some, None}
 use Rattle.std.specs.Prelude.{IsSome}
-use Rattle.plx_disk.specs.declared.ask.Answer.{Answer}
 use Rattle.plx_disk.specs.declared.ask.Answer.TheVariants as answer
-use Rattle.plx_disk.specs.declared.ask.Ask.TheVariants as ask
 use Rattle.plx_gate.specs.declared.descriptor.Descriptor.{Descriptor}
-use Rattle.plx_rules.specs.Boot.{In, settled, reply_of, asks, writes_out}
-use Rattle.plx_rules.specs.Commands.{End, load, read_then, if_counts, attach_ends}
-use Rattle.plx_rules.specs.Journal.{descriptor_at, data_at, first_record, counted}
+use Rattle.plx_rules.specs.Boot.{In, settled, reply_of}
+use Rattle.plx_rules.specs.Commands.{End, load, read_then, if_counts}
+use Rattle.plx_rules.specs.Journal.{data_at, first_record, counted}
 use Rattle.plx_rules.specs.Part.{Part, answered, standing, bytes_out}
 use Rattle.plx_rules.specs.Session.{nothing_known}
 use Rattle.plx_rules.specs.declared.journaled.Journaled.{Journaled}
-use Rattle.plx_appliance.specs.Places.{load_rest, fetch_rest, place_of, left_of, FitsAsk, Follows, AreWhole}
+use Rattle.plx_appliance.specs.Places.{load_rest, fetch_rest, Follows, AreWhole}
 use Rattle.plx_appliance.specs.declared.state.Load.{Load}
 use Rattle.plx_appliance.specs.declared.state.Fetch.{Fetch}
 use Rattle.plx_appliance.specs.declared.state.State.TheVariants as state

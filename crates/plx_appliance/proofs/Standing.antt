@@ -1,14 +1,13 @@
 -- What is asked in each state.
-use Rattle.std.proofs.Common.{◌≡◌, ℕ, ◌-◌, List, [], refl, Option, Some, None, zero, suc}
+use Rattle.std.proofs.Common.{◌≡◌, ℕ, ◌-◌, [], refl, Option}
 use Rattle.std.specs.Prelude.{IsSome}
 use Rattle.plx_rules.specs.Boot.{asks, writes_out}
-use Rattle.plx_rules.specs.Part.{standing, bytes_out}
-use Rattle.plx_appliance.specs.Places.{place_of, load_rest, AreWhole}
+use Rattle.plx_appliance.specs.Places.{place_of, AreWhole}
 use Rattle.plx_appliance.specs.declared.session.Session.{Session}
 use Rattle.plx_appliance.specs.declared.state.Change.{Change}
 use Rattle.plx_appliance.specs.declared.state.State.{State}
 use Rattle.plx_appliance.specs.declared.state.State.TheVariants as state
-use Rattle.plx_appliance.proofs.Loads.{rest, rest-asks, rest-silent, rest-whole}
+use Rattle.plx_appliance.proofs.Loads.{rest-asks, rest-silent, rest-whole}
 
 -- each state but the idle one asks
 pub running : (slots : ℕ) (s : State) → ((known : Option Session) → s ≡ state.Idle known → ⊥) → IsSome (asks (place_of slots s))

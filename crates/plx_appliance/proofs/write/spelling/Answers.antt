@@ -1,5 +1,5 @@
-use Rattle.std.proofs.Common.{◌≡◌, ◌∙◌, length, ap, sym}
-use Rattle.plx_base.specs.Blocks.{zeros, written}
+use Rattle.std.proofs.Common.{◌∙◌, sym}
+use Rattle.plx_base.specs.Blocks.{zeros}
 use Rattle.plx_gate.proofs.Descriptors.{length-descriptor}
 use Rattle.plx_gate.specs.Descriptors.{descriptor_bytes}
 use Rattle.plx_appliance.proofs.Spelled.{length-zeros, written-whole}
