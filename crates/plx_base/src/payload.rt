@@ -29,6 +29,18 @@ impl Payload {
         Ok(Payload::Whole(block.copy(alloc)?))
     }
 
+    /// What the block holds, without memory.
+    pub fn holding(block: Block) -> Payload
+        ensures { result ≡ payload_of block }
+    {
+        let bytes = block.as_slice();
+        let byte = bytes[0];
+        if are_all(bytes, byte) {
+            return Payload::All(byte);
+        }
+        Payload::Whole(block)
+    }
+
     /// A block that holds it.
     pub fn to_block(&self, alloc: Global) -> Result<Block, AllocError>
         ensures { IfOk result (λ b. b ≡ bytes_of self.now) }
