@@ -1,6 +1,12 @@
 //! The texts of schedules and traces.
 #![tactic(auto)]
 
+mod print;
+mod print_data;
+mod print_reply;
 mod schedule;
+mod text;
 
+pub use print::{print_bad_line, print_trace};
 pub use schedule::{Schedule, TextError};
+pub use text::Text;
