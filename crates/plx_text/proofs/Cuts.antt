@@ -1,5 +1,5 @@
 -- Where a text is cut.
-use Rattle.std.proofs.Common.{◌≡◌, ◌≢◌, ◌<◌, ◌^◌, ◌+◌, ℕ, List, [], ◌∷◌, ◌++◌, length, get_or, decimal, refl, ap, sym, arith, length-append, rules}
+use Rattle.std.proofs.Common.{◌≡◌, ◌≢◌, ◌<◌, ◌^◌, ◌+◌, ℕ, List, [], ◌∷◌, ◌++◌, length, get_or, decimal, ◌∙◌, refl, ap, sym, arith, length-append, rules}
 use Rattle.std.specs.Int.{IsInRange}
 use Rattle.std.specs.List.{All}
 use Rattle.std.specs.Str.{IsUtf8}
@@ -46,7 +46,8 @@ pub utf8-decimal : (text : List ℕ) (n : ℕ) → n < 2 ^ 64 → text ≡ decim
 utf8-decimal text n fits same = rw same (IsUtf8-from_ascii (decimal n) (IsAscii-decimal n fits))
 
 -- a number and a space begin a text in one way
-pub one-number : (m n : ℕ) (rest after : List ℕ) → m < 2 ^ 64 → n < 2 ^ 64 → decimal m ++ 32 ∷ rest ≡ decimal n ++ 32 ∷ after → (m ≡ n) × (rest ≡ after)
-one-number m n rest after fits small same =
-    let parts = one-cut 32 (decimal m) rest (decimal n) after (no-space m fits) (no-space n small) same in
+pub one-number : (m n : ℕ) (text rest after : List ℕ) → m < 2 ^ 64 → n < 2 ^ 64 → text ≡ decimal m ++ 32 ∷ rest → text ≡ decimal n ++ 32 ∷ after →
+    (m ≡ n) × (rest ≡ after)
+one-number m n text rest after fits small read same =
+    let parts = one-cut 32 (decimal m) rest (decimal n) after (no-space m fits) (no-space n small) (sym read ∙ same) in
     (decimal_injective m n fits small parts.0, parts.1)

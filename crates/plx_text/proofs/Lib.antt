@@ -1,1 +1,5 @@
 pub mod Cuts
+pub mod Data
+pub mod Feeds
+pub mod FirstBad
+pub mod Rests

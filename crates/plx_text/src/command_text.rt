@@ -59,7 +59,7 @@ fn read_write(rest: &[u8]) -> Option<Command>
 
 // The byte that two digits spell.
 fn read_byte(text: &[u8]) -> Option<u8>
-    ensures { MatchOption result ((byte : ℕ) → byte < 256 → text.now ≢ hex_byte byte) (λ byte. text.now ≡ hex_byte byte) }
+    ensures { MatchOption result ((byte : ℕ) → byte < 256 → text.now ≢ hex_byte byte) (λ byte. (byte < 256) × (text.now ≡ hex_byte byte)) }
 {
     let [high, low] = text else {
         return None;

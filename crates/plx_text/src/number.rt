@@ -24,7 +24,7 @@ pub(crate) fn number(word: &[u8], most: u64) -> Option<u64>
 
 /// A number below 2^32.
 pub(crate) fn small(word: &[u8]) -> Option<u32>
-    ensures { MatchOption result ((n : ℕ) → IsU32 n → word.now ≢ decimal n) (λ n. word.now ≡ decimal n) }
+    ensures { MatchOption result ((n : ℕ) → IsU32 n → word.now ≢ decimal n) (λ n. IsU32 n × (word.now ≡ decimal n)) }
 {
     let value = number(word, u64::from(u32::MAX))?;
     Some(value as u32)
@@ -40,7 +40,7 @@ pub(crate) fn number_then(text: &[u8], most: u64) -> Option<(u64, &[u8])>
 
 /// A number below 2^32, a space, and what follows.
 pub(crate) fn small_then(text: &[u8]) -> Option<(u32, &[u8])>
-    ensures { MatchOption result ((n : ℕ) (rest : List ℕ) → IsU32 n → text.now ≢ decimal n ++ 32 ∷ rest) (λ found. text.now ≡ decimal found.0 ++ 32 ∷ found.1.now) }
+    ensures { MatchOption result ((n : ℕ) (rest : List ℕ) → IsU32 n → text.now ≢ decimal n ++ 32 ∷ rest) (λ found. IsU32 found.0 × (text.now ≡ decimal found.0 ++ 32 ∷ found.1.now)) }
 {
     let (word, rest) = cut(text, b' ')?;
     Some((small(word)?, rest))
