@@ -4,6 +4,8 @@
 mod print;
 mod print_data;
 mod print_reply;
+#[cfg(test)]
+mod print_tests;
 mod schedule;
 mod text;
 
