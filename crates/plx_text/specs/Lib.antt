@@ -1,4 +1,5 @@
 pub mod Lines
+pub mod SameTraces
 pub mod Schedules
 pub mod Traces
 pub mod Words

@@ -1,6 +1,7 @@
 //! The texts of schedules and traces.
 #![tactic(auto)]
 
+mod once;
 mod print;
 mod print_data;
 mod print_reply;
@@ -9,6 +10,7 @@ mod print_tests;
 mod schedule;
 mod text;
 
+pub use once::trace_once;
 pub use print::{print_bad_line, print_trace};
 pub use schedule::{Schedule, TextError};
 pub use text::Text;
