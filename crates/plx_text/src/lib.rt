@@ -5,6 +5,8 @@ mod command_text;
 mod line;
 mod number;
 mod read;
+#[cfg(test)]
+mod read_tests;
 mod schedule;
 mod word;
 
