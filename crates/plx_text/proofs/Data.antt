@@ -1,6 +1,5 @@
 -- The text of a block of one byte.
-use Rattle.std.proofs.Common.{◌≡◌, ◌<◌, ◌*◌, ℕ, List, ◌∷◌, ◌++◌, refl, cond, codes, true, arith, replicate, slice_index}
-use Rattle.std.specs.Str.{bytes_eq}
+use Rattle.std.proofs.Common.{◌≡◌, ℕ, ◌++◌, refl, codes, arith, slice_index}
 use Rattle.std.proofs.lemmas.List.{get_or-replicate}
 use Rattle.std.proofs.lemmas.Slice.Eq.{bytes_eq-Decides}
 use Rattle.plx_base.specs.Blocks.{filled}

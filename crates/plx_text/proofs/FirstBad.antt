@@ -1,5 +1,5 @@
 -- The first bad line.
-use Rattle.std.proofs.Common.{◌≡◌, ◌≢◌, ◌<◌, ◌≤◌, ◌+◌, ◌∙◌, ◌⊎◌, inl, inr, ℕ, List, [], ◌∷◌, ◌++◌, length, refl, ap, sym, arith, append_assoc, length-append}
+use Rattle.std.proofs.Common.{◌≡◌, ◌≢◌, ◌≤◌, ◌+◌, ◌∙◌, ◌⊎◌, inl, inr, ℕ, List, [], ◌∷◌, ◌++◌, length, refl, ap, sym, arith, append_assoc, length-append}
 use Rattle.std.specs.List.{All}
 use Rattle.plx_model.specs.declared.event.Event.{Event}
 use Rattle.plx_text.specs.Lines.{IsEvent, SpellsEvent, SpellsWorld, event_text, world_text}

@@ -1,8 +1,7 @@
 //! The commands of a schedule.
 
-ghost use Rattle.std.specs.Prelude.{◌≡◌, ◌≢◌, ◌<◌, ◌++◌, ℕ, List, MatchOption, codes};
-ghost use Rattle.plx_model.specs.declared.command.Command.{Command};
-ghost use Rattle.plx_text.specs.Parts.{SpellsCommand};
+ghost use Rattle.std.specs.Prelude.{◌≡◌, ◌≢◌, ◌<◌, ◌++◌, ℕ, IfNone, IfSome, codes};
+ghost use Rattle.plx_text.specs.Parts.{ReadsCommand};
 ghost use Rattle.plx_text.specs.Words.{hex_byte, hex_digit};
 
 use crate::number::{small, small_then};
@@ -12,7 +11,7 @@ use plx_model::Command;
 
 /// The command that a text spells.
 pub(crate) fn read_command(text: &[u8]) -> Option<Command>
-    ensures { MatchOption result ((command : Command) → ¬ SpellsCommand command text.now) (λ command. SpellsCommand command text.now) }
+    ensures { ReadsCommand result text.now }
 {
     if let Some(rest) = after(text, b"attach ") {
         return read_attach(rest);
@@ -27,14 +26,14 @@ pub(crate) fn read_command(text: &[u8]) -> Option<Command>
 }
 
 fn read_attach(rest: &[u8]) -> Option<Command>
-    ensures { MatchOption result ((command : Command) → ¬ SpellsCommand command (codes "attach " ++ rest.now)) (λ command. SpellsCommand command (codes "attach " ++ rest.now)) }
+    ensures { ReadsCommand result (codes "attach " ++ rest.now) }
 {
     let slot = SlotNo(small(rest)?);
     Some(Command::Attach { slot })
 }
 
 fn read_read(rest: &[u8]) -> Option<Command>
-    ensures { MatchOption result ((command : Command) → ¬ SpellsCommand command (codes "read " ++ rest.now)) (λ command. SpellsCommand command (codes "read " ++ rest.now)) }
+    ensures { ReadsCommand result (codes "read " ++ rest.now) }
 {
     let (slot, rest) = small_then(rest)?;
     let vblock = small(rest)?;
@@ -45,7 +44,7 @@ fn read_read(rest: &[u8]) -> Option<Command>
 }
 
 fn read_write(rest: &[u8]) -> Option<Command>
-    ensures { MatchOption result ((command : Command) → ¬ SpellsCommand command (codes "write " ++ rest.now)) (λ command. SpellsCommand command (codes "write " ++ rest.now)) }
+    ensures { ReadsCommand result (codes "write " ++ rest.now) }
 {
     let (slot, rest) = small_then(rest)?;
     let (vblock, rest) = small_then(rest)?;
@@ -59,7 +58,8 @@ fn read_write(rest: &[u8]) -> Option<Command>
 
 // The byte that two digits spell.
 fn read_byte(text: &[u8]) -> Option<u8>
-    ensures { MatchOption result ((byte : ℕ) → byte < 256 → text.now ≢ hex_byte byte) (λ byte. (byte < 256) × (text.now ≡ hex_byte byte)) }
+    ensures some { IfSome result (λ byte. (byte < 256) × (text.now ≡ hex_byte byte)) }
+    ensures none { IfNone result ((byte : ℕ) → byte < 256 → text.now ≢ hex_byte byte) }
 {
     let [high, low] = text else {
         return None;
@@ -69,7 +69,8 @@ fn read_byte(text: &[u8]) -> Option<u8>
 
 // The value of a digit of base 16.
 fn read_digit(glyph: u8) -> Option<u8>
-    ensures { MatchOption result ((digit : ℕ) → digit < 16 → glyph ≢ hex_digit digit) (λ digit. (digit < 16) × (glyph ≡ hex_digit digit)) }
+    ensures some { IfSome result (λ digit. (digit < 16) × (glyph ≡ hex_digit digit)) }
+    ensures none { IfNone result ((digit : ℕ) → digit < 16 → glyph ≢ hex_digit digit) }
 {
     match glyph {
         b'0'..=b'9' => Some(glyph - b'0'),

@@ -11,6 +11,8 @@ mod print_reply;
 #[cfg(test)]
 mod print_tests;
 mod read;
+#[cfg(test)]
+mod read_tests;
 mod schedule;
 mod text;
 mod word;

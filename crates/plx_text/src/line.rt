@@ -1,10 +1,7 @@
 //! The lines of a schedule.
 
-ghost use Rattle.std.specs.Prelude.{◌≡◌, ◌++◌, ℕ, List, MatchOption, codes};
-ghost use Rattle.plx_model.specs.declared.event.Event.{Event};
-ghost use Rattle.plx_model.specs.declared.event.Stop.{Stop};
-ghost use Rattle.plx_text.specs.Lines.{SpellsEvent, SpellsWorld};
-ghost use Rattle.plx_text.specs.Parts.{SpellsStop};
+ghost use Rattle.std.specs.Prelude.{◌++◌, codes};
+ghost use Rattle.plx_text.specs.Parts.{ReadsEvent, ReadsStop, ReadsWorld};
 
 use crate::command_text::read_command;
 use crate::number::{number, number_then, small, small_then};
@@ -17,7 +14,7 @@ const MOST_READING: u64 = (1 << 48) - 1;
 
 /// The number of journal slots that a world line gives.
 pub(crate) fn read_world(line: &[u8]) -> Option<u32>
-    ensures { MatchOption result ((slots : ℕ) → ¬ SpellsWorld slots line.now) (λ slots. SpellsWorld slots line.now) }
+    ensures { ReadsWorld result line.now }
 {
     let (slots, rest) = small_then(after(line, b"world 1 1 16 ")?)?;
     if rest == b"1".as_slice() && 2 <= slots && slots <= 64 {
@@ -28,7 +25,7 @@ pub(crate) fn read_world(line: &[u8]) -> Option<u32>
 
 /// The event that a line spells.
 pub(crate) fn read_event(line: &[u8]) -> Option<Event>
-    ensures { MatchOption result ((one : Event) → ¬ SpellsEvent one line.now) (λ one. SpellsEvent one line.now) }
+    ensures { ReadsEvent result line.now }
 {
     if let Some(rest) = after(line, b"tick ") {
         return read_tick(rest);
@@ -64,7 +61,7 @@ pub(crate) fn read_event(line: &[u8]) -> Option<Event>
 }
 
 fn read_tick(rest: &[u8]) -> Option<Event>
-    ensures { MatchOption result ((one : Event) → ¬ SpellsEvent one (codes "tick " ++ rest.now)) (λ one. SpellsEvent one (codes "tick " ++ rest.now)) }
+    ensures { ReadsEvent result (codes "tick " ++ rest.now) }
 {
     let by = small(rest)?;
     if by == 0 {
@@ -74,7 +71,7 @@ fn read_tick(rest: &[u8]) -> Option<Event>
 }
 
 fn read_start(rest: &[u8]) -> Option<Event>
-    ensures { MatchOption result ((one : Event) → ¬ SpellsEvent one (codes "start " ++ rest.now)) (λ one. SpellsEvent one (codes "start " ++ rest.now)) }
+    ensures { ReadsEvent result (codes "start " ++ rest.now) }
 {
     let (appliance, rest) = small_then(rest)?;
     let command = read_command(rest)?;
@@ -85,21 +82,21 @@ fn read_start(rest: &[u8]) -> Option<Event>
 }
 
 fn read_read(rest: &[u8]) -> Option<Event>
-    ensures { MatchOption result ((one : Event) → ¬ SpellsEvent one (codes "read " ++ rest.now)) (λ one. SpellsEvent one (codes "read " ++ rest.now)) }
+    ensures { ReadsEvent result (codes "read " ++ rest.now) }
 {
     let appliance = ApplianceNo(small(rest)?);
     Some(Event::Read { appliance })
 }
 
 fn read_issue(rest: &[u8]) -> Option<Event>
-    ensures { MatchOption result ((one : Event) → ¬ SpellsEvent one (codes "issue " ++ rest.now)) (λ one. SpellsEvent one (codes "issue " ++ rest.now)) }
+    ensures { ReadsEvent result (codes "issue " ++ rest.now) }
 {
     let appliance = ApplianceNo(small(rest)?);
     Some(Event::Issue { appliance })
 }
 
 fn read_land(rest: &[u8]) -> Option<Event>
-    ensures { MatchOption result ((one : Event) → ¬ SpellsEvent one (codes "land " ++ rest.now)) (λ one. SpellsEvent one (codes "land " ++ rest.now)) }
+    ensures { ReadsEvent result (codes "land " ++ rest.now) }
 {
     let (appliance, rest) = small_then(rest)?;
     let (back, rest) = number_then(rest, u64::MAX)?;
@@ -112,14 +109,14 @@ fn read_land(rest: &[u8]) -> Option<Event>
 }
 
 fn read_done(rest: &[u8]) -> Option<Event>
-    ensures { MatchOption result ((one : Event) → ¬ SpellsEvent one (codes "done " ++ rest.now)) (λ one. SpellsEvent one (codes "done " ++ rest.now)) }
+    ensures { ReadsEvent result (codes "done " ++ rest.now) }
 {
     let appliance = ApplianceNo(small(rest)?);
     Some(Event::Done { appliance })
 }
 
 fn read_clock(rest: &[u8]) -> Option<Event>
-    ensures { MatchOption result ((one : Event) → ¬ SpellsEvent one (codes "clock " ++ rest.now)) (λ one. SpellsEvent one (codes "clock " ++ rest.now)) }
+    ensures { ReadsEvent result (codes "clock " ++ rest.now) }
 {
     let (appliance, rest) = small_then(rest)?;
     let reading = number(rest, MOST_READING)?;
@@ -130,21 +127,21 @@ fn read_clock(rest: &[u8]) -> Option<Event>
 }
 
 fn read_crash(rest: &[u8]) -> Option<Event>
-    ensures { MatchOption result ((one : Event) → ¬ SpellsEvent one (codes "crash " ++ rest.now)) (λ one. SpellsEvent one (codes "crash " ++ rest.now)) }
+    ensures { ReadsEvent result (codes "crash " ++ rest.now) }
 {
     let appliance = ApplianceNo(small(rest)?);
     Some(Event::Crash { appliance })
 }
 
 fn read_run(rest: &[u8]) -> Option<Event>
-    ensures { MatchOption result ((one : Event) → ¬ SpellsEvent one (codes "run " ++ rest.now)) (λ one. SpellsEvent one (codes "run " ++ rest.now)) }
+    ensures { ReadsEvent result (codes "run " ++ rest.now) }
 {
     let appliance = ApplianceNo(small(rest)?);
     Some(Event::Run { appliance })
 }
 
 fn read_upto(rest: &[u8]) -> Option<Event>
-    ensures { MatchOption result ((one : Event) → ¬ SpellsEvent one (codes "upto " ++ rest.now)) (λ one. SpellsEvent one (codes "upto " ++ rest.now)) }
+    ensures { ReadsEvent result (codes "upto " ++ rest.now) }
 {
     let (appliance, rest) = small_then(rest)?;
     let stop = read_stop(rest)?;
@@ -156,7 +153,7 @@ fn read_upto(rest: &[u8]) -> Option<Event>
 
 // The stop that a word spells.
 fn read_stop(word: &[u8]) -> Option<Stop>
-    ensures { MatchOption result ((stop : Stop) → ¬ SpellsStop stop word.now) (λ stop. SpellsStop stop word.now) }
+    ensures { ReadsStop result word.now }
 {
     if word == b"jdata".as_slice() {
         return Some(Stop::Write(WriteKind::JData));

@@ -1,7 +1,7 @@
-use Rattle.std.proofs.Common.{◌≡◌, ◌≢◌, ◌+◌, ◌≤◌, ◌∙◌, ℕ, List, [], ◌∷◌, ◌++◌, length, nat_eq, inl, inr, refl, ap, sym, arith, length-append}
+use Rattle.std.proofs.Common.{◌+◌, ◌∙◌, ℕ, List, [], ◌∷◌, ◌++◌, length, nat_eq, inl, inr, refl, ap, sym, arith, length-append}
 use Rattle.std.proofs.lemmas.Bool.{false≢true}
 use Rattle.plx_text.specs.Lines.{world_text}
-use Rattle.plx_text.specs.Schedules.{AreEvents, event_lines, joined}
+use Rattle.plx_text.specs.Schedules.{event_lines, joined}
 use Rattle.plx_text.proofs.FirstBad.{bad-line, bad-rest, begun, length-event_lines, more-events, no-schedule, text-more}
 use Rattle.plx_text.proofs.read.read_schedule.Goals as goal
 
@@ -64,7 +64,7 @@ loop-rest-preserved c =
       most = kept.most;
       limits = rw c.in-Ok.ensures.ok (more-events events one kept.limits c.in-Some-read_event.ensures.0);
       text = rw c.in-Ok.ensures.ok
-        (text-more slots events one c.args.bytes.now c.loop-rest.rest.now c.in-Some-cut.text.now c.in-Some-cut.others.now kept.text c.in-Some-cut.ensures.parts c.in-Some-read_event.ensures.1);
+          (text-more slots events one c.args.bytes.now c.loop-rest.rest.now c.in-Some-cut.text.now c.in-Some-cut.others.now kept.text c.in-Some-cut.ensures.parts c.in-Some-read_event.ensures.1);
       count = rw c.in-Ok.ensures.ok (omega (arith, longer, kept.count));
       room = omega (arith, cut, parts, kept.room);
     }
