@@ -1,0 +1,29 @@
+-- A world that was played, and what is told of it.
+use Rattle.std.proofs.Common.{◌≡◌, ◌≤◌, ◌∙◌, ℕ, List, ap, subst, reverse}
+use Rattle.plx_model.specs.declared.entry.Entry.{Entry}
+use Rattle.plx_model.specs.declared.event.Event.{Event}
+use Rattle.plx_rules.specs.Headline.{HeadlineOfAll}
+use Rattle.plx_rules.specs.World.{Reached, first_world}
+use Rattle.plx_text.specs.Traces.{trace_text}
+use Rattle.plx_world.proofs.Sequences.{reached-plays}
+use Rattle.plx_world.specs.Standing.{PlaysAll, Stands}
+use Rattle.plx_world.specs.declared.world.World.{World}
+use Rattle.plx_cli.specs.Program.{IsTold}
+
+-- the world that the program has stands for one that was reached
+pub told : HeadlineOfAll → (slots : ℕ) (events : List Event) (text : List ℕ) (entries : List Entry) (reachable allocated : ℕ) (first last : World) →
+    2 ≤ slots → slots ≤ 64 → Stands first (first_world slots) → PlaysAll first last events → entries ≡ last.trace → reachable ≡ 0 → allocated ≡ 0 →
+    text ≡ trace_text slots entries reachable allocated → IsTold slots events text
+told law slots events text entries reachable allocated first last low high stands plays same none nothing is =
+    let found = plays (first_world slots) stands in
+    let reached = reached-plays (Reached.first low high) found.1 in
+    record {
+      world = found.0;
+      plays = found.1;
+      reached = reached;
+      headline = law found.0 reached;
+      trace =
+          is ∙ ap (λ told. trace_text slots told reachable allocated) (same ∙ found.2.trace)
+          ∙ ap (λ count. trace_text slots (reverse found.0.trace) count allocated) none
+          ∙ ap (λ count. trace_text slots (reverse found.0.trace) 0 count) nothing;
+    }

@@ -1,0 +1,92 @@
+//! The top call.
+ghost use Rattle.std.specs.Prelude.{◌≡◌, ◌≢◌, ◌≤◌, ◌+◌, ◌⊎◌, ◌↔◌, ℕ, List};
+ghost use Rattle.plx_cli.specs.Program.{Appended, AppendedPart, IsAnswer, IsBad, IsGiven, IsPlayed, IsReplay, ReadsSuch, input_limit};
+ghost use Rattle.plx_model.specs.declared.event.Event.{Event};
+ghost use Rattle.plx_port.specs.Faults.{Rose};
+ghost use Rattle.plx_port.specs.Streams.{TakesCount};
+ghost use Rattle.plx_rules.specs.Headline.{HeadlineOfAll};
+ghost use Rattle.plx_text.specs.Schedules.{IsFirstBad, IsSchedule};
+
+use crate::replay::replay;
+use crate::status::{NO_MEMORY, SINK_FAULT, SOURCE_FAULT, TOO_LONG, USAGE};
+use crate::words::is_replay;
+use plx_headline::headline;
+use plx_port::{Failed, ReadError, Sink, Source, read_all, write_all};
+use std::alloc::Global;
+
+/// The most bytes of the input.
+const INPUT_LIMIT: usize = 64 * 1024 * 1024;
+
+/// Does what the words ask for, from the source to the sink, and answers the program's status: 0 the
+/// work was done, 1 usage, 2 a bad line, 3 a fault of the source, 4 a fault of the sink, 5 want of
+/// memory, 6 the input is too long. The source is read to its end before all else, and the text is
+/// whole before any of it is written.
+pub fn run<S: Source, K: Sink>(
+    alloc: Global,
+    words: &Vec<String>,
+    source: &mut S,
+    sink: &mut K,
+) -> u8
+    ensures status { result ≤ 6 }
+
+    // The law on all worlds.
+    ensures headline { HeadlineOfAll }
+
+    // What was written: the trace of the schedule, or the number of its first bad line, or a part of it.
+    ensures done { result ≡ 0 → ReadsSuch (S.left source.old) (S.left source.new)
+        (λ bytes. Appended IsPlayed bytes (K.held sink.old) (K.held sink.new)) }
+    ensures bad { result ≡ 2 → ReadsSuch (S.left source.old) (S.left source.new)
+        (λ bytes. Appended IsBad bytes (K.held sink.old) (K.held sink.new)) }
+    ensures part { result ≡ 4 → ReadsSuch (S.left source.old) (S.left source.new)
+        (λ bytes. AppendedPart IsAnswer bytes (K.held sink.old) (K.held sink.new)) }
+    ensures silent { result ≢ 0 → result ≢ 2 → result ≢ 4 → sink.new ≡ sink.old }
+
+    // When each other status comes.
+    ensures usage { result ≡ 1 ↔ ¬ IsReplay words.now.items }
+    ensures idle { result ≡ 1 → source.new ≡ source.old }
+    ensures source { result ≡ 3 → Rose (S.faults source.old) (S.faults source.new) }
+    ensures sink { result ≡ 4 → Rose (K.faults sink.old) (K.faults sink.new) }
+    ensures long { result ≡ 6 → TakesCount (S.left source.old) (S.left source.new) (input_limit + 1) }
+    ensures within { result ≢ 6 → (n : ℕ) × (n ≤ input_limit) × TakesCount (S.left source.old) (S.left source.new) n }
+
+    // Where the source gives an input of at most the limit: a bad line is answered, and a schedule is played.
+    ensures exact { (bytes : List ℕ) (line : ℕ) → IsReplay words.now.items
+        → IsGiven bytes (S.left source.old) (S.faults source.old) (S.faults source.new) → IsFirstBad bytes line
+        → (result ≡ 2) ⊎ (result ≡ 4) ⊎ (result ≡ 5) }
+    ensures complete { (bytes : List ℕ) (slots : ℕ) (events : List Event) → IsReplay words.now.items
+        → IsGiven bytes (S.left source.old) (S.faults source.old) (S.faults source.new) → IsSchedule bytes slots events
+        → ¬ Rose (K.faults sink.old) (K.faults sink.new) → (result ≡ 0) ⊎ (result ≡ 5) }
+
+    // Counts of faults never fall.
+    ensures counts { (S.faults source.old ≤ S.faults source.new) × (K.faults sink.old ≤ K.faults sink.new) }
+{
+    headline();
+    if !is_replay(words.as_slice()) {
+        return USAGE;
+    }
+    match read_all(alloc, source, INPUT_LIMIT) {
+        Ok(bytes) => answer(alloc, bytes.as_slice(), sink),
+        Err(ReadError::Failed) => SOURCE_FAULT,
+        Err(ReadError::NoMemory) => NO_MEMORY,
+        Err(ReadError::TooLong) => TOO_LONG,
+    }
+}
+
+// Writes what is to be written for an input.
+fn answer<K: Sink>(alloc: Global, bytes: &[u8], sink: &mut K) -> u8
+    ensures status { (result ≡ 0) ⊎ (result ≡ 2) ⊎ (result ≡ 4) ⊎ (result ≡ 5) }
+    ensures done { result ≡ 0 → Appended IsPlayed bytes.now (K.held sink.old) (K.held sink.new) }
+    ensures bad { result ≡ 2 → Appended IsBad bytes.now (K.held sink.old) (K.held sink.new) }
+    ensures part { result ≡ 4 → AppendedPart IsAnswer bytes.now (K.held sink.old) (K.held sink.new) }
+    ensures silent { result ≡ 5 → sink.new ≡ sink.old }
+    ensures sink { result ≡ 4 → Rose (K.faults sink.old) (K.faults sink.new) }
+    ensures counts { K.faults sink.old ≤ K.faults sink.new }
+{
+    let Ok(answer) = replay(alloc, bytes) else {
+        return NO_MEMORY;
+    };
+    match write_all(sink, answer.text.as_slice()) {
+        Ok(()) => answer.status,
+        Err(Failed) => SINK_FAULT,
+    }
+}
