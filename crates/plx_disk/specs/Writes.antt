@@ -1,5 +1,5 @@
 -- A device with issued writes that land sector by sector, and its time.
-use Rattle.std.specs.Prelude.{◌≡◌, ◌≢◌, ◌+◌, ◌^◌, ◌<◌, ◌≤◌, ℕ, List, [], ◌∷◌, ◌++◌, length, slice_get, slice_set, Option, Some, Bool, true, false, zero, suc}
+use Rattle.std.specs.Prelude.{◌≡◌, ◌+◌, ◌≤◌, ℕ, List, [], ◌∷◌, ◌++◌, slice_get, slice_set, Some, Bool, true, false, zero, suc}
 use Rattle.plx_base.specs.Blocks.{zeros}
 use Rattle.plx_base.specs.Sectors.{Device, put, landed}
 use Rattle.plx_base.specs.declared.write_kind.WriteKind.{WriteKind}

@@ -2,5 +2,11 @@
 #![tactic(auto)]
 
 mod ask;
+mod blocks;
+mod disk;
+#[cfg(test)]
+mod tests;
+mod write;
 
 pub use ask::{Answer, Ask};
+pub use disk::Disk;

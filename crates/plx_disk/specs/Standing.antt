@@ -1,0 +1,56 @@
+-- What the code's device stands for.
+use Rattle.std.specs.Prelude.{◌≡◌, ◌≢◌, ℕ, List, [], ◌∷◌, true, false, length}
+use Rattle.plx_disk.specs.Stored.{device_of}
+use Rattle.plx_disk.specs.Writes.{Issued, Surface, all_sectors}
+use Rattle.plx_disk.specs.declared.write.Pending.{Pending}
+use Rattle.plx_disk.specs.declared.write.Progress.{Progress}
+use Rattle.plx_disk.specs.declared.write.Progress.TheVariants.{Open, Whole, Closed}
+use Rattle.plx_disk.specs.declared.write.Write.{Write}
+use Rattle.plx_disk.specs.declared.disk.Disk.{Disk}
+
+-- a write of which a sector may still land is kept whole
+pub record IsPending (pending : Pending) (write : Issued) : Type 0 where
+  pub kind : pending.kind ≡ write.kind
+  pub block : pending.block ≡ write.block
+  pub bytes : pending.bytes ≡ write.bytes
+  pub guard : pending.guard ≡ write.guard
+  pub landed : pending.landed ≡ write.landed
+  pub open_yet : write.cancelled ≡ false
+  pub not_whole : write.landed ≢ all_sectors
+
+-- of one that has landed whole, or was cancelled before, this alone is kept
+abbrev pub Proceeds : Progress → Issued → Type 0
+Proceeds (Open pending) write = IsPending pending write
+Proceeds Whole write = write.landed ≡ all_sectors
+Proceeds Closed write = (write.cancelled ≡ true) × (write.landed ≢ all_sectors)
+
+-- the code's write stands for an issued one
+pub record StandsFor (kept : Write) (write : Issued) : Type 0 where
+  pub owner : kept.owner.0 ≡ write.owner
+  pub progress : Proceeds kept.progress write
+
+-- they stand for the issued ones, one by one
+abbrev pub StandForAll : List Write → List Issued → Type 0
+StandForAll [] [] = Unit {0}
+StandForAll [] (write ∷ writes) = ⊥
+StandForAll (one ∷ kept) [] = ⊥
+StandForAll (one ∷ kept) (write ∷ writes) = StandsFor one write × StandForAll kept writes
+
+-- equal device, issued writes and time
+pub record Stands (disk : Disk) (s : Surface) : Type 0 where
+  pub blocks : disk.blocks ≡ s.blocks
+  pub device : (b : ℕ) → device_of disk.stored b ≡ s.device b
+  pub writes : StandForAll disk.writes.items s.writes
+  pub time : disk.time ≡ s.time
+
+-- each device that the old one stands for leads to one that the new one stands for
+abbrev pub Turns : Disk → Disk → (Surface → Surface) → Type 0
+Turns old new change = (s : Surface) → Stands old s → Stands new (change s)
+
+-- the new one stands for what the old one stood for
+abbrev pub Stays : Disk → Disk → Type 0
+Stays old new = (s : Surface) → Stands old s → Stands new s
+
+-- how many writes were issued
+abbrev pub issued_count : Disk → ℕ
+issued_count disk = length disk.writes.items

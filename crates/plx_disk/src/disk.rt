@@ -1,0 +1,198 @@
+//! A device with issued writes that land sector by sector, and its time.
+ghost use Rattle.std.specs.Prelude.{◌<◌, ◌^◌};
+ghost use Rattle.plx_disk.specs.Stored.{ArePlaced};
+
+use crate::blocks::{block_of, copy_out, make_place, store};
+use crate::write::{Pending, Progress, Write};
+use plx_base::{Block, BlockNo, Boot, NoMemory, WriteKind};
+use std::alloc::Global;
+use std::collections::BTreeMap;
+
+/// The time of a device stays below this, in milliseconds.
+const END_OF_TIME: u64 = 1 << 47;
+
+/// A device and its time. A block that was never written is zeros and isn't stored.
+#[derive(Drop)]
+pub struct Disk {
+    alloc: Global,
+    blocks: u64,
+    stored: BTreeMap<u64, Block>,
+    writes: Vec<Write>,
+    time: u64,
+    ghost placed: { ArePlaced stored writes.items },
+    ghost in_time: { time < 2 ^ 47 },
+}
+
+impl Disk {
+    ghost use Rattle.std.specs.Prelude.{◌≡◌, ◌<◌, ◌+◌, ◌^◌, ◌↔◌, ℕ, Option, Some, None, true, false, length, slice_get, IfOk, IsOkAnd, OnOk, OnErr, IsTrue, MatchOption};
+    ghost use Rattle.plx_disk.specs.Filled.{with_block};
+    ghost use Rattle.plx_disk.specs.Missing.{IsMissing, IsOwner, MissesNone};
+    ghost use Rattle.plx_disk.specs.Standing.{Stands, Stays, Turns, issued_count};
+    ghost use Rattle.plx_disk.specs.Writes.{Issued, Surface, MayLand, HasLanded, after_landing, blank, cancelled, fresh_write, issued, passed};
+
+    /// A device of so many blocks, all zeros, at that time in milliseconds.
+    pub fn new(alloc: Global, blocks: u64, time: u64) -> Result<Disk, NoMemory>
+        requires { time < 2 ^ 47 }
+        ensures { IsOkAnd result (λ disk. Stands disk (blank blocks time)) }
+    {
+        Ok(Disk {
+            alloc,
+            blocks,
+            stored: BTreeMap::new(alloc),
+            writes: Vec::new(alloc),
+            time,
+        })
+    }
+
+    /// How many blocks the device has.
+    pub fn blocks(&self) -> u64
+        ensures { result ≡ self.now.blocks }
+    {
+        self.blocks
+    }
+
+    /// The device's time, in milliseconds.
+    pub fn time(&self) -> u64
+        ensures time { result ≡ self.now.time }
+        ensures early { result < 2 ^ 47 }
+    {
+        self.time
+    }
+
+    /// How many writes were issued.
+    pub fn issued(&self) -> u64
+        ensures count { result ≡ issued_count self.now }
+        ensures issued { (s : Surface) → Stands self.now s → result ≡ length s.writes }
+    {
+        self.writes.len() as u64
+    }
+
+    /// Puts bytes into a block of a device that is being filled.
+    pub fn set(&mut self, block: BlockNo, bytes: &[u8]) -> Result<(), NoMemory>
+        requires unissued { issued_count self.old ≡ 0 }
+        requires within { block.0 < self.old.blocks }
+        requires whole { length bytes.now ≡ 4096 }
+        ensures ok { OnOk result (Turns self.old self.new (λ s. with_block s block.0 bytes.now)) }
+        ensures err { OnErr result (Stays self.old self.new) }
+    {
+        let bytes = block_of(self.alloc, bytes)?;
+        store(&mut self.stored, block.0, bytes)?;
+        Ok(())
+    }
+
+    /// What stands in a block.
+    pub fn read(&self, block: BlockNo, into: &mut Block)
+        requires { block.0 < self.now.blocks }
+        ensures bytes { (s : Surface) → Stands self.now s → into.new ≡ s.device block.0 }
+        ensures len { length into.new ≡ 4096 }
+    {
+        copy_out(&self.stored, block.0, into);
+        let _bytes = into.as_slice();
+    }
+
+    /// A write is issued. Its number is the count of those before.
+    pub fn issue(
+        &mut self,
+        owner: Boot,
+        kind: WriteKind,
+        block: BlockNo,
+        bytes: &[u8],
+        guard: u64,
+    ) -> Result<u64, NoMemory>
+        requires within { block.0 < self.old.blocks }
+        requires whole { length bytes.now ≡ 4096 }
+        requires guarded { guard < 2 ^ 49 }
+        ensures number { IfOk result (λ number. (s : Surface) → Stands self.old s → number ≡ length s.writes) }
+        ensures ok { OnOk result (Turns self.old self.new (λ s. issued s (fresh_write owner.0 kind block.0 bytes.now guard))) }
+        ensures err { OnErr result (Stays self.old self.new) }
+    {
+        let bytes = block_of(self.alloc, bytes)?;
+        make_place(self.alloc, &mut self.stored, block.0)?;
+        let number = self.writes.len() as u64;
+        let pending = Pending {
+            kind,
+            block: block.0,
+            bytes,
+            guard,
+            landed: [false; 8],
+        };
+        self.writes.push(Write {
+            owner,
+            progress: Progress::Open(pending),
+        })?;
+        Ok(number)
+    }
+
+    /// One sector of a write lands, if it may.
+    pub fn land(&mut self, write: u64, sector: u8) -> bool
+        ensures landed { IsTrue result → (s : Surface) → Stands self.old s → (w : Issued) × MayLand s write sector w × Stands self.new (after_landing s write w sector) }
+        ensures refused { result ≡ false → (s : Surface) → Stands self.old s → (w : Issued) → MayLand s write sector w → ⊥ }
+        ensures same { result ≡ false → Stays self.old self.new }
+    {
+        let index = write as usize;
+        if index >= self.writes.len() {
+            return false;
+        }
+        let time = self.time;
+        self.writes[index].land(&mut self.stored, sector, time)
+    }
+
+    /// Whether all eight sectors of a write have landed.
+    pub fn settle(&mut self, write: u64) -> bool
+        ensures whole { (s : Surface) → Stands self.old s → (IsTrue result ↔ HasLanded s write) }
+        ensures same { Stays self.old self.new }
+    {
+        let index = write as usize;
+        if index >= self.writes.len() {
+            return false;
+        }
+        self.writes[index].has_landed()
+    }
+
+    /// No further sector of a write lands.
+    pub fn cancel(&mut self, write: u64)
+        ensures { Turns self.old self.new (λ s. cancelled s write) }
+    {
+        let index = write as usize;
+        if index >= self.writes.len() {
+            return;
+        }
+        self.writes[index].cancel();
+    }
+
+    /// Time passes, in milliseconds. False, and nothing changes, where it would reach its end.
+    pub fn tick(&mut self, by: u32) -> bool
+        ensures early { (s : Surface) → Stands self.old s → (IsTrue result ↔ (s.time + by < 2 ^ 47)) }
+        ensures passed { IsTrue result → Turns self.old self.new (λ s. passed s by) }
+        ensures same { result ≡ false → Stays self.old self.new }
+    {
+        let time = self.time + u64::from(by);
+        if time >= END_OF_TIME {
+            return false;
+        }
+        self.time = time;
+        true
+    }
+
+    /// The boot that issued a write.
+    pub fn owner(&self, write: u64) -> Option<Boot>
+        ensures { (s : Surface) → Stands self.now s → MatchOption result (slice_get s.writes write ≡ None) (IsOwner s write) }
+    {
+        let index = write as usize;
+        if index >= self.writes.len() {
+            return None;
+        }
+        Some(self.writes[index].owner)
+    }
+
+    /// The least sector that hasn't landed, of a write that was issued and not cancelled.
+    pub fn missing(&self, write: u64) -> Option<u8>
+        ensures { (s : Surface) → Stands self.now s → MatchOption result (MissesNone s write) (IsMissing s write) }
+    {
+        let index = write as usize;
+        if index >= self.writes.len() {
+            return None;
+        }
+        self.writes[index].missing()
+    }
+}
