@@ -1,6 +1,7 @@
 -- Which entries the model accepts: the eight rules of the judge.
 use Rattle.std.specs.Prelude.{◌≡◌, ◌+◌, ◌<◌, ℕ, List, [], ◌∷◌, Option, Some, None, IsSome, ◌⊎◌}
 use Rattle.plx_base.specs.Payload.{bytes_of}
+use Rattle.plx_base.specs.declared.payload.Payload.{Payload}
 use Rattle.plx_model.specs.Image.{Image, report_of}
 use Rattle.plx_model.specs.Model.{Slot, Model, named}
 use Rattle.plx_model.specs.Moves.{model_of}
@@ -13,29 +14,41 @@ use Rattle.plx_model.specs.declared.reply.Reply.TheVariants.{Attached, Data, Wri
 use Rattle.plx_model.specs.declared.entry.Entry.{Entry}
 use Rattle.plx_model.specs.declared.entry.Entry.TheVariants as entry
 
+-- the replies of an attach, of a read and of a write
+abbrev pub IsOfAttach : Reply → Type 0
+IsOfAttach (Attached report) = Unit {0}
+IsOfAttach AlreadyAttached = Unit {0}
+IsOfAttach NoImage = Unit {0}
+IsOfAttach (Lost lease until reading) = Unit {0}
+IsOfAttach (ReadFault block) = Unit {0}
+IsOfAttach (WriteFault block) = Unit {0}
+IsOfAttach reply = ⊥
+
+abbrev pub IsOfRead : Reply → Type 0
+IsOfRead (Data payload) = Unit {0}
+IsOfRead NotAttached = Unit {0}
+IsOfRead NoImage = Unit {0}
+IsOfRead (OutOfRange size) = Unit {0}
+IsOfRead (Lost lease until reading) = Unit {0}
+IsOfRead (ReadFault block) = Unit {0}
+IsOfRead reply = ⊥
+
+abbrev pub IsOfWrite : Reply → Type 0
+IsOfWrite (Written number) = Unit {0}
+IsOfWrite NotAttached = Unit {0}
+IsOfWrite NoImage = Unit {0}
+IsOfWrite (OutOfRange size) = Unit {0}
+IsOfWrite (Lost lease until reading) = Unit {0}
+IsOfWrite (ReadFault block) = Unit {0}
+IsOfWrite (WriteFault block) = Unit {0}
+IsOfWrite Full = Unit {0}
+IsOfWrite reply = ⊥
+
 -- the reply is one of the command's
 abbrev pub IsListed : Command → Reply → Type 0
-IsListed (Attach slot) (Attached report) = Unit {0}
-IsListed (Attach slot) AlreadyAttached = Unit {0}
-IsListed (Attach slot) NoImage = Unit {0}
-IsListed (Attach slot) (Lost lease until reading) = Unit {0}
-IsListed (Attach slot) (ReadFault block) = Unit {0}
-IsListed (Attach slot) (WriteFault block) = Unit {0}
-IsListed (Read slot vblock) (Data payload) = Unit {0}
-IsListed (Read slot vblock) NotAttached = Unit {0}
-IsListed (Read slot vblock) NoImage = Unit {0}
-IsListed (Read slot vblock) (OutOfRange size) = Unit {0}
-IsListed (Read slot vblock) (Lost lease until reading) = Unit {0}
-IsListed (Read slot vblock) (ReadFault block) = Unit {0}
-IsListed (Write slot vblock payload) (Written number) = Unit {0}
-IsListed (Write slot vblock payload) NotAttached = Unit {0}
-IsListed (Write slot vblock payload) NoImage = Unit {0}
-IsListed (Write slot vblock payload) (OutOfRange size) = Unit {0}
-IsListed (Write slot vblock payload) (Lost lease until reading) = Unit {0}
-IsListed (Write slot vblock payload) (ReadFault block) = Unit {0}
-IsListed (Write slot vblock payload) (WriteFault block) = Unit {0}
-IsListed (Write slot vblock payload) Full = Unit {0}
-IsListed command reply = ⊥
+IsListed (Attach slot) reply = IsOfAttach reply
+IsListed (Read slot vblock) reply = IsOfRead reply
+IsListed (Write slot vblock payload) reply = IsOfWrite reply
 
 -- data and the number of a write come from the image's owner alone
 abbrev pub IsByOwner : Model → ℕ → Command → Reply → Type 0
@@ -47,27 +60,57 @@ IsByOwner m appliance command reply = Unit {0}
 abbrev pub IsReported : Slot → Report → Type 0
 IsReported slot report = (report ≡ report_of slot.image) ⊎ ((image : Image) × (slot.change ≡ Some image) × (report ≡ report_of image))
 
+-- a report, data and the number of a write are those that the model has
+abbrev pub IsReportFor : Model → Command → Report → Type 0
+IsReportFor m (Attach slot) report = (slot.0 < m.images) × IsReported (m.slots slot.0) report
+IsReportFor m (Read slot vblock) report = Unit {0}
+IsReportFor m (Write slot vblock payload) report = Unit {0}
+
+abbrev pub IsDataFor : Model → Command → Payload → Type 0
+IsDataFor m (Attach slot) payload = Unit {0}
+IsDataFor m (Read slot vblock) payload = (slot.0 < m.images) × (bytes_of payload ≡ (m.slots slot.0).image.content vblock)
+IsDataFor m (Write slot vblock written) payload = Unit {0}
+
+abbrev pub IsNumberFor : Model → Command → ℕ → Type 0
+IsNumberFor m (Attach slot) number = Unit {0}
+IsNumberFor m (Read slot vblock) number = Unit {0}
+IsNumberFor m (Write slot vblock payload) number = (slot.0 < m.images) × (number ≡ (m.slots slot.0).image.writes + 1)
+
 -- a value is the one that the model has
 abbrev pub IsValue : Model → Command → Reply → Type 0
-IsValue m (Attach slot) (Attached report) = (slot.0 < m.images) × IsReported (m.slots slot.0) report
-IsValue m (Read slot vblock) (Data payload) = (slot.0 < m.images) × (bytes_of payload ≡ (m.slots slot.0).image.content vblock)
-IsValue m (Write slot vblock payload) (Written number) = (slot.0 < m.images) × (number ≡ (m.slots slot.0).image.writes + 1)
+IsValue m command (Attached report) = IsReportFor m command report
+IsValue m command (Data payload) = IsDataFor m command payload
+IsValue m command (Written number) = IsNumberFor m command number
 IsValue m command reply = Unit {0}
 
+-- what a reply brings to this slot is what the model has
+abbrev pub IsFitFor : Model → ℕ → Reply → Type 0
+IsFitFor m slot (Attached report) = (slot < m.images) × IsReported (m.slots slot) report
+IsFitFor m slot (Written number) = (slot < m.images) × (number ≡ (m.slots slot).image.writes + 1)
+IsFitFor m slot reply = Unit {0}
+
+-- a refusal that rests on a fact is among those whose fact holds
+abbrev pub IsFoundedIn : List Reply → Reply → Type 0
+IsFoundedIn facts NotAttached = IsAmong NotAttached facts
+IsFoundedIn facts AlreadyAttached = IsAmong AlreadyAttached facts
+IsFoundedIn facts NoImage = IsAmong NoImage facts
+IsFoundedIn facts (OutOfRange size) = IsAmong (OutOfRange size) facts
+IsFoundedIn facts reply = Unit {0}
+
 -- a refusal that rests on a fact comes where its fact holds, with its value
-abbrev pub IsTrue : Model → ℕ → Command → Reply → Type 0
-IsTrue m appliance command NotAttached = IsAmong NotAttached (refusals m appliance command)
-IsTrue m appliance command AlreadyAttached = IsAmong AlreadyAttached (refusals m appliance command)
-IsTrue m appliance command NoImage = IsAmong NoImage (refusals m appliance command)
-IsTrue m appliance command (OutOfRange size) = IsAmong (OutOfRange size) (refusals m appliance command)
-IsTrue m appliance command reply = Unit {0}
+abbrev pub IsFounded : Model → ℕ → Command → Reply → Type 0
+IsFounded m appliance command reply = IsFoundedIn (refusals m appliance command) reply
+
+-- an Ok comes where there is no refusal whose fact holds
+abbrev pub IsUnrefusedBy : List Reply → Reply → Type 0
+IsUnrefusedBy facts (Attached report) = facts ≡ []
+IsUnrefusedBy facts (Data payload) = facts ≡ []
+IsUnrefusedBy facts (Written number) = facts ≡ []
+IsUnrefusedBy facts reply = Unit {0}
 
 -- an Ok comes where no refusal's fact holds
 abbrev pub IsUnrefused : Model → ℕ → Command → Reply → Type 0
-IsUnrefused m appliance command (Attached report) = refusals m appliance command ≡ []
-IsUnrefused m appliance command (Data payload) = refusals m appliance command ≡ []
-IsUnrefused m appliance command (Written number) = refusals m appliance command ≡ []
-IsUnrefused m appliance command reply = Unit {0}
+IsUnrefused m appliance command reply = IsUnrefusedBy (refusals m appliance command) reply
 
 -- the appliance that an entry names
 abbrev pub appliance_of : Entry → ℕ
@@ -101,7 +144,7 @@ pub record Accepts (m : Model) (entry : Entry) : Type 0 where
   pub listed : InCommand (λ appliance command reply. IsListed command reply) m entry
   pub owner : InCommand (IsByOwner m) m entry
   pub value : InCommand (λ appliance command reply. IsValue m command reply) m entry
-  pub refusal : InCommand (IsTrue m) m entry
+  pub refusal : InCommand (IsFounded m) m entry
   pub unrefused : InCommand (IsUnrefused m) m entry
 
 -- the rules by their numbers, where an entry breaks them
@@ -112,7 +155,7 @@ pub data Breaks : Model → Entry → ℕ → Type 0 where
   listed : {m : Model} {entry : Entry} → ¬ InCommand (λ appliance command reply. IsListed command reply) m entry → Breaks m entry 4
   owner : {m : Model} {entry : Entry} → ¬ InCommand (IsByOwner m) m entry → Breaks m entry 5
   value : {m : Model} {entry : Entry} → ¬ InCommand (λ appliance command reply. IsValue m command reply) m entry → Breaks m entry 6
-  refusal : {m : Model} {entry : Entry} → ¬ InCommand (IsTrue m) m entry → Breaks m entry 7
+  refusal : {m : Model} {entry : Entry} → ¬ InCommand (IsFounded m) m entry → Breaks m entry 7
   unrefused : {m : Model} {entry : Entry} → ¬ InCommand (IsUnrefused m) m entry → Breaks m entry 8
 
 -- the least rule that an entry breaks

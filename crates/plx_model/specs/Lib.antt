@@ -4,3 +4,4 @@ pub mod Model
 pub mod Moves
 pub mod Places
 pub mod Refusals
+pub mod Shown

@@ -36,16 +36,20 @@ abbrev pub slots_started : Model → ℕ → Command → ℕ → Slot
 slots_started m appliance command =
     if begins_change m appliance command then at m.slots (named command) (under_way (m.slots (named command)) command) else m.slots
 
-abbrev pub slots_refused : Model → ℕ → Command → ℕ → Slot
-slots_refused m appliance command =
-    if is_changing command && owns (m.slots (named command)).owner appliance then at m.slots (named command) (given_up (m.slots (named command))) else m.slots
+abbrev pub slots_refused : Model → ℕ → ℕ → Bool → ℕ → Slot
+slots_refused m appliance slot changes =
+    if changes && owns (m.slots slot).owner appliance then at m.slots slot (given_up (m.slots slot)) else m.slots
+
+-- the slot once the appliance owns it no longer
+abbrev pub given_back : Slot → ℕ → Slot
+given_back slot appliance = record { image = slot.image; change = slot.change; owner = disowned slot.owner appliance }
 
 -- the model in which the appliance owns nothing and has no session
 abbrev pub forgotten : Model → ℕ → Model
 forgotten m appliance = record {
   images = m.images;
   appliances = m.appliances;
-  slots = λ slot. record { image = (m.slots slot).image; change = (m.slots slot).change; owner = disowned (m.slots slot).owner appliance };
+  slots = λ slot. given_back (m.slots slot) appliance;
   sessions = at m.sessions appliance (λ slot. false);
   running = at m.running appliance None;
 }
@@ -60,29 +64,33 @@ rested m appliance slots = record {
   running = at m.running appliance None;
 }
 
--- the model after a reply to a command
-abbrev pub replied : Model → ℕ → Command → Reply → Model
-replied m appliance command (Attached report) = record {
+-- the model in which the appliance has a session of the slot and owns it, since an attach reported which image it is
+abbrev pub entered : Model → ℕ → ℕ → Report → Model
+entered m appliance slot report = record {
   images = m.images;
   appliances = m.appliances;
-  slots = at m.slots (named command) (attached (m.slots (named command)) appliance report);
-  sessions = at m.sessions appliance (at (m.sessions appliance) (named command) true);
+  slots = at m.slots slot (attached (m.slots slot) appliance report);
+  sessions = at m.sessions appliance (at (m.sessions appliance) slot true);
   running = at m.running appliance None;
 }
-replied m appliance command (Data payload) = rested m appliance m.slots
-replied m appliance command (Written number) = rested m appliance (at m.slots (named command) (made (m.slots (named command))))
-replied m appliance command (Lost lease until reading) = forgotten m appliance
-replied m appliance command (WriteFault block) = forgotten m appliance
-replied m appliance command NotAttached = rested m appliance (slots_refused m appliance command)
-replied m appliance command AlreadyAttached = rested m appliance (slots_refused m appliance command)
-replied m appliance command NoImage = rested m appliance (slots_refused m appliance command)
-replied m appliance command (OutOfRange size) = rested m appliance (slots_refused m appliance command)
-replied m appliance command (ReadFault block) = rested m appliance (slots_refused m appliance command)
-replied m appliance command Full = rested m appliance (slots_refused m appliance command)
+
+-- the model after a reply to a command that names this slot, and changes its image or doesn't
+abbrev pub replied : Model → ℕ → ℕ → Bool → Reply → Model
+replied m appliance slot changes (Attached report) = entered m appliance slot report
+replied m appliance slot changes (Data payload) = rested m appliance m.slots
+replied m appliance slot changes (Written number) = rested m appliance (at m.slots slot (made (m.slots slot)))
+replied m appliance slot changes (Lost lease until reading) = forgotten m appliance
+replied m appliance slot changes (WriteFault block) = forgotten m appliance
+replied m appliance slot changes NotAttached = rested m appliance (slots_refused m appliance slot changes)
+replied m appliance slot changes AlreadyAttached = rested m appliance (slots_refused m appliance slot changes)
+replied m appliance slot changes NoImage = rested m appliance (slots_refused m appliance slot changes)
+replied m appliance slot changes (OutOfRange size) = rested m appliance (slots_refused m appliance slot changes)
+replied m appliance slot changes (ReadFault block) = rested m appliance (slots_refused m appliance slot changes)
+replied m appliance slot changes Full = rested m appliance (slots_refused m appliance slot changes)
 
 abbrev pub replied_in : Model → ℕ → Option Command → Reply → Model
 replied_in m appliance None reply = m
-replied_in m appliance (Some command) reply = replied m appliance command reply
+replied_in m appliance (Some command) reply = replied m appliance (named command) (is_changing command) reply
 
 -- the model after an entry
 abbrev pub moved : Model → Entry → Model

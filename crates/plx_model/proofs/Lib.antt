@@ -1,0 +1,4 @@
+mod Filled
+mod Reports
+mod SameBytes
+mod Tables

@@ -1,0 +1,13 @@
+//! The judge of a trace.
+use thiserror::Error;
+
+/// Why an entry isn't taken.
+#[derive(Debug, Drop, Error)]
+pub enum JudgeError {
+    /// The entry breaks this rule, and no rule of a lower number.
+    #[error("not permitted by rule {rule}")]
+    NotPermitted { rule: u8 },
+    /// There is no memory for what the entry changes.
+    #[error("out of memory")]
+    NoMemory,
+}
