@@ -6,7 +6,7 @@ use Rattle.plx_base.specs.declared.numbers.ApplianceNo.{ApplianceNo}
 use Rattle.plx_base.specs.declared.write_kind.WriteKind.{WriteKind}
 use Rattle.plx_model.specs.Image.{Image}
 use Rattle.plx_model.specs.Judge.{Accepts}
-use Rattle.plx_model.specs.Model.{Slot, Model}
+use Rattle.plx_model.specs.Model.{Slot, Model, owns}
 use Rattle.plx_model.specs.Moves.{moved}
 use Rattle.plx_model.specs.declared.command.Command.{Command}
 use Rattle.plx_model.specs.declared.entry.Entry.TheVariants as entry
@@ -26,8 +26,8 @@ pub record IsPlace (appliance : ApplianceNo) (m : Model) : Type 0 where
 abbrev pub SameSessions : ApplianceNo → Known → Model → Type 0
 SameSessions appliance known m = (slot : ℕ) → m.sessions appliance.0 slot ≡ is_some (session_of known.sessions slot)
 
--- how the model looks to the appliance while a command runs, whatever others do: it has no session of the image, and these writes are in the
--- journal; or it owns the image, which is this one, with this change under way
+-- how the model looks to the appliance while a command runs, whatever others do: it has no session of the image and doesn't own it, and these
+-- writes are in the journal; or it owns the image, which is this one, with this change under way
 pub data Regime : Type 0 where
   Without : Command → Known → List Journaled → Regime
   With : Command → Known → Image → Option Image → Regime
@@ -38,6 +38,7 @@ pub record LooksWithout (appliance : ApplianceNo) (command : Command) (known : K
   pub sessions : SameSessions appliance known m
   pub either : LeaveEither writes (m.slots 0)
   pub differs : Differs (m.slots 0)
+  pub stranger : owns (m.slots 0).owner appliance.0 ≡ false
 
 pub record LooksWith (appliance : ApplianceNo) (command : Command) (known : Known) (image : Image) (change : Option Image) (m : Model) : Type 0 where
   pub place : IsPlace appliance m
@@ -60,9 +61,9 @@ pub record HasImage (slots : ℕ) (appliance : ApplianceNo) (session : Session) 
   pub journal : IsJournal slots device 0 session.writes
   pub left : IsLeftBy session.writes (m.slots 0).image
 
--- an idle appliance has no session, and the device keeps the image; or one, of the image that it owns
+-- an idle appliance has no session and owns no image, and the device keeps the image; or it has one, of the image that it owns
 abbrev pub FitsSessions : ℕ → ApplianceNo → List Session → Device → Model → Type 0
-FitsSessions slots appliance [] device m = Keeps slots device 0 (m.slots 0) × Differs (m.slots 0)
+FitsSessions slots appliance [] device m = Keeps slots device 0 (m.slots 0) × Differs (m.slots 0) × (owns (m.slots 0).owner appliance.0 ≡ false)
 FitsSessions slots appliance (session ∷ []) device m = HasImage slots appliance session device m
 FitsSessions slots appliance (session ∷ other ∷ others) device m = ⊥
 

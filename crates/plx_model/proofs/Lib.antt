@@ -1,4 +1,5 @@
 mod Filled
+pub mod Places
 mod Reports
 mod SameBytes
 mod Tables

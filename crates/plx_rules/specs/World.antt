@@ -14,7 +14,7 @@ use Rattle.plx_model.specs.declared.entry.Entry.{Entry}
 use Rattle.plx_model.specs.declared.entry.Entry.TheVariants as entry
 use Rattle.plx_model.specs.declared.event.Event.{Event}
 use Rattle.plx_model.specs.declared.event.Event.TheVariants as event
-use Rattle.plx_rules.specs.Boot.{Happening, Began, Asked, Position, Idle, In, position, reply_of, boot_number, IsWhole}
+use Rattle.plx_rules.specs.Boot.{Happening, Began, Asked, Position, Idle, In, position, reply_of, boot_number, IsWhole, IsRun}
 use Rattle.plx_rules.specs.Commands.{End, command_part}
 use Rattle.plx_rules.specs.Journal.{block_count}
 use Rattle.plx_rules.specs.Part.{Part, Ends, ReadThen, WriteThen, ClockThen, UntilThen, answered}
@@ -191,3 +191,7 @@ IsPossible w event = (v : World) × Step w event v
 pub data Reached : World → Type 0 where
   first : {slots : ℕ} → 2 ≤ slots → slots ≤ 64 → Reached (first_world slots)
   later : {w v : World} {event : Event} → Reached w → Step w event v → Reached v
+
+-- in every world that events lead to, the log of each appliance's boot is a run
+abbrev pub BootsRun : Type 0
+BootsRun = (w : World) → Reached w → (appliance : ℕ) → IsRun w.slots (w.seats appliance).log

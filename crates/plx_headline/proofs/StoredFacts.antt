@@ -1,0 +1,188 @@
+-- What a journal holds is what the device stores.
+use Rattle.std.proofs.Common.{◌≡◌, ◌≢◌, ℕ, ◌+◌, ◌-◌, ◌%◌, ◌≤◌, ◌<◌, ◌^◌, List, [], ◌∷◌, length, zero, suc, refl, ap, sym, subst, ◌∙◌, Bool, true, false, Option, Some, None, arith, inl, inr, ◌⊎◌}
+use Rattle.std.specs.Prelude.{slice_get, if◌then◌else◌, ◌==◌}
+use Rattle.std.proofs.lemmas.Bool.Decides.{eqb_tells, Decides-eqb, Decides-ltb}
+use Rattle.std.proofs.lemmas.Option.{slice_get_within, slice_get_cases}
+use Rattle.std.proofs.Math.Nat.{mod-eq_of_lt}
+use Rattle.plx_base.specs.Blocks.{zeros}
+use Rattle.plx_base.specs.Sectors.{Device}
+use Rattle.plx_gate.proofs.Descriptors.{read-descriptor, read-zeros}
+use Rattle.plx_gate.specs.Descriptors.{descriptor_bytes, read_descriptor, IsDescriptor}
+use Rattle.plx_gate.specs.declared.descriptor.Descriptor.{Descriptor}
+use Rattle.plx_model.specs.Image.{Image}
+use Rattle.plx_model.specs.Model.{Slot}
+use Rattle.plx_rules.specs.Journal.{first_record, journal_slot, descriptor_at, data_at, is_counted, counted_of, counted}
+use Rattle.plx_rules.specs.Session.{latest}
+use Rattle.plx_rules.specs.Stored.{Counts, IsWriteCount, IsNewest, IsContent, Stores, StoresEither}
+use Rattle.plx_rules.specs.declared.journaled.Journaled.{Journaled}
+use Rattle.plx_headline.proofs.Journals.{descriptor_of, IsJournal, IsLeftBy, Keeps}
+
+-- a write's own slot is the one of its number
+own-slot : (slots k : ℕ) → k < slots → journal_slot slots (k + 1) ≡ k
+own-slot slots k below = let e : k + 1 - 1 ≡ k = omega arith in ap (λ n. n % slots) e ∙ mod-eq_of_lt below
+
+-- so its descriptor counts there
+is-counted : (slots k : ℕ) (write : Journaled) → k < slots → write.number ≡ k + 1 → is_counted first_record slots k (descriptor_of write) ≡ true
+is-counted slots k write below number =
+    let slot : journal_slot slots write.number ≡ k = ap (journal_slot slots) number ∙ own-slot slots k below in
+    rw ((Decides-ltb 0 write.number).1 (omega arith), (Decides-eqb (journal_slot slots write.number) k).1 slot) refl
+
+-- the place of the last write
+last-place : (x : Journaled) (xs : List Journaled) → (k : ℕ) × (write : Journaled) × (slice_get (x ∷ xs) k ≡ Some write) × (k + 1 ≡ length (x ∷ xs))
+last-place x [] = (0, x, refl, omega arith)
+last-place x (y ∷ ys) = let before = last-place y ys in (suc before.0, before.1, before.2, (let one = before.3 in omega arith))
+
+last-of : (xs : List Journaled) → (length xs ≡ 0) ⊎ ((k : ℕ) × (write : Journaled) × (slice_get xs k ≡ Some write) × (k + 1 ≡ length xs))
+last-of [] = inl refl
+last-of (x ∷ xs) = inr (last-place x xs)
+
+limits : (k : ℕ) (write : Journaled) → k < 64 → write.number ≡ k + 1 → write.vblock < 2 ^ 27 → IsDescriptor (descriptor_of write)
+limits k write below number small = record {
+  generation_low = omega arith;
+  generation_high = omega arith;
+  vblock = small;
+  number_low = omega arith;
+  number_high = omega arith;
+}
+
+module _ (slots : ℕ) (most : slots ≤ 64) (device : Device) (writes : List Journaled) (journal : IsJournal slots device 0 writes) where
+  -- the slot of a write counts, with the write's descriptor
+  counted-write : (k : ℕ) (write : Journaled) → slice_get writes k ≡ Some write →
+      counted first_record slots k (device (descriptor_at slots 0 k)) ≡ Some (descriptor_of write)
+  counted-write k write found =
+      let below : k < length writes = slice_get_within writes k write found in
+      let fits = journal.fits in
+      let number = journal.numbers k write found in
+      let read : read_descriptor (device (descriptor_at slots 0 k)) ≡ Some (Some (descriptor_of write)) =
+      ap read_descriptor (journal.commits k write found) ∙ read-descriptor (descriptor_of write) (limits k write (omega arith) number (journal.within k write found)) in
+      ap (counted_of first_record slots k) read
+      ∙ ap (λ (b : Bool). if b then Some (descriptor_of write) else None) (is-counted slots k write (omega arith) number)
+
+  -- an empty slot doesn't count
+  counted-rest : (k : ℕ) → length writes ≤ k → k < slots → counted first_record slots k (device (descriptor_at slots 0 k)) ≡ None
+  counted-rest k past below =
+      ap (counted_of first_record slots k) (ap read_descriptor (journal.rest k past below) ∙ read-zeros)
+
+  write-counts : (k : ℕ) (write : Journaled) → slice_get writes k ≡ Some write → Counts slots device 0 first_record k (descriptor_of write)
+  write-counts k write found =
+      let below : k < length writes = slice_get_within writes k write found in
+      let fits = journal.fits in
+      record { within = omega arith; found = counted-write k write found }
+
+  -- what counts is the descriptor of a write
+  counts-write : (k : ℕ) (d : Descriptor) → Counts slots device 0 first_record k d → (write : Journaled) × (slice_get writes k ≡ Some write) × (d ≡ descriptor_of write)
+  counts-write k d counts = elim (slice_get_cases writes k).1 [
+    | inl here ↦ (here.0, here.2, (let one = counts.found in let other = counted-write k here.0 here.2 in cc))
+    | inr past ↦ absurd (let one = counts.found in let other = counted-rest k past.0 counts.within in let P : ⊥ = cc in P)
+  ]
+
+  -- the number of what counts
+  counts-number : (k : ℕ) (d : Descriptor) → Counts slots device 0 first_record k d → (d.number ≡ k + 1) × (k < length writes)
+  counts-number k d counts =
+      let found = counts-write k d counts in
+      (ap (λ (e : Descriptor). e.number) found.2 ∙ journal.numbers k found.0 found.1, slice_get_within writes k found.0 found.1)
+
+  -- the greatest number is how many writes there are
+  write-count : (count : ℕ) → count ≡ length writes → IsWriteCount slots device 0 first_record count
+  write-count count is = record {
+    greatest = λ k d counts. (let tells = counts-number k d counts in omega (arith, tells.0, tells.1));
+    reached = elim (last-of writes) [
+      | inl none ↦ inl (is ∙ none)
+      | inr last ↦ inr (last.0, descriptor_of last.1, write-counts last.0 last.1 last.2, journal.numbers last.0 last.1 last.2 ∙ last.3 ∙ sym is)
+    ];
+  }
+
+-- the newest write of a virtual block, where there is one
+record IsLast (writes : List Journaled) (vblock k : ℕ) (write : Journaled) : Type 0 where
+  pub found : slice_get writes k ≡ Some write
+  pub names : write.vblock ≡ vblock
+  pub last : (j : ℕ) (other : Journaled) → slice_get writes j ≡ Some other → other.vblock ≡ vblock → j ≤ k
+
+abbrev NamesNone : List Journaled → ℕ → Type 0
+NamesNone writes vblock = (j : ℕ) (other : Journaled) → slice_get writes j ≡ Some other → other.vblock ≢ vblock
+
+abbrev IsLatest : List ℕ → ℕ → List Journaled → List ℕ → Type 0
+IsLatest before vblock writes bytes =
+    ((k : ℕ) × (write : Journaled) × IsLast writes vblock k write × (bytes ≡ write.block)) ⊎ (NamesNone writes vblock × (bytes ≡ before))
+
+last-later : (x : Journaled) (writes : List Journaled) (vblock k : ℕ) (write : Journaled) → IsLast writes vblock k write → IsLast (x ∷ writes) vblock (suc k) write
+last-later x writes vblock k write is = record { found = is.found; names = is.names; last = go }
+  where
+    go : (j : ℕ) (other : Journaled) → slice_get (x ∷ writes) j ≡ Some other → other.vblock ≡ vblock → j ≤ suc k
+    go zero other found names = omega arith
+    go (suc j) other found names = let before = is.last j other found names in omega arith
+
+last-first : (x : Journaled) (writes : List Journaled) (vblock : ℕ) → x.vblock ≡ vblock → NamesNone writes vblock → IsLast (x ∷ writes) vblock 0 x
+last-first x writes vblock names none = record { found = refl; names = names; last = go }
+  where
+    go : (j : ℕ) (other : Journaled) → slice_get (x ∷ writes) j ≡ Some other → other.vblock ≡ vblock → j ≤ 0
+    go zero other found names' = omega arith
+    go (suc j) other found names' = absurd (none j other found names')
+
+none-more : (x : Journaled) (writes : List Journaled) (vblock : ℕ) → x.vblock ≢ vblock → NamesNone writes vblock → NamesNone (x ∷ writes) vblock
+none-more x writes vblock ne none zero other found names = ne (ap (λ (w : Journaled). w.vblock) (let same : x ≡ other = cc in same) ∙ names)
+none-more x writes vblock ne none (suc j) other found names = none j other found names
+
+-- what the writes leave is the block of the newest one
+latest-is : (before : List ℕ) (vblock : ℕ) (writes : List Journaled) → IsLatest before vblock writes (latest before vblock writes)
+latest-is before vblock [] = inr (λ j other found names. (let P : ⊥ = cc in P), refl)
+latest-is before vblock (x ∷ writes) = elim (eqb_tells vblock x.vblock) [
+  | inl same ↦ rw same.0 (by-first (sym same.1) (latest-is x.block vblock writes))
+  | inr other ↦ rw other.0 (by-rest other.1 (latest-is before vblock writes))
+]
+  where
+    by-first : x.vblock ≡ vblock → IsLatest x.block vblock writes (latest x.block vblock writes) → IsLatest before vblock (x ∷ writes) (latest x.block vblock writes)
+    by-first names (inl later) = inl (suc later.0, later.1, last-later x writes vblock later.0 later.1 later.2, later.3)
+    by-first names (inr none) = inl (0, x, last-first x writes vblock names none.0, none.1)
+
+    by-rest : vblock ≢ x.vblock → IsLatest before vblock writes (latest before vblock writes) → IsLatest before vblock (x ∷ writes) (latest before vblock writes)
+    by-rest ne (inl later) = inl (suc later.0, later.1, last-later x writes vblock later.0 later.1 later.2, later.3)
+    by-rest ne (inr none) = inr (none-more x writes vblock (λ e. ne (sym e)) none.0, none.1)
+
+module _ (slots : ℕ) (most : slots ≤ 64) (device : Device) (writes : List Journaled) (journal : IsJournal slots device 0 writes) where
+  -- the newest write that names a virtual block is the newest descriptor that does
+  newest-write : (vblock k : ℕ) (write : Journaled) → IsLast writes vblock k write → IsNewest slots device 0 first_record vblock k (descriptor_of write)
+  newest-write vblock k write is = record {
+    counts = write-counts slots most device writes journal k write is.found;
+    names = is.names;
+    newest = λ j e counts names. (
+        let found = counts-write slots most device writes journal j e counts in
+        let order : j ≤ k = is.last j found.0 found.1 (sym (ap (λ (d : Descriptor). d.vblock) found.2) ∙ names) in
+        let mine = journal.numbers k write is.found in
+        let tells = counts-number slots most device writes journal j e counts in
+        omega (arith, tells.0)
+        );
+  }
+
+  -- what the writes leave in a virtual block is its content
+  content-is : (vblock : ℕ) (bytes : List ℕ) → IsLatest zeros vblock writes bytes → IsContent slots device 0 first_record vblock bytes
+  content-is vblock bytes (inl newest) =
+      inl (newest.0, descriptor_of newest.1, newest-write vblock newest.0 newest.1 newest.2, newest.3 ∙ sym (journal.blocks newest.0 newest.1 newest.2.found))
+  content-is vblock bytes (inr none) =
+      inr (
+        λ j e counts names. (
+            let found = counts-write slots most device writes journal j e counts in
+            none.0 j found.0 found.1 (sym (ap (λ (d : Descriptor). d.vblock) found.2) ∙ names)
+            ),
+        none.1,
+      )
+
+  -- the device stores the image that its journal's writes leave
+  stores-left : (i : Image) → IsLeftBy writes i → Stores slots device 0 first_record i
+  stores-left i left = record {
+    live = left.live;
+    generation = left.generation;
+    size = left.size;
+    label = left.label;
+    writes = write-count slots most device writes journal i.writes left.count;
+    content = λ vblock.
+        let P : List ℕ → Type 0 = λ bytes. IsContent slots device 0 first_record vblock bytes in
+        subst P (sym (left.blocks vblock)) (content-is vblock (latest zeros vblock writes) (latest-is zeros vblock writes));
+  }
+
+-- a device that keeps the image stores it
+pub stores-kept : (slots : ℕ) (device : Device) (slot : Slot) → slots ≤ 64 → Keeps slots device 0 slot → StoresEither slots device 0 slot
+stores-kept slots device slot most kept = elim kept.either [
+  | inl left ↦ inl (stores-left slots most device kept.writes kept.journal slot.image left)
+  | inr changed ↦ inr (changed.0, changed.1, stores-left slots most device kept.writes kept.journal changed.0 changed.2)
+]
