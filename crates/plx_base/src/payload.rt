@@ -1,6 +1,7 @@
 //! What a block holds, without a block where one byte says it.
 ghost use Rattle.std.specs.Prelude.{◌≡◌, ◌↔◌, IfOk, IsTrue};
 ghost use Rattle.std.specs.List.{All};
+ghost use Rattle.plx_base.specs.Canonical.{payload_of};
 ghost use Rattle.plx_base.specs.Payload.{IsAll, IsUniform, bytes_of};
 
 use crate::block::Block;
@@ -25,6 +26,18 @@ impl Payload {
             return Ok(Payload::All(first));
         }
         Ok(Payload::Whole(block.copy(alloc)?))
+    }
+
+    /// What the block holds, without memory.
+    pub fn holding(block: Block) -> Payload
+        ensures { result ≡ payload_of block }
+    {
+        let bytes = block.as_slice();
+        let byte = bytes[0];
+        if are_all(bytes, byte) {
+            return Payload::All(byte);
+        }
+        Payload::Whole(block)
     }
 
     /// A block that holds it.

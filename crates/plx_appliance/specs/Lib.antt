@@ -1,0 +1,2 @@
+pub mod Appliance
+pub mod Places
