@@ -1,5 +1,5 @@
 -- The commands of an appliance with a session of the image.
-use Rattle.std.proofs.Common.{◌≡◌, ◌≢◌, ℕ, zero, suc, ◌+◌, ◌≤◌, ◌<◌, List, [], ◌∷◌, ◌++◌, length, drop, Bool, true, false, Option, Some, None, refl, ap, sym, subst, ◌∙◌, arith, inl, inr, ◌⊎◌}
+use Rattle.std.proofs.Common.{◌≡◌, ◌≢◌, ℕ, ◌+◌, ◌≤◌, ◌<◌, List, [], ◌∷◌, ◌++◌, length, drop, Bool, true, false, Option, Some, None, refl, ap, sym, subst, ◌∙◌, arith, inl, inr}
 use Rattle.std.specs.Prelude.{if◌then◌else◌, ◌==◌, ◌&&◌, nat_lt, nat_le, unwrap_or, is_some}
 use Rattle.std.proofs.lemmas.Bool.Decides.{eqb_tells}
 use Rattle.plx_base.specs.Blocks.{zeros}
@@ -7,36 +7,34 @@ use Rattle.plx_base.specs.Canonical.{payload_of}
 use Rattle.plx_base.specs.Payload.{bytes_of}
 use Rattle.plx_base.specs.Sectors.{Device, put, mixed}
 use Rattle.plx_base.specs.declared.numbers.ApplianceNo.{ApplianceNo}
-use Rattle.plx_base.specs.declared.numbers.SlotNo.{SlotNo}
 use Rattle.plx_base.specs.declared.payload.Payload.{Payload}
 use Rattle.plx_base.specs.declared.write_kind.WriteKind.TheVariants as kind
 use Rattle.plx_base.proofs.Canonical.{bytes_of-payload_of}
 use Rattle.plx_base.proofs.Devices.{put-same, put-again}
 use Rattle.plx_base.proofs.Mixed.{mixed-first_sector}
 use Rattle.plx_gate.specs.Descriptors.{descriptor_bytes}
-use Rattle.plx_gate.specs.declared.descriptor.Descriptor.{Descriptor}
 use Rattle.plx_gate.proofs.Descriptors.{length-descriptor, descriptor-back}
 use Rattle.plx_model.specs.Image.{Image, written}
 use Rattle.plx_model.specs.Model.{Slot, Model, owns, named, is_changing}
 use Rattle.plx_model.specs.Moves.{under_way, given_up, made, begins_change, slots_refused, rested, moved}
 use Rattle.plx_model.specs.Places.{at}
-use Rattle.plx_model.specs.Refusals.{where_holds, not, of_access, refusals, IsAmong, is_none}
+use Rattle.plx_model.specs.Refusals.{where_holds, of_access, refusals, IsAmong, is_none}
 use Rattle.plx_model.specs.declared.command.Command.{Command}
 use Rattle.plx_model.specs.declared.command.Command.TheVariants.{Attach, Read, Write}
 use Rattle.plx_model.specs.declared.reply.Reply.{Reply}
-use Rattle.plx_model.specs.declared.reply.Reply.TheVariants.{Data, Written, NotAttached, AlreadyAttached, NoImage, OutOfRange, Full}
+use Rattle.plx_model.specs.declared.reply.Reply.TheVariants.{Data, Written, AlreadyAttached, OutOfRange, Full}
 use Rattle.plx_model.specs.declared.entry.Entry.TheVariants as entry
 use Rattle.plx_model.proofs.Places.{at-same}
 use Rattle.plx_rules.specs.Boot.{IsWhole}
-use Rattle.plx_rules.specs.Commands.{End, ends, load, read_part, write_then, write_part, past_the_end, refused, work, unless_refused, begun_with, command_part}
-use Rattle.plx_rules.specs.Journal.{image_count, first_record, descriptor_at, data_at, journal_slot}
+use Rattle.plx_rules.specs.Commands.{End, ends, read_part, write_then, write_part, past_the_end, work, begun_with, command_part}
+use Rattle.plx_rules.specs.Journal.{descriptor_at, data_at, journal_slot}
 use Rattle.plx_rules.specs.Part.{Part, ClockThen}
-use Rattle.plx_rules.specs.Session.{Session, Known, nothing_known, session_of, write_count, content}
+use Rattle.plx_rules.specs.Session.{Session, session_of, write_count, content}
 use Rattle.plx_rules.specs.declared.journaled.Journaled.{Journaled}
-use Rattle.plx_headline.proofs.Held.{IsPlace, SameSessions, Regime, Without, With, Looks, LooksWithout, LooksWith, FitsSessions, FitsIdle, Held, Begun}
+use Rattle.plx_headline.proofs.Held.{IsPlace, SameSessions, With, LooksWith, FitsIdle, Held, Begun}
 use Rattle.plx_headline.proofs.JournalFacts.{IsJournal-data, IsJournal-along, IsJournal-more, IsLeftBy-more, journal_slot-next}
-use Rattle.plx_headline.proofs.Journals.{IsJournal, IsLeftBy, LeaveEither, Keeps, Differs, descriptor_of}
-use Rattle.plx_headline.proofs.Load.{first_slot_no, session_with, knowing, held-load}
+use Rattle.plx_headline.proofs.Journals.{IsJournal, IsLeftBy, descriptor_of}
+use Rattle.plx_headline.proofs.Load.{first_slot_no, session_with, knowing}
 use Rattle.plx_headline.proofs.Replies.{ended, fits-rested, at-first, owns-own, refusals-access}
 use Rattle.plx_headline.proofs.Tests.{eqb-false, nat_lt-true, nat_lt-false, nat_le-true, nat_le-false, lt-cases, and-false}
 use Rattle.plx_headline.proofs.Refused.{clash, Still, IsOther, held-missing, held-refused, held-fine, held-then, held-else}
@@ -62,10 +60,10 @@ with-still slots appliance command writes device image journal left m looks = re
   runs = looks.runs;
   sessions = looks.sessions;
   rests = owner-rests slots appliance writes device image m (slots_refused m appliance.0 command) looks.place looks.sessions journal left
-    (at-first (IsOwned appliance image None) m.slots (named command) (given_up (m.slots (named command)))
-    (is_changing command && owns (m.slots (named command)).owner appliance.0)
-    (looks.same_image, looks.owner, looks.same_change)
-    (λ is here. (ap (λ n. (m.slots n).image) here ∙ looks.same_image, ap (λ n. (m.slots n).owner) here ∙ looks.owner, refl)));
+      (at-first (IsOwned appliance image None) m.slots (named command) (given_up (m.slots (named command)))
+      (is_changing command && owns (m.slots (named command)).owner appliance.0)
+      (looks.same_image, looks.owner, looks.same_change)
+      (λ is here. (ap (λ n. (m.slots n).image) here ∙ looks.same_image, ap (λ n. (m.slots n).owner) here ∙ looks.owner, refl)));
 }
 
 -- the refusals of a read or write of the image
@@ -111,32 +109,32 @@ held-read slots appliance writes device image vblock journal left =
     let part = read_part (knowing writes) (session_with writes) vblock in
     λ reading. elim (lt-cases vblock 8) [
       | inl below ↦ held-fine slots appliance regime device found (knowing writes) part (fine-below writes vblock below.0)
-        (λ reading' m looks.
-        let s = with-still slots appliance command writes device image journal left m looks in
-        ended slots appliance command (knowing writes) device m (Data (payload_of (content (session_with writes) vblock))) looks.runs looks.place
-        (record {
-          listed = tt;
-          owner = looks.owner;
-          value = (
-            let images = looks.place.images in omega arith,
-            bytes_of-payload_of (content (session_with writes) vblock) ∙ (sym (left.blocks vblock) ∙ ap (λ (i : Image). i.content vblock) (sym looks.same_image)),
-          );
-          refusal = tt;
-          unrefused = within vblock (refusals m appliance.0 command) below.1 (with-access appliance command writes image None vblock m left looks);
-        })
-        s.rests)
+          (λ reading' m looks.
+          let s = with-still slots appliance command writes device image journal left m looks in
+          ended slots appliance command (knowing writes) device m (Data (payload_of (content (session_with writes) vblock))) looks.runs looks.place
+          (record {
+            listed = tt;
+            owner = looks.owner;
+            value = (
+              let images = looks.place.images in omega arith,
+              bytes_of-payload_of (content (session_with writes) vblock) ∙ (sym (left.blocks vblock) ∙ ap (λ (i : Image). i.content vblock) (sym looks.same_image)),
+            );
+            refusal = tt;
+            unrefused = within vblock (refusals m appliance.0 command) below.1 (with-access appliance command writes image None vblock m left looks);
+          })
+          s.rests)
       | inr above ↦ held-refused slots appliance regime device found (knowing writes) part (OutOfRange 8) (past-above writes vblock above.0)
-        (λ m looks.
-        let s = with-still slots appliance command writes device image journal left m looks in
-        ended slots appliance command (knowing writes) device m (OutOfRange 8) looks.runs looks.place
-        (record {
-          listed = tt;
-          owner = tt;
-          value = tt;
-          refusal = beyond vblock (refusals m appliance.0 command) above.1 (with-access appliance command writes image None vblock m left looks);
-          unrefused = tt;
-        })
-        s.rests)
+          (λ m looks.
+          let s = with-still slots appliance command writes device image journal left m looks in
+          ended slots appliance command (knowing writes) device m (OutOfRange 8) looks.runs looks.place
+          (record {
+            listed = tt;
+            owner = tt;
+            value = tt;
+            refusal = beyond vblock (refusals m appliance.0 command) above.1 (with-access appliance command writes image None vblock m left looks);
+            unrefused = tt;
+          })
+          s.rests)
     ]
 
 -- one more write, from its place and number
@@ -174,8 +172,7 @@ held-writing slots appliance writes device image vblock payload journal left roo
     let committed : Device = put filled (descriptor_at slots 0 n) (descriptor_bytes d) in
     let commit : IsJournal slots committed 0 (writes ++ write ∷ []) =
     IsJournal-more slots filled 0 writes write journal' room refl (omega arith) (put-same device (data_at slots 0 n) bytes) in
-    let left' : IsLeftBy (writes ++ write ∷ []) (written image vblock bytes) = IsLeftBy-more writes image write left in
-    (
+    let left' : IsLeftBy (writes ++ write ∷ []) (written image vblock bytes) = IsLeftBy-more writes image write left in (
       long,
       λ flags m looks. record {
         writes = writes;
@@ -193,24 +190,24 @@ held-writing slots appliance writes device image vblock payload journal left roo
           | inr old ↦ record {
             writes = writes;
             journal = subst (λ (x : List ℕ). IsJournal slots (put filled (descriptor_at slots 0 n) x) 0 writes) (sym old)
-              (IsJournal-along slots filled (put filled (descriptor_at slots 0 n) (filled (descriptor_at slots 0 n))) 0 writes (put-again filled (descriptor_at slots 0 n)) journal');
+                (IsJournal-along slots filled (put filled (descriptor_at slots 0 n) (filled (descriptor_at slots 0 n))) 0 writes (put-again filled (descriptor_at slots 0 n)) journal');
             either = inl (subst (λ (i : Image). IsLeftBy writes i) (sym looks.same_image) left);
           }
         ],
         λ reading m looks. ended slots appliance command (knowing (writes ++ write ∷ [])) committed m (Written (n + 1)) looks.runs looks.place
-        (record {
-          listed = tt;
-          owner = looks.owner;
-          value = (
-            let images = looks.place.images in omega arith,
-            ap (λ k. k + 1) (sym left.count ∙ ap (λ (i : Image). i.writes) (sym looks.same_image)),
-          );
-          refusal = tt;
-          unrefused = within vblock (refusals m appliance.0 command) below (with-access appliance command writes image (writes_to image vblock payload) vblock m left looks);
-        })
-        (owner-rests slots appliance (writes ++ write ∷ []) committed (written image vblock bytes) m (at m.slots 0 (made (m.slots 0))) looks.place
-        (same-sessions appliance writes (writes ++ write ∷ []) m looks.sessions) commit left'
-        (ap (λ (c : Option Image). unwrap_or c (m.slots 0).image) looks.same_change, looks.owner, refl)),
+            (record {
+              listed = tt;
+              owner = looks.owner;
+              value = (
+                let images = looks.place.images in omega arith,
+                ap (λ k. k + 1) (sym left.count ∙ ap (λ (i : Image). i.writes) (sym looks.same_image)),
+              );
+              refusal = tt;
+              unrefused = within vblock (refusals m appliance.0 command) below (with-access appliance command writes image (writes_to image vblock payload) vblock m left looks);
+            })
+            (owner-rests slots appliance (writes ++ write ∷ []) committed (written image vblock bytes) m (at m.slots 0 (made (m.slots 0))) looks.place
+            (same-sessions appliance writes (writes ++ write ∷ []) m looks.sessions) commit left'
+            (ap (λ (c : Option Image). unwrap_or c (m.slots 0).image) looks.same_change, looks.owner, refl)),
       ),
     )
 
@@ -230,20 +227,20 @@ held-write slots appliance writes device image vblock payload journal left long 
     λ reading. held-fine slots appliance regime device (past_the_end session vblock) (knowing writes) (if test then full else part)
     (fine-below writes vblock (nat_lt-true vblock 8 below)) (elim (eqb_tells (write_count session) slots) [
       | inl none ↦ held-then slots appliance regime device test full part none.0
-        (λ m looks. ended slots appliance command (knowing writes) device m Full looks.runs looks.place
-        (record { listed = tt; owner = tt; value = tt; refusal = tt; unrefused = tt })
-        (owner-rests slots appliance writes device image m (slots_refused m appliance.0 command) looks.place looks.sessions journal left
-        (subst (λ (own : Bool). IsOwned appliance image None ((if own then at m.slots 0 (given_up (m.slots 0)) else m.slots) 0))
-        (sym (owns-own (m.slots 0).owner appliance.0 looks.owner)) (looks.same_image, looks.owner, refl))))
+          (λ m looks. ended slots appliance command (knowing writes) device m Full looks.runs looks.place
+          (record { listed = tt; owner = tt; value = tt; refusal = tt; unrefused = tt })
+          (owner-rests slots appliance writes device image m (slots_refused m appliance.0 command) looks.place looks.sessions journal left
+          (subst (λ (own : Bool). IsOwned appliance image None ((if own then at m.slots 0 (given_up (m.slots 0)) else m.slots) 0))
+          (sym (owns-own (m.slots 0).owner appliance.0 looks.owner)) (looks.same_image, looks.owner, refl))))
       | inr some ↦
-        let fits = journal.fits in
-        let room : length writes < slots = omega (arith, some.1) in
-        let number : length writes + 1 ≡ write_count session + 1 = omega arith in
-        let place : length writes ≡ journal_slot slots (write_count session + 1) = sym (ap (journal_slot slots) (sym number) ∙ journal_slot-next slots (length writes) room) in
-        held-else slots appliance regime device test full part some.0
-        (subst (λ p. Held slots appliance regime (writing slots p (write_count session + 1) writes vblock (bytes_of payload)) device) place
-        (subst (λ n. Held slots appliance regime (writing slots (length writes) n writes vblock (bytes_of payload)) device) number
-        (held-writing slots appliance writes device image vblock payload journal left room long below)))
+          let fits = journal.fits in
+          let room : length writes < slots = omega (arith, some.1) in
+          let number : length writes + 1 ≡ write_count session + 1 = omega arith in
+          let place : length writes ≡ journal_slot slots (write_count session + 1) = sym (ap (journal_slot slots) (sym number) ∙ journal_slot-next slots (length writes) room) in
+          held-else slots appliance regime device test full part some.0
+          (subst (λ p. Held slots appliance regime (writing slots p (write_count session + 1) writes vblock (bytes_of payload)) device) place
+          (subst (λ n. Held slots appliance regime (writing slots (length writes) n writes vblock (bytes_of payload)) device) number
+          (held-writing slots appliance writes device image vblock payload journal left room long below)))
     ])
 
 -- a write that is refused
@@ -290,7 +287,7 @@ with-started : (appliance : ApplianceNo) (command : Command) (writes : List Jour
     LooksWith appliance command (knowing writes) (m.slots 0).image None (moved m (entry.Start appliance command))
 with-started appliance command writes m place sessions owned rests =
     let first = at-first (IsOwned appliance (m.slots 0).image None) m.slots (named command) (under_way (m.slots (named command)) command)
-      (begins_change m appliance.0 command) owned (λ is here. absurd (rests is here)) in
+    (begins_change m appliance.0 command) owned (λ is here. absurd (rests is here)) in
     record {
       place = record { known = place.known; images = place.images };
       runs = at-same m.running appliance.0 (Some command);
@@ -357,7 +354,7 @@ module _ (slots : ℕ) (appliance : ApplianceNo) (writes : List Journaled) (devi
       record {
         regime = With command (knowing writes) (m.slots 0).image None;
         looks = with-started appliance command writes m fits.place fits.sessions (refl, has.owner, has.decided)
-          (λ is here. clash (begins_change m appliance.0 command) is (and-false (owns (m.slots 0).owner appliance.0) (is_none (refusals m appliance.0 command)) refused_one));
+            (λ is here. clash (begins_change m appliance.0 command) is (and-false (owns (m.slots 0).owner appliance.0) (is_none (refusals m appliance.0 command)) refused_one));
         held = held-past slots appliance writes device (m.slots 0).image vblock payload has.journal has.left above;
       }
 
@@ -399,5 +396,5 @@ begins-attached slots appliance session device m command fits whole =
     let kept = fits.fits.image in
     let same : session ≡ session_with session.writes = λ j. record { slot = slot j; image = kept j; writes = session.writes } in
     subst (λ (s : Session). FitsIdle slots appliance (record { sessions = s ∷ [] }) device m →
-      Begun slots appliance (command_part slots (record { sessions = s ∷ [] }) command) device (moved m (entry.Start appliance command))) (sym same)
+    Begun slots appliance (command_part slots (record { sessions = s ∷ [] }) command) device (moved m (entry.Start appliance command))) (sym same)
     (λ known_fits. begun-knowing slots appliance session.writes device m command known_fits whole) fits

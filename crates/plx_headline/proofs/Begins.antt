@@ -1,5 +1,5 @@
 -- Every command that an idle appliance begins is right to its end.
-use Rattle.std.proofs.Common.{◌≡◌, ◌≤◌, ℕ, List, [], ◌∷◌}
+use Rattle.std.proofs.Common.{◌≤◌, ℕ, List, [], ◌∷◌}
 use Rattle.plx_base.specs.Sectors.{Device}
 use Rattle.plx_base.specs.declared.numbers.ApplianceNo.{ApplianceNo}
 use Rattle.plx_model.specs.Model.{Model}
@@ -9,7 +9,7 @@ use Rattle.plx_model.specs.declared.entry.Entry.TheVariants as entry
 use Rattle.plx_rules.specs.Boot.{IsWhole}
 use Rattle.plx_rules.specs.Commands.{command_part}
 use Rattle.plx_rules.specs.Session.{Session, Known, nothing_known}
-use Rattle.plx_headline.proofs.Held.{Without, With, FitsIdle, Begun}
+use Rattle.plx_headline.proofs.Held.{Without, FitsIdle, Begun}
 use Rattle.plx_headline.proofs.Attached.{begins-attached}
 use Rattle.plx_headline.proofs.Without.{without-started, held-without}
 

@@ -1,24 +1,19 @@
 -- What holds stays where an appliance loses its memory, and where time passes.
-use Rattle.std.proofs.Common.{◌≡◌, ℕ, ◌<◌, List, [], ◌∷◌, length, refl, ap, sym, subst, ◌∙◌, Bool, true, false, Option, Some, None, inl, inr}
-use Rattle.std.specs.Prelude.{slice_get}
+use Rattle.std.proofs.Common.{◌≡◌, ℕ, List, ◌∷◌, length, refl, ap, sym, subst, false, Option, Some, None, inl, inr}
 use Rattle.std.proofs.lemmas.Bool.Decides.{eqb_tells}
 use Rattle.plx_base.specs.Sectors.{Device}
-use Rattle.plx_base.specs.declared.numbers.ApplianceNo.{ApplianceNo}
 use Rattle.plx_disk.specs.Writes.{Surface, Issued, passed}
-use Rattle.plx_model.specs.Judge.{Accepts}
 use Rattle.plx_model.specs.Model.{Model, owns, disowned}
 use Rattle.plx_model.specs.declared.entry.Entry.{Entry}
 use Rattle.plx_model.specs.declared.entry.Entry.TheVariants as entry
 use Rattle.plx_model.specs.declared.event.Event.TheVariants as event
 use Rattle.plx_rules.specs.Boot.{Position, Idle, In}
-use Rattle.plx_rules.specs.Commands.{End}
 use Rattle.plx_rules.specs.Headline.{model_in}
-use Rattle.plx_rules.specs.Part.{Part}
 use Rattle.plx_rules.specs.World.{World, stands, with_surface, without_pending, after_crash}
-use Rattle.plx_headline.proofs.Held.{IsPlace, Regime, Without, With, Looks, FitsIdle}
-use Rattle.plx_headline.proofs.Journals.{Keeps, Differs}
+use Rattle.plx_headline.proofs.Held.{IsPlace, Regime, Without, With, Looks}
+use Rattle.plx_headline.proofs.Journals.{Keeps}
 use Rattle.plx_headline.proofs.Lists.{others-cancelled}
-use Rattle.plx_headline.proofs.Steady.{first_appliance, Fits, Others, Steady}
+use Rattle.plx_headline.proofs.Steady.{first_appliance, Fits, Steady}
 
 -- what the model always tells the appliance
 place-looks : (regime : Regime) (m : Model) → Looks first_appliance regime m → IsPlace first_appliance m

@@ -1,16 +1,11 @@
 -- What holds in the first world.
-use Rattle.std.proofs.Common.{◌≡◌, ℕ, ◌+◌, ◌≤◌, ◌<◌, List, [], ◌∷◌, length, refl, Option, Some, None, arith, inl, inr}
-use Rattle.std.specs.Prelude.{slice_get}
+use Rattle.std.proofs.Common.{◌≡◌, ℕ, ◌≤◌, [], length, refl, arith, inl}
 use Rattle.plx_base.specs.Blocks.{zeros}
-use Rattle.plx_base.specs.Sectors.{Device}
 use Rattle.std.proofs.lemmas.List.{length-replicate}
-use Rattle.plx_model.specs.Image.{Image}
 use Rattle.plx_model.specs.Model.{first_slot}
 use Rattle.plx_rules.specs.World.{first_world}
-use Rattle.plx_rules.specs.declared.journaled.Journaled.{Journaled}
-use Rattle.plx_headline.proofs.Held.{IsPlace, FitsIdle}
-use Rattle.plx_headline.proofs.Journals.{IsJournal, IsLeftBy, Keeps, Differs}
-use Rattle.plx_headline.proofs.Steady.{first_appliance, Steady}
+use Rattle.plx_headline.proofs.Journals.{Keeps, Differs}
+use Rattle.plx_headline.proofs.Steady.{Steady}
 
 -- a block of zeros has a block's length
 length-zeros : length zeros ≡ 4096

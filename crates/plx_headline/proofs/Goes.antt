@@ -1,14 +1,8 @@
 -- What holds stays where an ask is answered.
-use Rattle.std.proofs.Common.{◌≡◌, ℕ, ◌≤◌, List, [], ◌∷◌, length, refl, ap, sym, subst, ◌∙◌, Bool, true, false, Option, Some, None, inl, inr}
-use Rattle.std.specs.Prelude.{slice_get}
-use mathlib.Core.Path.{fun_ext}
-use Rattle.std.proofs.lemmas.Bool.Decides.{eqb_tells}
-use Rattle.plx_base.proofs.Devices.{put-same, put-other}
-use Rattle.plx_base.proofs.Mixed.{mixed-all}
-use Rattle.plx_base.specs.Sectors.{Device, put, mixed}
+use Rattle.std.proofs.Common.{◌≡◌, ℕ, List, [], ◌∷◌, refl, ap, sym, subst, Option, Some, None, inl}
+use Rattle.plx_base.specs.Sectors.{Device}
 use Rattle.plx_base.specs.declared.numbers.ApplianceNo.{ApplianceNo}
-use Rattle.plx_base.specs.declared.write_kind.WriteKind.{WriteKind}
-use Rattle.plx_disk.specs.Writes.{Issued, HasLanded, all_sectors}
+use Rattle.plx_disk.specs.Writes.{Issued}
 use Rattle.plx_disk.specs.declared.ask.Ask.{Ask}
 use Rattle.plx_disk.specs.declared.ask.Ask.TheVariants as ask
 use Rattle.plx_disk.specs.declared.ask.Answer.{Answer}
@@ -20,17 +14,17 @@ use Rattle.plx_model.specs.Places.{at}
 use Rattle.plx_model.specs.declared.entry.Entry.TheVariants as entry
 use Rattle.plx_model.specs.declared.event.Event.{Event}
 use Rattle.plx_model.specs.declared.event.Event.TheVariants as event
-use Rattle.plx_rules.specs.Boot.{Happening, Asked, Position, Idle, In, position, settled, went_on}
+use Rattle.plx_rules.specs.Boot.{Asked, Position, Idle, In, position, settled, went_on}
 use Rattle.plx_rules.specs.Commands.{End}
 use Rattle.plx_rules.specs.Headline.{starts_and_crashes, events_told, model_in}
 use Rattle.plx_rules.specs.Part.{Part, Ends, ReadThen, WriteThen, ClockThen, UntilThen}
 use Rattle.plx_rules.specs.Session.{Session, Known}
 use Rattle.plx_rules.specs.World.{World, stands, goes_on}
 use Rattle.plx_rules.specs.World as world
-use Rattle.plx_headline.proofs.Held.{IsPlace, Regime, Looks, Without, With, FitsSessions, FitsIdle, Held, Begun}
+use Rattle.plx_headline.proofs.Held.{Regime, Looks, FitsSessions, FitsIdle, Held, Begun}
 use Rattle.plx_headline.proofs.Journals.{Keeps, Differs}
-use Rattle.plx_headline.proofs.Lists.{pending-is, none-other, others-at}
-use Rattle.plx_headline.proofs.Steady.{first_appliance, IsAskOf, Landing, Waits, Fits, Others, Steady}
+use Rattle.plx_headline.proofs.Lists.{others-at}
+use Rattle.plx_headline.proofs.Steady.{first_appliance, Waits, Fits, Others, Steady}
 
 -- what fits at a position that is known
 pub fits-at : (w : World) (p : Position) → stands w 0 ≡ p → Steady w →

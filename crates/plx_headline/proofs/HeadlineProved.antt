@@ -1,10 +1,7 @@
 -- Every world that events lead to meets the headline.
-use Rattle.std.proofs.Common.{◌≡◌, ℕ, ◌<◌, refl, sym, subst, arith}
-use Rattle.plx_model.specs.Model.{Slot}
-use Rattle.plx_rules.specs.Headline.{Headline, HeadlineOfAll, model_in}
+use Rattle.std.proofs.Common.{◌≡◌, ℕ, ◌<◌, subst, arith}
+use Rattle.plx_rules.specs.Headline.{HeadlineOfAll, model_in}
 use Rattle.plx_rules.specs.Stored.{StoresEither}
-use Rattle.plx_rules.specs.World.{World, Reached}
-use Rattle.plx_headline.proofs.Steady.{Steady}
 use Rattle.plx_headline.proofs.StepsKept.{reached-steady}
 use Rattle.plx_headline.proofs.StoredFacts.{stores-kept}
 

@@ -1,12 +1,11 @@
 -- What the rest of a command keeps while its appliance owns the image, whatever its answers are.
-use Rattle.std.proofs.Common.{◌≡◌, ℕ, ◌≤◌, ◌<◌, List, [], ◌∷◌, length, Bool, true, false, Option, Some, None}
+use Rattle.std.proofs.Common.{◌≡◌, ℕ, ◌<◌, List, [], ◌∷◌, length, Bool, false, Option, Some, None}
 use Rattle.std.specs.Prelude.{is_some}
 use Rattle.plx_base.specs.Sectors.{Device, put, mixed}
 use Rattle.plx_base.specs.declared.numbers.ApplianceNo.{ApplianceNo}
-use Rattle.plx_base.specs.declared.write_kind.WriteKind.{WriteKind}
 use Rattle.plx_model.specs.Image.{Image}
 use Rattle.plx_model.specs.Judge.{Accepts}
-use Rattle.plx_model.specs.Model.{Slot, Model, owns}
+use Rattle.plx_model.specs.Model.{Model, owns}
 use Rattle.plx_model.specs.Moves.{moved}
 use Rattle.plx_model.specs.declared.command.Command.{Command}
 use Rattle.plx_model.specs.declared.entry.Entry.TheVariants as entry

@@ -1,12 +1,12 @@
 -- The journal on a device that changes, and what its descriptors say.
-use Rattle.std.proofs.Common.{◌≡◌, ◌≢◌, ℕ, zero, suc, ◌+◌, ◌-◌, ◌%◌, ◌≤◌, ◌<◌, ◌^◌, List, [], ◌∷◌, ◌++◌, length, refl, ap, sym, subst, ◌∙◌, Bool, true, false, Option, Some, None, arith, length-append, inl, inr, ◌⊎◌}
+use Rattle.std.proofs.Common.{◌≡◌, ◌≢◌, ℕ, zero, suc, ◌+◌, ◌-◌, ◌%◌, ◌≤◌, ◌<◌, ◌^◌, List, [], ◌∷◌, ◌++◌, length, refl, ap, sym, subst, ◌∙◌, Bool, true, Some, None, arith, length-append, inl, inr, ◌⊎◌}
 use Rattle.std.specs.Prelude.{slice_get, if◌then◌else◌, ◌==◌, ◌&&◌, nat_lt}
 use Rattle.std.proofs.Math.Nat.{mod-eq_of_lt}
 use Rattle.std.proofs.lemmas.Option.{slice_get_within}
 use Rattle.plx_base.specs.Blocks.{zeros}
 use Rattle.plx_base.specs.Sectors.{Device, put}
 use Rattle.plx_base.proofs.Devices.{put-same, put-other}
-use Rattle.plx_gate.specs.Descriptors.{descriptor_bytes, read_descriptor, IsDescriptor}
+use Rattle.plx_gate.specs.Descriptors.{descriptor_bytes, IsDescriptor}
 use Rattle.plx_gate.specs.declared.descriptor.Descriptor.{Descriptor}
 use Rattle.plx_gate.proofs.Descriptors.{read-descriptor, read-zeros}
 use Rattle.plx_model.specs.Image.{Image, written}
@@ -81,8 +81,8 @@ IsJournal-more slots device image writes write j room number within held =
         | inr new ↦ rw new.0 (held ∙ ap (λ (x : Journaled). x.block) new.1)
       ]);
       rest = λ k past below.
-        let further : length writes + 1 ≤ k = simp length-append at past in
-        put-other device block bytes (descriptor_at slots image k) (omega (arith, further)) ∙ j.rest k (omega (arith, further)) below;
+          let further : length writes + 1 ≤ k = simp length-append at past in
+          put-other device block bytes (descriptor_at slots image k) (omega (arith, further)) ∙ j.rest k (omega (arith, further)) below;
     }
 
 -- what one more write leaves in a virtual block

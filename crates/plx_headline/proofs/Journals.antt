@@ -1,5 +1,5 @@
 -- What the journal of an image holds, slot after slot, and what that leaves of the image.
-use Rattle.std.proofs.Common.{◌≡◌, ℕ, ◌+◌, ◌≤◌, ◌<◌, ◌^◌, List, [], length, Option, Some, true, ◌⊎◌}
+use Rattle.std.proofs.Common.{◌≡◌, ℕ, ◌+◌, ◌≤◌, ◌<◌, ◌^◌, List, [], length, Some, true, ◌⊎◌}
 use Rattle.std.specs.Prelude.{slice_get}
 use Rattle.plx_base.specs.Blocks.{zeros}
 use Rattle.plx_base.specs.Sectors.{Device}
@@ -7,7 +7,7 @@ use Rattle.plx_gate.specs.Descriptors.{descriptor_bytes}
 use Rattle.plx_gate.specs.declared.descriptor.Descriptor.{Descriptor}
 use Rattle.plx_model.specs.Image.{Image}
 use Rattle.plx_model.specs.Model.{Slot}
-use Rattle.plx_rules.specs.Journal.{first_record, descriptor_at, data_at}
+use Rattle.plx_rules.specs.Journal.{descriptor_at, data_at}
 use Rattle.plx_rules.specs.Session.{latest}
 use Rattle.plx_rules.specs.declared.journaled.Journaled.{Journaled}
 

@@ -1,5 +1,5 @@
 -- What holds stays where a write is issued, lands sector by sector, and is answered.
-use Rattle.std.proofs.Common.{◌≡◌, ℕ, ◌+◌, ◌*◌, ◌≤◌, List, [], ◌∷◌, ◌++◌, length, refl, ap, sym, subst, ◌∙◌, Bool, true, false, Option, Some, None, arith, inl, inr, slice_set}
+use Rattle.std.proofs.Common.{◌≡◌, ℕ, ◌*◌, List, [], ◌∷◌, ◌++◌, length, refl, ap, sym, subst, ◌∙◌, Bool, true, false, Option, Some, None, inl, inr, slice_set}
 use Rattle.std.specs.Prelude.{slice_get}
 use mathlib.Core.Path.{fun_ext}
 use Rattle.std.proofs.lemmas.Bool.Decides.{eqb_tells}
@@ -7,13 +7,11 @@ use Rattle.std.proofs.lemmas.List.{length-set}
 use Rattle.plx_base.proofs.Devices.{put-same, put-other, put-again, put-all}
 use Rattle.plx_base.proofs.Mixed.{length-mixed, mixed-landed, mixed-all, mixed-none}
 use Rattle.plx_base.specs.Sectors.{Device, put, mixed, landed}
-use Rattle.plx_base.specs.declared.numbers.ApplianceNo.{ApplianceNo}
 use Rattle.plx_base.specs.declared.write_kind.WriteKind.{WriteKind}
 use Rattle.plx_disk.specs.Writes.{Issued, MayLand, HasLanded, all_sectors, fresh_write, after_landing, with_sector}
 use Rattle.plx_disk.specs.declared.ask.Ask.TheVariants as ask
 use Rattle.plx_disk.specs.declared.ask.Answer.TheVariants as answer
 use Rattle.plx_model.specs.Model.{Model}
-use Rattle.plx_model.specs.declared.event.Event.{Event}
 use Rattle.plx_model.specs.declared.event.Event.TheVariants as event
 use Rattle.plx_rules.specs.Boot.{Position, Idle, In, went_on, boot_number}
 use Rattle.plx_rules.specs.Commands.{End}
@@ -24,7 +22,7 @@ use Rattle.plx_headline.proofs.Held.{Regime, Looks, Held, Begun}
 use Rattle.plx_headline.proofs.Journals.{Keeps}
 use Rattle.plx_headline.proofs.Goes.{fits-at, came-steady}
 use Rattle.plx_headline.proofs.Lists.{get-push, at_push, get-set_same, get-set_other, none-other, same-number, pending-is, landed-whole}
-use Rattle.plx_headline.proofs.Steady.{first_appliance, IsAskOf, Landing, Waits, Fits, Others, Steady}
+use Rattle.plx_headline.proofs.Steady.{first_appliance, IsAskOf, Landing, Waits, Fits, Steady}
 
 -- a write that was just issued lands on the device as it stands
 fresh-landing : (w : World) (kind : WriteKind) (block : ℕ) (bytes : List ℕ) (guard : ℕ) (done fault : Part End) (missed : ℕ → Part End) →

@@ -1,5 +1,5 @@
 -- Places of lists that grew or changed, and the writes that an appliance waits for.
-use Rattle.std.proofs.Common.{◌≡◌, ◌≢◌, ℕ, List, [], ◌∷◌, ◌++◌, length, zero, suc, refl, ap, sym, subst, ◌∙◌, Bool, true, false, Option, Some, None, inl, inr, ◌⊎◌, slice_set}
+use Rattle.std.proofs.Common.{◌≡◌, ◌≢◌, ℕ, List, [], ◌∷◌, ◌++◌, length, zero, suc, refl, ap, sym, subst, ◌∙◌, true, false, Option, Some, None, inl, inr, ◌⊎◌, slice_set}
 use Rattle.std.specs.Prelude.{slice_get}
 use Rattle.std.proofs.lemmas.Bool.Decides.{eqb_tells}
 use Rattle.plx_disk.specs.Writes.{Surface, Issued, all_sectors, cancelled_at}

@@ -1,6 +1,6 @@
 -- An attach: the journal is read slot after slot, and the report tells which image it holds.
-use Rattle.std.proofs.Common.{◌≡◌, ◌≢◌, ℕ, zero, suc, ◌+◌, ◌≤◌, ◌<◌, List, [], ◌∷◌, ◌++◌, length, take, Bool, true, false, Option, Some, None, refl, ap, sym, subst, ◌∙◌, arith, inl, inr, ◌⊎◌}
-use Rattle.std.specs.Prelude.{slice_get, if◌then◌else◌, ◌==◌, ◌&&◌, nat_lt, nat_le, unwrap_or, is_some}
+use Rattle.std.proofs.Common.{◌≡◌, ◌≢◌, ℕ, zero, suc, ◌+◌, ◌≤◌, List, [], ◌∷◌, ◌++◌, length, take, Bool, true, false, Option, Some, None, refl, ap, sym, subst, ◌∙◌, arith, inl, inr}
+use Rattle.std.specs.Prelude.{if◌then◌else◌, ◌==◌, nat_le, unwrap_or, is_some}
 use Rattle.std.proofs.lemmas.Bool.Decides.{eqb_tells}
 use Rattle.std.proofs.lemmas.List.{take_all, take_more}
 use Rattle.std.proofs.lemmas.Option.{slice_get_cases}
@@ -13,16 +13,15 @@ use Rattle.plx_model.specs.Judge.{IsReported}
 use Rattle.plx_model.specs.Model.{Slot, Model}
 use Rattle.plx_model.specs.Moves.{replied}
 use Rattle.plx_model.specs.Places.{at}
-use Rattle.plx_model.specs.Refusals.{where_holds, refusals}
+use Rattle.plx_model.specs.Refusals.{where_holds}
 use Rattle.plx_model.specs.declared.command.Command.TheVariants.{Attach}
 use Rattle.plx_model.specs.declared.reply.Report.{Report}
-use Rattle.plx_model.specs.declared.reply.Reply.{Reply}
 use Rattle.plx_model.specs.declared.reply.Reply.TheVariants.{Attached, AlreadyAttached, NoImage}
 use Rattle.plx_model.proofs.Places.{at-same, at-other}
 use Rattle.plx_rules.specs.Commands.{End, if_counts, load}
-use Rattle.plx_rules.specs.Journal.{first_record, descriptor_at, data_at, counted}
+use Rattle.plx_rules.specs.Journal.{first_record}
 use Rattle.plx_rules.specs.Part.{Part}
-use Rattle.plx_rules.specs.Session.{Session, Known, nothing_known, session_of, session_report}
+use Rattle.plx_rules.specs.Session.{Session, Known, nothing_known, session_report}
 use Rattle.plx_rules.specs.declared.journaled.Journaled.{Journaled}
 use Rattle.plx_headline.proofs.Held.{Regime, Without, LooksWithout, FitsIdle, Held}
 use Rattle.plx_headline.proofs.JournalFacts.{counted-commit, counted-rest}
@@ -120,7 +119,7 @@ session-there appliance sessions session here before slot =
     ap (λ (row : ℕ → Bool). row slot) (at-same sessions appliance (at (sessions appliance) 0 true)) ∙ (elim (eqb_tells 0 slot) [
       | inl same ↦ subst (λ n. at (sessions appliance) 0 true n ≡ is_some (if 0 == n then Some session else None)) same.1 refl
       | inr other ↦ at-other (sessions appliance) 0 slot true (λ e. other.1 (sym e))
-        ∙ (before slot ∙ ap (λ test. is_some (if test then Some session else None)) (sym other.0))
+          ∙ (before slot ∙ ap (λ test. is_some (if test then Some session else None)) (sym other.0))
     ])
 
 -- the session fits once the image is attached
@@ -162,9 +161,9 @@ held-load (suc left) place slots appliance writes device all few journal =
     let regime = Without (Attach first_slot_no) nothing_known writes in
     elim (slice_get_cases writes place).1 [
       | inl found ↦ held-counts slots appliance regime device _ _ _ (descriptor_of found.0) (counted-commit slots device 0 writes journal few place found.0 found.2)
-        (subst (λ (data' : List ℕ). Held slots appliance regime (load slots nothing_known 0 first_record left (place + 1)
-        (take place writes ++ (record { number = found.0.number; vblock = found.0.vblock; block = data' }) ∷ [])) device)
-        (sym (journal.blocks place found.0 found.2)) (rw (take_more writes place found.0 found.1, found.3) at ih))
+          (subst (λ (data' : List ℕ). Held slots appliance regime (load slots nothing_known 0 first_record left (place + 1)
+          (take place writes ++ (record { number = found.0.number; vblock = found.0.vblock; block = data' }) ∷ [])) device)
+          (sym (journal.blocks place found.0 found.2)) (rw (take_more writes place found.0 found.1, found.3) at ih))
       | inr past ↦ held-otherwise slots appliance regime device _ _ _ (counted-rest slots device 0 writes journal place past.0 (omega arith))
-        (rw (take_all place writes past.0) (rw (take_all (place + 1) writes (omega (arith, past.0))) at ih))
+          (rw (take_all place writes past.0) (rw (take_all (place + 1) writes (omega (arith, past.0))) at ih))
     ]

@@ -1,24 +1,23 @@
 -- Replies and refusals: what the model accepts, and how it moves.
-use Rattle.std.proofs.Common.{◌≡◌, ◌≢◌, ℕ, ◌≤◌, ◌<◌, List, [], ◌∷◌, ◌++◌, Bool, true, false, Option, Some, None, refl, ap, sym, subst, ◌∙◌, arith, inl, inr, ◌⊎◌}
-use Rattle.std.specs.Prelude.{if◌then◌else◌, ◌==◌, ◌&&◌, nat_lt, nat_le, is_some}
+use Rattle.std.proofs.Common.{◌≡◌, ℕ, ◌<◌, [], ◌++◌, Bool, true, false, Option, Some, None, refl, ap, sym, subst, ◌∙◌, inl, inr}
+use Rattle.std.specs.Prelude.{if◌then◌else◌, nat_lt, nat_le}
 use Rattle.std.proofs.lemmas.Bool.Decides.{eqb_tells}
 use Rattle.std.proofs.lemmas.Option.{same_Some}
 use Rattle.plx_base.specs.Sectors.{Device}
 use Rattle.plx_base.specs.declared.numbers.ApplianceNo.{ApplianceNo}
-use Rattle.plx_model.specs.Image.{Image}
 use Rattle.plx_model.specs.Judge.{IsListed, IsByOwner, IsValue, IsTrue, IsUnrefused, InCommand, Accepts}
-use Rattle.plx_model.specs.Model.{Slot, Model, owns, named}
+use Rattle.plx_model.specs.Model.{Slot, Model, owns}
 use Rattle.plx_model.specs.Moves.{rested, replied, replied_in, moved}
 use Rattle.plx_model.specs.Places.{at}
-use Rattle.plx_model.specs.Refusals.{where_holds, not, of_block, of_access}
+use Rattle.plx_model.specs.Refusals.{where_holds, not, of_access}
 use Rattle.plx_model.specs.declared.command.Command.{Command}
 use Rattle.plx_model.specs.declared.reply.Reply.{Reply}
 use Rattle.plx_model.specs.declared.reply.Reply.TheVariants.{NotAttached, NoImage, OutOfRange}
 use Rattle.plx_model.specs.declared.entry.Entry.TheVariants as entry
 use Rattle.plx_model.proofs.Places.{at-same, at-other}
-use Rattle.plx_rules.specs.Session.{Session, Known}
-use Rattle.plx_headline.proofs.Held.{IsPlace, SameSessions, HasImage, FitsSessions, FitsIdle}
-use Rattle.plx_headline.proofs.Tests.{eqb-true, nat_lt-true}
+use Rattle.plx_rules.specs.Session.{Known}
+use Rattle.plx_headline.proofs.Held.{IsPlace, SameSessions, FitsSessions, FitsIdle}
+use Rattle.plx_headline.proofs.Tests.{eqb-true}
 
 -- a reply keeps the rules on the command that runs
 pub record Judged (m : Model) (appliance : ℕ) (command : Command) (reply : Reply) : Type 0 where

@@ -1,5 +1,5 @@
 -- In every world that events lead to, the log of each boot is a run.
-use Rattle.std.proofs.Common.{◌≡◌, ℕ, ◌≤◌, List, [], ◌∷◌, length, refl, ap}
+use Rattle.std.proofs.Common.{◌≡◌, ℕ, length, ap}
 use Rattle.plx_model.proofs.Places.{at-all}
 use Rattle.plx_model.specs.Places.{at}
 use Rattle.plx_model.specs.declared.event.Event.{Event}
@@ -7,7 +7,6 @@ use Rattle.plx_rules.specs.Boot as boot
 use Rattle.plx_rules.specs.Boot.{IsRun, asks, writes_out}
 use Rattle.plx_rules.specs.World as world
 use Rattle.plx_rules.specs.World.{World, Seat, Step, Reached, BootsRun}
-use Rattle.plx_headline.proofs.Steady.{Steady}
 use Rattle.plx_headline.proofs.StepsKept.{reached-steady}
 
 -- the logs of all appliances, of which one has changed

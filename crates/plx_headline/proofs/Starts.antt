@@ -1,5 +1,5 @@
 -- What holds stays where a command starts.
-use Rattle.std.proofs.Common.{◌≡◌, ℕ, ◌+◌, ◌≤◌, List, [], ◌∷◌, ◌++◌, length, refl, ap, sym, subst, ◌∙◌, Bool, true, false, Option, Some, None, inl, inr}
+use Rattle.std.proofs.Common.{◌≡◌, ℕ, List, [], ◌∷◌, ◌++◌, refl, ap, sym, subst, ◌∙◌, Bool, true, false, None, inl, inr}
 use Rattle.std.specs.Prelude.{is_some, if◌then◌else◌, ◌&&◌, nat_lt}
 use Rattle.std.proofs.lemmas.Bool.Decides.{eqb_tells}
 use Rattle.plx_base.specs.Payload.{bytes_of}
@@ -18,13 +18,13 @@ use Rattle.plx_model.specs.declared.entry.Entry.{Entry}
 use Rattle.plx_model.specs.declared.entry.Entry.TheVariants as entry
 use Rattle.plx_model.specs.declared.reply.Reply.{Reply}
 use Rattle.plx_model.specs.declared.reply.Reply.TheVariants.{NotAttached}
-use Rattle.plx_rules.specs.Boot.{Position, Idle, In, began, IsWhole}
+use Rattle.plx_rules.specs.Boot.{Position, Idle, began, IsWhole}
 use Rattle.plx_rules.specs.Headline.{model_in}
 use Rattle.plx_rules.specs.Session.{Session, Known, session_of}
 use Rattle.plx_rules.specs.World.{World, stands, after_start}
 use Rattle.plx_headline.proofs.Begins.{begins}
 use Rattle.plx_headline.proofs.Goes.{fits-at, idle-waits}
-use Rattle.plx_headline.proofs.Held.{FitsSessions, FitsIdle}
+use Rattle.plx_headline.proofs.Held.{FitsSessions}
 use Rattle.plx_headline.proofs.Journals.{IsLeftBy, Keeps, Differs}
 use Rattle.plx_headline.proofs.Lists.{others-at}
 use Rattle.plx_headline.proofs.Steady.{first_appliance, Fits, Steady}

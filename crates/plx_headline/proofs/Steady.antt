@@ -1,5 +1,5 @@
 -- What holds in every world that events lead to.
-use Rattle.std.proofs.Common.{◌≡◌, ◌≢◌, ℕ, ◌≤◌, List, [], ◌∷◌, length, Bool, true, false, Option, Some, None}
+use Rattle.std.proofs.Common.{◌≡◌, ◌≢◌, ℕ, ◌≤◌, List, length, false, Option, Some, None}
 use Rattle.std.specs.Prelude.{slice_get}
 use Rattle.plx_base.specs.Sectors.{Device, put, mixed}
 use Rattle.plx_base.specs.declared.numbers.ApplianceNo.{ApplianceNo}

@@ -1,13 +1,13 @@
 -- What holds in the first world stays at each step, so it holds in every world that events lead to.
-use Rattle.std.proofs.Common.{◌≡◌, ℕ, ◌+◌, ◌≤◌, ◌<◌, List, [], refl, ap, sym, subst, Option, Some, None, arith}
+use Rattle.std.proofs.Common.{◌≡◌, ℕ, ◌<◌, [], ap, sym, subst, Some, None, arith}
 use Rattle.plx_base.specs.declared.numbers.ApplianceNo.{ApplianceNo}
 use Rattle.plx_disk.specs.Writes.{after_landing}
 use Rattle.plx_disk.specs.declared.ask.Ask.TheVariants as ask
 use Rattle.plx_disk.specs.declared.ask.Answer.TheVariants as answer
 use Rattle.plx_model.specs.declared.event.Event.{Event}
 use Rattle.plx_model.specs.declared.event.Event.TheVariants as event
-use Rattle.plx_rules.specs.Boot.{Position, Idle, In}
-use Rattle.plx_rules.specs.Part.{Part, ReadThen, WriteThen, ClockThen, UntilThen}
+use Rattle.plx_rules.specs.Boot.{Idle, In}
+use Rattle.plx_rules.specs.Part.{ReadThen, WriteThen, ClockThen, UntilThen}
 use Rattle.plx_rules.specs.World as world
 use Rattle.plx_rules.specs.World.{World, Step, Reached, stands, goes_on, with_surface, after_start, after_issue, after_crash, first_world}
 use Rattle.plx_headline.proofs.Crashes.{crash-steady, tick-steady}

@@ -1,17 +1,17 @@
 -- What a journal holds is what the device stores.
-use Rattle.std.proofs.Common.{◌≡◌, ◌≢◌, ℕ, ◌+◌, ◌-◌, ◌%◌, ◌≤◌, ◌<◌, ◌^◌, List, [], ◌∷◌, length, zero, suc, refl, ap, sym, subst, ◌∙◌, Bool, true, false, Option, Some, None, arith, inl, inr, ◌⊎◌}
-use Rattle.std.specs.Prelude.{slice_get, if◌then◌else◌, ◌==◌}
+use Rattle.std.proofs.Common.{◌≡◌, ◌≢◌, ℕ, ◌+◌, ◌-◌, ◌%◌, ◌≤◌, ◌<◌, ◌^◌, List, [], ◌∷◌, length, zero, suc, refl, ap, sym, subst, ◌∙◌, Bool, true, Some, None, arith, inl, inr, ◌⊎◌}
+use Rattle.std.specs.Prelude.{slice_get, if◌then◌else◌}
 use Rattle.std.proofs.lemmas.Bool.Decides.{eqb_tells, Decides-eqb, Decides-ltb}
 use Rattle.std.proofs.lemmas.Option.{slice_get_within, slice_get_cases}
 use Rattle.std.proofs.Math.Nat.{mod-eq_of_lt}
 use Rattle.plx_base.specs.Blocks.{zeros}
 use Rattle.plx_base.specs.Sectors.{Device}
 use Rattle.plx_gate.proofs.Descriptors.{read-descriptor, read-zeros}
-use Rattle.plx_gate.specs.Descriptors.{descriptor_bytes, read_descriptor, IsDescriptor}
+use Rattle.plx_gate.specs.Descriptors.{read_descriptor, IsDescriptor}
 use Rattle.plx_gate.specs.declared.descriptor.Descriptor.{Descriptor}
 use Rattle.plx_model.specs.Image.{Image}
 use Rattle.plx_model.specs.Model.{Slot}
-use Rattle.plx_rules.specs.Journal.{first_record, journal_slot, descriptor_at, data_at, is_counted, counted_of, counted}
+use Rattle.plx_rules.specs.Journal.{first_record, journal_slot, descriptor_at, is_counted, counted_of, counted}
 use Rattle.plx_rules.specs.Session.{latest}
 use Rattle.plx_rules.specs.Stored.{Counts, IsWriteCount, IsNewest, IsContent, Stores, StoresEither}
 use Rattle.plx_rules.specs.declared.journaled.Journaled.{Journaled}
@@ -36,6 +36,7 @@ last-of : (xs : List Journaled) → (length xs ≡ 0) ⊎ ((k : ℕ) × (write :
 last-of [] = inl refl
 last-of (x ∷ xs) = inr (last-place x xs)
 
+-- it is within the limits of a descriptor
 limits : (k : ℕ) (write : Journaled) → k < 64 → write.number ≡ k + 1 → write.vblock < 2 ^ 27 → IsDescriptor (descriptor_of write)
 limits k write below number small = record {
   generation_low = omega arith;

@@ -1,44 +1,25 @@
 -- The commands of an appliance without a session.
-use Rattle.std.proofs.Common.{◌≡◌, ◌≢◌, ℕ, zero, suc, ◌+◌, ◌≤◌, ◌<◌, List, [], ◌∷◌, ◌++◌, length, drop, Bool, true, false, Option, Some, None, refl, ap, sym, subst, ◌∙◌, arith, inl, inr, ◌⊎◌}
-use Rattle.std.specs.Prelude.{if◌then◌else◌, ◌==◌, ◌&&◌, nat_lt, nat_le, unwrap_or, is_some}
+use Rattle.std.proofs.Common.{◌≡◌, ◌≢◌, ℕ, ◌≤◌, List, false, Some, refl, ap, sym, subst, ◌∙◌, arith, inl, inr}
+use Rattle.std.specs.Prelude.{◌&&◌}
 use Rattle.std.proofs.lemmas.Bool.Decides.{eqb_tells}
-use Rattle.plx_base.specs.Blocks.{zeros}
-use Rattle.plx_base.specs.Canonical.{payload_of}
-use Rattle.plx_base.specs.Payload.{bytes_of}
-use Rattle.plx_base.specs.Sectors.{Device, put, mixed}
+use Rattle.plx_base.specs.Sectors.{Device}
 use Rattle.plx_base.specs.declared.numbers.ApplianceNo.{ApplianceNo}
 use Rattle.plx_base.specs.declared.numbers.SlotNo.{SlotNo}
-use Rattle.plx_base.specs.declared.payload.Payload.{Payload}
-use Rattle.plx_base.specs.declared.write_kind.WriteKind.TheVariants as kind
-use Rattle.plx_base.proofs.Canonical.{bytes_of-payload_of}
-use Rattle.plx_base.proofs.Devices.{put-same, put-again}
-use Rattle.plx_base.proofs.Mixed.{mixed-first_sector}
-use Rattle.plx_gate.specs.Descriptors.{descriptor_bytes}
-use Rattle.plx_gate.specs.declared.descriptor.Descriptor.{Descriptor}
-use Rattle.plx_gate.proofs.Descriptors.{length-descriptor, descriptor-back}
-use Rattle.plx_model.specs.Image.{Image, written}
-use Rattle.plx_model.specs.Model.{Slot, Model, owns, named, is_changing}
-use Rattle.plx_model.specs.Moves.{under_way, given_up, begins_change, slots_refused, rested, moved}
-use Rattle.plx_model.specs.Places.{at}
-use Rattle.plx_model.specs.Refusals.{where_holds, not, of_access, refusals, IsAmong, is_none}
+use Rattle.plx_model.specs.Model.{Model, owns, named, is_changing}
+use Rattle.plx_model.specs.Moves.{under_way, given_up, begins_change, slots_refused, moved}
+use Rattle.plx_model.specs.Refusals.{refusals, is_none}
 use Rattle.plx_model.specs.declared.command.Command.{Command}
 use Rattle.plx_model.specs.declared.command.Command.TheVariants.{Attach, Read, Write}
-use Rattle.plx_model.specs.declared.reply.Reply.{Reply}
-use Rattle.plx_model.specs.declared.reply.Reply.TheVariants.{Data, Written, NotAttached, AlreadyAttached, NoImage, OutOfRange, Full}
 use Rattle.plx_model.specs.declared.entry.Entry.TheVariants as entry
 use Rattle.plx_model.proofs.Places.{at-same}
-use Rattle.plx_rules.specs.Boot.{IsWhole}
-use Rattle.plx_rules.specs.Commands.{End, ends, load, read_part, write_then, write_part, past_the_end, refused, work, unless_refused, begun_with, command_part}
-use Rattle.plx_rules.specs.Journal.{image_count, first_record, descriptor_at, data_at, journal_slot}
-use Rattle.plx_rules.specs.Part.{Part, ClockThen}
-use Rattle.plx_rules.specs.Session.{Session, Known, nothing_known, session_of, write_count, content}
+use Rattle.plx_rules.specs.Commands.{command_part}
+use Rattle.plx_rules.specs.Session.{nothing_known}
 use Rattle.plx_rules.specs.declared.journaled.Journaled.{Journaled}
-use Rattle.plx_headline.proofs.Held.{IsPlace, SameSessions, Regime, Without, With, Looks, LooksWithout, LooksWith, FitsSessions, FitsIdle, Held, Begun}
-use Rattle.plx_headline.proofs.JournalFacts.{IsJournal-data, IsJournal-along, IsJournal-more, IsLeftBy-more, journal_slot-next}
-use Rattle.plx_headline.proofs.Journals.{IsJournal, IsLeftBy, LeaveEither, Keeps, Differs, descriptor_of}
-use Rattle.plx_headline.proofs.Load.{first_slot_no, session_with, knowing, held-load}
-use Rattle.plx_headline.proofs.Replies.{ended, fits-rested, at-first, owns-own, refusals-access}
-use Rattle.plx_headline.proofs.Tests.{eqb-true, eqb-false, nat_lt-false, nat_le-true, nat_le-false, lt-cases, and-false}
+use Rattle.plx_headline.proofs.Held.{IsPlace, SameSessions, Without, LooksWithout, Held}
+use Rattle.plx_headline.proofs.Journals.{IsJournal, LeaveEither, Keeps, Differs}
+use Rattle.plx_headline.proofs.Load.{first_slot_no, held-load}
+use Rattle.plx_headline.proofs.Replies.{fits-rested, at-first}
+use Rattle.plx_headline.proofs.Tests.{and-false}
 use Rattle.plx_headline.proofs.Refused.{clash, Still, held-missing}
 
 -- a refusal leaves the image as it is
@@ -49,11 +30,11 @@ without-still slots appliance command writes device journal m looks = record {
   runs = looks.runs;
   sessions = looks.sessions;
   rests = fits-rested slots appliance nothing_known device m (slots_refused m appliance.0 command) looks.place looks.sessions
-    (at-first (λ s. Keeps slots device 0 s × Differs s × (owns s.owner appliance.0 ≡ false)) m.slots (named command) (given_up (m.slots (named command)))
-    (is_changing command && owns (m.slots (named command)).owner appliance.0)
-    (record { writes = writes; journal = journal; either = looks.either }, looks.differs, looks.stranger)
-    (λ is here. absurd (clash (is_changing command && owns (m.slots (named command)).owner appliance.0) is
-    (and-false (is_changing command) (owns (m.slots (named command)).owner appliance.0) (ap (λ n. owns (m.slots n).owner appliance.0) here ∙ looks.stranger)))));
+      (at-first (λ s. Keeps slots device 0 s × Differs s × (owns s.owner appliance.0 ≡ false)) m.slots (named command) (given_up (m.slots (named command)))
+      (is_changing command && owns (m.slots (named command)).owner appliance.0)
+      (record { writes = writes; journal = journal; either = looks.either }, looks.differs, looks.stranger)
+      (λ is here. absurd (clash (is_changing command && owns (m.slots (named command)).owner appliance.0) is
+      (and-false (is_changing command) (owns (m.slots (named command)).owner appliance.0) (ap (λ n. owns (m.slots n).owner appliance.0) here ∙ looks.stranger)))));
 }
 
 -- a start puts no change of it under way
@@ -62,10 +43,10 @@ pub without-started : (appliance : ApplianceNo) (command : Command) (writes : Li
     LooksWithout appliance command nothing_known writes (moved m (entry.Start appliance command))
 without-started appliance command writes m place sessions either differs stranger =
     let first = at-first (λ s. LeaveEither writes s × Differs s × (owns s.owner appliance.0 ≡ false)) m.slots (named command) (under_way (m.slots (named command)) command)
-      (begins_change m appliance.0 command) (either, differs, stranger)
-      (λ is here. absurd (clash (begins_change m appliance.0 command) is
-      (and-false (is_changing command) (owns (m.slots (named command)).owner appliance.0 && is_none (refusals m appliance.0 command))
-      (ap (λ o. o && is_none (refusals m appliance.0 command)) (ap (λ n. owns (m.slots n).owner appliance.0) here ∙ stranger))))) in
+    (begins_change m appliance.0 command) (either, differs, stranger)
+    (λ is here. absurd (clash (begins_change m appliance.0 command) is
+    (and-false (is_changing command) (owns (m.slots (named command)).owner appliance.0 && is_none (refusals m appliance.0 command))
+    (ap (λ o. o && is_none (refusals m appliance.0 command)) (ap (λ n. owns (m.slots n).owner appliance.0) here ∙ stranger))))) in
     record {
       place = record { known = place.known; images = place.images };
       runs = at-same m.running appliance.0 (Some command);

@@ -1,0 +1,14 @@
+world 1 1 16 2 1
+start 0 attach 0
+run 0
+start 0 write 0 0 all:aa
+run 0
+start 0 write 0 0 all:bb
+upto 0 jcommit
+crash 0
+start 0 attach 0
+run 0
+start 0 read 0 0
+run 0
+start 0 read 0 1
+run 0
