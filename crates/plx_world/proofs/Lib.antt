@@ -1,0 +1,8 @@
+mod Asked
+mod Booting
+mod Inverted
+mod Owned
+mod Sequences
+mod Stepping
+mod Working
+mod Writing

@@ -74,3 +74,7 @@ MakesRun stop old new made =
 -- a write is asked for
 abbrev pub IsWriting : World → Type 0
 IsWriting world = (kind : WriteKind) × (block : BlockNo) × (guard : ℕ) × (asks (place world.appliance) ≡ Some (ask.Write kind block guard))
+
+-- the clock is, now or from some time on
+abbrev pub AsksClock : World → Type 0
+AsksClock world = (asks (place world.appliance) ≡ Some ask.Clock) ⊎ ((from : ℕ) × (asks (place world.appliance) ≡ Some (ask.Until from)))

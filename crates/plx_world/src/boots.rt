@@ -1,5 +1,6 @@
 //! An appliance is given a command, or loses what it has in memory.
-ghost use Rattle.std.specs.Prelude.{◌≡◌};
+ghost use Rattle.std.specs.Prelude.{◌≡◌, ◌≤◌, []};
+ghost use Rattle.plx_appliance.specs.Appliance.{StandsFor};
 ghost use Rattle.plx_disk.specs.Standing.{Turns};
 ghost use Rattle.plx_rules.specs.Boot.{IsWhole};
 ghost use Rattle.plx_rules.specs.World.{without_pending};
@@ -9,6 +10,7 @@ use plx_appliance::Appliance;
 use plx_base::{NoMemory, Payload};
 use plx_disk::Disk;
 use plx_model::{Command, Entry};
+use std::mem;
 
 impl World {
     ghost use Rattle.std.specs.Prelude.{IfOk, OnErr};
@@ -50,7 +52,7 @@ impl World {
         cancel(&mut self.disk, self.pending);
         self.pending = None;
         self.boots += 1;
-        self.appliance = Appliance::fresh(self.slots);
+        restart(&mut self.appliance, self.slots);
         Ok(true)
     }
 }
@@ -63,6 +65,16 @@ fn cancel(disk: &mut Disk, pending: Option<u64>)
     if let Some(number) = pending {
         disk.cancel(number);
     }
+}
+
+// The appliance is asked nothing yet.
+fn restart(appliance: &mut Appliance, slots: u32)
+    requires low { 2 ≤ slots }
+    requires high { slots ≤ 64 }
+    ensures log { StandsFor appliance.new [] }
+    ensures slots { appliance.new.slots ≡ slots }
+{
+    let _lost = mem::replace(appliance, Appliance::fresh(slots));
 }
 
 // The payload of a command is a block of 4,096 bytes.

@@ -3,6 +3,7 @@ ghost use Rattle.std.specs.Prelude.{◌≡◌, ◌<◌, ℕ, Some, None, IfSome,
 ghost use Rattle.plx_disk.specs.Standing.{Stands};
 ghost use Rattle.plx_disk.specs.Writes.{Surface};
 ghost use Rattle.plx_world.specs.Owned.{HasNone, IsNumber, IsOwn};
+ghost use Rattle.plx_rules.specs.Boot.{boot_number};
 ghost use Rattle.plx_rules.specs.World.{is_boot_of};
 
 use crate::world::World;
@@ -35,8 +36,7 @@ impl World {
         }
         match self.asked() {
             Some(Ask::Write { kind, block, guard }) => {
-                let owner = Boot(APPLIANCES * u128::from(self.boots) + 1);
-                let number = self.disk.issue(owner, kind, block, self.appliance.out(), guard)?;
+                let number = self.disk.issue(boot_of(self.boots), kind, block, self.appliance.out(), guard)?;
                 self.pending = Some(number);
                 Ok(true)
             }
@@ -56,6 +56,13 @@ impl World {
             None => false,
         }
     }
+}
+
+// The number of the appliance's boot, where so many came before.
+fn boot_of(boots: u32) -> Boot
+    ensures { result.0 ≡ boot_number 0 boots }
+{
+    Boot(APPLIANCES * u128::from(boots) + 1)
 }
 
 // The number of the appliance's write with so many newer ones.

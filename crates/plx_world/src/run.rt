@@ -19,7 +19,7 @@ impl World {
     ghost use Rattle.plx_appliance.specs.Appliance.{place};
     ghost use Rattle.plx_model.specs.declared.event.Stop.TheVariants as stop;
     ghost use Rattle.plx_rules.specs.Sequences.{stops_at, stops as stops_there};
-    ghost use Rattle.plx_world.specs.Running.{GoesOn, IsWriting, MakesRun, RunsSome, RunsWhole};
+    ghost use Rattle.plx_world.specs.Running.{AsksClock, GoesOn, IsWriting, MakesRun, RunsSome, RunsWhole};
     ghost use Rattle.plx_world.specs.Standing.{Stays};
 
     // A run, until the appliance's reply or until it stops. False, and nothing changes, where it makes no event.
@@ -66,10 +66,20 @@ impl World {
         match self.asked() {
             Some(Ask::Read { .. }) => self.read(),
             Some(Ask::Write { .. }) => self.write_on(),
-            Some(Ask::Clock) => self.reading(self.disk.time()),
-            Some(Ask::Until { .. }) => self.reading(self.disk.time()),
+            Some(Ask::Clock) => self.read_clock(),
+            Some(Ask::Until { .. }) => self.read_clock(),
             None => Ok(false),
         }
+    }
+
+    // The clock answers with the time.
+    fn read_clock(&mut self) -> Result<bool, NoMemory>
+        requires { AsksClock self.old }
+        ensures ok { IfOk result (GoesOn None self.old self.new) }
+        ensures err { OnErr result (Stays self.old self.new) }
+    {
+        let time = self.disk.time();
+        self.reading(time)
     }
 
     // The next plain event of a write: it is issued, its least missing sector lands, or it is answered.
