@@ -9,7 +9,10 @@ use crate::places::{data_at, descriptor_at};
 use crate::read::{after_opening, after_reading, begin_read};
 use crate::session::Session;
 use crate::state::{State, Turn};
-use crate::write::{NO_GUARD, after_committing, after_confirming, after_filling, after_preparing, begin_write, data_of, descriptor_of};
+use crate::write::{
+    NO_GUARD, after_committing, after_confirming, after_filling, after_preparing, begin_write,
+    data_of, descriptor_of,
+};
 use plx_base::{NoMemory, WriteKind};
 use plx_disk::{Answer, Ask};
 use plx_model::{Command, Reply};
@@ -89,17 +92,22 @@ impl Appliance {
         let slots = self.slots;
         match &self.state {
             State::Idle(_) => unreachable!(),
-            State::Refusing(..) | State::Attaching(_) | State::Opening(..) | State::Reading(..) | State::Preparing(_) | State::Confirming(_) => Ask::Clock,
+            State::Refusing(..)
+            | State::Attaching(_)
+            | State::Opening(..)
+            | State::Reading(..)
+            | State::Preparing(_)
+            | State::Confirming(_) => Ask::Clock,
             State::Loading(load) => {
                 if load.at < slots {
                     return Ask::Read {
-                        block: descriptor_at(slots, load.at),
+                        block: descriptor_at(slots, u64::from(load.at)),
                     };
                 }
                 Ask::Clock
             }
             State::Fetching(fetch) => Ask::Read {
-                block: data_at(slots, fetch.load.at),
+                block: data_at(slots, u64::from(fetch.load.at)),
             },
             State::Filling(change) => Ask::Write {
                 kind: WriteKind::JData,
@@ -151,7 +159,12 @@ impl Appliance {
 }
 
 // The state in which a command begins. Without memory what is known comes back.
-fn begun(alloc: Global, slots: u32, known: Option<Session>, command: Command) -> Result<State, Option<Session>>
+fn begun(
+    alloc: Global,
+    slots: u32,
+    known: Option<Session>,
+    command: Command,
+) -> Result<State, Option<Session>>
     requires room { room_of slots known ≡ slots }
     requires small { slots ≤ 64 }
     ensures ok { IfOk result (λ s. place_of slots s ≡ In (command_part slots (known_of known) command)) }
@@ -161,7 +174,11 @@ fn begun(alloc: Global, slots: u32, known: Option<Session>, command: Command) ->
     match command {
         Command::Attach { slot } => begin_attach(alloc, slots, known, slot),
         Command::Read { slot, vblock } => begin_read(alloc, slots, known, slot, vblock),
-        Command::Write { slot, vblock, payload } => begin_write(alloc, slots, known, slot, vblock, &payload),
+        Command::Write {
+            slot,
+            vblock,
+            payload,
+        } => begin_write(alloc, slots, known, slot, vblock, &payload),
     }
 }
 
@@ -192,6 +209,8 @@ fn after_refusing(slots: u32, known: Option<Session>, reply: Reply, answer: &Ans
 {
     match answer {
         Answer::Reading(_) => Turn::End(known, reply),
-        Answer::Bytes(_) | Answer::Done | Answer::Missed(_) | Answer::Fault => Turn::On(State::Refusing(known, reply)),
+        Answer::Bytes(_) | Answer::Done | Answer::Missed(_) | Answer::Fault => Turn::On(
+            State::Refusing(known, reply),
+        ),
     }
 }

@@ -1,5 +1,6 @@
 //! An attach reads the journal.
 ghost use Rattle.std.specs.Prelude.{◌≡◌, ◌≤◌, ◌<◌, ◌+◌, ◌++◌, ◌∷◌, [], IfOk, IfErr};
+ghost use Rattle.std.specs.Vec.{vec_len};
 ghost use Rattle.plx_model.specs.declared.command.Command.TheVariants.{Attach};
 ghost use Rattle.plx_rules.specs.Boot.{In};
 ghost use Rattle.plx_rules.specs.Commands.{command_part};
@@ -19,7 +20,12 @@ use plx_rules::Journaled;
 use std::alloc::Global;
 
 /// An attach begins. Without memory what is known comes back.
-pub fn begin_attach(alloc: Global, slots: u32, known: Option<Session>, slot: SlotNo) -> Result<State, Option<Session>>
+pub fn begin_attach(
+    alloc: Global,
+    slots: u32,
+    known: Option<Session>,
+    slot: SlotNo,
+) -> Result<State, Option<Session>>
     requires room { room_of slots known ≡ slots }
     ensures ok { IfOk result (λ s. place_of slots s ≡ In (command_part slots (known_of known) (Attach slot))) }
     ensures room { IfOk result (λ s. slots_of slots s ≡ slots) }
@@ -44,15 +50,23 @@ fn new_load(alloc: Global, slots: u32) -> Result<Load, NoMemory>
     ensures writes { IfOk result (λ l. l.session.writes.items ≡ []) }
 {
     let session = Session::new(alloc, slots)?;
-    let mut spare = Vec::new(alloc);
-    for _ in 0..slots {
-        spare.push(Block::zeros(alloc)?)?;
-    }
+    let spare = spare_blocks(alloc, slots)?;
     Ok(Load {
         at: 0,
         session,
         spare,
     })
+}
+
+// So many blocks.
+fn spare_blocks(alloc: Global, count: u32) -> Result<Vec<Block>, NoMemory>
+    ensures { IfOk result (λ v. vec_len v ≡ count) }
+{
+    let mut blocks = Vec::new(alloc);
+    for _ in 0..count {
+        blocks.push(Block::zeros(alloc)?)?;
+    }
+    Ok(blocks)
 }
 
 /// The first clock reading of an attach is answered.
@@ -62,7 +76,9 @@ pub fn after_attaching(slots: u32, load: Load, answer: &Answer) -> Turn
 {
     match answer {
         Answer::Reading(_) => Turn::On(State::Loading(load)),
-        Answer::Bytes(_) | Answer::Done | Answer::Missed(_) | Answer::Fault => Turn::On(State::Attaching(load)),
+        Answer::Bytes(_) | Answer::Done | Answer::Missed(_) | Answer::Fault => Turn::On(
+            State::Attaching(load),
+        ),
     }
 }
 
@@ -89,7 +105,7 @@ fn after_descriptor(slots: u32, load: Load, answer: &Answer) -> Turn
         Answer::Fault => Turn::End(
             None,
             Reply::ReadFault {
-                block: descriptor_at(slots, load.at),
+                block: descriptor_at(slots, u64::from(load.at)),
             },
         ),
         Answer::Done | Answer::Reading(_) | Answer::Missed(_) => Turn::On(State::Loading(load)),
@@ -130,7 +146,9 @@ fn after_last(slots: u32, load: Load, answer: &Answer) -> Turn
 {
     match answer {
         Answer::Reading(reading) => after_all(slots, load, *reading),
-        Answer::Bytes(_) | Answer::Done | Answer::Missed(_) | Answer::Fault => Turn::On(State::Loading(load)),
+        Answer::Bytes(_) | Answer::Done | Answer::Missed(_) | Answer::Fault => Turn::On(
+            State::Loading(load),
+        ),
     }
 }
 
@@ -140,7 +158,11 @@ fn after_all(slots: u32, load: Load, reading: u64) -> Turn
     requires over { slots ≤ load.at }
     ensures { Follows slots (State.Loading load) (Answer.Reading reading) result }
 {
-    let Load { at: _, session, spare: _ } = load;
+    let Load {
+        at: _,
+        session,
+        spare: _,
+    } = load;
     let report = report_of(&session);
     Turn::End(Some(session), Reply::Attached { report })
 }
@@ -152,7 +174,7 @@ fn report_of(session: &Session) -> Report
         live: true,
         generation: GENERATION,
         size: IMAGE_SIZE,
-        writes: u64::from(session.count()),
+        writes: session.count(),
         taken: 0,
         dropped: 0,
         label: Label::empty(),
@@ -169,7 +191,7 @@ pub fn after_fetching(slots: u32, fetch: Fetch, answer: &Answer) -> Turn
         Answer::Fault => Turn::End(
             None,
             Reply::ReadFault {
-                block: data_at(slots, fetch.load.at),
+                block: data_at(slots, u64::from(fetch.load.at)),
             },
         ),
         Answer::Done | Answer::Reading(_) | Answer::Missed(_) => Turn::On(State::Fetching(fetch)),
@@ -183,7 +205,11 @@ fn fetched(fetch: Fetch, bytes: &Block) -> Load
     ensures writes { result.session.writes.items ≡ fetch.load.session.writes.items ++ fetched_write fetch bytes.now ∷ [] }
 {
     let Fetch { load, descriptor } = fetch;
-    let Load { at, mut session, mut spare } = load;
+    let Load {
+        at,
+        mut session,
+        mut spare,
+    } = load;
     let mut block = match spare.pop() {
         Some(block) => block,
         None => unreachable!(),
@@ -224,5 +250,7 @@ fn counts(slots: u32, slot: u32, descriptor: &Descriptor) -> bool
     requires { slot < slots }
     ensures { result ≡ is_counted first_record slots slot descriptor.now }
 {
-    descriptor.generation == GENERATION && 0 < descriptor.number && (descriptor.number - 1) % u64::from(slots) == u64::from(slot)
+    descriptor.generation == GENERATION
+        && 0 < descriptor.number
+        && (descriptor.number - 1) % u64::from(slots) == u64::from(slot)
 }

@@ -7,6 +7,8 @@ mod places;
 mod read;
 mod session;
 mod state;
+#[cfg(test)]
+mod tests;
 mod write;
 
 pub use appliance::Appliance;

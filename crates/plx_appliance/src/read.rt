@@ -14,7 +14,13 @@ use plx_model::Reply;
 use std::alloc::Global;
 
 /// A read begins. Without memory what is known comes back.
-pub fn begin_read(alloc: Global, slots: u32, known: Option<Session>, slot: SlotNo, vblock: u32) -> Result<State, Option<Session>>
+pub fn begin_read(
+    alloc: Global,
+    slots: u32,
+    known: Option<Session>,
+    slot: SlotNo,
+    vblock: u32,
+) -> Result<State, Option<Session>>
     requires { room_of slots known ≡ slots }
     ensures ok { IfOk result (λ s. place_of slots s ≡ In (command_part slots (known_of known) (Read slot vblock))) }
     ensures room { IfOk result (λ s. slots_of slots s ≡ slots) }
@@ -30,7 +36,12 @@ pub fn begin_read(alloc: Global, slots: u32, known: Option<Session>, slot: SlotN
 }
 
 // A read of the session's image begins.
-fn begin_known_read(alloc: Global, slots: u32, session: Session, vblock: u32) -> Result<State, Option<Session>>
+fn begin_known_read(
+    alloc: Global,
+    slots: u32,
+    session: Session,
+    vblock: u32,
+) -> Result<State, Option<Session>>
     requires { session.slots ≡ slots }
     ensures ok { IfOk result (λ s. place_of slots s ≡ In (command_part slots (known_of (Some session)) (Read (record { 0 = 0 }) vblock))) }
     ensures room { IfOk result (λ s. slots_of slots s ≡ slots) }
@@ -52,7 +63,9 @@ pub fn after_opening(slots: u32, session: Session, block: Block, answer: &Answer
 {
     match answer {
         Answer::Reading(_) => Turn::On(State::Reading(session, block)),
-        Answer::Bytes(_) | Answer::Done | Answer::Missed(_) | Answer::Fault => Turn::On(State::Opening(session, block)),
+        Answer::Bytes(_) | Answer::Done | Answer::Missed(_) | Answer::Fault => Turn::On(
+            State::Opening(session, block),
+        ),
     }
 }
 
@@ -68,6 +81,8 @@ pub fn after_reading(slots: u32, session: Session, block: Block, answer: &Answer
                 payload: Payload::holding(block),
             },
         ),
-        Answer::Bytes(_) | Answer::Done | Answer::Missed(_) | Answer::Fault => Turn::On(State::Reading(session, block)),
+        Answer::Bytes(_) | Answer::Done | Answer::Missed(_) | Answer::Fault => Turn::On(
+            State::Reading(session, block),
+        ),
     }
 }

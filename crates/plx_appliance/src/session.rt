@@ -30,11 +30,11 @@ impl Session {
     }
 
     /// How many writes the journal holds.
-    pub fn count(&self) -> u32
+    pub fn count(&self) -> u64
         ensures count { result ≡ length self.now.writes.items }
         ensures within { result ≤ self.now.slots }
     {
-        self.writes.len() as u32
+        self.writes.len() as u64
     }
 
     /// The journal holds one more write.

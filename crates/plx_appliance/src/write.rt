@@ -23,7 +23,14 @@ use std::alloc::Global;
 pub const NO_GUARD: u64 = (1 << 48) - 1;
 
 /// A write begins. Without memory what is known comes back.
-pub fn begin_write(alloc: Global, slots: u32, known: Option<Session>, slot: SlotNo, vblock: u32, payload: &Payload) -> Result<State, Option<Session>>
+pub fn begin_write(
+    alloc: Global,
+    slots: u32,
+    known: Option<Session>,
+    slot: SlotNo,
+    vblock: u32,
+    payload: &Payload,
+) -> Result<State, Option<Session>>
     requires room { room_of slots known ≡ slots }
     requires small { slots ≤ 64 }
     ensures ok { IfOk result (λ s. place_of slots s ≡ In (command_part slots (known_of known) (Write slot vblock payload.now))) }
@@ -40,7 +47,13 @@ pub fn begin_write(alloc: Global, slots: u32, known: Option<Session>, slot: Slot
 }
 
 // A write of the session's image begins.
-fn begin_known_write(alloc: Global, slots: u32, session: Session, vblock: u32, payload: &Payload) -> Result<State, Option<Session>>
+fn begin_known_write(
+    alloc: Global,
+    slots: u32,
+    session: Session,
+    vblock: u32,
+    payload: &Payload,
+) -> Result<State, Option<Session>>
     requires room { session.slots ≡ slots }
     requires small { slots ≤ 64 }
     ensures ok { IfOk result (λ s. place_of slots s ≡ In (command_part slots (known_of (Some session)) (Write (record { 0 = 0 }) vblock payload.now))) }
@@ -50,7 +63,7 @@ fn begin_known_write(alloc: Global, slots: u32, session: Session, vblock: u32, p
     if vblock >= IMAGE_SIZE {
         return Ok(State::Refusing(Some(session), Reply::OutOfRange { size: IMAGE_SIZE }));
     }
-    if session.count() == slots {
+    if session.count() == u64::from(slots) {
         return Ok(State::Refusing(Some(session), Reply::Full));
     }
     match blocks(alloc, session.count(), vblock, payload) {
@@ -65,18 +78,26 @@ fn begin_known_write(alloc: Global, slots: u32, session: Session, vblock: u32, p
 }
 
 // The block of a write's data, and the one that spells its descriptor, after so many writes.
-fn blocks(alloc: Global, count: u32, vblock: u32, payload: &Payload) -> Result<(Block, Block), NoMemory>
+fn blocks(
+    alloc: Global,
+    count: u64,
+    vblock: u32,
+    payload: &Payload,
+) -> Result<(Block, Block), NoMemory>
     requires small { count < 64 }
     requires within { vblock < 8 }
     ensures data { IfOk result (λ bs. bs.0 ≡ bytes_of payload.now) }
     ensures spelled { IfOk result (λ bs. bs.1 ≡ descriptor_bytes (record { generation = 1; vblock = vblock; number = count + 1 })) }
 {
     let block = payload.to_block(alloc)?;
-    let spelled = spelling(alloc, &Descriptor {
-        generation: GENERATION,
-        vblock,
-        number: u64::from(count) + 1,
-    })?;
+    let spelled = spelling(
+        alloc,
+        &Descriptor {
+            generation: GENERATION,
+            vblock,
+            number: count + 1,
+        },
+    )?;
     Ok((block, spelled))
 }
 
@@ -99,7 +120,9 @@ pub fn after_preparing(slots: u32, change: Change, answer: &Answer) -> Turn
 {
     match answer {
         Answer::Reading(_) => Turn::On(State::Filling(change)),
-        Answer::Bytes(_) | Answer::Done | Answer::Missed(_) | Answer::Fault => Turn::On(State::Preparing(change)),
+        Answer::Bytes(_) | Answer::Done | Answer::Missed(_) | Answer::Fault => Turn::On(
+            State::Preparing(change),
+        ),
     }
 }
 
@@ -146,7 +169,9 @@ pub fn after_confirming(slots: u32, change: Change, answer: &Answer) -> Turn
 {
     match answer {
         Answer::Reading(reading) => confirmed(slots, change, *reading),
-        Answer::Bytes(_) | Answer::Done | Answer::Missed(_) | Answer::Fault => Turn::On(State::Confirming(change)),
+        Answer::Bytes(_) | Answer::Done | Answer::Missed(_) | Answer::Fault => Turn::On(
+            State::Confirming(change),
+        ),
     }
 }
 
@@ -155,8 +180,13 @@ fn confirmed(slots: u32, change: Change, reading: u64) -> Turn
     requires { change.session.slots ≡ slots }
     ensures { Follows slots (State.Confirming change) (Answer.Reading reading) result }
 {
-    let Change { mut session, vblock, block, spelled: _ } = change;
-    let number = u64::from(session.count()) + 1;
+    let Change {
+        mut session,
+        vblock,
+        block,
+        spelled: _,
+    } = change;
+    let number = session.count() + 1;
     session.push(Journaled {
         number,
         vblock,

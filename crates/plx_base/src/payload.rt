@@ -19,6 +19,7 @@ impl Payload {
     pub fn of(alloc: Global, block: &Block) -> Result<Payload, AllocError>
         ensures same { IfOk result (λ p. bytes_of p ≡ block.now) }
         ensures all { IfOk result (λ p. IsAll p ↔ IsUniform block.now) }
+        ensures canonical { IfOk result (λ p. p ≡ payload_of block.now) }
     {
         let bytes = block.as_slice();
         let first = bytes[0];

@@ -24,7 +24,11 @@ pub struct Disk {
 }
 
 impl Disk {
+<<<<<<< HEAD
     ghost use Rattle.std.specs.Prelude.{◌≡◌, ◌<◌, ◌+◌, ◌^◌, ◌↔◌, ℕ, Option, Some, None, true, false, length, slice_get, IfOk, IfSome, IsOkAnd, OnOk, OnErr, IsTrue, MatchOption};
+=======
+    ghost use Rattle.std.specs.Prelude.{◌≡◌, ◌<◌, ◌+◌, ◌^◌, ◌↔◌, None, false, length, slice_get, IfOk, IsOkAnd, OnOk, OnErr, IsTrue, MatchOption};
+>>>>>>> 0eab6e044102d73bddc999d7a189198ed4015ca1
     ghost use Rattle.plx_disk.specs.Filled.{with_block};
     ghost use Rattle.plx_disk.specs.Missing.{IsMissing, IsOwner, MissesNone};
     ghost use Rattle.plx_disk.specs.Standing.{Stands, Stays, Turns, issued_count};
@@ -68,7 +72,7 @@ impl Disk {
         self.writes.len() as u64
     }
 
-    /// Puts bytes into a block of a device that is being filled.
+    /// Puts bytes into a block of a device that is being filled. After NoMemory it stands as before.
     pub fn set(&mut self, block: BlockNo, bytes: &[u8]) -> Result<(), NoMemory>
         requires unissued { issued_count self.old ≡ 0 }
         requires within { block.0 < self.old.blocks }
@@ -91,7 +95,8 @@ impl Disk {
         let _bytes = into.as_slice();
     }
 
-    /// A write is issued. Its number is the count of those before.
+    /// A write is issued. Its number is the count of those before. Its guard is a time in milliseconds.
+    /// After NoMemory the device stands as before.
     pub fn issue(
         &mut self,
         owner: Boot,
@@ -191,7 +196,7 @@ impl Disk {
         Some(self.writes[index].owner)
     }
 
-    /// The least sector that hasn't landed, of a write that was issued and not cancelled.
+    /// The least sector that hasn't landed, of a write that was issued and not cancelled. None of any other write.
     pub fn missing(&self, write: u64) -> Option<u8>
         ensures missing { (s : Surface) → Stands self.now s → MatchOption result (MissesNone s write) (IsMissing s write) }
         ensures within { IfSome result (λ sector. sector < 8) }

@@ -1,10 +1,9 @@
 //! One issued write.
 ghost use Rattle.std.specs.Prelude.{◌≡◌, ◌<◌, ◌≤◌, ◌+◌, ◌↔◌, ℕ, List, Some, true, false, slice_get, IfSome, IsTrue, MatchOption};
-ghost use Rattle.plx_disk.specs.Stored.{Blocks};
 ghost use Rattle.plx_base.specs.Sectors.{landed, put};
 ghost use Rattle.plx_disk.specs.Landing.{MayLandAt};
 ghost use Rattle.plx_disk.specs.Missing.{IsLeastMissing};
-ghost use Rattle.plx_disk.specs.Stored.{device_of, has_place, is_stored};
+ghost use Rattle.plx_disk.specs.Stored.{Blocks, device_of, has_place, is_stored};
 ghost use Rattle.plx_disk.specs.Standing.{StandsFor};
 ghost use Rattle.plx_disk.specs.Writes.{Issued, all_sectors, with_sector, with_cancel};
 

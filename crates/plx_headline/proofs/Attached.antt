@@ -59,7 +59,7 @@ with-still slots appliance command writes device image journal left m looks = re
   place = looks.place;
   runs = looks.runs;
   sessions = looks.sessions;
-  rests = owner-rests slots appliance writes device image m (slots_refused m appliance.0 command) looks.place looks.sessions journal left
+  rests = owner-rests slots appliance writes device image m (slots_refused m appliance.0 (named command) (is_changing command)) looks.place looks.sessions journal left
       (at-first (IsOwned appliance image None) m.slots (named command) (given_up (m.slots (named command)))
       (is_changing command && owns (m.slots (named command)).owner appliance.0)
       (looks.same_image, looks.owner, looks.same_change)
@@ -229,7 +229,7 @@ held-write slots appliance writes device image vblock payload journal left long 
       | inl none ↦ held-then slots appliance regime device test full part none.0
           (λ m looks. ended slots appliance command (knowing writes) device m Full looks.runs looks.place
           (record { listed = tt; owner = tt; value = tt; refusal = tt; unrefused = tt })
-          (owner-rests slots appliance writes device image m (slots_refused m appliance.0 command) looks.place looks.sessions journal left
+          (owner-rests slots appliance writes device image m (slots_refused m appliance.0 (named command) (is_changing command)) looks.place looks.sessions journal left
           (subst (λ (own : Bool). IsOwned appliance image None ((if own then at m.slots 0 (given_up (m.slots 0)) else m.slots) 0))
           (sym (owns-own (m.slots 0).owner appliance.0 looks.owner)) (looks.same_image, looks.owner, refl))))
       | inr some ↦

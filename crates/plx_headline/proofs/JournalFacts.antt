@@ -1,5 +1,5 @@
 -- The journal on a device that changes, and what its descriptors say.
-use Rattle.std.proofs.Common.{◌≡◌, ◌≢◌, ℕ, zero, suc, ◌+◌, ◌-◌, ◌%◌, ◌≤◌, ◌<◌, ◌^◌, List, [], ◌∷◌, ◌++◌, length, refl, ap, sym, subst, ◌∙◌, Bool, true, Some, None, arith, length-append, inl, inr, ◌⊎◌}
+use Rattle.std.proofs.Common.{◌≡◌, ◌≢◌, ℕ, ◌+◌, ◌-◌, ◌%◌, ◌≤◌, ◌<◌, ◌^◌, List, [], ◌∷◌, ◌++◌, length, refl, ap, sym, subst, ◌∙◌, Bool, true, Some, None, arith, length-append, inl, inr}
 use Rattle.std.specs.Prelude.{slice_get, if◌then◌else◌, ◌==◌, ◌&&◌, nat_lt}
 use Rattle.std.proofs.Math.Nat.{mod-eq_of_lt}
 use Rattle.std.proofs.lemmas.Option.{slice_get_within}
@@ -14,6 +14,7 @@ use Rattle.plx_rules.specs.Journal.{first_record, descriptor_at, data_at, journa
 use Rattle.plx_rules.specs.Session.{latest}
 use Rattle.plx_rules.specs.declared.journaled.Journaled.{Journaled}
 use Rattle.plx_headline.proofs.Journals.{IsJournal, IsLeftBy, descriptor_of}
+use Rattle.plx_headline.proofs.Lists.{at_push}
 use Rattle.plx_headline.proofs.Tests.{eqb-true, nat_lt-true}
 
 -- a write on a block that holds no part of the journal
@@ -47,14 +48,6 @@ IsJournal-along slots d e image writes same j = record {
   rest = λ k past within. same (descriptor_at slots image k) ∙ j.rest k past within;
 }
 
--- what stands at a place of a list with one more element
-pub at-push : {X : Type 0} (xs : List X) (x y : X) (k : ℕ) → slice_get (xs ++ x ∷ []) k ≡ Some y →
-    (slice_get xs k ≡ Some y) ⊎ ((k ≡ length xs) × (x ≡ y))
-at-push [] x y zero h = inr (refl, cc)
-at-push [] x y (suc k) h = cc
-at-push (z ∷ xs) x y zero h = inl h
-at-push (z ∷ xs) x y (suc k) h = elim (at-push xs x y k h) [ inl e ↦ inl e | inr e ↦ inr (ap suc e.0, e.1) ]
-
 -- the commit of one more write, whose data is there
 pub IsJournal-more : (slots : ℕ) (device : Device) (image : ℕ) (writes : List Journaled) (write : Journaled) → IsJournal slots device image writes →
     length writes < slots → write.number ≡ length writes + 1 → write.vblock < 2 ^ 27 → device (data_at slots image (length writes)) ≡ write.block →
@@ -64,19 +57,19 @@ IsJournal-more slots device image writes write j room number within held =
     let bytes = descriptor_bytes (descriptor_of write) in
     record {
       fits = simp length-append (omega arith);
-      numbers = λ k w at. elim (at-push writes write w k at) [
+      numbers = λ k w at. elim (at_push writes write w k at) [
         | inl old ↦ j.numbers k w old
         | inr new ↦ rw new.0 (ap (λ (x : Journaled). x.number) (sym new.1) ∙ number)
       ];
-      within = λ k w at. elim (at-push writes write w k at) [
+      within = λ k w at. elim (at_push writes write w k at) [
         | inl old ↦ j.within k w old
         | inr new ↦ subst (λ (x : Journaled). x.vblock < 2 ^ 27) new.1 within
       ];
-      commits = λ k w at. elim (at-push writes write w k at) [
+      commits = λ k w at. elim (at_push writes write w k at) [
         | inl old ↦ put-other device block bytes (descriptor_at slots image k) (let below = slice_get_within writes k w old in omega arith) ∙ j.commits k w old
         | inr new ↦ rw new.0 (put-same device block bytes ∙ ap (λ (x : Journaled). descriptor_bytes (descriptor_of x)) new.1)
       ];
-      blocks = λ k w at. put-other device block bytes (data_at slots image k) (omega arith) ∙ (elim (at-push writes write w k at) [
+      blocks = λ k w at. put-other device block bytes (data_at slots image k) (omega arith) ∙ (elim (at_push writes write w k at) [
         | inl old ↦ j.blocks k w old
         | inr new ↦ rw new.0 (held ∙ ap (λ (x : Journaled). x.block) new.1)
       ]);

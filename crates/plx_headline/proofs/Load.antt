@@ -125,7 +125,7 @@ session-there appliance sessions session here before slot =
 -- the session fits once the image is attached
 attached-fits : (slots : ℕ) (appliance : ApplianceNo) (writes : List Journaled) (device : Device) (m : Model) →
     LooksWithout appliance (Attach first_slot_no) nothing_known writes m → IsJournal slots device 0 writes →
-    FitsIdle slots appliance (knowing writes) device (replied m appliance.0 (Attach first_slot_no) (Attached (session_report (session_with writes))))
+    FitsIdle slots appliance (knowing writes) device (replied m appliance.0 0 false (Attached (session_report (session_with writes))))
 attached-fits slots appliance writes device m looks journal = record {
   place = record { known = looks.place.known; images = looks.place.images };
   idle = at-same m.running appliance.0 None;

@@ -4,7 +4,7 @@ use Rattle.std.specs.Prelude.{if◌then◌else◌, nat_le, is_some}
 use Rattle.plx_base.specs.Sectors.{Device}
 use Rattle.plx_base.specs.declared.numbers.ApplianceNo.{ApplianceNo}
 use Rattle.plx_base.specs.declared.numbers.SlotNo.{SlotNo}
-use Rattle.plx_model.specs.Model.{Model, named}
+use Rattle.plx_model.specs.Model.{Model, named, is_changing}
 use Rattle.plx_model.specs.Moves.{slots_refused, rested}
 use Rattle.plx_model.specs.Refusals.{where_holds, of_access, refusals, IsAmong}
 use Rattle.plx_model.specs.declared.command.Command.{Command}
@@ -38,7 +38,7 @@ pub record Still (slots : ℕ) (appliance : ApplianceNo) (command : Command) (kn
   pub place : IsPlace appliance m
   pub runs : m.running appliance.0 ≡ Some command
   pub sessions : SameSessions appliance known m
-  pub rests : FitsIdle slots appliance known device (rested m appliance.0 (slots_refused m appliance.0 command))
+  pub rests : FitsIdle slots appliance known device (rested m appliance.0 (slots_refused m appliance.0 (named command) (is_changing command)))
 
 -- the rest by its tests
 module _ (slots : ℕ) (appliance : ApplianceNo) (regime : Regime) (device : Device) where

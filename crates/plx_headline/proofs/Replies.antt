@@ -5,8 +5,8 @@ use Rattle.std.proofs.lemmas.Bool.Decides.{eqb_tells}
 use Rattle.std.proofs.lemmas.Option.{same_Some}
 use Rattle.plx_base.specs.Sectors.{Device}
 use Rattle.plx_base.specs.declared.numbers.ApplianceNo.{ApplianceNo}
-use Rattle.plx_model.specs.Judge.{IsListed, IsByOwner, IsValue, IsTrue, IsUnrefused, InCommand, Accepts}
-use Rattle.plx_model.specs.Model.{Slot, Model, owns}
+use Rattle.plx_model.specs.Judge.{IsListed, IsByOwner, IsValue, IsFounded, IsUnrefused, InCommand, Accepts}
+use Rattle.plx_model.specs.Model.{Slot, Model, owns, named, is_changing}
 use Rattle.plx_model.specs.Moves.{rested, replied, replied_in, moved}
 use Rattle.plx_model.specs.Places.{at}
 use Rattle.plx_model.specs.Refusals.{where_holds, not, of_access}
@@ -24,7 +24,7 @@ pub record Judged (m : Model) (appliance : ℕ) (command : Command) (reply : Rep
   pub listed : IsListed command reply
   pub owner : IsByOwner m appliance command reply
   pub value : IsValue m command reply
-  pub refusal : IsTrue m appliance command reply
+  pub refusal : IsFounded m appliance command reply
   pub unrefused : IsUnrefused m appliance command reply
 
 -- what holds of the command that runs
@@ -43,13 +43,13 @@ accepts-reply m appliance command reply runs known judged = record {
   listed = in-command (λ a c r. IsListed c r) m appliance command reply runs judged.listed;
   owner = in-command (IsByOwner m) m appliance command reply runs judged.owner;
   value = in-command (λ a c r. IsValue m c r) m appliance command reply runs judged.value;
-  refusal = in-command (IsTrue m) m appliance command reply runs judged.refusal;
+  refusal = in-command (IsFounded m) m appliance command reply runs judged.refusal;
   unrefused = in-command (IsUnrefused m) m appliance command reply runs judged.unrefused;
 }
 
 -- and what is known fits the model to which it moves
 pub ended : (slots : ℕ) (appliance : ApplianceNo) (command : Command) (known : Known) (device : Device) (m : Model) (reply : Reply) → m.running appliance.0 ≡ Some command →
-    IsPlace appliance m → Judged m appliance.0 command reply → FitsIdle slots appliance known device (replied m appliance.0 command reply) →
+    IsPlace appliance m → Judged m appliance.0 command reply → FitsIdle slots appliance known device (replied m appliance.0 (named command) (is_changing command) reply) →
     Accepts m (entry.Reply appliance reply) × FitsIdle slots appliance known device (moved m (entry.Reply appliance reply))
 ended slots appliance command known device m reply runs place judged fits = (
   accepts-reply m appliance command reply runs place.known judged,

@@ -1,31 +1,19 @@
 -- What a journal holds is what the device stores.
-use Rattle.std.proofs.Common.{◌≡◌, ◌≢◌, ℕ, ◌+◌, ◌-◌, ◌%◌, ◌≤◌, ◌<◌, ◌^◌, List, [], ◌∷◌, length, zero, suc, refl, ap, sym, subst, ◌∙◌, Bool, true, Some, None, arith, inl, inr, ◌⊎◌}
-use Rattle.std.specs.Prelude.{slice_get, if◌then◌else◌}
-use Rattle.std.proofs.lemmas.Bool.Decides.{eqb_tells, Decides-eqb, Decides-ltb}
+use Rattle.std.proofs.Common.{◌≡◌, ◌≢◌, ℕ, ◌+◌, ◌≤◌, ◌<◌, List, [], ◌∷◌, length, zero, suc, refl, ap, sym, subst, ◌∙◌, Some, arith, inl, inr, ◌⊎◌}
+use Rattle.std.specs.Prelude.{slice_get}
+use Rattle.std.proofs.lemmas.Bool.Decides.{eqb_tells}
 use Rattle.std.proofs.lemmas.Option.{slice_get_within, slice_get_cases}
-use Rattle.std.proofs.Math.Nat.{mod-eq_of_lt}
 use Rattle.plx_base.specs.Blocks.{zeros}
 use Rattle.plx_base.specs.Sectors.{Device}
-use Rattle.plx_gate.proofs.Descriptors.{read-descriptor, read-zeros}
-use Rattle.plx_gate.specs.Descriptors.{read_descriptor, IsDescriptor}
 use Rattle.plx_gate.specs.declared.descriptor.Descriptor.{Descriptor}
 use Rattle.plx_model.specs.Image.{Image}
 use Rattle.plx_model.specs.Model.{Slot}
-use Rattle.plx_rules.specs.Journal.{first_record, journal_slot, descriptor_at, is_counted, counted_of, counted}
+use Rattle.plx_rules.specs.Journal.{first_record}
 use Rattle.plx_rules.specs.Session.{latest}
 use Rattle.plx_rules.specs.Stored.{Counts, IsWriteCount, IsNewest, IsContent, Stores, StoresEither}
 use Rattle.plx_rules.specs.declared.journaled.Journaled.{Journaled}
+use Rattle.plx_headline.proofs.JournalFacts.{counted-commit, counted-rest}
 use Rattle.plx_headline.proofs.Journals.{descriptor_of, IsJournal, IsLeftBy, Keeps}
-
--- a write's own slot is the one of its number
-own-slot : (slots k : ℕ) → k < slots → journal_slot slots (k + 1) ≡ k
-own-slot slots k below = let e : k + 1 - 1 ≡ k = omega arith in ap (λ n. n % slots) e ∙ mod-eq_of_lt below
-
--- so its descriptor counts there
-is-counted : (slots k : ℕ) (write : Journaled) → k < slots → write.number ≡ k + 1 → is_counted first_record slots k (descriptor_of write) ≡ true
-is-counted slots k write below number =
-    let slot : journal_slot slots write.number ≡ k = ap (journal_slot slots) number ∙ own-slot slots k below in
-    rw ((Decides-ltb 0 write.number).1 (omega arith), (Decides-eqb (journal_slot slots write.number) k).1 slot) refl
 
 -- the place of the last write
 last-place : (x : Journaled) (xs : List Journaled) → (k : ℕ) × (write : Journaled) × (slice_get (x ∷ xs) k ≡ Some write) × (k + 1 ≡ length (x ∷ xs))
@@ -36,45 +24,19 @@ last-of : (xs : List Journaled) → (length xs ≡ 0) ⊎ ((k : ℕ) × (write :
 last-of [] = inl refl
 last-of (x ∷ xs) = inr (last-place x xs)
 
--- it is within the limits of a descriptor
-limits : (k : ℕ) (write : Journaled) → k < 64 → write.number ≡ k + 1 → write.vblock < 2 ^ 27 → IsDescriptor (descriptor_of write)
-limits k write below number small = record {
-  generation_low = omega arith;
-  generation_high = omega arith;
-  vblock = small;
-  number_low = omega arith;
-  number_high = omega arith;
-}
-
 module _ (slots : ℕ) (most : slots ≤ 64) (device : Device) (writes : List Journaled) (journal : IsJournal slots device 0 writes) where
   -- the slot of a write counts, with the write's descriptor
-  counted-write : (k : ℕ) (write : Journaled) → slice_get writes k ≡ Some write →
-      counted first_record slots k (device (descriptor_at slots 0 k)) ≡ Some (descriptor_of write)
-  counted-write k write found =
-      let below : k < length writes = slice_get_within writes k write found in
-      let fits = journal.fits in
-      let number = journal.numbers k write found in
-      let read : read_descriptor (device (descriptor_at slots 0 k)) ≡ Some (Some (descriptor_of write)) =
-      ap read_descriptor (journal.commits k write found) ∙ read-descriptor (descriptor_of write) (limits k write (omega arith) number (journal.within k write found)) in
-      ap (counted_of first_record slots k) read
-      ∙ ap (λ (b : Bool). if b then Some (descriptor_of write) else None) (is-counted slots k write (omega arith) number)
-
-  -- an empty slot doesn't count
-  counted-rest : (k : ℕ) → length writes ≤ k → k < slots → counted first_record slots k (device (descriptor_at slots 0 k)) ≡ None
-  counted-rest k past below =
-      ap (counted_of first_record slots k) (ap read_descriptor (journal.rest k past below) ∙ read-zeros)
-
   write-counts : (k : ℕ) (write : Journaled) → slice_get writes k ≡ Some write → Counts slots device 0 first_record k (descriptor_of write)
   write-counts k write found =
       let below : k < length writes = slice_get_within writes k write found in
       let fits = journal.fits in
-      record { within = omega arith; found = counted-write k write found }
+      record { within = omega arith; found = counted-commit slots device 0 writes journal most k write found }
 
   -- what counts is the descriptor of a write
   counts-write : (k : ℕ) (d : Descriptor) → Counts slots device 0 first_record k d → (write : Journaled) × (slice_get writes k ≡ Some write) × (d ≡ descriptor_of write)
   counts-write k d counts = elim (slice_get_cases writes k).1 [
-    | inl here ↦ (here.0, here.2, (let one = counts.found in let other = counted-write k here.0 here.2 in cc))
-    | inr past ↦ absurd (let one = counts.found in let other = counted-rest k past.0 counts.within in let P : ⊥ = cc in P)
+    | inl here ↦ (here.0, here.2, (let one = counts.found in let other = counted-commit slots device 0 writes journal most k here.0 here.2 in cc))
+    | inr past ↦ absurd (let one = counts.found in let other = counted-rest slots device 0 writes journal k past.0 counts.within in let P : ⊥ = cc in P)
   ]
 
   -- the number of what counts

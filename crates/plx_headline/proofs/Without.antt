@@ -29,7 +29,7 @@ without-still slots appliance command writes device journal m looks = record {
   place = looks.place;
   runs = looks.runs;
   sessions = looks.sessions;
-  rests = fits-rested slots appliance nothing_known device m (slots_refused m appliance.0 command) looks.place looks.sessions
+  rests = fits-rested slots appliance nothing_known device m (slots_refused m appliance.0 (named command) (is_changing command)) looks.place looks.sessions
       (at-first (λ s. Keeps slots device 0 s × Differs s × (owns s.owner appliance.0 ≡ false)) m.slots (named command) (given_up (m.slots (named command)))
       (is_changing command && owns (m.slots (named command)).owner appliance.0)
       (record { writes = writes; journal = journal; either = looks.either }, looks.differs, looks.stranger)

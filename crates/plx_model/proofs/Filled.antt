@@ -1,5 +1,5 @@
 -- Blocks of one byte throughout.
-use Rattle.std.proofs.Common.{◌≡◌, ◌<◌, ℕ, List, length, get_or, refl, ap, sym, ◌∙◌, subst, arith, replicate, IsTrue, lit<}
+use Rattle.std.proofs.Common.{◌≡◌, ◌<◌, ℕ, List, length, refl, ap, sym, ◌∙◌, subst, lit<}
 use Rattle.std.specs.Prelude.{EachIndex, slice_index}
 use Rattle.std.proofs.lemmas.List.{length-replicate, get_or-replicate, ext_get_or}
 use Rattle.plx_base.specs.Blocks.{filled, zeros}
@@ -9,7 +9,7 @@ pub filled_where : (xs : List ℕ) (b : ℕ) → length xs ≡ 4096 → EachInde
 unfolding filled
 filled_where xs b long h =
     ext_get_or 0 xs (filled b) (long ∙ sym (length-replicate 4096 b))
-      (λ k below. h k below ∙ sym (get_or-replicate 4096 k b 0 (subst (λ n. k < n) long below)))
+    (λ k below. h k below ∙ sym (get_or-replicate 4096 k b 0 (subst (λ n. k < n) long below)))
 
 -- each byte of such a block
 pub filled-at : (b k : ℕ) → k < 4096 → slice_index (filled b) k ≡ b

@@ -1,12 +1,12 @@
 -- The test whether two reports are equal.
-use Rattle.std.proofs.Common.{◌≡◌, ◌↔◌, ℕ, ◌+◌, List, refl, ap, sym, ◌∙◌, subst, Bool, true, false, IsTrue, Option, Some, None, ◌⊎◌, inl, inr}
+use Rattle.std.proofs.Common.{◌≡◌, ◌+◌, refl, ap, sym, subst, Bool, true, false, Option, Some, None, inl, inr}
 use Rattle.std.specs.Prelude.{◌==◌, ◌&&◌}
 use Rattle.std.proofs.lemmas.Bool.{eqb-true, eq-eqb}
 use Rattle.plx_model.specs.Image.{Image, report_of, same_report, same_flag, same_bytes, written}
 use Rattle.plx_model.specs.Judge.{IsReported}
 use Rattle.plx_model.specs.Model.{Slot}
 use Rattle.plx_model.specs.Moves.{made}
-use Rattle.plx_model.specs.Shown.{changed, decided, image_of, is_alike, is_report_of, slot_of}
+use Rattle.plx_model.specs.Shown.{changed, decided, image_of, is_report_of, slot_of}
 use Rattle.plx_model.specs.declared.reply.Report.{Report}
 use Rattle.plx_model.specs.declared.slot.Change.{Change}
 use Rattle.plx_model.specs.declared.slot.SlotState.{SlotState}
@@ -24,10 +24,10 @@ same_flag-equal false false h = refl
 pub same_report-same : (r : Report) → same_report r r ≡ true
 same_report-same r =
     and_both _ _ (eq-eqb r.writes r.writes refl)
-      (and_both _ _ (eq-eqb r.generation r.generation refl)
-        (and_both _ _ (eq-eqb r.size r.size refl)
-          (and_both _ _ (eq-eqb r.taken r.taken refl)
-            (and_both _ _ (eq-eqb r.dropped r.dropped refl) (and_both _ _ (same_flag-same r.live) (same_bytes-same r.label))))))
+    (and_both _ _ (eq-eqb r.generation r.generation refl)
+    (and_both _ _ (eq-eqb r.size r.size refl)
+    (and_both _ _ (eq-eqb r.taken r.taken refl)
+    (and_both _ _ (eq-eqb r.dropped r.dropped refl) (and_both _ _ (same_flag-same r.live) (same_bytes-same r.label))))))
 
 pub same_report-equal : (r s : Report) → same_report r s ≡ true → r ≡ s
 same_report-equal r s h0 =

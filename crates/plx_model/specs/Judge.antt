@@ -1,5 +1,5 @@
 -- Which entries the model accepts: the eight rules of the judge.
-use Rattle.std.specs.Prelude.{◌≡◌, ◌+◌, ◌<◌, ℕ, List, [], ◌∷◌, Option, Some, None, IsSome, ◌⊎◌}
+use Rattle.std.specs.Prelude.{◌≡◌, ◌+◌, ◌<◌, ℕ, List, [], ◌∷◌, Some, None, IsSome, ◌⊎◌}
 use Rattle.plx_base.specs.Payload.{bytes_of}
 use Rattle.plx_base.specs.declared.payload.Payload.{Payload}
 use Rattle.plx_model.specs.Image.{Image, report_of}

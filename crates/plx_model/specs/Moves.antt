@@ -1,6 +1,6 @@
 -- How an entry of a trace moves the model.
 use Rattle.std.specs.Prelude.{ℕ, List, [], ◌∷◌, Bool, true, false, ◌&&◌, Option, Some, None, if◌then◌else◌, unwrap_or}
-use Rattle.plx_model.specs.Image.{Image, after, resolved}
+use Rattle.plx_model.specs.Image.{after, resolved}
 use Rattle.plx_model.specs.Model.{Slot, Model, owns, disowned, named, is_changing}
 use Rattle.plx_model.specs.Places.{at}
 use Rattle.plx_model.specs.Refusals.{refusals, is_none}

@@ -1,8 +1,8 @@
-use plx_base::{NoMemory, Payload, SlotNo};
-use std::alloc::Global;
-
 ghost use Rattle.std.specs.Prelude.{◌≡◌, IfOk};
 ghost use Rattle.plx_model.specs.Model.{is_changing, named};
+
+use plx_base::{NoMemory, Payload, SlotNo};
+use std::alloc::Global;
 
 /// What an appliance is asked to do.
 #[derive(Drop)]
@@ -35,7 +35,11 @@ impl Command {
                 slot: *slot,
                 vblock: *vblock,
             }),
-            Command::Write { slot, vblock, payload } => Ok(Command::Write {
+            Command::Write {
+                slot,
+                vblock,
+                payload,
+            } => Ok(Command::Write {
                 slot: *slot,
                 vblock: *vblock,
                 payload: payload.copy(alloc)?,

@@ -32,6 +32,10 @@ impl Model {
     {
         let slots = first_slots(alloc, images)?;
         let seats = first_seats(alloc, appliances)?;
-        Ok(Model { alloc, slots, seats })
+        Ok(Model {
+            alloc,
+            slots,
+            seats,
+        })
     }
 }

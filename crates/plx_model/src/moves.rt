@@ -95,7 +95,13 @@ impl Model {
     }
 
     // The appliance's command ends with this reply.
-    fn end(&mut self, appliance: ApplianceNo, slot: u32, changes: bool, reply: &Reply) -> Result<(), NoMemory>
+    fn end(
+        &mut self,
+        appliance: ApplianceNo,
+        slot: u32,
+        changes: bool,
+        reply: &Reply,
+    ) -> Result<(), NoMemory>
         requires known { appliance.0 < length self.old.seats.items }
         requires fit { IsFitFor (shown self.old) slot reply.now }
         ensures ok { OnOk result (shown self.new ≡ replied (shown self.old) appliance.0 slot changes reply.now) }

@@ -1,6 +1,6 @@
 //! The rules of a reply to the command that an appliance is in.
-use crate::refusals::Refusals;
 use crate::content::holds;
+use crate::refusals::Refusals;
 use crate::{Command, Model, Reply, Report};
 use plx_base::{ApplianceNo, Payload};
 
@@ -26,7 +26,12 @@ impl Model {
     }
 
     // Whether the reply comes from the owner, where it is data or the number of a write.
-    pub(crate) fn is_by_owner(&self, appliance: ApplianceNo, command: &Command, reply: &Reply) -> bool
+    pub(crate) fn is_by_owner(
+        &self,
+        appliance: ApplianceNo,
+        command: &Command,
+        reply: &Reply,
+    ) -> bool
         ensures { IsTrue result ↔ IsByOwner (shown self.now) appliance.0 command.now reply.now }
     {
         match reply {
@@ -169,7 +174,11 @@ impl Model {
             attached: false,
             not_attached: !session,
             no_image: !state.live,
-            size: if state.size <= vblock { Some(state.size) } else { None },
+            size: if state.size <= vblock {
+                Some(state.size)
+            } else {
+                None
+            },
         }
     }
 }

@@ -32,7 +32,11 @@ impl Seat {
         ensures { result ≡ sessions_of self.now slot }
     {
         let index = slot as usize;
-        if index < MAX_IMAGES { self.sessions[index] } else { false }
+        if index < MAX_IMAGES {
+            self.sessions[index]
+        } else {
+            false
+        }
     }
 
     // The appliance has a session of the slot from now on.

@@ -108,9 +108,16 @@ impl SlotState {
         match command {
             Command::Attach { .. } => Ok(()),
             Command::Read { .. } => Ok(()),
-            Command::Write { vblock, payload, .. } => {
+            Command::Write {
+                vblock,
+                payload,
+                ..
+            } => {
                 let block = payload.to_block(alloc)?;
-                self.change = Some(Change { vblock: *vblock, block });
+                self.change = Some(Change {
+                    vblock: *vblock,
+                    block,
+                });
                 Ok(())
             }
         }

@@ -9,7 +9,7 @@ use Rattle.plx_model.specs.declared.command.Command.{Command}
 use Rattle.plx_model.specs.declared.command.Command.TheVariants.{Attach, Read, Write}
 use Rattle.plx_model.specs.declared.reply.Reply.{Reply}
 use Rattle.plx_rules.specs.Commands.{End, command_part}
-use Rattle.plx_rules.specs.Part.{Part, Ends, ReadThen, WriteThen, ClockThen, UntilThen, answered, standing, bytes_out, end_of}
+use Rattle.plx_rules.specs.Part.{Part, Ends, ReadThen, WriteThen, ClockThen, UntilThen, answered, standing, bytes_out}
 use Rattle.plx_rules.specs.Session.{Known, nothing_known}
 
 -- what happened to a boot: a command began, or an ask, with the bytes to be written, was answered

@@ -1,8 +1,7 @@
 -- What each command asks, in order, and what it makes of the answers.
-use Rattle.std.specs.Prelude.{◌+◌, ◌-◌, ◌^◌, ◌<◌, ℕ, List, [], ◌∷◌, ◌++◌, length, Option, Some, None, zero, suc, nat_lt, if◌then◌else◌, ◌==◌}
+use Rattle.std.specs.Prelude.{◌+◌, ◌-◌, ◌^◌, ℕ, List, [], ◌∷◌, ◌++◌, Option, Some, None, zero, suc, nat_lt, if◌then◌else◌, ◌==◌}
 use Rattle.plx_base.specs.Canonical.{payload_of}
 use Rattle.plx_base.specs.Payload.{bytes_of}
-use Rattle.plx_base.specs.declared.numbers.SlotNo.{SlotNo}
 use Rattle.plx_base.specs.declared.lease.LeaseName.TheVariants as lease
 use Rattle.plx_base.specs.declared.write_kind.WriteKind.{WriteKind}
 use Rattle.plx_base.specs.declared.write_kind.WriteKind.TheVariants as kind
@@ -14,7 +13,7 @@ use Rattle.plx_model.specs.declared.reply.Reply.{Reply}
 use Rattle.plx_model.specs.declared.reply.Reply.TheVariants as reply
 use Rattle.plx_model.specs.Model.{named}
 use Rattle.plx_rules.specs.Journal.{image_count, descriptor_at, data_at, journal_slot, ImageRecord, first_record, counted}
-use Rattle.plx_rules.specs.Part.{Part, Ends, ReadThen, WriteThen, ClockThen, UntilThen}
+use Rattle.plx_rules.specs.Part.{Part, Ends, ReadThen, WriteThen, ClockThen}
 use Rattle.plx_rules.specs.Session.{Session, Known, nothing_known, session_of, with_session, write_count, session_report, content, with_write}
 use Rattle.plx_rules.specs.declared.journaled.Journaled.{Journaled}
 

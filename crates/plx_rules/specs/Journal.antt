@@ -1,8 +1,7 @@
 -- The journal of an image: its places on the device, and which of its slots count.
-use Rattle.std.specs.Prelude.{◌≡◌, ◌+◌, ◌-◌, ◌*◌, ◌%◌, ◌<◌, ◌^◌, ℕ, List, [], ◌∷◌, Bool, ◌&&◌, nat_lt, ◌==◌, if◌then◌else◌, Option, Some, None}
+use Rattle.std.specs.Prelude.{◌+◌, ◌-◌, ◌*◌, ◌%◌, ℕ, List, [], Bool, ◌&&◌, nat_lt, ◌==◌, if◌then◌else◌, Option, Some, None}
 use Rattle.plx_gate.specs.Descriptors.{read_descriptor}
 use Rattle.plx_gate.specs.declared.descriptor.Descriptor.{Descriptor}
-use Rattle.plx_base.specs.Sectors.{Device}
 
 -- the device has one image and one extent: blocks 0 to 5 are the superblock, the leases, the record and the log, and the journal begins at block 6
 abbrev pub image_count : ℕ

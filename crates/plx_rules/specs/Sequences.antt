@@ -1,5 +1,5 @@
 -- The events that stand for several, and whole schedules.
-use Rattle.std.specs.Prelude.{◌≡◌, ◌+◌, ◌*◌, ◌<◌, ◌≤◌, ℕ, List, [], ◌∷◌, slice_get, drop, Option, Some, None, Bool, true, false, if◌then◌else◌, ◌&&◌, nat_lt, nat_le, zero, suc, ◌⊎◌}
+use Rattle.std.specs.Prelude.{◌≡◌, ◌+◌, ℕ, List, [], ◌∷◌, slice_get, drop, Option, Some, None, Bool, true, false, if◌then◌else◌, ◌&&◌, nat_le}
 use Rattle.plx_base.specs.declared.numbers.ApplianceNo.{ApplianceNo}
 use Rattle.plx_base.specs.declared.write_kind.WriteKind.{WriteKind}
 use Rattle.plx_base.specs.declared.write_kind.WriteKind.TheVariants as kind
@@ -11,9 +11,8 @@ use Rattle.plx_model.specs.declared.event.Stop.TheVariants as stop
 use Rattle.plx_model.specs.declared.event.Region.{Region}
 use Rattle.plx_model.specs.declared.event.Region.TheVariants as region
 use Rattle.plx_rules.specs.Boot.{Position, Idle, In}
-use Rattle.plx_rules.specs.Commands.{End}
 use Rattle.plx_rules.specs.Journal.{first_journal_block}
-use Rattle.plx_rules.specs.Part.{Part, Ends, ReadThen, WriteThen, ClockThen, UntilThen}
+use Rattle.plx_rules.specs.Part.{Ends, ReadThen, WriteThen, ClockThen, UntilThen}
 use Rattle.plx_rules.specs.World.{World, Step, stands, is_boot_of, issued_by}
 
 -- the least sector that hasn't landed

@@ -1,5 +1,5 @@
 -- The image that a device stores.
-use Rattle.std.specs.Prelude.{◌≡◌, ◌≢◌, ◌≤◌, ◌<◌, ℕ, List, Option, Some, Bool, true, ◌⊎◌}
+use Rattle.std.specs.Prelude.{◌≡◌, ◌≢◌, ◌≤◌, ◌<◌, ℕ, List, Some, true, ◌⊎◌}
 use Rattle.plx_base.specs.Blocks.{zeros}
 use Rattle.plx_base.specs.Sectors.{Device}
 use Rattle.plx_gate.specs.declared.descriptor.Descriptor.{Descriptor}

@@ -1,5 +1,5 @@
 -- The world: appliances over one device, and its steps.
-use Rattle.std.specs.Prelude.{◌≡◌, ◌+◌, ◌-◌, ◌*◌, ◌%◌, ◌^◌, ◌≤◌, ◌<◌, ℕ, List, [], ◌∷◌, ◌++◌, length, drop, slice_get, Option, Some, None, Bool, true, false, if◌then◌else◌, ◌&&◌, nat_lt, nat_le, ◌==◌, ◌⊎◌}
+use Rattle.std.specs.Prelude.{◌≡◌, ◌+◌, ◌-◌, ◌%◌, ◌^◌, ◌≤◌, ◌<◌, ℕ, List, [], ◌∷◌, length, drop, slice_get, Option, Some, None, Bool, true, if◌then◌else◌, ◌==◌}
 use Rattle.plx_base.specs.declared.numbers.ApplianceNo.{ApplianceNo}
 use Rattle.plx_base.specs.declared.write_kind.WriteKind.{WriteKind}
 use Rattle.plx_disk.specs.Writes.{Surface, Issued, blank, fresh_write, issued, MayLand, after_landing, HasLanded, cancelled, passed}
@@ -9,13 +9,12 @@ use Rattle.plx_disk.specs.declared.ask.Answer.TheVariants as answer
 use Rattle.plx_disk.specs.declared.ask.Ask.TheVariants as ask
 use Rattle.plx_model.specs.Places.{at}
 use Rattle.plx_model.specs.declared.command.Command.{Command}
-use Rattle.plx_model.specs.declared.reply.Reply.{Reply}
 use Rattle.plx_model.specs.declared.entry.Entry.{Entry}
 use Rattle.plx_model.specs.declared.entry.Entry.TheVariants as entry
 use Rattle.plx_model.specs.declared.event.Event.{Event}
 use Rattle.plx_model.specs.declared.event.Event.TheVariants as event
-use Rattle.plx_rules.specs.Boot.{Happening, Began, Asked, Position, Idle, In, position, reply_of, boot_number, IsWhole, IsRun}
-use Rattle.plx_rules.specs.Commands.{End, command_part}
+use Rattle.plx_rules.specs.Boot.{Happening, Began, Asked, Position, Idle, In, position, boot_number, IsWhole, IsRun}
+use Rattle.plx_rules.specs.Commands.{End}
 use Rattle.plx_rules.specs.Journal.{block_count}
 use Rattle.plx_rules.specs.Part.{Part, Ends, ReadThen, WriteThen, ClockThen, UntilThen, answered}
 use Rattle.plx_rules.specs.Session.{Known}

@@ -1,4 +1,6 @@
 pub mod Lines
+pub mod Parts
+pub mod SameTraces
 pub mod Schedules
 pub mod Traces
 pub mod Words

@@ -1,8 +1,7 @@
 -- The lines of a schedule.
-use Rattle.std.specs.Prelude.{◌≡◌, ◌≤◌, ◌<◌, ◌^◌, ℕ, List, [], ◌∷◌, ◌++◌, codes, decimal}
+use Rattle.std.specs.Prelude.{◌≡◌, ◌≤◌, ◌<◌, ◌^◌, ℕ, List, [], ◌++◌, codes, decimal}
 use Rattle.plx_base.specs.declared.payload.Payload.{Payload}
 use Rattle.plx_base.specs.declared.payload.Payload.TheVariants.{All, Whole}
-use Rattle.plx_base.specs.declared.write_kind.WriteKind.{WriteKind}
 use Rattle.plx_base.specs.declared.write_kind.WriteKind.TheVariants as kind
 use Rattle.plx_model.specs.declared.command.Command.{Command}
 use Rattle.plx_model.specs.declared.command.Command.TheVariants.{Attach, Read, Write}
@@ -10,9 +9,8 @@ use Rattle.plx_model.specs.declared.event.Event.{Event}
 use Rattle.plx_model.specs.declared.event.Event.TheVariants as event
 use Rattle.plx_model.specs.declared.event.Stop.{Stop}
 use Rattle.plx_model.specs.declared.event.Stop.TheVariants as stop
-use Rattle.plx_model.specs.declared.event.Region.{Region}
 use Rattle.plx_model.specs.declared.event.Region.TheVariants as region
-use Rattle.plx_text.specs.Words.{hex_byte, command_text}
+use Rattle.plx_text.specs.Words.{command_text}
 
 -- a number below 2^32
 abbrev pub IsU32 : ℕ → Type 0

@@ -53,3 +53,7 @@ end_text reachable allocated = codes "end reachable=" ++ decimal reachable ++ co
 -- the text of a trace, and of the two counts of its last line
 abbrev pub trace_text : ℕ → List Entry → ℕ → ℕ → List ℕ
 trace_text slots entries reachable allocated = joined (world_text slots ∷ entry_lines entries ++ end_text reachable allocated ∷ [])
+
+-- what is said of a text whose line with this number isn't in the grammar
+abbrev pub bad_line_text : ℕ → List ℕ
+bad_line_text number = joined ((codes "bad line " ++ decimal number) ∷ [])

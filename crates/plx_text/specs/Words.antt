@@ -1,9 +1,8 @@
 -- How numbers, data, labels and commands are spelled.
-use Rattle.std.specs.Prelude.{◌≡◌, ◌+◌, ◌/◌, ◌%◌, ◌<◌, ℕ, List, [], ◌∷◌, ◌++◌, codes, decimal, flat_map, nat_lt, if◌then◌else◌, slice_index, Bool, true, false, length}
+use Rattle.std.specs.Prelude.{◌+◌, ◌/◌, ◌%◌, ℕ, List, [], ◌∷◌, ◌++◌, codes, decimal, flat_map, nat_lt, if◌then◌else◌, slice_index, Bool, true, false}
 use Rattle.std.specs.Str.{bytes_eq}
 use Rattle.plx_base.specs.Blocks.{filled}
 use Rattle.plx_base.specs.Payload.{bytes_of}
-use Rattle.plx_base.specs.declared.payload.Payload.{Payload}
 use Rattle.plx_model.specs.declared.command.Command.{Command}
 use Rattle.plx_model.specs.declared.command.Command.TheVariants.{Attach, Read, Write}
 

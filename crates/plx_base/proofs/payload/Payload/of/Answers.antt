@@ -1,4 +1,6 @@
 use Rattle.std.proofs.Common.{◌≡◌, false, IsTrue, refl, sym, ◌∙◌, length, ap, get_or}
+use Rattle.plx_base.specs.declared.payload.Payload.TheVariants.{All, Whole}
+use Rattle.plx_base.proofs.Canonical.{payload_of-is}
 use Rattle.plx_base.proofs.Uniform.{All-filled, IsUniform-first, filled-All}
 use Rattle.plx_base.proofs.payload.Payload.of.Goals as goal
 
@@ -26,3 +28,12 @@ returns-clause-all c = (
       (rw c.as_slice-bytes.ensures.same (IsUniform-first c.args.block.now c.as_slice-bytes.ensures.len uniform))) in
       cc,
 )
+
+pub returns-then-are_all-clause-canonical : goal.returns-then-are_all-clause-canonical
+returns-then-are_all-clause-canonical c =
+    payload_of-is (All (get_or c.as_slice-bytes.result.now 0 0)) c.args.block.now c.as_slice-bytes.ensures.len
+    (returns-then-are_all-clause-same c) (returns-then-are_all-clause-all c)
+
+pub returns-clause-canonical : goal.returns-clause-canonical
+returns-clause-canonical c =
+    payload_of-is (Whole c.in_ok-copy.field-0) c.args.block.now c.as_slice-bytes.ensures.len c.in_ok-copy.ensures (returns-clause-all c)

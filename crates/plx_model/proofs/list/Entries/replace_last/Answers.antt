@@ -1,4 +1,4 @@
-use Rattle.std.proofs.Common.{◌≡◌, ◌<◌, ◌-◌, ◌+◌, ◌∷◌, ◌++◌, [], length, take, ℕ, List, zero, suc, refl, ap, arith, slice_set}
+use Rattle.std.proofs.Common.{◌≡◌, ◌<◌, ◌-◌, ◌∷◌, ◌++◌, [], length, take, ℕ, List, zero, suc, refl, ap, arith, slice_set}
 use Rattle.plx_model.proofs.list.Entries.replace_last.Goals as goal
 
 -- the last place of a list is set

@@ -1,0 +1,4 @@
+pub mod Known
+pub mod Loads
+pub mod Standing
+pub mod Spelled

@@ -1,0 +1,13 @@
+pub mod Blocks
+pub mod Joined
+pub mod OnceData
+pub mod OnceEntries
+pub mod OnceReplies
+pub mod OnceTrace
+pub mod Pushes
+pub mod Cuts
+pub mod Data
+pub mod Feeds
+pub mod FirstBad
+pub mod Rests
+pub mod Stops
