@@ -24,11 +24,7 @@ pub struct Disk {
 }
 
 impl Disk {
-<<<<<<< HEAD
-    ghost use Rattle.std.specs.Prelude.{◌≡◌, ◌<◌, ◌+◌, ◌^◌, ◌↔◌, ℕ, Option, Some, None, true, false, length, slice_get, IfOk, IfSome, IsOkAnd, OnOk, OnErr, IsTrue, MatchOption};
-=======
-    ghost use Rattle.std.specs.Prelude.{◌≡◌, ◌<◌, ◌+◌, ◌^◌, ◌↔◌, None, false, length, slice_get, IfOk, IsOkAnd, OnOk, OnErr, IsTrue, MatchOption};
->>>>>>> 0eab6e044102d73bddc999d7a189198ed4015ca1
+    ghost use Rattle.std.specs.Prelude.{◌≡◌, ◌<◌, ◌+◌, ◌^◌, ◌↔◌, None, false, length, slice_get, IfOk, IfSome, IsOkAnd, OnOk, OnErr, IsTrue, MatchOption};
     ghost use Rattle.plx_disk.specs.Filled.{with_block};
     ghost use Rattle.plx_disk.specs.Missing.{IsMissing, IsOwner, MissesNone};
     ghost use Rattle.plx_disk.specs.Standing.{Stands, Stays, Turns, issued_count};
