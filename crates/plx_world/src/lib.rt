@@ -6,6 +6,8 @@ mod boots;
 mod landing;
 mod play;
 mod run;
+#[cfg(test)]
+mod tests;
 mod world;
 
 pub use world::World;
