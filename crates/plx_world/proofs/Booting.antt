@@ -44,8 +44,8 @@ pub starts-command : (old new : World) (c told given : Command) → told ≡ c �
 starts-command old new c told given told-is given-is same idle whole slots disk boots pending trace begins w h =
     let D : Disk → Type 0 = λ x. DiskStands x w.surface in
     let B : Command → Type 0 = λ x. StandsFor new.appliance (Began x ∷ (w.seats 0).log) in
-    let T : Command → Type 0 = λ x. new.trace ≡ old.trace ++ entry.Start the_first x ∷ [] in
-    (after_start w the_first c,
+    let T : Command → Type 0 = λ x. new.trace ≡ old.trace ++ entry.Start the_first x ∷ [] in (
+      after_start w the_first c,
       starts (known_in old.appliance.state) (first-there h) (position-of old w same h ∙ idle) whole,
       record {
         slots = slots ∙ h.slots;
@@ -55,7 +55,8 @@ starts-command old new c told given told-is given-is same idle whole slots disk 
         log = subst B given-is (begins (w.seats 0).log h.log);
         pending = pending;
         trace = one-more old.trace new.trace w.trace (entry.Start the_first c) (subst T told-is trace) h.trace;
-      })
+      },
+    )
 
 -- none can begin
 asks-something : (asked : Option Ask) → IsSome asked → asked ≡ None → ⊥
@@ -72,8 +73,8 @@ pub crashes-now : (old new : World) → old.boots + 1 < 2 ^ 32 → new.slots ≡
     Steps old new (event.Crash the_first) true
 crashes-now old new few slots disk boots pending trace fresh w h =
     let D : Option ℕ → Type 0 = λ x. DiskStands new.disk (without_pending w.surface x) in
-    let before = h.boots in
-    (after_crash w the_first,
+    let before = h.boots in (
+      after_crash w the_first,
       crashes (first-there h) (omega (arith, before, few)),
       record {
         slots = slots ∙ h.slots;
@@ -83,7 +84,8 @@ crashes-now old new few slots disk boots pending trace fresh w h =
         log = fresh;
         pending = pending;
         trace = one-more old.trace new.trace w.trace (entry.Crash the_first) trace h.trace;
-      })
+      },
+    )
 
 -- there are no more boots
 pub crashes-none : (old : World) → (old.boots + 1 < 2 ^ 32 → ⊥) → Steps old old (event.Crash the_first) false

@@ -254,3 +254,7 @@ run-some stop first old new going some w h =
 
 pub run-none : (stop : Option Stop) (first old : World) → Stays first old → RunsSome stop first old
 run-none stop first old stays w h = (w, none_yet, stays w h)
+
+-- none yet
+pub plays-none : (world : World) → PlaysAll world world []
+plays-none world w h = (w, sequences.Plays.over, h)

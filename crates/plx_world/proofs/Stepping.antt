@@ -40,10 +40,11 @@ reads-block old new block bytes same asked stored answered w h =
     let at : stands w 0 ≡ In (ReadThen block.0 found.0 found.1) = position-of old w same h ∙ found.2 in
     let part = ReadThen block.0 found.0 found.1 in
     let one = event.Read the_first in
-    let P : List ℕ → Type 0 = λ x. Stands new (goes_on w one the_first (ask.Read (record { 0 = block.0 })) [] part (answer.Bytes x)) in
-    (goes_on w one the_first (ask.Read (record { 0 = block.0 })) [] part (answer.Bytes (w.surface.device block.0)),
+    let P : List ℕ → Type 0 = λ x. Stands new (goes_on w one the_first (ask.Read (record { 0 = block.0 })) [] part (answer.Bytes x)) in (
+      goes_on w one the_first (ask.Read (record { 0 = block.0 })) [] part (answer.Bytes (w.surface.device block.0)),
       reads block.0 found.0 found.1 (first-there h) at,
-      subst P (stored w.surface h.surface) (answered w one (ask.Read (record { 0 = block.0 })) [] part h at))
+      subst P (stored w.surface h.surface) (answered w one (ask.Read (record { 0 = block.0 })) [] part h at),
+    )
 
 -- no read is asked for
 pub reads-none : (old : World) (asked : Option Ask) → old.appliance.slots ≡ old.slots → asked ≡ asks (place old.appliance) →
@@ -59,10 +60,11 @@ dones-write old mid new kind block guard number same asked pending landed stays 
     let found = asked-write (place old.appliance) kind block guard (sym asked) in
     let part = WriteThen kind block.0 found.bytes guard found.done found.fault found.missed in
     let at : stands w 0 ≡ In part = position-of old w same h ∙ found.at in
-    let one = event.Done the_first in
-    (goes_on w one the_first (ask.Write kind (record { 0 = block.0 }) guard) found.bytes part answer.Done,
+    let one = event.Done the_first in (
+      goes_on w one the_first (ask.Write kind (record { 0 = block.0 }) guard) found.bytes part answer.Done,
       dones kind block.0 found.bytes guard found.done found.fault found.missed number (first-there h) at (sym h.pending ∙ pending) (landed w.surface h.surface),
-      answered w one (ask.Write kind (record { 0 = block.0 }) guard) found.bytes part (stays w h) at)
+      answered w one (ask.Write kind (record { 0 = block.0 }) guard) found.bytes part (stays w h) at,
+    )
 
 -- no write is asked for, or none was issued for it
 pub dones-none : (old : World) (asked : Option Ask) → old.appliance.slots ≡ old.slots → asked ≡ asks (place old.appliance) →
@@ -79,11 +81,11 @@ pub dones-early : (old new : World) (number : ℕ) → old.pending ≡ Some numb
     Steps old new (event.Done the_first) false
 dones-early old new number pending early stays = impossible old new (event.Done the_first) stays
     (λ w v h step.
-      let found = (step-done step).1 in
-      let e : Some found.0 ≡ Some number = sym found.1 ∙ sym h.pending ∙ pending in
-      let same : found.0 ≡ number = cc in
-      let P : ℕ → Type 0 = λ n. HasLanded w.surface n in
-      early w.surface h.surface (subst P same found.2))
+    let found = (step-done step).1 in
+    let e : Some found.0 ≡ Some number = sym found.1 ∙ sym h.pending ∙ pending in
+    let same : found.0 ≡ number = cc in
+    let P : ℕ → Type 0 = λ n. HasLanded w.surface n in
+    early w.surface h.surface (subst P same found.2))
 
 -- the clock answers
 pub clocks-now : (old new : World) (reading : ℕ) → old.appliance.slots ≡ old.slots → Some ask.Clock ≡ asks (place old.appliance) →
@@ -92,10 +94,11 @@ clocks-now old new reading same asked low high answered w h =
     let found = asked-clock (place old.appliance) (sym asked) in
     let at : stands w 0 ≡ In (ClockThen found.0) = position-of old w same h ∙ found.1 in
     let one = event.Reading the_first reading in
-    let now = h.surface.time in
-    (goes_on w one the_first ask.Clock [] (ClockThen found.0) (answer.Reading reading),
+    let now = h.surface.time in (
+      goes_on w one the_first ask.Clock [] (ClockThen found.0) (answer.Reading reading),
       clocks found.0 (first-there h) at (omega (arith, now)) (omega (arith, now)),
-      answered w one ask.Clock [] (ClockThen found.0) h at)
+      answered w one ask.Clock [] (ClockThen found.0) h at,
+    )
 
 pub waits-until : (old new : World) (from reading : ℕ) → old.appliance.slots ≡ old.slots → Some (ask.Until from) ≡ asks (place old.appliance) →
     reading ≤ old.disk.time + 50 → old.disk.time ≤ reading + 50 → from ≤ reading → IsAnswered old new (answer.Reading reading) →
@@ -104,20 +107,21 @@ waits-until old new from reading same asked low high late answered w h =
     let found = asked-until (place old.appliance) from (sym asked) in
     let at : stands w 0 ≡ In (UntilThen from found.0) = position-of old w same h ∙ found.1 in
     let one = event.Reading the_first reading in
-    let now = h.surface.time in
-    (goes_on w one the_first (ask.Until from) [] (UntilThen from found.0) (answer.Reading reading),
+    let now = h.surface.time in (
+      goes_on w one the_first (ask.Until from) [] (UntilThen from found.0) (answer.Reading reading),
       waits from found.0 (first-there h) at (omega (arith, now)) (omega (arith, now)) late,
-      answered w one (ask.Until from) [] (UntilThen from found.0) h at)
+      answered w one (ask.Until from) [] (UntilThen from found.0) h at,
+    )
 
 -- the reading is too far from the time
 pub clocks-far : (old : World) (reading : ℕ) → (reading ≤ old.disk.time + 50 → old.disk.time ≤ reading + 50 → ⊥) → Steps old old (event.Reading the_first reading) false
 clocks-far old reading far = impossible old old (event.Reading the_first reading) (λ w h. h)
     (λ w v h step.
-      let found = step-reading step in
-      let now = h.surface.time in
-      let low = found.low in
-      let high = found.high in
-      far (omega (arith, now, low)) (omega (arith, now, high)))
+    let found = step-reading step in
+    let now = h.surface.time in
+    let low = found.low in
+    let high = found.high in
+    far (omega (arith, now, low)) (omega (arith, now, high)))
 
 -- the clock isn't asked, or for later
 answers-none : (w : rules.World) (asked : Option Ask) (reading : ℕ) → asked ≡ asks (stands w 0) → (asked ≢ Some ask.Clock) →

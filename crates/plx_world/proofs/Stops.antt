@@ -50,6 +50,6 @@ other-kind p k kind block guard pending asked other =
     ap (λ (x : Position). stops_at (stop.Write k) pending x) found.at
     ∙ not-both (nat_le (kind_number k) (kind_number kind)) (nat_le (kind_number kind) (kind_number k)) (is_unissued pending)
     (λ below above.
-      let up = leb-true (kind_number k) (kind_number kind) below in
-      let down = leb-true (kind_number kind) (kind_number k) above in
-      other (same-kind k kind (omega (arith, up, down))))
+    let up = leb-true (kind_number k) (kind_number kind) below in
+    let down = leb-true (kind_number kind) (kind_number k) above in
+    other (same-kind k kind (omega (arith, up, down))))

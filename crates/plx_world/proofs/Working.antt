@@ -120,7 +120,7 @@ pub goes-clock : (old new : World) (made : Bool) → old.appliance.slots ≡ old
 goes-clock old new made same asked steps fewer w h =
     let found = asked-clock (place old.appliance) asked in
     let next : next_at w the_first (stands w 0) ≡ Some (event.Reading the_first old.disk.time) =
-        ap (next_at w the_first) (position-of old w same h ∙ found.1) ∙ ap (λ (t : ℕ). Some (event.Reading the_first t)) (sym h.surface.time) in
+    ap (next_at w the_first) (position-of old w same h ∙ found.1) ∙ ap (λ (t : ℕ). Some (event.Reading the_first t)) (sym h.surface.time) in
     goes-next old new made w (event.Reading the_first old.disk.time) next (steps w h)
     (λ v step m. answered-less old new w v (fewer m) (step-reading step).none)
 
@@ -230,10 +230,10 @@ land-less old new w number sector write one appliance pending h found least belo
     let is : (w.seats 0).pending ≡ Some number = sym h.pending ∙ pending in
     let left : asks_left new.appliance ≡ asks_left old.appliance = ap (λ (a : Appliance). asks_left a) appliance in
     let before : events_left (w.seats 0).pending w.surface.writes ≡ 8 - sector =
-        ap (λ (p : Option ℕ). events_left p w.surface.writes) is ∙ ap write_left found ∙ ap sectors_left least in
+    ap (λ (p : Option ℕ). events_left p w.surface.writes) is ∙ ap write_left found ∙ ap sectors_left least in
     let writes = slice_set w.surface.writes number (with_sector write sector) in
     let after : events_left (w.seats 0).pending writes ≡ sectors_left (missing (slice_set write.landed sector true)) =
-        ap (λ (p : Option ℕ). events_left p writes) is ∙ ap write_left (set-same w.surface.writes number (with_sector write sector) write found) in
+    ap (λ (p : Option ℕ). events_left p writes) is ∙ ap write_left (set-same w.surface.writes number (with_sector write sector) write found) in
     let less = left-less (missing (slice_set write.landed sector true)) sector below (past-set write.landed sector least) in
     omega (arith, left, before, after, less)
 
@@ -250,36 +250,40 @@ goes-land old new number sector true same writing pending only own least below l
     let next = least s h.surface in
     let l = landed refl s h.surface in
     let lands-own : is_boot_of 0 l.0.owner ≡ true =
-        let P : Issued → Type 0 = λ x. is_boot_of 0 x.owner ≡ true in
-        subst P (same-found s.writes number mine.0 l.0 mine.1 l.1.found) mine.2 in
+    let P : Issued → Type 0 = λ x. is_boot_of 0 x.owner ≡ true in
+    subst P (same-found s.writes number mine.0 l.0 mine.1 l.1.found) mine.2 in
     let lands-least : missing l.0.landed ≡ Some sector =
-        let P : Issued → Type 0 = λ x. missing x.landed ≡ Some sector in
-        subst P (same-found s.writes number next.write l.0 next.found l.1.found) (missing-least next.write.landed sector next.least) in
-    (with_surface w one (after_landing s number l.0 sector),
+    let P : Issued → Type 0 = λ x. missing x.landed ≡ Some sector in
+    subst P (same-found s.writes number next.write l.0 next.found l.1.found) (missing-least next.write.landed sector next.least) in (
+      with_surface w one (after_landing s number l.0 sector),
       record {
         one = one;
         next = next-of old w number same writing pending h ∙ land-next w number sector l.0 l.1.found lands-own lands-least;
         step = lands number l.0 (first-there h) (record { found = l.1.found; owner = lands-own; newer = refl }) l.1;
         stands = stands-disk old new w one (after_landing s number l.0 sector) only h l.2;
         less = land-less old new w number sector l.0 one only.appliance pending h l.1.found lands-least below;
-      })
+      },
+    )
 goes-land old new number sector false same writing pending only own least below landed refused stays w h =
     let s = w.surface in
     let back = issued_by 0 (drop (number + 1) s.writes) in
     let mine = own s h.surface in
     let next = least s h.surface in
     let own-next : is_boot_of 0 next.write.owner ≡ true =
-        let P : Issued → Type 0 = λ x. is_boot_of 0 x.owner ≡ true in
-        subst P (same-found s.writes number mine.0 next.write mine.1 next.found) mine.2 in
-    (inr (event.Land the_first back sector,
-      next-of old w number same writing pending h
-      ∙ land-next w number sector next.write next.found own-next (missing-least next.write.landed sector next.least),
-      λ v step.
-      let l = step-land step in
-      let at = back-unique 0 s.writes back l.0 number l.1 mine.0 l.2 (record { found = mine.1; owner = mine.2; newer = refl }) in
-      let P : ℕ → Type 0 = λ n. MayLand s n sector l.1 in
-      refused refl s h.surface l.1 (subst P at l.3)),
-      stays-disk old new only (stays refl) w h)
+    let P : Issued → Type 0 = λ x. is_boot_of 0 x.owner ≡ true in
+    subst P (same-found s.writes number mine.0 next.write mine.1 next.found) mine.2 in (
+      inr (
+        event.Land the_first back sector,
+        next-of old w number same writing pending h
+            ∙ land-next w number sector next.write next.found own-next (missing-least next.write.landed sector next.least),
+        λ v step.
+            let l = step-land step in
+            let at = back-unique 0 s.writes back l.0 number l.1 mine.0 l.2 (record { found = mine.1; owner = mine.2; newer = refl }) in
+            let P : ℕ → Type 0 = λ n. MayLand s n sector l.1 in
+            refused refl s h.surface l.1 (subst P at l.3),
+      ),
+      stays-disk old new only (stays refl) w h,
+    )
 
 -- a write of which no sector is missing is answered
 none-missing : (w : rules.World) (number : ℕ) (write : Issued) → slice_get w.surface.writes number ≡ Some write → is_boot_of 0 write.owner ≡ true →
@@ -370,7 +374,7 @@ unstopped false next e = refl
 pub goes-stopped : (stop : Option Stop) (old : World) → old.appliance.slots ≡ old.slots → stops stop old.pending (place old.appliance) ≡ true → GoesOn stop old old false
 goes-stopped stop old same stopped w h =
     let now : stops stop (w.seats 0).pending (stands w 0) ≡ true =
-        ap (λ (p : Option ℕ). stops stop p (stands w 0)) (sym h.pending) ∙ ap (λ (p : Position). stops stop old.pending p) (position-of old w same h) ∙ stopped in
+    ap (λ (p : Option ℕ). stops stop p (stands w 0)) (sym h.pending) ∙ ap (λ (p : Position). stops stop old.pending p) (position-of old w same h) ∙ stopped in
     (inl (stopped-none w (stops stop (w.seats 0).pending (stands w 0)) (next_at w the_first (stands w 0)) now), h)
 
 over-unstopped : (stop : Option Stop) (w : rules.World) → next_event w the_first stop ≡ next_event w the_first None → IsOver None w → IsOver stop w
@@ -381,9 +385,9 @@ pub goes-unstopped : (stop : Option Stop) (old new : World) (made : Bool) → ol
     GoesOn None old new made → GoesOn stop old new made
 goes-unstopped stop old new made same going_on goes w h =
     let now : stops stop (w.seats 0).pending (stands w 0) ≡ false =
-        ap (λ (p : Option ℕ). stops stop p (stands w 0)) (sym h.pending) ∙ ap (λ (p : Position). stops stop old.pending p) (position-of old w same h) ∙ going_on in
+    ap (λ (p : Option ℕ). stops stop p (stands w 0)) (sym h.pending) ∙ ap (λ (p : Position). stops stop old.pending p) (position-of old w same h) ∙ going_on in
     let next : next_event w the_first stop ≡ next_event w the_first None =
-        unstopped (stops stop (w.seats 0).pending (stands w 0)) (next_at w the_first (stands w 0)) now in
+    unstopped (stops stop (w.seats 0).pending (stands w 0)) (next_at w the_first (stands w 0)) now in
     go made next (goes w h)
   where
     go : (m : Bool) → next_event w the_first stop ≡ next_event w the_first None → MatchBool m ((v : rules.World) × OneMore None old new w v) (IsOver None w × Stands new w) →

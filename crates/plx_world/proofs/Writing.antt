@@ -62,9 +62,11 @@ stays-disk old new only stays w h =
 pub ticks-by : (old new : World) (by : ℕ) (result : Bool) → OnlyDisk old new →
     ((s : Surface) → DiskStands old.disk s → (IsTrue result ↔ (s.time + by < 2 ^ 47))) →
     (IsTrue result → Turns old.disk new.disk (λ s. passed s by)) → (result ≡ false → DiskStays old.disk new.disk) → Steps old new (event.Tick by) result
-ticks-by old new by true only early turns stays w h =
-    (with_surface w (event.Tick by) (passed w.surface by), ticks ((early w.surface h.surface).0 refl),
-      stands-disk old new w (event.Tick by) (passed w.surface by) only h (turns refl w.surface h.surface))
+ticks-by old new by true only early turns stays w h = (
+  with_surface w (event.Tick by) (passed w.surface by),
+  ticks ((early w.surface h.surface).0 refl),
+  stands-disk old new w (event.Tick by) (passed w.surface by) only h (turns refl w.surface h.surface),
+)
 ticks-by old new by false only early turns stays w h =
     impossible old new (event.Tick by) (stays-disk old new only (stays refl))
     (λ w v h step. let e : false ≡ true = (early w.surface h.surface).1 (step-tick step) in cc) w h
@@ -79,10 +81,11 @@ lands-number old new back sector number true only is landed refused stays w h =
     let one = event.Land the_first back sector in
     let found = is w.surface h.surface in
     let same : found.0 ≡ l.0 = let a : slice_get w.surface.writes number ≡ Some found.0 = found.1.found in let b : slice_get w.surface.writes number ≡ Some l.0 = l.1.found in cc in
-    let P : Issued → Type 0 = λ x. IsBack w.surface.writes 0 back number x in
-    (with_surface w one (after_landing w.surface number l.0 sector),
+    let P : Issued → Type 0 = λ x. IsBack w.surface.writes 0 back number x in (
+      with_surface w one (after_landing w.surface number l.0 sector),
       lands number l.0 (first-there h) (subst P same found.1) l.1,
-      stands-disk old new w one (after_landing w.surface number l.0 sector) only h l.2)
+      stands-disk old new w one (after_landing w.surface number l.0 sector) only h l.2,
+    )
 lands-number old new back sector number false only is landed refused stays w h =
     impossible old new (event.Land the_first back sector) (stays-disk old new only (stays refl)) (λ w v h step.
     let l = step-land step in
@@ -114,8 +117,8 @@ issues-write old new kind block guard owner number bytes same asked out none own
     let owner-is : owner ≡ boot_number 0 (w.seats 0).boots = owned ∙ ap (boot_number 0) h.boots in
     let A : Appliance → Type 0 = λ x. StandsFor x (w.seats 0).log in
     let B : List ℕ → Type 0 = λ x. DiskStands new.disk (issued w.surface (fresh_write owner kind block.0 x guard)) in
-    let O : ℕ → Type 0 = λ x. DiskStands new.disk (issued w.surface (fresh_write x kind block.0 found.bytes guard)) in
-    (after_issue w the_first kind block.0 found.bytes guard,
+    let O : ℕ → Type 0 = λ x. DiskStands new.disk (issued w.surface (fresh_write x kind block.0 found.bytes guard)) in (
+      after_issue w the_first kind block.0 found.bytes guard,
       issues kind block.0 found.bytes guard found.done found.fault found.missed (first-there h) at (sym h.pending ∙ none),
       record {
         slots = slots ∙ h.slots;
@@ -125,7 +128,8 @@ issues-write old new kind block guard owner number bytes same asked out none own
         log = subst A (sym appliance) h.log;
         pending = pending ∙ ap (λ (n : ℕ). Some n) (counted w.surface h.surface);
         trace = trace ∙ h.trace;
-      })
+      },
+    )
 
 -- none is asked for, or it was issued before
 pub issues-none : (old : World) (asked : Option Ask) → old.appliance.slots ≡ old.slots → asked ≡ asks (place old.appliance) →
@@ -136,4 +140,3 @@ issues-none old asked same is none = impossible old old (event.Issue the_first) 
 pub issues-before : (old : World) → (old.pending ≢ None) → Steps old old (event.Issue the_first) false
 issues-before old before = impossible old old (event.Issue the_first) (λ w h. h)
     (λ w v h step. before (h.pending ∙ (step-issue step).1))
-

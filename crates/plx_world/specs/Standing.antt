@@ -40,13 +40,13 @@ Stays old new = (w : rules.World) → Stands old w → Stands new w
 abbrev pub Leads : World → World → Event → Bool → Type 0
 Leads old new event possible =
     (w : rules.World) → Stands old w →
-      MatchBool possible ((v : rules.World) × Makes w event v × Stands new v) (((v : rules.World) → ¬ Makes w event v) × Stands new w)
+    MatchBool possible ((v : rules.World) × Makes w event v × Stands new v) (((v : rules.World) → ¬ Makes w event v) × Stands new w)
 
 -- the same of a plain event
 abbrev pub Steps : World → World → Event → Bool → Type 0
 Steps old new event possible =
     (w : rules.World) → Stands old w →
-      MatchBool possible ((v : rules.World) × Step w event v × Stands new v) (((v : rules.World) → ¬ Step w event v) × Stands new w)
+    MatchBool possible ((v : rules.World) × Step w event v × Stands new v) (((v : rules.World) → ¬ Step w event v) × Stands new w)
 
 -- some plain events of an event were made
 abbrev pub LeadsPartly : World → World → Event → Type 0
@@ -67,7 +67,7 @@ KeepsHeadline old new = (w : rules.World) → Reached w → Stands old w → (v 
 abbrev pub IsAnswered : World → World → Answer → Type 0
 IsAnswered old new answer =
     (w : rules.World) (event : Event) (ask : Ask) (bytes : List ℕ) (part : Part End) → Stands old w → stands w 0 ≡ In part →
-      Stands new (goes_on w event the_first ask bytes part answer)
+    Stands new (goes_on w event the_first ask bytes part answer)
 
 -- what a reply adds to a trace
 abbrev pub told_entries : Option Reply → List Entry

@@ -36,7 +36,13 @@ impl World {
         }
         match self.asked() {
             Some(Ask::Write { kind, block, guard }) => {
-                let number = self.disk.issue(boot_of(self.boots), kind, block, self.appliance.out(), guard)?;
+                let number = self.disk.issue(
+                    boot_of(self.boots),
+                    kind,
+                    block,
+                    self.appliance.out(),
+                    guard,
+                )?;
                 self.pending = Some(number);
                 Ok(true)
             }

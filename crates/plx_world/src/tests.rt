@@ -5,7 +5,9 @@ use plx_model::{Command, Entry, Event, Reply};
 use std::test::Fail;
 
 const A: ApplianceNo = ApplianceNo(0);
+
 const OTHER: ApplianceNo = ApplianceNo(1);
+
 const SLOT: SlotNo = SlotNo(0);
 
 fn attach() -> Event {
@@ -29,7 +31,10 @@ fn write(byte: u8) -> Event {
 fn read() -> Event {
     Event::Start {
         appliance: A,
-        command: Command::Read { slot: SLOT, vblock: 3 },
+        command: Command::Read {
+            slot: SLOT,
+            vblock: 3,
+        },
     }
 }
 
@@ -38,13 +43,46 @@ fn a_schedule_attaches_writes_and_reads(rt: HostRuntime) -> Result<(), Fail> {
     let alloc = rt.alloc();
     let mut world = World::new(alloc, 2)?;
     let run = Event::Run { appliance: A };
-    let events = [attach(), Event::Run { appliance: A }, write(7), Event::Run { appliance: A }, read(), run];
+    let events = [
+        attach(),
+        Event::Run { appliance: A },
+        write(7),
+        Event::Run { appliance: A },
+        read(),
+        run,
+    ];
     world.play(&events)?;
     let trace = world.trace().as_slice();
     assert_eq!(rt; trace.len(), 6);
-    assert!(rt; matches!(&trace[1], Entry::Reply { reply: Reply::Attached { .. }, .. }));
-    assert!(rt; matches!(&trace[3], Entry::Reply { reply: Reply::Written { number: 1 }, .. }));
-    assert!(rt; matches!(&trace[5], Entry::Reply { reply: Reply::Data { payload: Payload::All(7) }, .. }));
+    assert!(rt;
+        matches!(
+            &trace[1],
+            Entry::Reply {
+                reply: Reply::Attached { .. },
+                ..
+            }
+        )
+    );
+    assert!(rt;
+        matches!(
+            &trace[3],
+            Entry::Reply {
+                reply: Reply::Written { number: 1 },
+                ..
+            }
+        )
+    );
+    assert!(rt;
+        matches!(
+            &trace[5],
+            Entry::Reply {
+                reply: Reply::Data {
+                    payload: Payload::All(7)
+                },
+                ..
+            }
+        )
+    );
     Ok(())
 }
 

@@ -10,4 +10,4 @@ returns-else-eq c =
     let asked = c.in-Some-Write in
     c.if-eq.false
     ∙ sym (other-kind (place c.args.self.now.appliance) c.args.kind asked.asked asked.field-0-1 asked.field-0-2 c.args.self.now.pending (cc (asked.ensures.ask))
-      (same_false the_type c.args.kind asked.asked (sym c.if-eq.ensures)))
+    (same_false the_type c.args.kind asked.asked (sym c.if-eq.ensures)))

@@ -21,5 +21,5 @@ returns-in-None-clause-ok c =
     let mine : c.is_own.result ≡ true = let no = c.if-not-is_own.false in cc in
     if-ok c.done.result _ _ _ c.done.ensures.ok c.done.ensures.fewer
     (λ made steps fewer.
-      goes-done old c.done.new.self made c.in-Some.number old.same c.requires c.in-Some.is
-      (λ s h. (c.is_own.ensures s h).0 mine) c.in-None.ensures.missing steps fewer)
+    goes-done old c.done.new.self made c.in-Some.number old.same c.requires c.in-Some.is
+    (λ s h. (c.is_own.ensures s h).0 mine) c.in-None.ensures.missing steps fewer)
