@@ -24,7 +24,7 @@ pub struct Disk {
 }
 
 impl Disk {
-    ghost use Rattle.std.specs.Prelude.{◌≡◌, ◌<◌, ◌+◌, ◌^◌, ◌↔◌, None, false, length, slice_get, IfOk, IsOkAnd, OnOk, OnErr, IsTrue, MatchOption};
+    ghost use Rattle.std.specs.Prelude.{◌≡◌, ◌<◌, ◌+◌, ◌^◌, ◌↔◌, None, false, length, slice_get, IfOk, IfSome, IsOkAnd, OnOk, OnErr, IsTrue, MatchOption};
     ghost use Rattle.plx_disk.specs.Filled.{with_block};
     ghost use Rattle.plx_disk.specs.Missing.{IsMissing, IsOwner, MissesNone};
     ghost use Rattle.plx_disk.specs.Standing.{Stands, Stays, Turns, issued_count};
@@ -33,7 +33,8 @@ impl Disk {
     /// A device of so many blocks, all zeros, at that time in milliseconds.
     pub fn new(alloc: Global, blocks: u64, time: u64) -> Result<Disk, NoMemory>
         requires { time < 2 ^ 47 }
-        ensures { IsOkAnd result (λ disk. Stands disk (blank blocks time)) }
+        ensures blank { IsOkAnd result (λ disk. Stands disk (blank blocks time)) }
+        ensures blocks { IfOk result (λ disk. disk.blocks ≡ blocks) }
     {
         Ok(Disk {
             alloc,
@@ -106,6 +107,7 @@ impl Disk {
         ensures number { IfOk result (λ number. (s : Surface) → Stands self.old s → number ≡ length s.writes) }
         ensures ok { OnOk result (Turns self.old self.new (λ s. issued s (fresh_write owner.0 kind block.0 bytes.now guard))) }
         ensures err { OnErr result (Stays self.old self.new) }
+        ensures blocks { self.new.blocks ≡ self.old.blocks }
     {
         let bytes = block_of(self.alloc, bytes)?;
         make_place(self.alloc, &mut self.stored, block.0)?;
@@ -129,6 +131,7 @@ impl Disk {
         ensures landed { IsTrue result → (s : Surface) → Stands self.old s → (w : Issued) × MayLand s write sector w × Stands self.new (after_landing s write w sector) }
         ensures refused { result ≡ false → (s : Surface) → Stands self.old s → (w : Issued) → MayLand s write sector w → ⊥ }
         ensures same { result ≡ false → Stays self.old self.new }
+        ensures blocks { self.new.blocks ≡ self.old.blocks }
     {
         let index = write as usize;
         if index >= self.writes.len() {
@@ -142,6 +145,7 @@ impl Disk {
     pub fn settle(&mut self, write: u64) -> bool
         ensures whole { (s : Surface) → Stands self.old s → (IsTrue result ↔ HasLanded s write) }
         ensures same { Stays self.old self.new }
+        ensures blocks { self.new.blocks ≡ self.old.blocks }
     {
         let index = write as usize;
         if index >= self.writes.len() {
@@ -152,7 +156,8 @@ impl Disk {
 
     /// No further sector of a write lands.
     pub fn cancel(&mut self, write: u64)
-        ensures { Turns self.old self.new (λ s. cancelled s write) }
+        ensures cancelled { Turns self.old self.new (λ s. cancelled s write) }
+        ensures blocks { self.new.blocks ≡ self.old.blocks }
     {
         let index = write as usize;
         if index >= self.writes.len() {
@@ -166,6 +171,7 @@ impl Disk {
         ensures early { (s : Surface) → Stands self.old s → (IsTrue result ↔ (s.time + by < 2 ^ 47)) }
         ensures passed { IsTrue result → Turns self.old self.new (λ s. passed s by) }
         ensures same { result ≡ false → Stays self.old self.new }
+        ensures blocks { self.new.blocks ≡ self.old.blocks }
     {
         let time = self.time + u64::from(by);
         if time >= END_OF_TIME {
@@ -188,7 +194,8 @@ impl Disk {
 
     /// The least sector that hasn't landed, of a write that was issued and not cancelled. None of any other write.
     pub fn missing(&self, write: u64) -> Option<u8>
-        ensures { (s : Surface) → Stands self.now s → MatchOption result (MissesNone s write) (IsMissing s write) }
+        ensures missing { (s : Surface) → Stands self.now s → MatchOption result (MissesNone s write) (IsMissing s write) }
+        ensures within { IfSome result (λ sector. sector < 8) }
     {
         let index = write as usize;
         if index >= self.writes.len() {

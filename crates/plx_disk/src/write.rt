@@ -1,5 +1,5 @@
 //! One issued write.
-ghost use Rattle.std.specs.Prelude.{◌≡◌, ◌<◌, ◌≤◌, ◌+◌, ◌↔◌, ℕ, List, Some, true, false, slice_get, IsTrue, MatchOption};
+ghost use Rattle.std.specs.Prelude.{◌≡◌, ◌<◌, ◌≤◌, ◌+◌, ◌↔◌, ℕ, List, Some, true, false, slice_get, IfSome, IsTrue, MatchOption};
 ghost use Rattle.plx_base.specs.Sectors.{landed, put};
 ghost use Rattle.plx_disk.specs.Landing.{MayLandAt};
 ghost use Rattle.plx_disk.specs.Missing.{IsLeastMissing};
@@ -45,7 +45,8 @@ pub struct Pending {
 
 /// The least sector that hasn't landed.
 fn least_missing(landed: &[bool; 8]) -> Option<u8>
-    ensures { MatchOption result (landed.now ≡ all_sectors) (IsLeastMissing landed.now) }
+    ensures least { MatchOption result (landed.now ≡ all_sectors) (IsLeastMissing landed.now) }
+    ensures within { IfSome result (λ sector. sector < 8) }
 {
     for sector in 0..SECTORS {
         if !landed[usize::from(sector)] {
@@ -119,6 +120,7 @@ impl Write {
     pub fn missing(&self) -> Option<u8>
         ensures none { (w : Issued) → StandsFor self.now w → result ≡ None → w.cancelled ≡ false → w.landed ≡ all_sectors }
         ensures least { (w : Issued) → StandsFor self.now w → (k : ℕ) → result ≡ Some k → (w.cancelled ≡ false) × IsLeastMissing w.landed k }
+        ensures within { IfSome result (λ sector. sector < 8) }
     {
         match &self.progress {
             Progress::Open(pending) => least_missing(&pending.landed),

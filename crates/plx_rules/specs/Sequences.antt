@@ -30,11 +30,10 @@ abbrev pub landing : ApplianceNo → ℕ → Option ℕ → Option Event
 landing appliance back None = Some (event.Done appliance)
 landing appliance back (Some sector) = Some (event.Land appliance back sector)
 
--- the same of an issued write, where it is the appliance's and wasn't cancelled; so many newer ones were issued
+-- the same of an issued write, where it is the appliance's; so many newer ones were issued
 abbrev pub next_landing : ApplianceNo → ℕ → Option Issued → Option Event
 next_landing appliance back None = None
-next_landing appliance back (Some write) =
-    if write.cancelled then None else (if is_boot_of appliance.0 write.owner then landing appliance back (missing write.landed) else None)
+next_landing appliance back (Some write) = if is_boot_of appliance.0 write.owner then landing appliance back (missing write.landed) else None
 
 abbrev pub next_of_write : World → ApplianceNo → Option ℕ → Option Event
 next_of_write w appliance None = Some (event.Issue appliance)

@@ -1,6 +1,13 @@
 //! The world: an appliance over a device, moved by the events of a schedule.
 #![tactic(auto)]
 
+mod answers;
+mod boots;
+mod landing;
+mod play;
+mod run;
+#[cfg(test)]
+mod tests;
 mod world;
 
 pub use world::World;

@@ -7,8 +7,8 @@ use Rattle.plx_disk.specs.Standing.{StandForAll}
 use Rattle.plx_disk.specs.Writes.{Issued}
 use Rattle.plx_disk.proofs.disk.Disk.cancel.Goals as goal
 
-pub returns-then-index-len : goal.returns-then-index-len
-returns-then-index-len c =
+pub returns-then-index-len-clause-cancelled : goal.returns-then-index-len-clause-cancelled
+returns-then-index-len-clause-cancelled c =
     let v = c.args.self.now.writes in
     let past : length v.items ≤ c.args.write = omega (arith, v.ok.0) in
     λ s stands. record {
@@ -30,8 +30,8 @@ invariant_of-self c =
       in_time = disk.in_time;
     }
 
-pub returns : goal.returns
-returns c =
+pub returns-clause-cancelled : goal.returns-clause-cancelled
+returns-clause-cancelled c =
     let v = c.args.self.now.writes in
     let at : slice_get v.items c.args.write ≡ Some c.index_mut.result.now = slice_get_read v.items c.len.result c.args.write c.index_mut.result.now (omega (arith, v.ok.0)) (omega arith) c.index_mut.ensures.value in
     λ s stands. record {

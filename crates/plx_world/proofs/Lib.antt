@@ -1,0 +1,10 @@
+mod Asked
+mod Booting
+mod Inverted
+mod Made
+mod Owned
+mod Sequences
+mod Stepping
+mod Stops
+mod Working
+mod Writing

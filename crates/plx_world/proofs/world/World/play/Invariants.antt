@@ -1,0 +1,6 @@
+use Rattle.std.proofs.Common.{take}
+use Rattle.plx_world.specs.Standing.{PlaysAll}
+use Rattle.plx_world.proofs.world.World.play.Given as goal
+
+abbrev pub invariant-loop-event : goal.invariant-loop-event
+invariant-loop-event l = PlaysAll l.fn.self l.self (take l.event-index l.events)

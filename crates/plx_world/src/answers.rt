@@ -1,0 +1,123 @@
+//! The ask that stands is answered.
+ghost use Rattle.std.specs.Prelude.{◌≡◌, ◌<◌, ◌-◌, ◌++◌, length, take};
+ghost use Rattle.plx_world.specs.Standing.{told_entries};
+
+use crate::world::{FIRST, World};
+use plx_base::{Block, NoMemory};
+use plx_disk::{Answer, Ask};
+use plx_model::{Entries, Entry, Reply};
+
+/// How far a clock may be from the time, in milliseconds.
+const DRIFT: u64 = 50;
+
+impl World {
+    ghost use Rattle.std.specs.Prelude.{◌≡◌, ◌<◌, IfOk, OnOk, OnErr, IsTrue};
+    ghost use Rattle.plx_appliance.specs.Appliance.{IsRunning, asks_left, place};
+    ghost use Rattle.plx_appliance.specs.Places.{FitsAsk};
+    ghost use Rattle.plx_model.specs.declared.event.Event.TheVariants as event;
+    ghost use Rattle.plx_rules.specs.Boot.{asks};
+    ghost use Rattle.plx_world.specs.Standing.{IsAnswered, Stays, Steps, the_first};
+
+    // The ask that stands is answered, and the reply told to which that leads.
+    fn answer(&mut self, answer: &Answer) -> Result<(), NoMemory>
+        requires { IsRunning self.old.appliance }
+        ensures ok { OnOk result (IsAnswered self.old self.new answer.now) }
+        ensures fewer { FitsAsk (asks (place self.old.appliance)) answer.now → OnOk result (asks_left self.new.appliance < asks_left self.old.appliance) }
+        ensures err { OnErr result (Stays self.old self.new) }
+    {
+        self.trace.push(Entry::Crash { appliance: FIRST })?;
+        self.pending = None;
+        let reply = self.appliance.answer(answer);
+        tell(&mut self.trace, reply);
+        Ok(())
+    }
+
+    // The read that is asked for is answered.
+    pub(crate) fn read(&mut self) -> Result<bool, NoMemory>
+        ensures ok { IfOk result (Steps self.old self.new (event.Read the_first)) }
+        ensures fewer { IfOk result (λ made. IsTrue made → asks_left self.new.appliance < asks_left self.old.appliance) }
+        ensures err { OnErr result (Stays self.old self.new) }
+    {
+        match self.asked() {
+            Some(Ask::Read { block }) => {
+                let mut bytes = Block::zeros(self.alloc)?;
+                self.disk.read(block, &mut bytes);
+                self.answer(&Answer::Bytes(bytes))?;
+                Ok(true)
+            }
+            Some(Ask::Write { .. }) => Ok(false),
+            Some(Ask::Clock) => Ok(false),
+            Some(Ask::Until { .. }) => Ok(false),
+            None => Ok(false),
+        }
+    }
+
+    // The write that is asked for is answered, if all of it has landed.
+    pub(crate) fn done(&mut self) -> Result<bool, NoMemory>
+        ensures ok { IfOk result (Steps self.old self.new (event.Done the_first)) }
+        ensures fewer { IfOk result (λ made. IsTrue made → asks_left self.new.appliance < asks_left self.old.appliance) }
+        ensures err { OnErr result (Stays self.old self.new) }
+    {
+        let Some(number) = self.pending else {
+            return Ok(false);
+        };
+        match self.asked() {
+            Some(Ask::Write { .. }) => {
+                if !self.disk.settle(number) {
+                    return Ok(false);
+                }
+                self.answer(&Answer::Done)?;
+                Ok(true)
+            }
+            Some(Ask::Read { .. }) => Ok(false),
+            Some(Ask::Clock) => Ok(false),
+            Some(Ask::Until { .. }) => Ok(false),
+            None => Ok(false),
+        }
+    }
+
+    // The clock answers.
+    pub(crate) fn reading(&mut self, reading: u64) -> Result<bool, NoMemory>
+        ensures ok { IfOk result (Steps self.old self.new (event.Reading the_first reading)) }
+        ensures fewer { IfOk result (λ made. IsTrue made → asks_left self.new.appliance < asks_left self.old.appliance) }
+        ensures err { OnErr result (Stays self.old self.new) }
+    {
+        let time = self.disk.time();
+        if reading > time + DRIFT {
+            return Ok(false);
+        }
+        if time > reading + DRIFT {
+            return Ok(false);
+        }
+        match self.asked() {
+            Some(Ask::Clock) => {
+                self.answer(&Answer::Reading(reading))?;
+                Ok(true)
+            }
+            Some(Ask::Until { from }) => {
+                if from > reading {
+                    return Ok(false);
+                }
+                self.answer(&Answer::Reading(reading))?;
+                Ok(true)
+            }
+            Some(Ask::Read { .. }) => Ok(false),
+            Some(Ask::Write { .. }) => Ok(false),
+            None => Ok(false),
+        }
+    }
+}
+
+// The last entry gives way to the reply, if there is one.
+fn tell(trace: &mut Entries, reply: Option<Reply>)
+    requires { 0 < length trace.old }
+    ensures { trace.new ≡ take (length trace.old - 1) trace.old ++ told_entries reply }
+{
+    match reply {
+        Some(reply) => trace.replace_last(Entry::Reply {
+            appliance: FIRST,
+            reply,
+        }),
+        None => trace.pop(),
+    }
+}
