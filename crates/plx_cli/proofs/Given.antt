@@ -1,5 +1,5 @@
 -- What is read of a source that tells what it has left, and which statuses follow.
-use Rattle.std.proofs.Common.{◌≡◌, ◌≤◌, ◌<◌, ◌+◌, ◌∙◌, ◌⊎◌, inl, inr, ℕ, List, [], Option, None, Some, length, drop, refl, ap, sym, subst, arith}
+use Rattle.std.proofs.Common.{◌≡◌, ◌≤◌, ◌+◌, ◌∙◌, ◌⊎◌, inl, inr, ℕ, List, Option, None, Some, length, ap, sym, subst, arith}
 use Rattle.std.proofs.lemmas.List.{drop_all}
 use Rattle.plx_model.specs.declared.event.Event.{Event}
 use Rattle.plx_port.specs.Faults.{Rose}

@@ -1,5 +1,5 @@
 -- A world that was played, and what is told of it.
-use Rattle.std.proofs.Common.{◌≡◌, ◌≤◌, ◌∙◌, ℕ, List, ap, subst, reverse}
+use Rattle.std.proofs.Common.{◌≡◌, ◌≤◌, ◌∙◌, ℕ, List, ap, reverse}
 use Rattle.plx_model.specs.declared.entry.Entry.{Entry}
 use Rattle.plx_model.specs.declared.event.Event.{Event}
 use Rattle.plx_rules.specs.Headline.{HeadlineOfAll}

@@ -1,4 +1,4 @@
-use Rattle.std.proofs.Common.{◌≡◌, List, ℕ, Result, Ok, Err, IfOk, subst, refl}
+use Rattle.std.proofs.Common.{List, ℕ, Result, Ok, Err, IfOk, subst}
 use Rattle.plx_model.specs.declared.event.Event.{Event}
 use Rattle.plx_world.specs.Standing.{PlaysAll}
 use Rattle.plx_cli.proofs.Told.{told}
