@@ -1,7 +1,15 @@
 //! Words that aren't known, and streams that fail.
 use crate::session::words;
 use plx_cli::{MemSink, MemSource, run};
+use std::alloc::{AllocError, Global};
 use std::test::Fail;
+
+/// The status of a run with these words and no input.
+fn status_of(alloc: Global, words: &Vec<String>) -> Result<u8, AllocError> {
+    let mut source = MemSource::new(Vec::new(alloc), 8, Vec::new(alloc));
+    let mut sink = MemSink::new(alloc, 8, 64, Vec::new(alloc))?;
+    Ok(run(alloc, words, &mut source, &mut sink))
+}
 
 #[test]
 fn words_that_are_not_known_are_usage(rt: HostRuntime) -> Result<(), Fail> {
@@ -18,11 +26,14 @@ fn words_that_are_not_known_are_usage(rt: HostRuntime) -> Result<(), Fail> {
         assert_eq!(rt; sink.held(), b"".as_slice());
         assert_eq!(rt; source.left().len(), 17);
     }
-    let mut more = words(alloc, "replay")?;
-    more.push(String::from_str(alloc, "x")?)?;
-    let mut source = MemSource::new(Vec::new(alloc), 8, Vec::new(alloc));
-    let mut sink = MemSink::new(alloc, 8, 64, Vec::new(alloc))?;
-    assert_eq!(rt; run(alloc, &more, &mut source, &mut sink), 1);
+    let mut lone = Vec::new(alloc);
+    lone.push(String::from_str(alloc, "plx")?)?;
+    assert_eq!(rt; status_of(alloc, &lone)?, 1);
+    for word in ["x", "--"] {
+        let mut more = words(alloc, "replay")?;
+        more.push(String::from_str(alloc, word)?)?;
+        assert_eq!(rt; status_of(alloc, &more)?, 1);
+    }
     Ok(())
 }
 
