@@ -1,6 +1,6 @@
 //! A world, moved by schedules.
 use crate::World;
-use plx_base::{ApplianceNo, Payload, SlotNo};
+use plx_base::{ApplianceNo, NoMemory, Payload, SlotNo};
 use plx_model::{Command, Entry, Event, Reply};
 use std::test::Fail;
 
@@ -36,6 +36,10 @@ fn read() -> Event {
             vblock: 3,
         },
     }
+}
+
+fn possible(world: &mut World, event: Event) -> Result<bool, NoMemory> {
+    world.step(&event)
 }
 
 #[test]
@@ -87,17 +91,29 @@ fn a_schedule_attaches_writes_and_reads(rt: HostRuntime) -> Result<(), Fail> {
 }
 
 #[test]
-fn a_step_tells_whether_its_event_is_possible(rt: HostRuntime) -> Result<(), Fail> {
+fn a_second_command_does_not_start(rt: HostRuntime) -> Result<(), Fail> {
     let mut world = World::new(rt.alloc(), 2)?;
-    assert!(rt; !world.step(&Event::Run { appliance: A })?);
-    assert!(rt; world.step(&attach())?);
-    assert!(rt; !world.step(&attach())?);
-    assert!(rt; !world.step(&Event::Run { appliance: OTHER })?);
-    assert!(rt; world.step(&Event::Tick { by: 5 })?);
+    let first = possible(&mut world, attach())?;
+    let second = possible(&mut world, attach())?;
+    assert!(rt; first && !second);
+    assert_eq!(rt; world.trace().as_slice().len(), 1);
+    Ok(())
+}
+
+#[test]
+fn time_passes(rt: HostRuntime) -> Result<(), Fail> {
+    let mut world = World::new(rt.alloc(), 2)?;
+    let passed = possible(&mut world, Event::Tick { by: 5 })?;
+    assert!(rt; passed);
     assert_eq!(rt; world.time(), 1005);
-    assert!(rt; world.step(&Event::Run { appliance: A })?);
-    assert!(rt; world.step(&Event::Crash { appliance: A })?);
-    assert_eq!(rt; world.trace().as_slice().len(), 3);
+    Ok(())
+}
+
+#[test]
+fn another_appliance_has_no_events(rt: HostRuntime) -> Result<(), Fail> {
+    let mut world = World::new(rt.alloc(), 2)?;
+    let lost = possible(&mut world, Event::Crash { appliance: OTHER })?;
+    assert!(rt; !lost);
     assert_eq!(rt; world.reachable()?, 0);
     assert_eq!(rt; world.allocated(), 0);
     Ok(())
