@@ -5,6 +5,7 @@ ghost use Rattle.plx_model.specs.declared.event.Event.{Event};
 ghost use Rattle.plx_port.specs.Faults.{Rose};
 ghost use Rattle.plx_port.specs.Streams.{TakesCount};
 ghost use Rattle.plx_rules.specs.Headline.{HeadlineOfAll};
+ghost use Rattle.plx_text.specs.SameTraces.{TraceOnce};
 ghost use Rattle.plx_text.specs.Schedules.{IsFirstBad, IsSchedule};
 
 use crate::replay::replay;
@@ -12,6 +13,7 @@ use crate::status::{NO_MEMORY, SINK_FAULT, SOURCE_FAULT, TOO_LONG, USAGE};
 use crate::words::is_replay;
 use plx_headline::headline;
 use plx_port::{Failed, ReadError, Sink, Source, read_all, write_all};
+use plx_text::trace_once;
 use std::alloc::Global;
 
 /// The most bytes of the input.
@@ -29,8 +31,9 @@ pub fn run<S: Source, K: Sink>(
 ) -> u8
     ensures status { result ≤ 6 }
 
-    // The law on all worlds.
+    // The laws on all worlds, and on all texts of traces.
     ensures headline { HeadlineOfAll }
+    ensures once { TraceOnce }
 
     // What was written: the trace of the schedule, or the number of its first bad line, or a part of it.
     ensures done { result ≡ 0 → ReadsSuch (S.left source.old) (S.left source.new)
@@ -61,6 +64,7 @@ pub fn run<S: Source, K: Sink>(
     ensures counts { (S.faults source.old ≤ S.faults source.new) × (K.faults sink.old ≤ K.faults sink.new) }
 {
     headline();
+    trace_once();
     if !is_replay(words.as_slice()) {
         return USAGE;
     }
