@@ -9,8 +9,6 @@ mod lease;
 mod numbers;
 mod payload;
 mod ptr;
-#[cfg(test)]
-mod tests;
 mod write_kind;
 
 pub use block::{BLOCK_LEN, Block, SECTOR_LEN, SECTORS};

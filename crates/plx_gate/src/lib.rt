@@ -4,6 +4,3 @@
 mod descriptor;
 
 pub use descriptor::{Descriptor, read_descriptor, write_descriptor};
-
-#[cfg(test)]
-mod tests;
