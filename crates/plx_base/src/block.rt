@@ -1,5 +1,5 @@
 //! Blocks of 4,096 bytes, which land sector by sector.
-ghost use Rattle.std.specs.Prelude.{◌≡◌, ◌<◌, ◌+◌, ◌*◌, ◌≤◌, length, IfOk};
+ghost use Rattle.std.specs.Prelude.{◌≡◌, ◌<◌, ◌+◌, ◌*◌, ◌≤◌, ◌↔◌, length, IfOk, IsTrue};
 ghost use Rattle.plx_base.specs.Blocks.{filled, written, zeros};
 ghost use Rattle.plx_base.specs.Sectors.{landed};
 
@@ -59,6 +59,13 @@ impl Block {
     {
         let bytes = Box::new(alloc, *self.bytes)?;
         Ok(Block { bytes })
+    }
+
+    /// Whether each byte is this one.
+    pub fn is_filled(&self, byte: u8) -> bool
+        ensures { IsTrue result ↔ (self.now ≡ filled byte) }
+    {
+        self.as_slice() == [byte; BLOCK_LEN].as_slice()
     }
 
     /// Makes the block equal to another.
