@@ -1,0 +1,17 @@
+pub mod Attaching
+pub mod Boot
+pub mod Claims
+pub mod Commands
+pub mod Ends
+pub mod Holds
+pub mod InUse
+pub mod Journal
+pub mod Loading
+pub mod Parts
+pub mod Records
+pub mod Session
+pub mod Settings
+pub mod Times
+pub mod Formatted
+pub mod Owners
+pub mod World
