@@ -1,5 +1,6 @@
 -- What an attach asks.
-use Rattle.std.specs.Prelude.{◌-◌, ◌^◌, ℕ, List, [], ◌∷◌, Bool, true, false, Option, Some, None, nat_lt}
+use Rattle.std.specs.Prelude.{ℕ, List, [], ◌∷◌, Bool, true, false, Option, Some, None, nat_lt}
+use Rattle.plx_commands.specs.Limits.{last_claim}
 use Rattle.plx_commands.specs.declared.reply.Reply.TheVariants as reply
 use Rattle.plx_gate.specs.declared.image.ImageRecord.{ImageRecord}
 use Rattle.plx_geom.specs.Geometry.{image_lease, lease_at, record_at}
@@ -54,20 +55,16 @@ after_claim s known image ClaimReadFault = read_failed (lease_at (image_lease im
 after_claim s known image ClaimWriteFault = write_failed (lease_at (image_lease image)) known
 after_claim s known image ClaimDamaged = ends (reply.Damaged (record { 0 = lease_at (image_lease image) })) known
 
--- the claims that a boot may begin
-abbrev pub most_claims : ℕ
-most_claims = 2 ^ 40 - 1
-
 -- the lease is claimed, unless the boot has no claim left; a claim counts from here on, whatever becomes of it
 abbrev pub claim_image : Bool → Setting → Known → (image : ℕ) → Part End
-claim_image false s known image = ends (reply.WornOut most_claims) known
+claim_image false s known image = ends (reply.WornOut last_claim) known
 claim_image true s known image =
     followed_by (claim_part s.boot [] (image_lease image) known.claims) (after_claim s (with_claim known) image)
 
 -- a lease that is held already isn't claimed again
 abbrev pub attach_held : Setting → Known → (image : ℕ) → Hold → Part End
 attach_held s known image (Held claim until) = load_image s known image until
-attach_held s known image other = claim_image (nat_lt known.claims most_claims) s known image
+attach_held s known image other = claim_image (nat_lt known.claims last_claim) s known image
 
 -- an attach, by the session of its image, whether there is such a slot, and what is held of its lease
 abbrev pub attach_part : Setting → Known → (image : ℕ) → Option Session → Bool → Hold → Part End

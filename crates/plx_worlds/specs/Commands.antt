@@ -1,10 +1,12 @@
 -- What each command asks, in order, and what it makes of the answers.
-use Rattle.std.specs.Prelude.{◌+◌, ◌-◌, ◌^◌, ℕ, zero, suc, List, [], ◌∷◌, length, Bool, true, false, ◌&&◌, Option, Some, None, nat_lt, nat_le, if◌then◌else◌, ◌==◌, ◌≡◌, ◌≤◌}
+use Rattle.std.specs.Prelude.{◌+◌, ℕ, zero, suc, List, [], ◌∷◌, length, Bool, true, false, Option, Some, None, nat_lt, nat_le, if◌then◌else◌, ◌==◌, ◌≡◌, ◌≤◌, not}
 use Rattle.plx_base.specs.Canonical.{payload_of}
 use Rattle.plx_base.specs.Labels.{IsLabel}
 use Rattle.plx_base.specs.Payload.{bytes_of}
 use Rattle.plx_base.specs.declared.lease.LeaseRecord.TheVariants as record_is
 use Rattle.plx_base.specs.declared.write_kind.WriteKind.TheVariants as kind
+use Rattle.plx_commands.specs.Facts.{is_size, is_worn}
+use Rattle.plx_commands.specs.Limits.{last_generation, last_write, greatest_size}
 use Rattle.plx_commands.specs.declared.command.Command.{Command}
 use Rattle.plx_commands.specs.declared.command.Command.TheVariants.{Attach, Detach, Create, Delete, Read, Write, Flush, Reserve, Renew, Retire, Reclaim}
 use Rattle.plx_commands.specs.declared.reply.Reply.{Reply}
@@ -35,11 +37,6 @@ abbrev pub unless : (refused : Bool) → Reply → Known → Part End → Part E
 unless true refusal known part = ends refusal known
 unless false refusal known part = part
 
--- the other truth value
-abbrev pub not : Bool → Bool
-not true = false
-not false = true
-
 -- the reading is below the end of the image's lease
 abbrev pub held_part : Setting → Known → (image : ℕ) → Hold → (reading : ℕ) → (until_then : ℕ → Part End) → Part End
 held_part s known image (Held claim until) reading rest = in_time s known (image_use image until) reading (rest until)
@@ -63,19 +60,12 @@ record_part s known image until made done =
     write_then s known (record { lease = image_lease image; until = until }) kind.Record (record_at s.geometry image) (image_bytes made)
     (ends_in_time s known (image_use image until) done (with_session known image (Some (new_session made))))
 
--- the greatest size of an image, and the greatest number of times that one is made in a slot
-abbrev pub most_blocks : ℕ
-most_blocks = 2 ^ 27
-
-abbrev pub last_generation : ℕ
-last_generation = 2 ^ 32 - 1
-
 -- an image is made in a free slot
 abbrev pub create_part : Setting → Known → (image size : ℕ) → (label : List ℕ) → Session → (until : ℕ) → Part End
 create_part s known image size label session until =
     unless (is_live session.image) reply.Exists known
-    (unless (not (nat_le 1 size && nat_le size most_blocks)) (reply.OutOfRange most_blocks) known
-    (unless (nat_le last_generation (generation_of session.image)) (reply.WornOut last_generation) known
+    (unless (not (is_size size)) (reply.OutOfRange greatest_size) known
+    (unless (is_worn last_generation (generation_of session.image)) (reply.WornOut last_generation) known
     (record_part s known image until (made_record (generation_of session.image + 1) size label) reply.Created)))
 
 -- an image is deleted
@@ -90,10 +80,6 @@ read_part s known image vblock session until =
     unless (not (is_live session.image)) reply.NoImage known
     (unless (nat_le (size_of session.image) vblock) (reply.OutOfRange (size_of session.image)) known
     (ends_in_time s known (image_use image until) (reply.Data (payload_of (content session vblock))) known))
-
--- the greatest number of a write
-abbrev pub last_number : ℕ
-last_number = 2 ^ 48 - 1
 
 -- the write that comes next, and the descriptor that commits it
 abbrev pub next_write : Session → (vblock : ℕ) → List ℕ → Journaled
@@ -120,7 +106,7 @@ abbrev pub write_part : Setting → Known → (image vblock : ℕ) → List ℕ 
 write_part s known image vblock bytes session until =
     unless (not (is_live session.image)) reply.NoImage known
     (unless (nat_le (size_of session.image) vblock) (reply.OutOfRange (size_of session.image)) known
-    (unless (nat_le last_number (write_count session)) (reply.WornOut last_number) known
+    (unless (is_worn last_write (write_count session)) (reply.WornOut last_write) known
     (unless (length session.writes == s.geometry.slots) reply.Full known
     (journal_part s known image vblock bytes session until))))
 

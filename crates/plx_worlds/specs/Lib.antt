@@ -15,3 +15,6 @@ pub mod Times
 pub mod Formatted
 pub mod Owners
 pub mod World
+pub mod Headline
+pub mod Sequences
+pub mod Stored

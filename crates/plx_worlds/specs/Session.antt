@@ -2,7 +2,7 @@
 use Rattle.std.specs.Prelude.{◌+◌, ℕ, List, [], ◌∷◌, ◌++◌, length, Option, Some, None, nat_lt, if◌then◌else◌, ◌==◌}
 use Rattle.plx_base.specs.Blocks.{zeros}
 use Rattle.plx_commands.specs.declared.reply.Report.{Report}
-use Rattle.plx_model.specs.Places.{at}
+use Rattle.plx_commands.specs.Places.{at}
 use Rattle.plx_rules.specs.declared.journaled.Journaled.{Journaled}
 use Rattle.plx_gate.specs.Images.{label_of}
 use Rattle.plx_gate.specs.declared.image.ImageRecord.{ImageRecord}

@@ -14,7 +14,7 @@ use Rattle.plx_disk.specs.declared.ask.Ask.TheVariants as ask
 use Rattle.plx_disk.specs.declared.ask.Answer.{Answer}
 use Rattle.plx_disk.specs.declared.ask.Answer.TheVariants as answer
 use Rattle.plx_geom.specs.Geometry.{Geometry, IsGeometry, block_count}
-use Rattle.plx_model.specs.Places.{at}
+use Rattle.plx_commands.specs.Places.{at}
 use Rattle.plx_rules.specs.Part.{Part, Ends, ReadThen, WriteThen, ClockThen, UntilThen}
 use Rattle.plx_worlds.specs.Boot.{Happening, Began, Asked, Idle, Begins, In, Position, position, IsRun}
 use Rattle.plx_worlds.specs.Commands.{IsBuilt, IsWellFormed, command_part}
