@@ -3,7 +3,9 @@ use Rattle.std.specs.Prelude.{◌*◌, ◌<◌, ◌^◌, ◌==◌, ℕ, List, []
 use Rattle.plx_base.specs.Blocks.{written}
 use Rattle.plx_base.specs.Fields.{number_at}
 use Rattle.plx_base.specs.Pointers.{IsPointer, is_pointer}
-use Rattle.plx_base.specs.Spelling.{Field, fields_bytes, read_by}
+use Rattle.plx_base.specs.Spelling.{fields_bytes, read_by}
+use Rattle.plx_base.specs.declared.stored.Field.{Field}
+use Rattle.plx_base.specs.declared.stored.Field.TheVariants.{U32, U64}
 use Rattle.plx_gate.specs.declared.entry.LogEntry.{LogEntry}
 
 -- 1 for a dropped entry, else 0
@@ -14,11 +16,11 @@ flag_of true = 1
 -- an entry's fields: the root, whether it is dropped, four unnamed bytes, the stamp, and eight unnamed bytes
 abbrev pub entry_fields : LogEntry → List Field
 entry_fields entry =
-    record { width = 8; number = entry.root }
-    ∷ record { width = 4; number = flag_of entry.dropped }
-    ∷ record { width = 4; number = 0 }
-    ∷ record { width = 8; number = entry.stamp }
-    ∷ record { width = 8; number = 0 }
+    U64 entry.root
+    ∷ U32 (flag_of entry.dropped)
+    ∷ U32 0
+    ∷ U64 entry.stamp
+    ∷ U64 0
     ∷ []
 
 -- the 32 bytes that spell an entry

@@ -3,7 +3,9 @@ use Rattle.std.specs.Prelude.{◌≤◌, ◌<◌, ◌^◌, ◌==◌, ℕ, List, 
 use Rattle.plx_base.specs.Fields.{number_at}
 use Rattle.plx_base.specs.Labels.{IsLabel, is_label}
 use Rattle.plx_base.specs.Pointers.{IsPointer, is_pointer}
-use Rattle.plx_base.specs.Spelling.{Field, spelled, read_by}
+use Rattle.plx_base.specs.Spelling.{spelled, read_by}
+use Rattle.plx_base.specs.declared.stored.Field.{Field}
+use Rattle.plx_base.specs.declared.stored.Field.TheVariants.{U32, U64}
 use Rattle.plx_gate.specs.declared.image.ImageRecord.{ImageRecord}
 use Rattle.plx_gate.specs.declared.image.ImageRecord.TheVariants.{Free, Live}
 
@@ -15,14 +17,14 @@ image_magic = 80 ∷ 76 ∷ 88 ∷ 73 ∷ 77 ∷ 65 ∷ 71 ∷ 49 ∷ []
 -- the label's length, and four unnamed bytes
 abbrev pub fields_of : (state generation size taken root applied label_len : ℕ) → List Field
 fields_of state generation size taken root applied label_len =
-    record { width = 4; number = state }
-    ∷ record { width = 4; number = generation }
-    ∷ record { width = 4; number = size }
-    ∷ record { width = 4; number = taken }
-    ∷ record { width = 8; number = root }
-    ∷ record { width = 8; number = applied }
-    ∷ record { width = 4; number = label_len }
-    ∷ record { width = 4; number = 0 }
+    U32 state
+    ∷ U32 generation
+    ∷ U32 size
+    ∷ U32 taken
+    ∷ U64 root
+    ∷ U64 applied
+    ∷ U32 label_len
+    ∷ U32 0
     ∷ []
 
 -- a free slot has state 0, its generation and zeros; a live one has state 1 and all its fields
