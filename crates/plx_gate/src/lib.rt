@@ -2,5 +2,9 @@
 #![tactic(auto)]
 
 mod descriptor;
+mod entry;
+mod image;
 
 pub use descriptor::{Descriptor, read_descriptor, write_descriptor};
+pub use entry::LogEntry;
+pub use image::ImageRecord;

@@ -1,0 +1,10 @@
+pub mod Facts
+pub mod Images
+pub mod Judge
+pub mod Limits
+pub mod Model
+pub mod Moves
+pub mod Places
+pub mod Replies
+pub mod Reports
+pub mod Slots
