@@ -1,7 +1,7 @@
 -- Records as blocks: each is read back as itself, is spelled in one way, and differs from another in its first sector alone.
-use Rattle.std.proofs.Common.{◌≡◌, ◌≢◌, ◌⊎◌, ℕ, zero, suc, ◌+◌, ◌-◌, ◌^◌, ◌<◌, ◌≤◌, List, [], ◌∷◌, ◌++◌, length, take, drop, replicate, get_or, refl, ap, sym, ◌∙◌, arith, inl, inr, subst, append_assoc, length-append, Bool, true, false, Option, Some, None}
+use Rattle.std.proofs.Common.{◌≡◌, ◌≢◌, ◌⊎◌, ℕ, zero, suc, ◌+◌, ◌-◌, ◌*◌, ◌^◌, ◌<◌, ◌≤◌, List, [], ◌∷◌, ◌++◌, length, take, drop, replicate, get_or, refl, ap, sym, ◌∙◌, arith, inl, inr, subst, append_assoc, length-append, Bool, true, false, Option, Some, None}
 use Rattle.std.proofs.Math.Seq.{take-add}
-use Rattle.std.proofs.lemmas.List.{drop-drop, drop_at, take_at, drop-replicate, length-replicate, length-take-le, take-append-drop, append-nil, drop_all, get_or_append_left, get_or-append_right}
+use Rattle.std.proofs.lemmas.List.{drop-drop, drop_at, take_at, drop-replicate, length-replicate, length-drop, length-take-le, take-append-drop, append-nil, drop_all, get_or_append_left, get_or-append_right}
 use Rattle.std.proofs.lemmas.Slice.Eq.{bytes_eq-Decides}
 use Rattle.std.specs.Prelude.{slice_index, slice_index_or, ◌&&◌, if◌then◌else◌}
 use Rattle.std.specs.Str.{bytes_eq}
@@ -11,7 +11,7 @@ use Rattle.plx_base.specs.Sectors.{landed}
 use Rattle.plx_base.specs.declared.stored.Field.{Field}
 use Rattle.plx_base.specs.declared.stored.Field.TheVariants.{U32, U64, U128}
 use Rattle.plx_base.specs.Spelling.{width_of, number_of, with_number, fields_width, fields_bytes, fields_at, padded, spelled, read_by, IsReading, OnlySector}
-use Rattle.plx_base.proofs.Written.{length-written}
+use Rattle.plx_base.proofs.Written.{length-written, drop-written, written-past}
 use Rattle.plx_base.proofs.Fields.{length-little, number_at-along, number_at-little, little-number_at}
 
 -- each field is a number of its width
@@ -221,6 +221,33 @@ only-zeros new short = subst (OnlySector 0 (padded new)) padded-nil (only-padded
 -- and the other way round
 pub zeros-only : (old : List ℕ) → length old ≤ 512 → OnlySector 0 zeros (padded old)
 zeros-only old short = subst (λ x. OnlySector 0 x (padded old)) padded-nil (only-padded [] old (omega arith) short)
+
+-- after a sector that both have, the next one tells all
+only-next : (front : List ℕ) (sector : ℕ) (new old : List ℕ) → length front ≡ 512 → OnlySector sector new old → OnlySector (suc sector) (front ++ new) (front ++ old)
+only-next front sector new old long h = record {
+  own = next sector ∙ ap (λ rest. front ++ rest) h.own;
+  others = past;
+}
+  where
+    next : (k : ℕ) → landed (suc k) (front ++ new) (front ++ old) ≡ front ++ landed k new old
+    next k = rw (take_at front old 512 long, drop_at front new 512 long, drop_at front old 512 long) refl
+
+    past : (other : ℕ) → other ≢ suc sector → landed other (front ++ new) (front ++ old) ≡ front ++ old
+    past zero not_here = rw (take_at front new 512 long, drop_at front old 512 long) refl
+    past (suc other) not_here = next other ∙ ap (λ rest. front ++ rest) (h.others other (λ e. not_here (ap suc e)))
+
+-- a write within one sector
+pub only-written : (sector at : ℕ) (new old : List ℕ) → 512 * sector ≤ at → at + length new ≤ 512 * sector + 512 → 512 * sector + 512 ≤ length old →
+    OnlySector sector (written at new old) old
+only-written zero at new old low high within = only-first (written at new old) old (drop-written at new old 512 (omega (arith, high, within)) (omega (arith, high)))
+only-written (suc sector) at new old low high within =
+    let e : 512 + (at - 512) ≡ at = omega (arith, low) in
+    let rest = drop 512 old in
+    let ih = only-written sector (at - 512) new rest (omega (arith, low)) (omega (arith, low, high)) (rw (length-drop 512 old) (omega (arith, within))) in
+    let both = only-next (take 512 old) sector (written (at - 512) new rest) rest (length-take-le 512 old (omega (arith, within))) ih in
+    let new_is : take 512 old ++ written (at - 512) new rest ≡ written at new old =
+    sym (written-past 512 (at - 512) new old (omega (arith, within))) ∙ ap (λ n. written n new old) e in
+    subst (λ x. OnlySector (suc sector) x old) new_is (subst (OnlySector (suc sector) (take 512 old ++ written (at - 512) new rest)) (take-append-drop 512 old) both)
 
 -- readings are exact
 
