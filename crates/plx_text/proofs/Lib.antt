@@ -1,13 +1,4 @@
-pub mod Blocks
-pub mod Joined
-pub mod OnceData
-pub mod OnceEntries
-pub mod OnceReplies
+pub mod Found
+pub mod OnceSchedule
 pub mod OnceTrace
-pub mod Pushes
-pub mod Cuts
-pub mod Data
-pub mod Feeds
-pub mod FirstBad
-pub mod Rests
-pub mod Stops
+pub mod ScheduleFiles

@@ -1,84 +1,89 @@
--- The text of a trace tells its lines, and they tell the trace.
-use Rattle.std.proofs.Common.{◌≡◌, ℕ, ◌<◌, ◌^◌, true, List, [], ◌∷◌, ◌++◌, refl, sym, ◌∙◌, codes, decimal, append_assoc}
+-- A printed trace spells one trace alone.
+use Rattle.std.proofs.Common.{◌≡◌, ◌∙◌, ℕ, true, List, [], ◌∷◌, ◌++◌, map, codes, refl, ap, sym}
+use Rattle.std.specs.Prelude.{Some, None}
+use Rattle.plx_base.specs.declared.lease.LeaseName.TheVariants.{Root, Image, Extent}
+use Rattle.plx_model.specs.declared.command.Command.{Command}
+use Rattle.plx_model.specs.declared.command.Command.TheVariants.{Attach}
 use Rattle.plx_model.specs.declared.entry.Entry.{Entry}
-use Rattle.plx_text.proofs.OnceEntries.{entries_same, free-entry, line_heads}
-use Rattle.plx_text.proofs.OnceReplies.{free-number}
-use Rattle.plx_text.proofs.Stops.{field, free, free-append, last_field, split}
-use Rattle.plx_text.specs.Lines.{world_text}
-use Rattle.plx_text.specs.SameTraces.{FitEntries, FitsTrace, TraceOnce}
-use Rattle.plx_text.specs.Schedules.{joined}
-use Rattle.plx_text.specs.Traces.{end_text, entry_lines}
+use Rattle.plx_model.specs.declared.entry.Entry.TheVariants as entry
+use Rattle.plx_model.specs.declared.reply.Reply.{Reply}
+use Rattle.plx_model.specs.declared.reply.Reply.TheVariants.{Lost}
+use Rattle.plx_words.specs.Candidates.{named_at}
+use Rattle.plx_text.specs.Commands.{command_line}
+use Rattle.plx_words.specs.Pieces.{AllFit, Piece, all_spelled}
+use Rattle.plx_text.specs.Replies.{reply_line}
+use Rattle.plx_text.specs.Once.{TraceOnce}
+use Rattle.plx_words.specs.Texts.{LinesFit}
+use Rattle.plx_words.proofs.Once.{heads, none-some, one-value, some-same}
+use Rattle.plx_words.proofs.Values.{value}
+use Rattle.plx_text.specs.Schedules.{world_line, world_of}
+use Rattle.plx_text.specs.Traces.{end_line, entry_line, entry_of, plain_entry, trace_lines}
+use Rattle.plx_words.proofs.Clean.{all_sound, clean-line}
+use Rattle.plx_text.proofs.Found.{entry-found, world-found}
+use Rattle.plx_words.proofs.SameWords.{Are-lines, Is-line, same-words}
 
--- no line has a line feed
-abbrev FreeLines : List (List ℕ) → Type 0
-FreeLines [] = Unit {0}
-FreeLines (line ∷ lines) = (free 10 line ≡ true) × FreeLines lines
+-- the words that are written out are clean
+command-sound : (command : Command) → all_sound (command_line command) ≡ true
+command-sound (Attach slot) = refl
+command-sound other = refl
 
-no_text : (line after : List ℕ) → [] ≡ line ++ 10 ∷ after → ⊥
-no_text [] after e = absurd (cc)
-no_text (byte ∷ bytes) after e = absurd (cc)
+reply-sound : (reply : Reply) → all_sound (reply_line reply) ≡ true
+reply-sound (Lost Root until reading) = refl
+reply-sound (Lost (Image slot) until reading) = refl
+reply-sound (Lost (Extent extent) until reading) = refl
+reply-sound other = refl
 
-lines_same : (one other : List (List ℕ)) → FreeLines one → FreeLines other → joined one ≡ joined other → one ≡ other
-lines_same [] [] told told' e = refl
-lines_same [] (line ∷ lines) told told' e = absurd (no_text line (joined lines) e)
-lines_same (line ∷ lines) [] told told' e = absurd (no_text line (joined lines) (sym e))
-lines_same (line ∷ lines) (line' ∷ lines') told told' e =
-    let both = split 10 line line' (joined lines) (joined lines') told.0 told'.0 e in
-    let rest = lines_same lines lines' told.1 told'.1 both.1 in
-    λ i. both.0 i ∷ rest i
+entry-is-line : (one : Entry) → AllFit (entry_line one) → Is-line (all_spelled (entry_line one))
+entry-is-line (entry.Start appliance command) fits = clean-line (entry_line (entry.Start appliance command)) (command-sound command) fits
+entry-is-line (entry.Reply appliance reply) fits = clean-line (entry_line (entry.Reply appliance reply)) (reply-sound reply) fits
+entry-is-line (entry.Crash appliance) fits = clean-line (entry_line (entry.Crash appliance)) refl fits
 
-no_lines : (lines : List (List ℕ)) (line : List ℕ) → [] ≡ lines ++ line ∷ [] → ⊥
-no_lines [] line e = absurd (cc)
-no_lines (first ∷ lines) line e = absurd (cc)
+-- the lines after the first
+abbrev rest : List Entry → ℕ → ℕ → List (List Piece)
+rest entries reachable allocated = map (λ one. entry_line (plain_entry one)) entries ++ end_line reachable allocated ∷ []
 
--- the last line, and those before it
-last_same : (one other : List (List ℕ)) (line line' : List ℕ) → one ++ line ∷ [] ≡ other ++ line' ∷ [] → (one ≡ other) × (line ≡ line')
-last_same [] [] line line' e = (refl, (line_heads line line' [] [] e).0)
-last_same [] (first ∷ lines) line line' e = absurd (no_lines lines line' (line_heads line first [] (lines ++ line' ∷ []) e).1)
-last_same (first ∷ lines) [] line line' e = absurd (no_lines lines line (sym (line_heads first line' (lines ++ line ∷ []) [] e).1))
-last_same (first ∷ lines) (first' ∷ lines') line line' e =
-    let both = line_heads first first' (lines ++ line ∷ []) (lines' ++ line' ∷ []) e in
-    let rest = last_same lines lines' line line' both.1 in
-    ((λ i. both.0 i ∷ rest.0 i), rest.1)
+are-rest : (entries : List Entry) (reachable allocated : ℕ) → LinesFit (rest entries reachable allocated) → Are-lines (rest entries reachable allocated)
+are-rest [] reachable allocated fit = (clean-line (end_line reachable allocated) refl fit.0, tt)
+are-rest (one ∷ entries) reachable allocated fit = (entry-is-line (plain_entry one) fit.0, are-rest entries reachable allocated fit.1)
 
-free-end : (reachable allocated : ℕ) → reachable < 2 ^ 64 → allocated < 2 ^ 64 → free 10 (end_text reachable allocated) ≡ true
-free-end reachable allocated small small' =
-    free-append 10 (decimal reachable ++ codes " allocated=") (decimal allocated)
-    (free-append 10 (decimal reachable) (codes " allocated=") (free-number reachable small) refl) (free-number allocated small')
+count-same : (n n' : ℕ) (words words' : List (List ℕ)) (name : List ℕ) (k : ℕ) → named_at name k words ≡ n → named_at name k words' ≡ n' → words ≡ words' → n ≡ n'
+count-same n n' words words' name k here there same = sym here ∙ (ap (named_at name k) same ∙ there)
 
-free-lines : (entries : List Entry) (line : List ℕ) → FitEntries entries → free 10 line ≡ true → FreeLines (entry_lines entries ++ line ∷ [])
-free-lines [] line fits told = (told, tt)
-free-lines (one ∷ others) line fits told = (free-entry one fits.0, free-lines others line fits.1 told)
-
-free-trace : (slots : ℕ) (entries : List Entry) (reachable allocated : ℕ) → FitsTrace slots entries reachable allocated
-    → FreeLines (world_text slots ∷ entry_lines entries ++ end_text reachable allocated ∷ [])
-free-trace slots entries reachable allocated fits = (
-  free-append 10 (decimal slots) (codes " 1") (free-number slots fits.slots_fit) refl,
-  free-lines entries (end_text reachable allocated) fits.entries_fit (free-end reachable allocated fits.reachable_fits fits.allocated_fits),
+end-same : (reachable reachable' allocated allocated' : ℕ) → AllFit (end_line reachable allocated) → AllFit (end_line reachable' allocated')
+    → all_spelled (end_line reachable allocated) ≡ all_spelled (end_line reachable' allocated') → (reachable ≡ reachable') × (allocated ≡ allocated')
+end-same reachable reachable' allocated allocated' fits fits' same = (
+  count-same reachable reachable' _ _ (codes "reachable=") 1 (value reachable fits.1.0) (value reachable' fits'.1.0) same,
+  count-same allocated allocated' _ _ (codes "allocated=") 2 (value allocated fits.1.1.0) (value allocated' fits'.1.1.0) same,
 )
 
-end_same : (reachable reachable' allocated allocated' : ℕ) → reachable < 2 ^ 64 → reachable' < 2 ^ 64 → allocated < 2 ^ 64 → allocated' < 2 ^ 64
-    → end_text reachable allocated ≡ end_text reachable' allocated' → (reachable ≡ reachable') × (allocated ≡ allocated')
-end_same reachable reachable' allocated allocated' small small' fits fits' e =
-    let parts =
-    field (codes "end reachable=") reachable reachable' (codes "allocated=" ++ decimal allocated) (codes "allocated=" ++ decimal allocated') small small'
-    (sym (append_assoc (codes "end reachable=" ++ decimal reachable) (codes " allocated=") (decimal allocated)) ∙ e
-    ∙ append_assoc (codes "end reachable=" ++ decimal reachable') (codes " allocated=") (decimal allocated')) in
-    (parts.0, last_field (codes "allocated=") allocated allocated' fits fits' parts.1)
+no-end : {X : Type 0} (reachable allocated : ℕ) (one : Entry) → AllFit (entry_line one) → all_spelled (end_line reachable allocated) ≡ all_spelled (entry_line one) → X
+no-end reachable allocated one fits same = none-some one (ap entry_of same ∙ entry-found one (all_spelled (entry_line one)) (fits, refl))
+
+rest-same : (entries entries' : List Entry) (reachable reachable' allocated allocated' : ℕ) → LinesFit (rest entries reachable allocated)
+    → LinesFit (rest entries' reachable' allocated') → map all_spelled (rest entries reachable allocated) ≡ map all_spelled (rest entries' reachable' allocated')
+    → (map plain_entry entries ≡ map plain_entry entries') × (reachable ≡ reachable') × (allocated ≡ allocated')
+rest-same [] [] reachable reachable' allocated allocated' fit fit' same =
+    let last = end-same reachable reachable' allocated allocated' fit.0 fit'.0 (heads _ _ [] [] same).0 in
+    (refl, last.0, last.1)
+rest-same [] (one ∷ entries') reachable reachable' allocated allocated' fit fit' same =
+    no-end reachable allocated (plain_entry one) fit'.0 (heads _ _ [] (map all_spelled (rest entries' reachable' allocated')) same).0
+rest-same (one ∷ entries) [] reachable reachable' allocated allocated' fit fit' same =
+    no-end reachable' allocated' (plain_entry one) fit.0 (sym (heads _ _ (map all_spelled (rest entries reachable allocated)) [] same).0)
+rest-same (one ∷ entries) (other ∷ entries') reachable reachable' allocated allocated' fit fit' same =
+    let parts = heads (all_spelled (entry_line (plain_entry one))) (all_spelled (entry_line (plain_entry other)))
+    (map all_spelled (rest entries reachable allocated)) (map all_spelled (rest entries' reachable' allocated')) same in
+    let first = some-same (plain_entry one) (plain_entry other)
+    (sym (entry-found (plain_entry one) _ (fit.0, refl)) ∙ (ap entry_of parts.0 ∙ entry-found (plain_entry other) _ (fit'.0, refl))) in
+    let others = rest-same entries entries' reachable reachable' allocated allocated' fit.1 fit'.1 parts.1 in
+    (ap (λ (e : Entry). e ∷ map plain_entry entries) first ∙ ap (λ (es : List Entry). plain_entry other ∷ es) others.0, others.1, others.2)
 
 pub once : TraceOnce
-once slots slots' entries entries' reachable reachable' allocated allocated' fits fits' e =
-    let last = end_text reachable allocated in
-    let last' = end_text reachable' allocated' in
-    let lines =
-    lines_same (world_text slots ∷ entry_lines entries ++ last ∷ []) (world_text slots' ∷ entry_lines entries' ++ last' ∷ [])
-    (free-trace slots entries reachable allocated fits) (free-trace slots' entries' reachable' allocated' fits') e in
-    let first = line_heads (world_text slots) (world_text slots') (entry_lines entries ++ last ∷ []) (entry_lines entries' ++ last' ∷ []) lines in
-    let rest = last_same (entry_lines entries) (entry_lines entries') last last' first.1 in
-    let counts =
-    end_same reachable reachable' allocated allocated' fits.reachable_fits fits'.reachable_fits fits.allocated_fits fits'.allocated_fits rest.1 in (
-      (field (codes "world 1 1 16 ") slots slots' (codes "1") (codes "1") fits.slots_fit fits'.slots_fit first.0).0,
-      entries_same entries entries' fits.entries_fit fits'.entries_fit rest.0,
-      counts.0,
-      counts.1,
-    )
+once slots slots' entries entries' reachable reachable' allocated allocated' fit fit' same =
+    let lines = same-words (trace_lines slots entries reachable allocated) (trace_lines slots' entries' reachable' allocated')
+    (clean-line (world_line slots) refl fit.0, are-rest entries reachable allocated fit.1)
+    (clean-line (world_line slots') refl fit'.0, are-rest entries' reachable' allocated' fit'.1) same in
+    let parts = heads (all_spelled (world_line slots)) (all_spelled (world_line slots'))
+    (map all_spelled (rest entries reachable allocated)) (map all_spelled (rest entries' reachable' allocated')) lines in
+    let first = some-same slots slots' (sym (world-found slots _ (fit.0, refl)) ∙ (ap world_of parts.0 ∙ world-found slots' _ (fit'.0, refl))) in
+    let others = rest-same entries entries' reachable reachable' allocated allocated' fit.1 fit'.1 parts.1 in
+    record { slots_same = first; entries_same = others.0; reachable_same = others.1; allocated_same = others.2 }

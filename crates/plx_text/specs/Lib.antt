@@ -1,6 +1,7 @@
-pub mod Lines
-pub mod Parts
-pub mod SameTraces
+pub mod Commands
+pub mod Events
+pub mod Once
+pub mod Replies
 pub mod Schedules
+pub mod Stops
 pub mod Traces
-pub mod Words

@@ -1,51 +1,55 @@
--- The text of a schedule, and the first line that isn't in the grammar.
-use Rattle.std.specs.Prelude.{◌≡◌, ◌≢◌, ◌+◌, ◌≤◌, ℕ, List, [], ◌∷◌, ◌++◌, length, ◌⊎◌}
-use Rattle.std.specs.List.{All}
+-- The text of a schedule.
+use Rattle.std.specs.Prelude.{◌≡◌, ℕ, List, [], ◌∷◌, Option, Some, codes}
 use Rattle.plx_model.specs.declared.event.Event.{Event}
-use Rattle.plx_text.specs.Lines.{IsEvent, event_text, world_text, SpellsEvent, SpellsWorld}
+use Rattle.plx_words.specs.Candidates.{by_first, number_at}
+use Rattle.plx_text.specs.Events.{SpellsEvent}
+use Rattle.plx_words.specs.Files.{Numbered, Grammar, IsFirstBad, SpellAll, contents, left}
+use Rattle.plx_words.specs.Pieces.{Piece, word, number, Spell}
+use Rattle.plx_words.specs.Words.{split, words_of}
+use Rattle.plx_text.specs.declared.schedule.TextError.{TextError}
+use Rattle.plx_text.specs.declared.schedule.TextError.TheVariants.{BadLine, NoMemory}
 
--- lines, each ended by a line feed
-abbrev pub joined : List (List ℕ) → List ℕ
-joined [] = []
-joined (line ∷ lines) = line ++ 10 ∷ joined lines
+-- the first line of a schedule and of a trace: one image, one extent of 16 blocks, so many journal slots, one appliance
+abbrev pub world_line : ℕ → List Piece
+world_line slots = word (codes "world") ∷ word (codes "1") ∷ word (codes "1") ∷ word (codes "16") ∷ number 2 65 slots ∷ word (codes "1") ∷ []
 
--- the lines of some events
-abbrev pub event_lines : List Event → List (List ℕ)
-event_lines [] = []
-event_lines (one ∷ others) = event_text one ∷ event_lines others
+abbrev pub SpellsWorld : ℕ → List (List ℕ) → Type 0
+SpellsWorld slots words = Spell (world_line slots) words
 
-abbrev pub AreEvents : List Event → Type 0
-AreEvents [] = Unit {0}
-AreEvents (one ∷ others) = IsEvent one × AreEvents others
+abbrev pub world_of : List (List ℕ) → Option ℕ
+world_of words = by_first words ((codes "world", Some (number_at 4 words)) ∷ [])
+
+-- the lines spell the events, one each
+abbrev pub SpellEvents : List Event → List Numbered → Type 0
+SpellEvents events lines = SpellAll (λ one line. SpellsEvent one (words_of line.1)) events lines
+
+-- the first of the lines spells a world with so many journal slots, and the others spell the events
+abbrev pub SpellSchedule : ℕ → List Event → List Numbered → Type 0
+SpellSchedule slots events [] = ⊥
+SpellSchedule slots events (line ∷ lines) = SpellsWorld slots (words_of line.1) × SpellEvents events lines
 
 -- the bytes are the schedule of a world with so many journal slots, and of these events
 pub record IsSchedule (bytes : List ℕ) (slots : ℕ) (events : List Event) : Type 0 where
-  pub least : 2 ≤ slots
-  pub most : slots ≤ 64
-  pub limits : AreEvents events
-  pub text : bytes ≡ joined (world_text slots ∷ event_lines events)
+  pub lines : SpellSchedule slots events (contents 0 (split 10 bytes))
+  pub whole : left (split 10 bytes) ≡ []
 
--- the lines begin a schedule: none yet, or the world line and lines of events
-abbrev pub SpellEvents : List (List ℕ) → Type 0
-SpellEvents [] = Unit {0}
-SpellEvents (line ∷ lines) = ((one : Event) × SpellsEvent one line) × SpellEvents lines
+-- a schedule begins with the world line, and goes on with lines of events
+abbrev pub Goes : List Numbered → List ℕ → Type 0
+Goes [] line = (slots : ℕ) × SpellsWorld slots (words_of line)
+Goes (first ∷ others) line = (one : Event) × SpellsEvent one (words_of line)
 
-abbrev pub Begin : List (List ℕ) → Type 0
-Begin [] = Unit {0}
-Begin (line ∷ lines) = ((slots : ℕ) × SpellsWorld slots line) × SpellEvents lines
+abbrev pub Ends : List Numbered → Type 0
+Ends [] = ⊥
+Ends (first ∷ others) = Unit {0}
 
--- a line goes on with what began so
-abbrev pub GoesOn : List (List ℕ) → List ℕ → Type 0
-GoesOn [] line = (slots : ℕ) × SpellsWorld slots line
-GoesOn (first ∷ others) line = (one : Event) × SpellsEvent one line
+abbrev pub schedule_grammar : Grammar
+schedule_grammar = record { Goes = Goes; Ends = Ends }
 
--- the line with this number, counted from 1, is the first one that isn't in the grammar: those before it are, and either it is whole and isn't,
--- or it has no line feed, or there is no line at all
-pub record IsFirstBad (bytes : List ℕ) (number : ℕ) : Type 0 where
-  pub good : List (List ℕ)
-  pub rest : List ℕ
-  pub parts : bytes ≡ joined good ++ rest
-  pub begins : Begin good
-  pub count : number ≡ length good + 1
-  pub bad : (line after : List ℕ) → rest ≡ line ++ 10 ∷ after → All (λ (byte : ℕ). byte ≢ 10) line → ¬ GoesOn good line
-  pub more : (rest ≢ []) ⊎ (good ≡ [])
+-- a refusal names the first bad line of the bytes, and there is none in a schedule
+abbrev pub NamesFirstBad : List ℕ → TextError → Type 0
+NamesFirstBad bytes (BadLine line) = IsFirstBad schedule_grammar bytes line
+NamesFirstBad bytes NoMemory = Unit {0}
+
+abbrev pub SaysNoSchedule : List ℕ → TextError → Type 0
+SaysNoSchedule bytes (BadLine line) = (slots : ℕ) (events : List Event) → ¬ IsSchedule bytes slots events
+SaysNoSchedule bytes NoMemory = Unit {0}

@@ -1,59 +1,74 @@
 -- The text of a trace.
-use Rattle.std.specs.Prelude.{ℕ, List, [], ◌∷◌, ◌++◌, codes, decimal}
+use Rattle.std.specs.Prelude.{◌^◌, ℕ, List, [], ◌∷◌, ◌++◌, codes, map, drop, flat_map, Option, Some, option_map}
+use Rattle.plx_base.specs.Canonical.{payload_of}
 use Rattle.plx_base.specs.Payload.{bytes_of}
-use Rattle.plx_base.specs.declared.lease.LeaseName.{LeaseName}
-use Rattle.plx_base.specs.declared.lease.LeaseName.TheVariants.{Root, Image, Extent}
+use Rattle.plx_base.specs.declared.payload.Payload.{Payload}
+use Rattle.plx_model.specs.declared.command.Command.{Command}
+use Rattle.plx_model.specs.declared.command.Command.TheVariants.{Attach, Read, Write}
 use Rattle.plx_model.specs.declared.entry.Entry.{Entry}
 use Rattle.plx_model.specs.declared.entry.Entry.TheVariants as entry
-use Rattle.plx_model.specs.declared.reply.Report.{Report}
 use Rattle.plx_model.specs.declared.reply.Reply.{Reply}
-use Rattle.plx_model.specs.declared.reply.Reply.TheVariants.{Attached, Data, Written, NotAttached, AlreadyAttached, NoImage, OutOfRange, Lost, ReadFault, WriteFault, Full}
-use Rattle.plx_text.specs.Lines.{world_text}
-use Rattle.plx_text.specs.Schedules.{joined}
-use Rattle.plx_text.specs.Words.{command_text, data_text, label_text, flag_text}
+use Rattle.plx_model.specs.declared.reply.Reply.TheVariants.{Data}
+use Rattle.plx_words.specs.Candidates.{by_first}
+use Rattle.plx_text.specs.Commands.{command_line, command_of}
+use Rattle.plx_text.specs.Events.{appliance_at}
+use Rattle.plx_words.specs.Pieces.{Piece, word, number, small, named, Spell, all_spelled}
+use Rattle.plx_text.specs.Replies.{reply_line, reply_of}
+use Rattle.plx_text.specs.Schedules.{world_line}
+use Rattle.plx_words.specs.Texts.{text_of}
+use Rattle.plx_words.specs.Words.{line_text}
 
-abbrev pub lease_text : LeaseName → List ℕ
-lease_text Root = codes "root"
-lease_text (Image slot) = codes "image:" ++ decimal slot.0
-lease_text (Extent extent) = codes "extent:" ++ decimal extent.0
+-- the line of an entry, by its pieces
+abbrev pub entry_line : Entry → List Piece
+entry_line (entry.Start appliance command) = word (codes "start") ∷ small appliance.0 ∷ command_line command
+entry_line (entry.Reply appliance reply) = word (codes "reply") ∷ small appliance.0 ∷ reply_line reply
+entry_line (entry.Crash appliance) = word (codes "crash") ∷ small appliance.0 ∷ []
 
-abbrev pub report_text : Report → List ℕ
-report_text report =
-    codes "live=" ++ flag_text report.live ++ codes " gen=" ++ decimal report.generation ++ codes " size=" ++ decimal report.size
-    ++ codes " writes=" ++ decimal report.writes ++ codes " taken=" ++ decimal report.taken ++ codes " dropped=" ++ decimal report.dropped
-    ++ codes " label=" ++ label_text report.label
+-- these words spell an entry
+abbrev pub SpellsEntry : Entry → List (List ℕ) → Type 0
+SpellsEntry one words = Spell (entry_line one) words
 
-abbrev pub reply_text : Reply → List ℕ
-reply_text (Attached report) = codes "attached " ++ report_text report
-reply_text (Data payload) = codes "data " ++ data_text (bytes_of payload)
-reply_text (Written number) = codes "written " ++ decimal number
-reply_text NotAttached = codes "not-attached"
-reply_text AlreadyAttached = codes "already-attached"
-reply_text NoImage = codes "no-image"
-reply_text (OutOfRange size) = codes "out-of-range size=" ++ decimal size
-reply_text (Lost lease until reading) = codes "lost lease=" ++ lease_text lease ++ codes " until=" ++ decimal until ++ codes " reading=" ++ decimal reading
-reply_text (ReadFault block) = codes "read-fault block=" ++ decimal block.0
-reply_text (WriteFault block) = codes "write-fault block=" ++ decimal block.0
-reply_text Full = codes "full"
+-- the one entry that words can spell
+abbrev pub entry_of : List (List ℕ) → Option Entry
+entry_of words = by_first words (
+    (codes "start", option_map (λ command. entry.Start (appliance_at 1 words) command) (command_of (drop 2 words)))
+    ∷ (codes "reply", option_map (λ reply. entry.Reply (appliance_at 1 words) reply) (reply_of (drop 2 words)))
+    ∷ (codes "crash", Some (entry.Crash (appliance_at 1 words)))
+    ∷ [])
 
--- the line of an entry, without its line feed
-abbrev pub entry_text : Entry → List ℕ
-entry_text (entry.Start appliance command) = codes "start " ++ decimal appliance.0 ++ codes " " ++ command_text command
-entry_text (entry.Reply appliance reply) = codes "reply " ++ decimal appliance.0 ++ codes " " ++ reply_text reply
-entry_text (entry.Crash appliance) = codes "crash " ++ decimal appliance.0
+-- with data by one byte exactly where all bytes are equal
+abbrev pub plain : Payload → Payload
+plain payload = payload_of (bytes_of payload)
 
-abbrev pub entry_lines : List Entry → List (List ℕ)
-entry_lines [] = []
-entry_lines (one ∷ others) = entry_text one ∷ entry_lines others
+abbrev pub plain_command : Command → Command
+plain_command (Attach slot) = Attach slot
+plain_command (Read slot vblock) = Read slot vblock
+plain_command (Write slot vblock payload) = Write slot vblock (plain payload)
+
+abbrev pub plain_reply : Reply → Reply
+plain_reply (Data payload) = Data (plain payload)
+plain_reply other = other
+
+abbrev pub plain_entry : Entry → Entry
+plain_entry (entry.Start appliance command) = entry.Start appliance (plain_command command)
+plain_entry (entry.Reply appliance reply) = entry.Reply appliance (plain_reply reply)
+plain_entry (entry.Crash appliance) = entry.Crash appliance
 
 -- the last line of a trace
-abbrev pub end_text : ℕ → ℕ → List ℕ
-end_text reachable allocated = codes "end reachable=" ++ decimal reachable ++ codes " allocated=" ++ decimal allocated
+abbrev pub end_line : ℕ → ℕ → List Piece
+end_line reachable allocated = word (codes "end") ∷ named (codes "reachable=") (2 ^ 64) reachable ∷ named (codes "allocated=") (2 ^ 64) allocated ∷ []
+
+-- the lines of a trace
+abbrev pub trace_lines : ℕ → List Entry → ℕ → ℕ → List (List Piece)
+trace_lines slots entries reachable allocated = world_line slots ∷ (map (λ one. entry_line (plain_entry one)) entries ++ end_line reachable allocated ∷ [])
 
 -- the text of a trace, and of the two counts of its last line
 abbrev pub trace_text : ℕ → List Entry → ℕ → ℕ → List ℕ
-trace_text slots entries reachable allocated = joined (world_text slots ∷ entry_lines entries ++ end_text reachable allocated ∷ [])
+trace_text slots entries reachable allocated = text_of (trace_lines slots entries reachable allocated)
 
 -- what is said of a text whose line with this number isn't in the grammar
+abbrev pub bad_line : ℕ → List Piece
+bad_line n = word (codes "bad") ∷ word (codes "line") ∷ number 1 (2 ^ 64) n ∷ []
+
 abbrev pub bad_line_text : ℕ → List ℕ
-bad_line_text number = joined ((codes "bad line " ++ decimal number) ∷ [])
+bad_line_text n = line_text (all_spelled (bad_line n))

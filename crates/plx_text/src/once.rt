@@ -1,7 +1,12 @@
-//! What the text of a trace tells, as the contract of a function with an empty body.
-ghost use Rattle.plx_text.specs.SameTraces.{TraceOnce};
+//! What texts tell, as the contracts of functions with an empty body.
+ghost use Rattle.plx_text.specs.Once.{ScheduleOnce, TraceOnce};
 
 /// A printed trace spells one trace alone.
 pub fn trace_once()
     ensures { TraceOnce }
+{}
+
+/// Bytes spell one schedule alone.
+pub fn schedule_once()
+    ensures { ScheduleOnce }
 {}

@@ -1,15 +1,17 @@
 //! How traces are printed.
-ghost use Rattle.std.specs.Prelude.{◌≡◌, ◌∷◌, ◌++◌, [], IfOk, OnOk};
-ghost use Rattle.plx_text.specs.Lines.{world_text};
-ghost use Rattle.plx_text.specs.Schedules.{joined};
-ghost use Rattle.plx_text.specs.Traces.{bad_line_text, end_text, entry_lines, entry_text, trace_text};
-ghost use Rattle.plx_text.specs.Words.{command_text};
+ghost use Rattle.std.specs.Prelude.{◌≡◌, ◌≤◌, ◌++◌, IfOk, OnOk, map};
+ghost use Rattle.plx_text.specs.Commands.{command_line};
+ghost use Rattle.plx_text.specs.Schedules.{world_line};
+ghost use Rattle.plx_text.specs.Traces.{bad_line_text, end_line, entry_line, plain_command, plain_entry, trace_lines, trace_text};
+ghost use Rattle.plx_words.specs.Pieces.{all_spelled};
+ghost use Rattle.plx_words.specs.Texts.{LinesFit};
+ghost use Rattle.plx_words.specs.Words.{line_text};
+ghost use Rattle.plx_words.specs.Written.{AddsLine, AddsLines, AddsWords};
 
-use crate::print_data::push_data;
 use crate::print_reply::push_reply;
-use crate::text::Text;
-use plx_base::{NoMemory, Payload, SlotNo};
+use plx_base::NoMemory;
 use plx_model::{Command, Entries, Entry};
+use plx_words::{Text, Word};
 use std::alloc::Global;
 
 /// The trace of a world of one image with so many journal slots, and of the two counts of its
@@ -21,7 +23,8 @@ pub fn print_trace(
     reachable: u64,
     allocated: u64,
 ) -> Result<Text, NoMemory>
-    ensures { IfOk result (λ text. text ≡ trace_text slots entries.now reachable allocated) }
+    ensures text { IfOk result (λ text. text ≡ trace_text slots entries.now reachable allocated) }
+    ensures fits { IfOk result (λ text. 2 ≤ slots → slots ≤ 64 → LinesFit (trace_lines slots entries.now reachable allocated)) }
 {
     let mut text = Text::new(alloc);
     push_world(&mut text, slots)?;
@@ -35,76 +38,89 @@ pub fn print_bad_line(alloc: Global, line: u64) -> Result<Text, NoMemory>
     ensures { IfOk result (λ text. text ≡ bad_line_text line) }
 {
     let mut text = Text::new(alloc);
-    text.push_field(b"bad line ", line)?;
-    text.push(b"\n")?;
+    text.line(b"bad", &[Word::Plain(b"line"), Word::Number(line)])?;
     Ok(text)
 }
 
 fn push_world(text: &mut Text, slots: u32) -> Result<(), NoMemory>
-    ensures { OnOk result (text.new ≡ text.old ++ joined (world_text slots ∷ [])) }
+    ensures { OnOk result (text.new ≡ text.old ++ line_text (all_spelled (world_line slots))) }
 {
-    text.push_field(b"world 1 1 16 ", u64::from(slots))?;
-    text.push(b" 1\n")
+    text.line(
+        b"world",
+        &[
+            Word::Plain(b"1"),
+            Word::Plain(b"1"),
+            Word::Plain(b"16"),
+            Word::Small(slots),
+            Word::Plain(b"1"),
+        ],
+    )
 }
 
 fn push_end(text: &mut Text, reachable: u64, allocated: u64) -> Result<(), NoMemory>
-    ensures { OnOk result (text.new ≡ text.old ++ joined (end_text reachable allocated ∷ [])) }
+    ensures { OnOk result (AddsLine text.old text.new (end_line reachable allocated)) }
 {
-    text.push_field(b"end reachable=", reachable)?;
-    text.push_field(b" allocated=", allocated)?;
-    text.push(b"\n")
+    text.line(
+        b"end",
+        &[
+            Word::Named(b"reachable=", reachable),
+            Word::Named(b"allocated=", allocated),
+        ],
+    )
 }
 
 fn push_entries(text: &mut Text, entries: &[Entry]) -> Result<(), NoMemory>
-    ensures { OnOk result (text.new ≡ text.old ++ joined (entry_lines entries.now)) }
+    ensures { OnOk result (AddsLines text.old text.new (map (λ one. entry_line (plain_entry one)) entries.now)) }
 {
     for entry in entries {
         push_entry(text, entry)?;
-        text.push(b"\n")?;
     }
     Ok(())
 }
 
 fn push_entry(text: &mut Text, entry: &Entry) -> Result<(), NoMemory>
-    ensures { OnOk result (text.new ≡ text.old ++ entry_text entry.now) }
+    ensures { OnOk result (AddsLine text.old text.new (entry_line (plain_entry entry.now))) }
 {
     match entry {
         Entry::Start { appliance, command } => {
-            text.push_field(b"start ", u64::from(appliance.0))?;
-            text.push(b" ")?;
-            push_command(text, command)
+            text.begin(b"start")?;
+            text.words(&[Word::Small(appliance.0)])?;
+            push_command(text, command)?;
+            text.end()
         }
         Entry::Reply { appliance, reply } => {
-            text.push_field(b"reply ", u64::from(appliance.0))?;
-            text.push(b" ")?;
-            push_reply(text, reply)
+            text.begin(b"reply")?;
+            text.words(&[Word::Small(appliance.0)])?;
+            push_reply(text, reply)?;
+            text.end()
         }
-        Entry::Crash { appliance } => text.push_field(b"crash ", u64::from(appliance.0)),
+        Entry::Crash { appliance } => text.line(b"crash", &[Word::Small(appliance.0)]),
     }
 }
 
 fn push_command(text: &mut Text, command: &Command) -> Result<(), NoMemory>
-    ensures { OnOk result (text.new ≡ text.old ++ command_text command.now) }
+    ensures { OnOk result (AddsWords text.old text.new (command_line (plain_command command.now))) }
 {
     match command {
-        Command::Attach { slot } => text.push_field(b"attach ", u64::from(slot.0)),
+        Command::Attach { slot } => text.words(&[Word::Plain(b"attach"), Word::Small(slot.0)]),
         Command::Read { slot, vblock } => {
-            text.push_field(b"read ", u64::from(slot.0))?;
-            text.push_field(b" ", u64::from(*vblock))
+            text.words(&[
+                Word::Plain(b"read"),
+                Word::Small(slot.0),
+                Word::Small(*vblock),
+            ])
         }
         Command::Write {
             slot,
             vblock,
             payload,
-        } => push_write(text, *slot, *vblock, payload),
+        } => {
+            text.words(&[
+                Word::Plain(b"write"),
+                Word::Small(slot.0),
+                Word::Small(*vblock),
+                Word::Data(payload),
+            ])
+        }
     }
-}
-
-fn push_write(text: &mut Text, slot: SlotNo, vblock: u32, payload: &Payload) -> Result<(), NoMemory>
-    ensures { OnOk result (text.new ≡ text.old ++ command_text (Command.Write slot vblock payload.now)) }
-{
-    text.push_field(b"write ", u64::from(slot.0))?;
-    text.push_field(b" ", u64::from(vblock))?;
-    text.push(b" ")?;
-    push_data(text, payload)
 }

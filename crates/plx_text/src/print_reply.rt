@@ -1,90 +1,125 @@
 //! How replies are printed.
-ghost use Rattle.std.specs.Prelude.{◌≡◌, ◌++◌, OnOk};
-ghost use Rattle.plx_text.specs.Traces.{lease_text, reply_text, report_text};
-ghost use Rattle.plx_text.specs.Words.{flag_text, label_text};
+ghost use Rattle.std.specs.Prelude.{◌≡◌, OnOk};
+ghost use Rattle.plx_text.specs.Replies.{lease_piece, reply_line};
+ghost use Rattle.plx_text.specs.Traces.{plain, plain_reply};
+ghost use Rattle.plx_words.specs.Written.{AddsWords, piece_of};
 
-use crate::print_data::push_data;
-use crate::text::Text;
-use plx_base::{LeaseName, NoMemory};
+use plx_base::{BlockNo, LeaseName, NoMemory, Payload};
 use plx_model::{Reply, Report};
+use plx_words::{Text, Word};
 
-/// What an appliance answered.
+/// The words of a reply.
 pub(crate) fn push_reply(text: &mut Text, reply: &Reply) -> Result<(), NoMemory>
-    ensures { OnOk result (text.new ≡ text.old ++ reply_text reply.now) }
+    ensures { OnOk result (AddsWords text.old text.new (reply_line (plain_reply reply.now))) }
 {
     match reply {
-        Reply::Attached { report } => {
-            text.push(b"attached ")?;
-            push_report(text, report)
-        }
-        Reply::Data { payload } => {
-            text.push(b"data ")?;
-            push_data(text, payload)
-        }
-        Reply::Written { number } => text.push_field(b"written ", *number),
-        Reply::NotAttached => text.push(b"not-attached"),
-        Reply::AlreadyAttached => text.push(b"already-attached"),
-        Reply::NoImage => text.push(b"no-image"),
-        Reply::OutOfRange { size } => text.push_field(b"out-of-range size=", u64::from(*size)),
+        Reply::Attached { report } => push_attached(text, report),
+        Reply::Data { payload } => push_data(text, payload),
+        Reply::Written { number } => push_written(text, *number),
+        Reply::NotAttached => push_not_attached(text),
+        Reply::AlreadyAttached => push_already_attached(text),
+        Reply::NoImage => push_no_image(text),
+        Reply::OutOfRange { size } => push_out_of_range(text, *size),
         Reply::Lost {
             lease,
             until,
             reading,
         } => push_lost(text, *lease, *until, *reading),
-        Reply::ReadFault { block } => text.push_field(b"read-fault block=", block.0),
-        Reply::WriteFault { block } => text.push_field(b"write-fault block=", block.0),
-        Reply::Full => text.push(b"full"),
+        Reply::ReadFault { block } => push_read_fault(text, *block),
+        Reply::WriteFault { block } => push_write_fault(text, *block),
+        Reply::Full => push_full(text),
     }
 }
 
-fn push_report(text: &mut Text, report: &Report) -> Result<(), NoMemory>
-    ensures { OnOk result (text.new ≡ text.old ++ report_text report.now) }
+fn push_attached(text: &mut Text, report: &Report) -> Result<(), NoMemory>
+    ensures { OnOk result (AddsWords text.old text.new (reply_line (Reply.Attached report.now))) }
 {
-    text.push(b"live=")?;
-    push_flag(text, report.live)?;
-    text.push_field(b" gen=", u64::from(report.generation))?;
-    text.push_field(b" size=", u64::from(report.size))?;
-    text.push_field(b" writes=", report.writes)?;
-    text.push_field(b" taken=", u64::from(report.taken))?;
-    text.push_field(b" dropped=", u64::from(report.dropped))?;
-    text.push(b" label=")?;
-    push_label(text, report.label.as_slice())
+    text.words(&[
+        Word::Plain(b"attached"),
+        Word::Flag(b"live=", report.live),
+        Word::NamedSmall(b"gen=", report.generation),
+        Word::NamedSmall(b"size=", report.size),
+        Word::Named(b"writes=", report.writes),
+        Word::NamedSmall(b"taken=", report.taken),
+        Word::NamedSmall(b"dropped=", report.dropped),
+        Word::Label(b"label=", &report.label),
+    ])
 }
 
-fn push_flag(text: &mut Text, flag: bool) -> Result<(), NoMemory>
-    ensures { OnOk result (text.new ≡ text.old ++ flag_text flag) }
+fn push_data(text: &mut Text, payload: &Payload) -> Result<(), NoMemory>
+    ensures { OnOk result (AddsWords text.old text.new (reply_line (Reply.Data (plain payload.now)))) }
 {
-    if flag {
-        text.push(b"1")
-    } else {
-        text.push(b"0")
-    }
+    text.words(&[Word::Plain(b"data"), Word::Data(payload)])
 }
 
-fn push_label(text: &mut Text, label: &[u8]) -> Result<(), NoMemory>
-    ensures { OnOk result (text.new ≡ text.old ++ label_text label.now) }
+fn push_written(text: &mut Text, number: u64) -> Result<(), NoMemory>
+    ensures { OnOk result (AddsWords text.old text.new (reply_line (Reply.Written number))) }
 {
-    if label.is_empty() {
-        return text.push(b"-");
-    }
-    text.push(label)
+    text.words(&[Word::Plain(b"written"), Word::Number(number)])
+}
+
+fn push_not_attached(text: &mut Text) -> Result<(), NoMemory>
+    ensures { OnOk result (AddsWords text.old text.new (reply_line Reply.NotAttached)) }
+{
+    text.words(&[Word::Plain(b"not-attached")])
+}
+
+fn push_already_attached(text: &mut Text) -> Result<(), NoMemory>
+    ensures { OnOk result (AddsWords text.old text.new (reply_line Reply.AlreadyAttached)) }
+{
+    text.words(&[Word::Plain(b"already-attached")])
+}
+
+fn push_no_image(text: &mut Text) -> Result<(), NoMemory>
+    ensures { OnOk result (AddsWords text.old text.new (reply_line Reply.NoImage)) }
+{
+    text.words(&[Word::Plain(b"no-image")])
+}
+
+fn push_out_of_range(text: &mut Text, size: u32) -> Result<(), NoMemory>
+    ensures { OnOk result (AddsWords text.old text.new (reply_line (Reply.OutOfRange size))) }
+{
+    text.words(&[
+        Word::Plain(b"out-of-range"),
+        Word::NamedSmall(b"size=", size),
+    ])
 }
 
 fn push_lost(text: &mut Text, lease: LeaseName, until: u64, reading: u64) -> Result<(), NoMemory>
-    ensures { OnOk result (text.new ≡ text.old ++ reply_text (Reply.Lost lease until reading)) }
+    ensures { OnOk result (AddsWords text.old text.new (reply_line (Reply.Lost lease until reading))) }
 {
-    text.push(b"lost lease=")?;
-    push_lease(text, lease)?;
-    text.push_field(b" until=", until)?;
-    text.push_field(b" reading=", reading)
+    text.words(&[
+        Word::Plain(b"lost"),
+        lease_word(lease),
+        Word::Named(b"until=", until),
+        Word::Named(b"reading=", reading),
+    ])
 }
 
-fn push_lease(text: &mut Text, lease: LeaseName) -> Result<(), NoMemory>
-    ensures { OnOk result (text.new ≡ text.old ++ lease_text lease) }
+fn push_read_fault(text: &mut Text, block: BlockNo) -> Result<(), NoMemory>
+    ensures { OnOk result (AddsWords text.old text.new (reply_line (Reply.ReadFault block))) }
+{
+    text.words(&[Word::Plain(b"read-fault"), Word::Named(b"block=", block.0)])
+}
+
+fn push_write_fault(text: &mut Text, block: BlockNo) -> Result<(), NoMemory>
+    ensures { OnOk result (AddsWords text.old text.new (reply_line (Reply.WriteFault block))) }
+{
+    text.words(&[Word::Plain(b"write-fault"), Word::Named(b"block=", block.0)])
+}
+
+fn push_full(text: &mut Text) -> Result<(), NoMemory>
+    ensures { OnOk result (AddsWords text.old text.new (reply_line Reply.Full)) }
+{
+    text.words(&[Word::Plain(b"full")])
+}
+
+fn lease_word(lease: LeaseName) -> Word<'static>
+    ensures { piece_of result ≡ lease_piece lease }
 {
     match lease {
-        LeaseName::Root => text.push(b"root"),
-        LeaseName::Image(slot) => text.push_field(b"image:", u64::from(slot.0)),
-        LeaseName::Extent(extent) => text.push_field(b"extent:", u64::from(extent.0)),
+        LeaseName::Root => Word::Plain(b"lease=root"),
+        LeaseName::Image(slot) => Word::NamedSmall(b"lease=image:", slot.0),
+        LeaseName::Extent(extent) => Word::NamedSmall(b"lease=extent:", extent.0),
     }
 }

@@ -1,13 +1,12 @@
 //! Schedules are read.
 
 ghost use Rattle.std.specs.Prelude.{IfErr, IfOk};
-ghost use Rattle.plx_text.specs.Parts.{NamesFirstBad, SaysNoSchedule};
-ghost use Rattle.plx_text.specs.Schedules.{IsSchedule};
+ghost use Rattle.plx_text.specs.Schedules.{IsSchedule, NamesFirstBad, SaysNoSchedule};
 
-use crate::line::{read_event, read_world};
+use crate::event::{read_event, read_world};
 use crate::schedule::{Schedule, TextError};
-use crate::word::cut;
 use plx_model::EventList;
+use plx_words::Lines;
 use std::alloc::Global;
 
 /// Reads the text of a schedule.
@@ -16,26 +15,31 @@ pub fn read_schedule(alloc: Global, bytes: &[u8]) -> Result<Schedule, TextError>
     ensures bad { IfErr result (λ error. NamesFirstBad bytes.now error) }
     ensures none { IfErr result (λ error. SaysNoSchedule bytes.now error) }
 {
-    let Some((first, mut rest)) = cut(bytes, b'\n') else {
-        return Err(TextError::BadLine { line: 1 });
+    let mut lines = Lines::of(bytes);
+    let Some(first) = lines.next() else {
+        return Err(TextError::BadLine {
+            line: lines.number + 1,
+        });
     };
-    let Some(slots) = read_world(first) else {
-        return Err(TextError::BadLine { line: 1 });
+    let Some(slots) = read_world(first.text) else {
+        return Err(TextError::BadLine { line: first.number });
     };
     let mut events = EventList::new(alloc);
-    let mut line = 1;
-    while !rest.is_empty() {
-        line += 1;
-        let Some((text, others)) = cut(rest, b'\n') else {
-            return Err(TextError::BadLine { line });
+    while let Some(line) = lines.next() {
+        let Ok(found) = read_event(alloc, line.text) else {
+            return Err(TextError::NoMemory);
         };
-        let Some(event) = read_event(text) else {
-            return Err(TextError::BadLine { line });
+        let Some(event) = found else {
+            return Err(TextError::BadLine { line: line.number });
         };
         let Ok(()) = events.push(event) else {
             return Err(TextError::NoMemory);
         };
-        rest = others;
+    }
+    if !lines.rest.is_empty() {
+        return Err(TextError::BadLine {
+            line: lines.number + 1,
+        });
     }
     Ok(Schedule { slots, events })
 }

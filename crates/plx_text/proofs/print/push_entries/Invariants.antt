@@ -1,7 +1,7 @@
-use Rattle.std.proofs.Common.{◌≡◌, ◌++◌, take}
-use Rattle.plx_text.specs.Schedules.{joined}
-use Rattle.plx_text.specs.Traces.{entry_lines}
+use Rattle.std.proofs.Common.{map, take}
+use Rattle.plx_words.specs.Written.{AddsLines}
+use Rattle.plx_text.specs.Traces.{entry_line, plain_entry}
 use Rattle.plx_text.proofs.print.push_entries.Given as goal
 
 abbrev pub invariant-loop-entry : goal.invariant-loop-entry
-invariant-loop-entry l = l.text ≡ l.initial.text ++ joined (entry_lines (take l.entry-index l.entries))
+invariant-loop-entry l = AddsLines l.initial.text l.text (map (λ one. entry_line (plain_entry one)) (take l.entry-index l.entries))

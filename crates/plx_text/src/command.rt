@@ -1,0 +1,69 @@
+//! The words of commands.
+
+ghost use Rattle.std.specs.Prelude.{◌∷◌, IfOk, codes};
+ghost use Rattle.plx_words.specs.Candidates.{Reads};
+ghost use Rattle.plx_text.specs.Commands.{SpellsCommand, command_of};
+
+use plx_base::{NoMemory, SlotNo};
+use plx_model::Command;
+use plx_words::{Words, read_data};
+use std::alloc::Global;
+
+/// The command that the words left of a line spell.
+pub(crate) fn read_command(alloc: Global, words: &mut Words) -> Result<Option<Command>, NoMemory>
+    ensures { IfOk result (λ found. Reads found (command_of words.old) (λ command. SpellsCommand command words.old)) }
+{
+    let Some(word) = words.next() else {
+        return Ok(None);
+    };
+    if word == b"attach".as_slice() {
+        return Ok(read_attach(words));
+    }
+    if word == b"read".as_slice() {
+        return Ok(read_read(words));
+    }
+    if word == b"write".as_slice() {
+        return read_write(alloc, words);
+    }
+    Ok(None)
+}
+
+fn read_attach(words: &mut Words) -> Option<Command>
+    ensures { Reads result (command_of (codes "attach" ∷ words.old)) (λ command. SpellsCommand command (codes "attach" ∷ words.old)) }
+{
+    let slot = SlotNo(words.small()?);
+    words.end()?;
+    Some(Command::Attach { slot })
+}
+
+fn read_read(words: &mut Words) -> Option<Command>
+    ensures { Reads result (command_of (codes "read" ∷ words.old)) (λ command. SpellsCommand command (codes "read" ∷ words.old)) }
+{
+    let slot = SlotNo(words.small()?);
+    let vblock = words.small()?;
+    words.end()?;
+    Some(Command::Read { slot, vblock })
+}
+
+fn read_write(alloc: Global, words: &mut Words) -> Result<Option<Command>, NoMemory>
+    ensures { IfOk result (λ found. Reads found (command_of (codes "write" ∷ words.old)) (λ command. SpellsCommand command (codes "write" ∷ words.old))) }
+{
+    let Some(slot) = words.small() else {
+        return Ok(None);
+    };
+    let Some(vblock) = words.small() else {
+        return Ok(None);
+    };
+    let Some(word) = words.last() else {
+        return Ok(None);
+    };
+    let Some(payload) = read_data(alloc, word)? else {
+        return Ok(None);
+    };
+    let slot = SlotNo(slot);
+    Ok(Some(Command::Write {
+        slot,
+        vblock,
+        payload,
+    }))
+}

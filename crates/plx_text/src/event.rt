@@ -1,0 +1,168 @@
+//! The lines of events.
+
+ghost use Rattle.std.specs.Prelude.{◌∷◌, IfOk, codes};
+ghost use Rattle.plx_words.specs.Candidates.{Reads};
+ghost use Rattle.plx_text.specs.Events.{SpellsEvent, event_of};
+ghost use Rattle.plx_text.specs.Schedules.{SpellsWorld, world_of};
+ghost use Rattle.plx_words.specs.Words.{words_of};
+
+use crate::command::read_command;
+use crate::stop::read_stop;
+use plx_base::{ApplianceNo, NoMemory};
+use plx_model::Event;
+use plx_words::Words;
+use std::alloc::Global;
+
+// The greatest number below 2^32.
+const MOST_SMALL: u64 = (1 << 32) - 1;
+
+// The highest reading of a clock, in milliseconds.
+const MOST_READING: u64 = (1 << 48) - 1;
+
+/// The event that a line spells.
+pub(crate) fn read_event(alloc: Global, line: &[u8]) -> Result<Option<Event>, NoMemory>
+    ensures { IfOk result (λ found. Reads found (event_of (words_of line.now)) (λ event. SpellsEvent event (words_of line.now))) }
+{
+    let mut words = Words::of(line);
+    let Some(word) = words.next() else {
+        return Ok(None);
+    };
+    if word == b"tick".as_slice() {
+        return Ok(read_tick(&mut words));
+    }
+    if word == b"run".as_slice() {
+        return Ok(read_run(&mut words));
+    }
+    if word == b"start".as_slice() {
+        return read_start(alloc, &mut words);
+    }
+    if word == b"read".as_slice() {
+        return Ok(read_read(&mut words));
+    }
+    if word == b"issue".as_slice() {
+        return Ok(read_issue(&mut words));
+    }
+    if word == b"land".as_slice() {
+        return Ok(read_land(&mut words));
+    }
+    if word == b"done".as_slice() {
+        return Ok(read_done(&mut words));
+    }
+    if word == b"clock".as_slice() {
+        return Ok(read_clock(&mut words));
+    }
+    if word == b"crash".as_slice() {
+        return Ok(read_crash(&mut words));
+    }
+    if word == b"upto".as_slice() {
+        return Ok(read_upto(&mut words));
+    }
+    Ok(None)
+}
+
+fn read_start(alloc: Global, words: &mut Words) -> Result<Option<Event>, NoMemory>
+    ensures { IfOk result (λ found. Reads found (event_of (codes "start" ∷ words.old)) (λ event. SpellsEvent event (codes "start" ∷ words.old))) }
+{
+    let Some(appliance) = words.small() else {
+        return Ok(None);
+    };
+    let Some(command) = read_command(alloc, words)? else {
+        return Ok(None);
+    };
+    let appliance = ApplianceNo(appliance);
+    Ok(Some(Event::Start { appliance, command }))
+}
+
+fn read_upto(words: &mut Words) -> Option<Event>
+    ensures { Reads result (event_of (codes "upto" ∷ words.old)) (λ event. SpellsEvent event (codes "upto" ∷ words.old)) }
+{
+    let appliance = ApplianceNo(words.small()?);
+    let stop = read_stop(words.last()?)?;
+    Some(Event::Upto { appliance, stop })
+}
+
+fn read_tick(words: &mut Words) -> Option<Event>
+    ensures { Reads result (event_of (codes "tick" ∷ words.old)) (λ event. SpellsEvent event (codes "tick" ∷ words.old)) }
+{
+    let by = words.number(1, MOST_SMALL)?;
+    words.end()?;
+    Some(Event::Tick { by: by as u32 })
+}
+
+fn read_read(words: &mut Words) -> Option<Event>
+    ensures { Reads result (event_of (codes "read" ∷ words.old)) (λ event. SpellsEvent event (codes "read" ∷ words.old)) }
+{
+    let appliance = ApplianceNo(words.small()?);
+    words.end()?;
+    Some(Event::Read { appliance })
+}
+
+fn read_land(words: &mut Words) -> Option<Event>
+    ensures { Reads result (event_of (codes "land" ∷ words.old)) (λ event. SpellsEvent event (codes "land" ∷ words.old)) }
+{
+    let appliance = ApplianceNo(words.small()?);
+    let back = words.number(0, u64::MAX)?;
+    let sector = words.number(0, u64::from(u8::MAX))?;
+    words.end()?;
+    Some(Event::Land {
+        appliance,
+        back,
+        sector: sector as u8,
+    })
+}
+
+fn read_clock(words: &mut Words) -> Option<Event>
+    ensures { Reads result (event_of (codes "clock" ∷ words.old)) (λ event. SpellsEvent event (codes "clock" ∷ words.old)) }
+{
+    let appliance = ApplianceNo(words.small()?);
+    let reading = words.number(0, MOST_READING)?;
+    words.end()?;
+    Some(Event::Reading { appliance, reading })
+}
+
+fn read_issue(words: &mut Words) -> Option<Event>
+    ensures { Reads result (event_of (codes "issue" ∷ words.old)) (λ event. SpellsEvent event (codes "issue" ∷ words.old)) }
+{
+    let appliance = ApplianceNo(words.small()?);
+    words.end()?;
+    Some(Event::Issue { appliance })
+}
+
+fn read_done(words: &mut Words) -> Option<Event>
+    ensures { Reads result (event_of (codes "done" ∷ words.old)) (λ event. SpellsEvent event (codes "done" ∷ words.old)) }
+{
+    let appliance = ApplianceNo(words.small()?);
+    words.end()?;
+    Some(Event::Done { appliance })
+}
+
+fn read_crash(words: &mut Words) -> Option<Event>
+    ensures { Reads result (event_of (codes "crash" ∷ words.old)) (λ event. SpellsEvent event (codes "crash" ∷ words.old)) }
+{
+    let appliance = ApplianceNo(words.small()?);
+    words.end()?;
+    Some(Event::Crash { appliance })
+}
+
+fn read_run(words: &mut Words) -> Option<Event>
+    ensures { Reads result (event_of (codes "run" ∷ words.old)) (λ event. SpellsEvent event (codes "run" ∷ words.old)) }
+{
+    let appliance = ApplianceNo(words.small()?);
+    words.end()?;
+    Some(Event::Run { appliance })
+}
+
+/// The number of journal slots that a world line gives.
+pub(crate) fn read_world(line: &[u8]) -> Option<u32>
+    ensures { Reads result (world_of (words_of line.now)) (λ slots. SpellsWorld slots (words_of line.now)) }
+{
+    let mut words = Words::of(line);
+    words.exactly(b"world")?;
+    words.exactly(b"1")?;
+    words.exactly(b"1")?;
+    words.exactly(b"16")?;
+    let slots = words.number(2, 64)?;
+    words.exactly(b"1")?;
+    words.end()?;
+    Some(slots as u32)
+}

@@ -1,0 +1,14 @@
+pub mod Blocks
+pub mod Clean
+pub mod Cuts
+pub mod Digits
+pub mod Heads
+pub mod Nested
+pub mod Once
+pub mod Parts
+pub mod Pushes
+pub mod SameWords
+pub mod Spaced
+pub mod Splits
+pub mod Taken
+pub mod Values
