@@ -4,8 +4,9 @@ use Rattle.std.proofs.lemmas.List.{drop_all}
 use Rattle.plx_model.specs.declared.event.Event.{Event}
 use Rattle.plx_port.specs.Faults.{Rose}
 use Rattle.plx_port.specs.Streams.{ReadsToEnd, TakesCount}
-use Rattle.plx_text.proofs.FirstBad.{no-schedule}
-use Rattle.plx_text.specs.Schedules.{IsFirstBad, IsSchedule}
+use Rattle.plx_text.proofs.ScheduleFiles.{no-schedule}
+use Rattle.plx_text.specs.Schedules.{IsSchedule, schedule_grammar}
+use Rattle.plx_words.specs.Files.{IsFirstBad}
 use Rattle.plx_cli.specs.Program.{Appended, IsBad, IsGiven, IsPlayed, input_limit}
 
 -- what was read to the end was taken, byte for byte
@@ -33,7 +34,7 @@ not-long (Some left) new bytes before after taken given =
 module _ (status : ℕ) (read bytes : List ℕ) (held held' : Option (List ℕ)) where
   -- where there is a bad line, the work isn't done
   pub answers-bad : (line : ℕ) → (status ≡ 0) ⊎ (status ≡ 2) ⊎ (status ≡ 4) ⊎ (status ≡ 5) → (status ≡ 0 → Appended IsPlayed read held held') → read ≡ bytes →
-      IsFirstBad bytes line → (status ≡ 2) ⊎ (status ≡ 4) ⊎ (status ≡ 5)
+      IsFirstBad schedule_grammar bytes line → (status ≡ 2) ⊎ (status ≡ 4) ⊎ (status ≡ 5)
   answers-bad line (inr others) done same first = others
   answers-bad line (inl zero) done same first =
       let played = (done zero).1 in
@@ -47,7 +48,7 @@ module _ (status : ℕ) (read bytes : List ℕ) (held held' : Option (List ℕ))
   answers-schedule before after slots events (inl zero) bad sink same schedule sound = inl zero
   answers-schedule before after slots events (inr (inl two)) bad sink same schedule sound =
       let named = (bad two).1 in
-      let P : List ℕ → Type 0 = λ l. IsFirstBad l named.line in
+      let P : List ℕ → Type 0 = λ l. IsFirstBad schedule_grammar l named.line in
       absurd (no-schedule bytes named.line slots events (subst P same named.first) schedule)
   answers-schedule before after slots events (inr (inr (inl four))) bad sink same schedule sound = absurd (sound (sink four))
   answers-schedule before after slots events (inr (inr (inr five))) bad sink same schedule sound = inr five

@@ -7,8 +7,11 @@ use Rattle.plx_port.specs.Streams.{ReadsToEnd}
 use Rattle.plx_rules.specs.Headline.{Headline}
 use Rattle.plx_rules.specs.Sequences.{Plays}
 use Rattle.plx_rules.specs.World.{World, Reached, first_world}
-use Rattle.plx_text.specs.Schedules.{IsSchedule, IsFirstBad}
-use Rattle.plx_text.specs.Traces.{bad_line_text, trace_text}
+use Rattle.plx_text.specs.Once.{SameTrace}
+use Rattle.plx_text.specs.Schedules.{IsSchedule, schedule_grammar}
+use Rattle.plx_text.specs.Traces.{bad_line_text, trace_lines, trace_text}
+use Rattle.plx_words.specs.Files.{IsFirstBad}
+use Rattle.plx_words.specs.Texts.{LinesFit}
 
 -- the most bytes of the input
 abbrev pub input_limit : ℕ
@@ -20,13 +23,20 @@ module _ {A : Type 0} where
   IsReplay (name ∷ word ∷ []) = string_bytes word ≡ codes "replay"
   IsReplay words = ⊥
 
--- a world to which the events lead, in order: the headline holds of it, and this is the text of its trace and of its two counts
+-- a world to which the events lead, in order: the headline holds of it, this is the text of its trace and of its two counts, and each number,
+-- label and block of them is within its limits
 pub record IsTold (slots : ℕ) (events : List Event) (text : List ℕ) : Type 0 where
   pub world : World
   pub plays : Plays (first_world slots) events world
   pub reached : Reached world
   pub headline : Headline world
   pub trace : text ≡ trace_text slots (reverse world.trace) 0 0
+  pub fits : LinesFit (trace_lines slots (reverse world.trace) 0 0)
+
+-- a text that was written tells of one number of journal slots and of one trace alone
+abbrev pub ToldOnce : Type 0
+ToldOnce = (slots slots' : ℕ) (events events' : List Event) (text : List ℕ) (told : IsTold slots events text) (told' : IsTold slots' events' text)
+    → SameTrace slots (reverse told.world.trace) 0 0 slots' (reverse told'.world.trace) 0 0
 
 -- the bytes are a schedule, and this text tells of the world to which its events lead
 pub record IsPlayed (bytes text : List ℕ) : Type 0 where
@@ -38,7 +48,7 @@ pub record IsPlayed (bytes text : List ℕ) : Type 0 where
 -- the bytes have a first line that isn't in the grammar, and this text names it
 pub record IsBad (bytes text : List ℕ) : Type 0 where
   pub line : ℕ
-  pub first : IsFirstBad bytes line
+  pub first : IsFirstBad schedule_grammar bytes line
   pub names : text ≡ bad_line_text line
 
 -- what is to be written for an input

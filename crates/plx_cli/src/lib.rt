@@ -5,6 +5,7 @@ mod noted;
 mod program;
 mod replay;
 mod status;
+mod told;
 mod words;
 
 pub use noted::NotedSink;

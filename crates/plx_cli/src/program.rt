@@ -1,19 +1,21 @@
 //! The top call.
 ghost use Rattle.std.specs.Prelude.{◌≡◌, ◌≢◌, ◌≤◌, ◌+◌, ◌⊎◌, ◌↔◌, ℕ, List};
-ghost use Rattle.plx_cli.specs.Program.{Appended, AppendedPart, IsAnswer, IsBad, IsGiven, IsPlayed, IsReplay, ReadsSuch, input_limit};
+ghost use Rattle.plx_cli.specs.Program.{Appended, AppendedPart, IsAnswer, IsBad, IsGiven, IsPlayed, IsReplay, ReadsSuch, ToldOnce, input_limit};
 ghost use Rattle.plx_model.specs.declared.event.Event.{Event};
 ghost use Rattle.plx_port.specs.Faults.{Rose};
 ghost use Rattle.plx_port.specs.Streams.{TakesCount};
 ghost use Rattle.plx_rules.specs.Headline.{HeadlineOfAll};
-ghost use Rattle.plx_text.specs.SameTraces.{TraceOnce};
-ghost use Rattle.plx_text.specs.Schedules.{IsFirstBad, IsSchedule};
+ghost use Rattle.plx_text.specs.Once.{ScheduleOnce, TraceOnce};
+ghost use Rattle.plx_text.specs.Schedules.{IsSchedule, schedule_grammar};
+ghost use Rattle.plx_words.specs.Files.{IsFirstBad};
 
 use crate::replay::replay;
 use crate::status::{NO_MEMORY, SINK_FAULT, SOURCE_FAULT, TOO_LONG, USAGE};
+use crate::told::told_once;
 use crate::words::is_replay;
 use plx_headline::headline;
 use plx_port::{Failed, ReadError, Sink, Source, read_all, write_all};
-use plx_text::trace_once;
+use plx_text::{schedule_once, trace_once};
 use std::alloc::Global;
 
 /// The most bytes of the input.
@@ -31,9 +33,12 @@ pub fn run<S: Source, K: Sink>(
 ) -> u8
     ensures status { result ≤ 6 }
 
-    // The laws on all worlds, and on all texts of traces.
+    // The laws on all worlds, and on all texts: a trace's is that of no other trace, nor is what was
+    // written, and a schedule's bytes are those of no other schedule.
     ensures headline { HeadlineOfAll }
     ensures once { TraceOnce }
+    ensures told { ToldOnce }
+    ensures schedule { ScheduleOnce }
 
     // What was written: the trace of the schedule, or the number of its first bad line, or a part of it.
     ensures done { result ≡ 0 → ReadsSuch (S.left source.old) (S.left source.new)
@@ -54,7 +59,7 @@ pub fn run<S: Source, K: Sink>(
 
     // Where the source gives an input of at most the limit: a bad line is answered, and a schedule is played.
     ensures exact { (bytes : List ℕ) (line : ℕ) → IsReplay words.now.items
-        → IsGiven bytes (S.left source.old) (S.faults source.old) (S.faults source.new) → IsFirstBad bytes line
+        → IsGiven bytes (S.left source.old) (S.faults source.old) (S.faults source.new) → IsFirstBad schedule_grammar bytes line
         → (result ≡ 2) ⊎ (result ≡ 4) ⊎ (result ≡ 5) }
     ensures complete { (bytes : List ℕ) (slots : ℕ) (events : List Event) → IsReplay words.now.items
         → IsGiven bytes (S.left source.old) (S.faults source.old) (S.faults source.new) → IsSchedule bytes slots events
@@ -65,6 +70,8 @@ pub fn run<S: Source, K: Sink>(
 {
     headline();
     trace_once();
+    schedule_once();
+    told_once();
     if !is_replay(words.as_slice()) {
         return USAGE;
     }

@@ -3,7 +3,7 @@ use Rattle.std.specs.Prelude.{ℕ, ◌^◌, List, [], ◌∷◌, codes, get_or, 
 use Rattle.plx_base.specs.declared.numbers.ApplianceNo.{ApplianceNo}
 use Rattle.plx_model.specs.declared.event.Event.{Event}
 use Rattle.plx_model.specs.declared.event.Event.TheVariants as event
-use Rattle.plx_words.specs.Candidates.{by_first, number_at}
+use Rattle.plx_words.specs.Candidates.{Reads, by_first, number_at}
 use Rattle.plx_text.specs.Commands.{command_line, command_of}
 use Rattle.plx_words.specs.Pieces.{Piece, word, number, small, Spell}
 use Rattle.plx_text.specs.Stops.{stop_of, stop_piece}
@@ -42,3 +42,7 @@ event_of words = by_first words (
     ∷ (codes "run", Some (event.Run (appliance_at 1 words)))
     ∷ (codes "upto", option_map (λ stop. event.Upto (appliance_at 1 words) stop) (stop_of (get_or words 2 [])))
     ∷ [])
+
+-- what a reader of an event's words gives
+abbrev pub ReadsEvent : Option Event → List (List ℕ) → Type 0
+ReadsEvent result words = Reads result (event_of words) (λ one. SpellsEvent one words)

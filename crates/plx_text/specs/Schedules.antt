@@ -1,7 +1,7 @@
 -- The text of a schedule.
 use Rattle.std.specs.Prelude.{◌≡◌, ℕ, List, [], ◌∷◌, Option, Some, codes}
 use Rattle.plx_model.specs.declared.event.Event.{Event}
-use Rattle.plx_words.specs.Candidates.{by_first, number_at}
+use Rattle.plx_words.specs.Candidates.{Reads, by_first, number_at}
 use Rattle.plx_text.specs.Events.{SpellsEvent}
 use Rattle.plx_words.specs.Files.{Numbered, Grammar, IsFirstBad, SpellAll, contents, left}
 use Rattle.plx_words.specs.Pieces.{Piece, word, number, Spell}
@@ -13,11 +13,17 @@ use Rattle.plx_text.specs.declared.schedule.TextError.TheVariants.{BadLine, NoMe
 abbrev pub world_line : ℕ → List Piece
 world_line slots = word (codes "world") ∷ word (codes "1") ∷ word (codes "1") ∷ word (codes "16") ∷ number 2 65 slots ∷ word (codes "1") ∷ []
 
+-- these words spell the first line
 abbrev pub SpellsWorld : ℕ → List (List ℕ) → Type 0
 SpellsWorld slots words = Spell (world_line slots) words
 
+-- the one number of journal slots that a first line can give
 abbrev pub world_of : List (List ℕ) → Option ℕ
 world_of words = by_first words ((codes "world", Some (number_at 4 words)) ∷ [])
+
+-- what a reader of a world's words gives
+abbrev pub ReadsWorld : Option ℕ → List (List ℕ) → Type 0
+ReadsWorld result words = Reads result (world_of words) (λ slots. SpellsWorld slots words)
 
 -- the lines spell the events, one each
 abbrev pub SpellEvents : List Event → List Numbered → Type 0
@@ -38,10 +44,12 @@ abbrev pub Goes : List Numbered → List ℕ → Type 0
 Goes [] line = (slots : ℕ) × SpellsWorld slots (words_of line)
 Goes (first ∷ others) line = (one : Event) × SpellsEvent one (words_of line)
 
+-- and it doesn't end before it
 abbrev pub Ends : List Numbered → Type 0
 Ends [] = ⊥
 Ends (first ∷ others) = Unit {0}
 
+-- the grammar of schedules
 abbrev pub schedule_grammar : Grammar
 schedule_grammar = record { Goes = Goes; Ends = Ends }
 

@@ -4,7 +4,7 @@ use Rattle.plx_base.specs.declared.write_kind.WriteKind.TheVariants as kind
 use Rattle.plx_model.specs.declared.event.Region.TheVariants as region
 use Rattle.plx_model.specs.declared.event.Stop.{Stop}
 use Rattle.plx_model.specs.declared.event.Stop.TheVariants as stop
-use Rattle.plx_words.specs.Candidates.{by_word}
+use Rattle.plx_words.specs.Candidates.{Reads, by_word}
 use Rattle.plx_words.specs.Pieces.{Piece, Fits, spelled, unspelled, word}
 
 -- the word of a stop. A stop that isn't named here has none yet
@@ -24,3 +24,7 @@ stop_of text = by_word text (
     ∷ (codes "jcommit", Some (stop.Write kind.JCommit))
     ∷ (codes "r-journal", Some (stop.Read region.Journal))
     ∷ [])
+
+-- what a reader of a stop's word gives
+abbrev pub ReadsStop : Option Stop → List ℕ → Type 0
+ReadsStop result text = Reads result (stop_of text) (λ stop. SpellsStop stop text)

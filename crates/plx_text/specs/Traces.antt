@@ -54,13 +54,17 @@ plain_entry (entry.Start appliance command) = entry.Start appliance (plain_comma
 plain_entry (entry.Reply appliance reply) = entry.Reply appliance (plain_reply reply)
 plain_entry (entry.Crash appliance) = entry.Crash appliance
 
+-- the lines of entries
+abbrev pub entry_lines : List Entry → List (List Piece)
+entry_lines entries = map (λ one. entry_line (plain_entry one)) entries
+
 -- the last line of a trace
 abbrev pub end_line : ℕ → ℕ → List Piece
 end_line reachable allocated = word (codes "end") ∷ named (codes "reachable=") (2 ^ 64) reachable ∷ named (codes "allocated=") (2 ^ 64) allocated ∷ []
 
 -- the lines of a trace
 abbrev pub trace_lines : ℕ → List Entry → ℕ → ℕ → List (List Piece)
-trace_lines slots entries reachable allocated = world_line slots ∷ (map (λ one. entry_line (plain_entry one)) entries ++ end_line reachable allocated ∷ [])
+trace_lines slots entries reachable allocated = world_line slots ∷ (entry_lines entries ++ end_line reachable allocated ∷ [])
 
 -- the text of a trace, and of the two counts of its last line
 abbrev pub trace_text : ℕ → List Entry → ℕ → ℕ → List ℕ

@@ -1,8 +1,7 @@
 //! The words of commands.
 
 ghost use Rattle.std.specs.Prelude.{◌∷◌, IfOk, codes};
-ghost use Rattle.plx_words.specs.Candidates.{Reads};
-ghost use Rattle.plx_text.specs.Commands.{SpellsCommand, command_of};
+ghost use Rattle.plx_text.specs.Commands.{ReadsCommand};
 
 use plx_base::{NoMemory, SlotNo};
 use plx_model::Command;
@@ -11,7 +10,7 @@ use std::alloc::Global;
 
 /// The command that the words left of a line spell.
 pub(crate) fn read_command(alloc: Global, words: &mut Words) -> Result<Option<Command>, NoMemory>
-    ensures { IfOk result (λ found. Reads found (command_of words.old) (λ command. SpellsCommand command words.old)) }
+    ensures { IfOk result (λ found. ReadsCommand found words.old) }
 {
     let Some(word) = words.next() else {
         return Ok(None);
@@ -29,7 +28,7 @@ pub(crate) fn read_command(alloc: Global, words: &mut Words) -> Result<Option<Co
 }
 
 fn read_attach(words: &mut Words) -> Option<Command>
-    ensures { Reads result (command_of (codes "attach" ∷ words.old)) (λ command. SpellsCommand command (codes "attach" ∷ words.old)) }
+    ensures { ReadsCommand result (codes "attach" ∷ words.old) }
 {
     let slot = SlotNo(words.small()?);
     words.end()?;
@@ -37,7 +36,7 @@ fn read_attach(words: &mut Words) -> Option<Command>
 }
 
 fn read_read(words: &mut Words) -> Option<Command>
-    ensures { Reads result (command_of (codes "read" ∷ words.old)) (λ command. SpellsCommand command (codes "read" ∷ words.old)) }
+    ensures { ReadsCommand result (codes "read" ∷ words.old) }
 {
     let slot = SlotNo(words.small()?);
     let vblock = words.small()?;
@@ -46,7 +45,7 @@ fn read_read(words: &mut Words) -> Option<Command>
 }
 
 fn read_write(alloc: Global, words: &mut Words) -> Result<Option<Command>, NoMemory>
-    ensures { IfOk result (λ found. Reads found (command_of (codes "write" ∷ words.old)) (λ command. SpellsCommand command (codes "write" ∷ words.old))) }
+    ensures { IfOk result (λ found. ReadsCommand found (codes "write" ∷ words.old)) }
 {
     let Some(slot) = words.small() else {
         return Ok(None);

@@ -1,9 +1,8 @@
 //! The lines of events.
 
 ghost use Rattle.std.specs.Prelude.{◌∷◌, IfOk, codes};
-ghost use Rattle.plx_words.specs.Candidates.{Reads};
-ghost use Rattle.plx_text.specs.Events.{SpellsEvent, event_of};
-ghost use Rattle.plx_text.specs.Schedules.{SpellsWorld, world_of};
+ghost use Rattle.plx_text.specs.Events.{ReadsEvent};
+ghost use Rattle.plx_text.specs.Schedules.{ReadsWorld};
 ghost use Rattle.plx_words.specs.Words.{words_of};
 
 use crate::command::read_command;
@@ -21,7 +20,7 @@ const MOST_READING: u64 = (1 << 48) - 1;
 
 /// The event that a line spells.
 pub(crate) fn read_event(alloc: Global, line: &[u8]) -> Result<Option<Event>, NoMemory>
-    ensures { IfOk result (λ found. Reads found (event_of (words_of line.now)) (λ event. SpellsEvent event (words_of line.now))) }
+    ensures { IfOk result (λ found. ReadsEvent found (words_of line.now)) }
 {
     let mut words = Words::of(line);
     let Some(word) = words.next() else {
@@ -61,7 +60,7 @@ pub(crate) fn read_event(alloc: Global, line: &[u8]) -> Result<Option<Event>, No
 }
 
 fn read_start(alloc: Global, words: &mut Words) -> Result<Option<Event>, NoMemory>
-    ensures { IfOk result (λ found. Reads found (event_of (codes "start" ∷ words.old)) (λ event. SpellsEvent event (codes "start" ∷ words.old))) }
+    ensures { IfOk result (λ found. ReadsEvent found (codes "start" ∷ words.old)) }
 {
     let Some(appliance) = words.small() else {
         return Ok(None);
@@ -74,7 +73,7 @@ fn read_start(alloc: Global, words: &mut Words) -> Result<Option<Event>, NoMemor
 }
 
 fn read_upto(words: &mut Words) -> Option<Event>
-    ensures { Reads result (event_of (codes "upto" ∷ words.old)) (λ event. SpellsEvent event (codes "upto" ∷ words.old)) }
+    ensures { ReadsEvent result (codes "upto" ∷ words.old) }
 {
     let appliance = ApplianceNo(words.small()?);
     let stop = read_stop(words.last()?)?;
@@ -82,7 +81,7 @@ fn read_upto(words: &mut Words) -> Option<Event>
 }
 
 fn read_tick(words: &mut Words) -> Option<Event>
-    ensures { Reads result (event_of (codes "tick" ∷ words.old)) (λ event. SpellsEvent event (codes "tick" ∷ words.old)) }
+    ensures { ReadsEvent result (codes "tick" ∷ words.old) }
 {
     let by = words.number(1, MOST_SMALL)?;
     words.end()?;
@@ -90,7 +89,7 @@ fn read_tick(words: &mut Words) -> Option<Event>
 }
 
 fn read_read(words: &mut Words) -> Option<Event>
-    ensures { Reads result (event_of (codes "read" ∷ words.old)) (λ event. SpellsEvent event (codes "read" ∷ words.old)) }
+    ensures { ReadsEvent result (codes "read" ∷ words.old) }
 {
     let appliance = ApplianceNo(words.small()?);
     words.end()?;
@@ -98,7 +97,7 @@ fn read_read(words: &mut Words) -> Option<Event>
 }
 
 fn read_land(words: &mut Words) -> Option<Event>
-    ensures { Reads result (event_of (codes "land" ∷ words.old)) (λ event. SpellsEvent event (codes "land" ∷ words.old)) }
+    ensures { ReadsEvent result (codes "land" ∷ words.old) }
 {
     let appliance = ApplianceNo(words.small()?);
     let back = words.number(0, u64::MAX)?;
@@ -112,7 +111,7 @@ fn read_land(words: &mut Words) -> Option<Event>
 }
 
 fn read_clock(words: &mut Words) -> Option<Event>
-    ensures { Reads result (event_of (codes "clock" ∷ words.old)) (λ event. SpellsEvent event (codes "clock" ∷ words.old)) }
+    ensures { ReadsEvent result (codes "clock" ∷ words.old) }
 {
     let appliance = ApplianceNo(words.small()?);
     let reading = words.number(0, MOST_READING)?;
@@ -121,7 +120,7 @@ fn read_clock(words: &mut Words) -> Option<Event>
 }
 
 fn read_issue(words: &mut Words) -> Option<Event>
-    ensures { Reads result (event_of (codes "issue" ∷ words.old)) (λ event. SpellsEvent event (codes "issue" ∷ words.old)) }
+    ensures { ReadsEvent result (codes "issue" ∷ words.old) }
 {
     let appliance = ApplianceNo(words.small()?);
     words.end()?;
@@ -129,7 +128,7 @@ fn read_issue(words: &mut Words) -> Option<Event>
 }
 
 fn read_done(words: &mut Words) -> Option<Event>
-    ensures { Reads result (event_of (codes "done" ∷ words.old)) (λ event. SpellsEvent event (codes "done" ∷ words.old)) }
+    ensures { ReadsEvent result (codes "done" ∷ words.old) }
 {
     let appliance = ApplianceNo(words.small()?);
     words.end()?;
@@ -137,7 +136,7 @@ fn read_done(words: &mut Words) -> Option<Event>
 }
 
 fn read_crash(words: &mut Words) -> Option<Event>
-    ensures { Reads result (event_of (codes "crash" ∷ words.old)) (λ event. SpellsEvent event (codes "crash" ∷ words.old)) }
+    ensures { ReadsEvent result (codes "crash" ∷ words.old) }
 {
     let appliance = ApplianceNo(words.small()?);
     words.end()?;
@@ -145,7 +144,7 @@ fn read_crash(words: &mut Words) -> Option<Event>
 }
 
 fn read_run(words: &mut Words) -> Option<Event>
-    ensures { Reads result (event_of (codes "run" ∷ words.old)) (λ event. SpellsEvent event (codes "run" ∷ words.old)) }
+    ensures { ReadsEvent result (codes "run" ∷ words.old) }
 {
     let appliance = ApplianceNo(words.small()?);
     words.end()?;
@@ -154,7 +153,7 @@ fn read_run(words: &mut Words) -> Option<Event>
 
 /// The number of journal slots that a world line gives.
 pub(crate) fn read_world(line: &[u8]) -> Option<u32>
-    ensures { Reads result (world_of (words_of line.now)) (λ slots. SpellsWorld slots (words_of line.now)) }
+    ensures { ReadsWorld result (words_of line.now) }
 {
     let mut words = Words::of(line);
     words.exactly(b"world")?;

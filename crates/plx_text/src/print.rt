@@ -1,8 +1,8 @@
 //! How traces are printed.
-ghost use Rattle.std.specs.Prelude.{◌≡◌, ◌≤◌, ◌++◌, IfOk, OnOk, map};
+ghost use Rattle.std.specs.Prelude.{◌≡◌, ◌≤◌, ◌++◌, IfOk, OnOk};
 ghost use Rattle.plx_text.specs.Commands.{command_line};
 ghost use Rattle.plx_text.specs.Schedules.{world_line};
-ghost use Rattle.plx_text.specs.Traces.{bad_line_text, end_line, entry_line, plain_command, plain_entry, trace_lines, trace_text};
+ghost use Rattle.plx_text.specs.Traces.{bad_line_text, end_line, entry_line, plain_command, entry_lines, plain_entry, trace_lines, trace_text};
 ghost use Rattle.plx_words.specs.Pieces.{all_spelled};
 ghost use Rattle.plx_words.specs.Texts.{LinesFit};
 ghost use Rattle.plx_words.specs.Words.{line_text};
@@ -24,7 +24,8 @@ pub fn print_trace(
     allocated: u64,
 ) -> Result<Text, NoMemory>
     ensures text { IfOk result (λ text. text ≡ trace_text slots entries.now reachable allocated) }
-    ensures fits { IfOk result (λ text. 2 ≤ slots → slots ≤ 64 → LinesFit (trace_lines slots entries.now reachable allocated)) }
+    ensures fits { IfOk result (λ text. 2 ≤ slots → slots ≤ 64
+        → LinesFit (trace_lines slots entries.now reachable allocated)) }
 {
     let mut text = Text::new(alloc);
     push_world(&mut text, slots)?;
@@ -70,7 +71,7 @@ fn push_end(text: &mut Text, reachable: u64, allocated: u64) -> Result<(), NoMem
 }
 
 fn push_entries(text: &mut Text, entries: &[Entry]) -> Result<(), NoMemory>
-    ensures { OnOk result (AddsLines text.old text.new (map (λ one. entry_line (plain_entry one)) entries.now)) }
+    ensures { OnOk result (AddsLines text.old text.new (entry_lines entries.now)) }
 {
     for entry in entries {
         push_entry(text, entry)?;

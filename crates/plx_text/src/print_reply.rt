@@ -47,7 +47,8 @@ fn push_attached(text: &mut Text, report: &Report) -> Result<(), NoMemory>
 }
 
 fn push_data(text: &mut Text, payload: &Payload) -> Result<(), NoMemory>
-    ensures { OnOk result (AddsWords text.old text.new (reply_line (Reply.Data (plain payload.now)))) }
+    ensures { OnOk result
+        (AddsWords text.old text.new (reply_line (Reply.Data (plain payload.now)))) }
 {
     text.words(&[Word::Plain(b"data"), Word::Data(payload)])
 }
@@ -86,7 +87,8 @@ fn push_out_of_range(text: &mut Text, size: u32) -> Result<(), NoMemory>
 }
 
 fn push_lost(text: &mut Text, lease: LeaseName, until: u64, reading: u64) -> Result<(), NoMemory>
-    ensures { OnOk result (AddsWords text.old text.new (reply_line (Reply.Lost lease until reading))) }
+    ensures { OnOk result
+        (AddsWords text.old text.new (reply_line (Reply.Lost lease until reading))) }
 {
     text.words(&[
         Word::Plain(b"lost"),

@@ -1,14 +1,13 @@
 //! The words of stops.
 
-ghost use Rattle.plx_words.specs.Candidates.{Reads};
-ghost use Rattle.plx_text.specs.Stops.{SpellsStop, stop_of};
+ghost use Rattle.plx_text.specs.Stops.{ReadsStop};
 
 use plx_base::WriteKind;
 use plx_model::{Region, Stop};
 
 /// The stop that a word is.
 pub(crate) fn read_stop(word: &[u8]) -> Option<Stop>
-    ensures { Reads result (stop_of word.now) (λ stop. SpellsStop stop word.now) }
+    ensures { ReadsStop result word.now }
 {
     if word == b"jdata".as_slice() {
         return Some(Stop::Write(WriteKind::JData));

@@ -7,10 +7,13 @@ ghost use Rattle.plx_words.specs.Pieces.{IsData, data_spelled, hex_byte, hex_dig
 use plx_base::{BLOCK_LEN, Block, NoMemory, Payload};
 use std::alloc::Global;
 
-/// What a block holds, by a word.
+/// What a block holds, by a word: `all:` and the two digits of one byte, or `hex:` and 8,192 digits.
+/// `hex:` gives `Whole`, also where all bytes are equal. Memory is taken for `hex:` alone.
 pub fn read_data(alloc: Global, word: &[u8]) -> Result<Option<Payload>, NoMemory>
-    ensures some { IfOk result (λ found. IfSome found (λ payload. IsData payload × (word.now ≡ data_spelled payload))) }
-    ensures none { IfOk result (λ found. IfNone found ((payload : Payload) → IsData payload → word.now ≢ data_spelled payload)) }
+    ensures some { IfOk result (λ found. IfSome found
+        (λ payload. IsData payload × (word.now ≡ data_spelled payload))) }
+    ensures none { IfOk result (λ found. IfNone found
+        ((payload : Payload) → IsData payload → word.now ≢ data_spelled payload)) }
 {
     if let Some(digits) = word.strip_prefix(b"all:".as_slice()) {
         return Ok(read_byte(digits).map(Payload::All));
@@ -26,8 +29,10 @@ pub fn read_data(alloc: Global, word: &[u8]) -> Result<Option<Payload>, NoMemory
 
 // The block whose bytes digits spell.
 fn read_block(alloc: Global, digits: &[u8]) -> Result<Option<Block>, NoMemory>
-    ensures some { IfOk result (λ found. IfSome found (λ block. IsData (Payload.Whole block) × (digits.now ≡ flat_map hex_byte block))) }
-    ensures none { IfOk result (λ found. IfNone found ((block : List ℕ) → IsData (Payload.Whole block) → digits.now ≢ flat_map hex_byte block)) }
+    ensures some { IfOk result (λ found. IfSome found
+        (λ block. IsData (Payload.Whole block) × (digits.now ≡ flat_map hex_byte block))) }
+    ensures none { IfOk result (λ found. IfNone found
+        ((block : List ℕ) → IsData (Payload.Whole block) → digits.now ≢ flat_map hex_byte block)) }
 {
     let mut block = Block::zeros(alloc)?;
     let mut rest = digits;

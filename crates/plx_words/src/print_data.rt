@@ -10,7 +10,8 @@ use plx_base::{NoMemory, Payload};
 
 /// What a block holds: one byte where all are equal, else all of them.
 pub(crate) fn push_data(text: &mut Text, payload: &Payload) -> Result<(), NoMemory>
-    ensures text { OnOk result (text.new ≡ text.old ++ data_spelled (payload_of (bytes_of payload.now))) }
+    ensures text { OnOk result
+        (text.new ≡ text.old ++ data_spelled (payload_of (bytes_of payload.now))) }
     ensures fits { OnOk result (IsData (payload_of (bytes_of payload.now))) }
 {
     match payload {

@@ -62,7 +62,8 @@ impl Text {
 
     /// A line at the end, by its words.
     pub fn line(&mut self, first: &[u8], others: &[Word]) -> Result<(), NoMemory>
-        ensures { OnOk result (AddsLine self.old self.new (word first.now ∷ map piece_of others.now)) }
+        ensures { OnOk result
+            (AddsLine self.old self.new (word first.now ∷ map piece_of others.now)) }
     {
         self.begin(first)?;
         self.words(others)?;

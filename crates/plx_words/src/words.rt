@@ -10,7 +10,8 @@ use crate::number::number;
 use plx_base::Label;
 use std::marker::Model;
 
-/// What is left of a line: nothing, or a text of at least one word, which may be empty.
+/// The words of a line that are left. A word may be empty, since each space parts two words. What is
+/// left after a call that gave `None` is not said.
 #[derive(Drop)]
 pub struct Words<'a> {
     rest: Option<&'a [u8]>,
@@ -50,7 +51,7 @@ impl<'a> Words<'a> {
         }
     }
 
-    /// Whether no word is left.
+    /// `Some` where no word is left.
     pub fn end(&self) -> Option<()>
         ensures { MatchOption result (self.now ≢ []) (λ _. self.now ≡ []) }
     {
@@ -83,8 +84,10 @@ impl<'a> Words<'a> {
 
     /// Takes a number from the least one to the most.
     pub fn number(&mut self, least: u64, most: u64) -> Option<u64>
-        ensures some { IfSome result (λ n. (least ≤ n) × (n ≤ most) × (self.old ≡ decimal n ∷ self.new)) }
-        ensures none { IfNone result ((n : ℕ) (rest : List (List ℕ)) → least ≤ n → n ≤ most → self.old ≢ decimal n ∷ rest) }
+        ensures some { IfSome result
+            (λ n. (least ≤ n) × (n ≤ most) × (self.old ≡ decimal n ∷ self.new)) }
+        ensures none { IfNone result ((n : ℕ) (rest : List (List ℕ)) → least ≤ n → n ≤ most
+            → self.old ≢ decimal n ∷ rest) }
     {
         number(self.next()?, least, most)
     }
@@ -92,7 +95,8 @@ impl<'a> Words<'a> {
     /// Takes a number below 2^32.
     pub fn small(&mut self) -> Option<u32>
         ensures some { IfSome result (λ n. (n < 2 ^ 32) × (self.old ≡ decimal n ∷ self.new)) }
-        ensures none { IfNone result ((n : ℕ) (rest : List (List ℕ)) → n < 2 ^ 32 → self.old ≢ decimal n ∷ rest) }
+        ensures none { IfNone result ((n : ℕ) (rest : List (List ℕ)) → n < 2 ^ 32
+            → self.old ≢ decimal n ∷ rest) }
     {
         let value = self.number(0, u64::from(u32::MAX))?;
         Some(value as u32)
@@ -100,8 +104,10 @@ impl<'a> Words<'a> {
 
     /// Takes a name and a number that is at most this.
     pub fn named(&mut self, name: &[u8], most: u64) -> Option<u64>
-        ensures some { IfSome result (λ n. (n ≤ most) × (self.old ≡ (name.now ++ decimal n) ∷ self.new)) }
-        ensures none { IfNone result ((n : ℕ) (rest : List (List ℕ)) → n ≤ most → self.old ≢ (name.now ++ decimal n) ∷ rest) }
+        ensures some { IfSome result
+            (λ n. (n ≤ most) × (self.old ≡ (name.now ++ decimal n) ∷ self.new)) }
+        ensures none { IfNone result ((n : ℕ) (rest : List (List ℕ)) → n ≤ most
+            → self.old ≢ (name.now ++ decimal n) ∷ rest) }
     {
         let word = self.next()?;
         let digits = after(word, name)?;
@@ -111,8 +117,10 @@ impl<'a> Words<'a> {
 
     /// Takes a name and a number below 2^32.
     pub fn named_small(&mut self, name: &[u8]) -> Option<u32>
-        ensures some { IfSome result (λ n. (n < 2 ^ 32) × (self.old ≡ (name.now ++ decimal n) ∷ self.new)) }
-        ensures none { IfNone result ((n : ℕ) (rest : List (List ℕ)) → n < 2 ^ 32 → self.old ≢ (name.now ++ decimal n) ∷ rest) }
+        ensures some { IfSome result
+            (λ n. (n < 2 ^ 32) × (self.old ≡ (name.now ++ decimal n) ∷ self.new)) }
+        ensures none { IfNone result ((n : ℕ) (rest : List (List ℕ)) → n < 2 ^ 32
+            → self.old ≢ (name.now ++ decimal n) ∷ rest) }
     {
         let value = self.named(name, u64::from(u32::MAX))?;
         Some(value as u32)
@@ -120,8 +128,10 @@ impl<'a> Words<'a> {
 
     /// Takes a name and a label.
     pub fn label(&mut self, name: &[u8]) -> Option<Label>
-        ensures some { IfSome result (λ label. IsLabel label × (self.old ≡ (name.now ++ label_spelled label) ∷ self.new)) }
-        ensures none { IfNone result ((label : List ℕ) (rest : List (List ℕ)) → IsLabel label → self.old ≢ (name.now ++ label_spelled label) ∷ rest) }
+        ensures some { IfSome result
+            (λ label. IsLabel label × (self.old ≡ (name.now ++ label_spelled label) ∷ self.new)) }
+        ensures none { IfNone result ((label : List ℕ) (rest : List (List ℕ)) → IsLabel label
+            → self.old ≢ (name.now ++ label_spelled label) ∷ rest) }
     {
         let word = self.next()?;
         let bytes = after(word, name)?;
@@ -133,7 +143,8 @@ impl<'a> Words<'a> {
 // The label that a word spells.
 fn read_label(word: &[u8]) -> Option<Label>
     ensures some { IfSome result (λ label. IsLabel label × (word.now ≡ label_spelled label)) }
-    ensures none { IfNone result ((label : List ℕ) → IsLabel label → word.now ≢ label_spelled label) }
+    ensures none { IfNone result
+        ((label : List ℕ) → IsLabel label → word.now ≢ label_spelled label) }
 {
     if word == b"-".as_slice() {
         return Some(Label::empty());
