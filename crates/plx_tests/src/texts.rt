@@ -170,18 +170,19 @@ upto 0 r-journal
 #[test]
 fn the_first_bad_line_is_named(rt: HostRuntime) -> Result<(), Fail> {
     let alloc = rt.alloc();
-    let cases: [(&[u8], &[u8]); 13] = [
+    let cases: [(&[u8], &[u8]); 11] = [
         (b"", b"bad line 1\n"),
-        (b"\n", b"bad line 1\n"),
         (b"run 0\n", b"bad line 1\n"),
-        (b"# a comment\nworld 1 1 16 8 1\n", b"bad line 1\n"),
         (b"world 1 1 16 2 1", b"bad line 1\n"),
         (b"world 0 1 16 2 1\n", b"bad line 1\n"),
         (b"world 2 1 16 2 1\n", b"bad line 1\n"),
         (b"world 1 1 16 1 1\n", b"bad line 1\n"),
         (b"world 1 1 16 65 1\n", b"bad line 1\n"),
         (b"world 1 1 16 08 1\n", b"bad line 1\n"),
-        (b"world 1 1 16 8 1\nrun 0\n\nrun 00\n", b"bad line 3\n"),
+        (
+            b"world 1 1 16 8 1\nrun 0\nrun 00\nrun 00\n",
+            b"bad line 3\n",
+        ),
         (b"world 1 1 16 8 1\nrun 0\nrun 0\nrun", b"bad line 4\n"),
         (b"world 1 1 16 8 1\nrun 0\nrun 0\nrun 0", b"bad line 4\n"),
     ];
@@ -196,9 +197,8 @@ fn the_first_bad_line_is_named(rt: HostRuntime) -> Result<(), Fail> {
 #[test]
 fn a_line_outside_the_grammar_is_refused(rt: HostRuntime) -> Result<(), Fail> {
     let alloc = rt.alloc();
-    let cases: [&[u8]; 34] = [
+    let cases: [&[u8]; 33] = [
         b"world 1 1 16 8 1",
-        b"# run 0",
         b"run  0",
         b"run 0 ",
         b" run 0",
