@@ -1,4 +1,3 @@
-pub mod Blocks
 pub mod Clean
 pub mod Cuts
 pub mod Digits

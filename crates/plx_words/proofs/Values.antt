@@ -5,12 +5,12 @@ use Rattle.std.proofs.lemmas.Fmt.{decimal_is_IsNumeral}
 use Rattle.std.proofs.lemmas.List.Elements.{All-head, All-tail}
 use Rattle.std.proofs.lemmas.Slice.Eq.{bytes_eq-Decides}
 use Rattle.std.specs.List.{All as Each}
+use Rattle.std.specs.Prelude.{if◌then◌else◌}
 use Rattle.std.specs.Str.{bytes_eq}
 use Rattle.std.specs.Str.Parse.{digits_value}
 use Rattle.plx_base.specs.Labels.{IsLabel}
 use Rattle.plx_base.specs.declared.payload.Payload.{Payload}
 use Rattle.plx_base.specs.declared.payload.Payload.TheVariants.{All, Whole}
-use Rattle.plx_words.proofs.Blocks.{by_false}
 use Rattle.plx_words.specs.Candidates.{data_of, digit_of, hex_bytes, label_of}
 use Rattle.plx_words.specs.Pieces.{IsData, data_spelled, flag, hex_byte, hex_digit, label_spelled}
 
@@ -39,6 +39,10 @@ bytes-value (byte ∷ bytes) fits =
 pub data-value : (payload : Payload) → IsData payload → data_of (data_spelled payload) ≡ payload
 data-value (All byte) fits = ap (λ b. All b) (byte-value byte fits)
 data-value (Whole block) fits = ap (λ b. Whole b) (bytes-value block fits.1)
+
+by_false : {A : Type 0} (test : Bool) (one other : A) → (test ≡ true → ⊥) → (if test then one else other) ≡ other
+by_false true one other told = absurd (told refl)
+by_false false one other told = refl
 
 -- a label
 pub label-value : (bytes : List ℕ) → IsLabel bytes → label_of (label_spelled bytes) ≡ bytes

@@ -1,12 +1,12 @@
 //! How the bytes of blocks are printed.
-ghost use Rattle.std.specs.Prelude.{◌≡◌, ◌<◌, ◌++◌, ◌↔◌, length, codes, flat_map, slice_index, OnOk, IsTrue};
+ghost use Rattle.std.specs.Prelude.{◌≡◌, ◌<◌, ◌++◌, codes, flat_map, OnOk};
 ghost use Rattle.std.specs.List.{All};
 ghost use Rattle.plx_base.specs.Canonical.{payload_of};
 ghost use Rattle.plx_base.specs.Payload.{bytes_of};
 ghost use Rattle.plx_words.specs.Pieces.{IsData, data_spelled, hex_byte, hex_digit};
 
 use crate::text::Text;
-use plx_base::{NoMemory, Payload};
+use plx_base::{Block, NoMemory, Payload};
 
 /// What a block holds: one byte where all are equal, else all of them.
 pub(crate) fn push_data(text: &mut Text, payload: &Payload) -> Result<(), NoMemory>
@@ -16,27 +16,21 @@ pub(crate) fn push_data(text: &mut Text, payload: &Payload) -> Result<(), NoMemo
 {
     match payload {
         Payload::All(byte) => push_all(text, *byte),
-        Payload::Whole(block) => push_block(text, block.as_slice()),
+        Payload::Whole(block) => push_block(text, block),
     }
 }
 
-fn push_block(text: &mut Text, bytes: &[u8]) -> Result<(), NoMemory>
-    requires { length bytes.now ≡ 4096 }
-    ensures text { OnOk result (text.new ≡ text.old ++ data_spelled (payload_of bytes.now)) }
-    ensures fits { OnOk result (IsData (payload_of bytes.now)) }
+fn push_block(text: &mut Text, block: &Block) -> Result<(), NoMemory>
+    ensures text { OnOk result (text.new ≡ text.old ++ data_spelled (payload_of block.now)) }
+    ensures fits { OnOk result (IsData (payload_of block.now)) }
 {
+    let bytes = block.as_slice();
     let first = bytes[0];
-    if are_all(bytes, first) {
+    if block.is_filled(first) {
         return push_all(text, first);
     }
     text.push(b"hex:")?;
     push_each(text, bytes)
-}
-
-fn are_all(bytes: &[u8], byte: u8) -> bool
-    ensures { IsTrue result ↔ All (λ b. b ≡ byte) bytes.now }
-{
-    bytes.iter().all(|b| *b == byte)
 }
 
 fn push_all(text: &mut Text, byte: u8) -> Result<(), NoMemory>
