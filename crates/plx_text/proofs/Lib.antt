@@ -1,4 +1,4 @@
-pub mod Found
-pub mod OnceSchedule
-pub mod OnceTrace
+mod Found
+mod OnceSchedule
+mod OnceTrace
 pub mod ScheduleFiles

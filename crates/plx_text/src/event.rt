@@ -29,9 +29,6 @@ pub(crate) fn read_event(alloc: Global, line: &[u8]) -> Result<Option<Event>, No
     if word == b"tick".as_slice() {
         return Ok(read_tick(&mut words));
     }
-    if word == b"run".as_slice() {
-        return Ok(read_run(&mut words));
-    }
     if word == b"start".as_slice() {
         return read_start(alloc, &mut words);
     }
@@ -53,10 +50,21 @@ pub(crate) fn read_event(alloc: Global, line: &[u8]) -> Result<Option<Event>, No
     if word == b"crash".as_slice() {
         return Ok(read_crash(&mut words));
     }
+    if word == b"run".as_slice() {
+        return Ok(read_run(&mut words));
+    }
     if word == b"upto".as_slice() {
         return Ok(read_upto(&mut words));
     }
     Ok(None)
+}
+
+fn read_tick(words: &mut Words) -> Option<Event>
+    ensures { ReadsEvent result (codes "tick" ∷ words.old) }
+{
+    let by = words.number(1, MOST_SMALL)?;
+    words.end()?;
+    Some(Event::Tick { by: by as u32 })
 }
 
 fn read_start(alloc: Global, words: &mut Words) -> Result<Option<Event>, NoMemory>
@@ -72,28 +80,20 @@ fn read_start(alloc: Global, words: &mut Words) -> Result<Option<Event>, NoMemor
     Ok(Some(Event::Start { appliance, command }))
 }
 
-fn read_upto(words: &mut Words) -> Option<Event>
-    ensures { ReadsEvent result (codes "upto" ∷ words.old) }
-{
-    let appliance = ApplianceNo(words.small()?);
-    let stop = read_stop(words.last()?)?;
-    Some(Event::Upto { appliance, stop })
-}
-
-fn read_tick(words: &mut Words) -> Option<Event>
-    ensures { ReadsEvent result (codes "tick" ∷ words.old) }
-{
-    let by = words.number(1, MOST_SMALL)?;
-    words.end()?;
-    Some(Event::Tick { by: by as u32 })
-}
-
 fn read_read(words: &mut Words) -> Option<Event>
     ensures { ReadsEvent result (codes "read" ∷ words.old) }
 {
     let appliance = ApplianceNo(words.small()?);
     words.end()?;
     Some(Event::Read { appliance })
+}
+
+fn read_issue(words: &mut Words) -> Option<Event>
+    ensures { ReadsEvent result (codes "issue" ∷ words.old) }
+{
+    let appliance = ApplianceNo(words.small()?);
+    words.end()?;
+    Some(Event::Issue { appliance })
 }
 
 fn read_land(words: &mut Words) -> Option<Event>
@@ -110,6 +110,14 @@ fn read_land(words: &mut Words) -> Option<Event>
     })
 }
 
+fn read_done(words: &mut Words) -> Option<Event>
+    ensures { ReadsEvent result (codes "done" ∷ words.old) }
+{
+    let appliance = ApplianceNo(words.small()?);
+    words.end()?;
+    Some(Event::Done { appliance })
+}
+
 fn read_clock(words: &mut Words) -> Option<Event>
     ensures { ReadsEvent result (codes "clock" ∷ words.old) }
 {
@@ -117,22 +125,6 @@ fn read_clock(words: &mut Words) -> Option<Event>
     let reading = words.number(0, MOST_READING)?;
     words.end()?;
     Some(Event::Reading { appliance, reading })
-}
-
-fn read_issue(words: &mut Words) -> Option<Event>
-    ensures { ReadsEvent result (codes "issue" ∷ words.old) }
-{
-    let appliance = ApplianceNo(words.small()?);
-    words.end()?;
-    Some(Event::Issue { appliance })
-}
-
-fn read_done(words: &mut Words) -> Option<Event>
-    ensures { ReadsEvent result (codes "done" ∷ words.old) }
-{
-    let appliance = ApplianceNo(words.small()?);
-    words.end()?;
-    Some(Event::Done { appliance })
 }
 
 fn read_crash(words: &mut Words) -> Option<Event>
@@ -149,6 +141,14 @@ fn read_run(words: &mut Words) -> Option<Event>
     let appliance = ApplianceNo(words.small()?);
     words.end()?;
     Some(Event::Run { appliance })
+}
+
+fn read_upto(words: &mut Words) -> Option<Event>
+    ensures { ReadsEvent result (codes "upto" ∷ words.old) }
+{
+    let appliance = ApplianceNo(words.small()?);
+    let stop = read_stop(words.last()?)?;
+    Some(Event::Upto { appliance, stop })
 }
 
 /// The number of journal slots that a world line gives.

@@ -1,13 +1,13 @@
 pub mod Clean
-pub mod Cuts
-pub mod Digits
+mod Cuts
+mod Digits
 pub mod Heads
 pub mod Nested
 pub mod Once
-pub mod Parts
+mod Parts
 pub mod Pushes
 pub mod SameWords
 pub mod Spaced
-pub mod Splits
+mod Splits
 pub mod Taken
 pub mod Values
