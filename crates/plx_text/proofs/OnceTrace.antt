@@ -1,5 +1,5 @@
 -- A printed trace spells one trace alone.
-use Rattle.std.proofs.Common.{◌≡◌, ◌∙◌, ℕ, true, List, [], ◌∷◌, ◌++◌, map, codes, refl, ap, sym}
+use Rattle.std.proofs.Common.{◌≡◌, ◌∙◌, ℕ, true, arith, List, [], ◌∷◌, ◌++◌, map, codes, refl, ap, sym}
 use Rattle.std.specs.Prelude.{Some, None}
 use Rattle.plx_base.specs.declared.lease.LeaseName.TheVariants.{Root, Image, Extent}
 use Rattle.plx_model.specs.declared.command.Command.{Command}
@@ -52,8 +52,8 @@ count-same n n' words words' name k here there same = sym here ∙ (ap (named_at
 end-same : (reachable reachable' allocated allocated' : ℕ) → AllFit (end_line reachable allocated) → AllFit (end_line reachable' allocated')
     → all_spelled (end_line reachable allocated) ≡ all_spelled (end_line reachable' allocated') → (reachable ≡ reachable') × (allocated ≡ allocated')
 end-same reachable reachable' allocated allocated' fits fits' same = (
-  count-same reachable reachable' _ _ (codes "reachable=") 1 (value reachable fits.1.0) (value reachable' fits'.1.0) same,
-  count-same allocated allocated' _ _ (codes "allocated=") 2 (value allocated fits.1.1.0) (value allocated' fits'.1.1.0) same,
+  count-same reachable reachable' _ _ (codes "reachable=") 1 (value reachable (omega (arith, fits.1.0))) (value reachable' (omega (arith, fits'.1.0))) same,
+  count-same allocated allocated' _ _ (codes "allocated=") 2 (value allocated (omega (arith, fits.1.1.0))) (value allocated' (omega (arith, fits'.1.1.0))) same,
 )
 
 no-end : {X : Type 0} (reachable allocated : ℕ) (one : Entry) → AllFit (entry_line one) → all_spelled (end_line reachable allocated) ≡ all_spelled (entry_line one) → X

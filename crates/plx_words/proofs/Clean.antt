@@ -4,7 +4,7 @@ use Rattle.std.specs.List.{All as Each}
 use Rattle.std.specs.Prelude.{leb}
 use Rattle.std.proofs.lemmas.Bool.{leb-true}
 use Rattle.std.proofs.lemmas.Bool.Decides.{nat_tests}
-use Rattle.std.proofs.lemmas.Fmt.{decimal_by_steps}
+use Rattle.std.proofs.lemmas.Fmt.{decimal_by_steps_wide}
 use Rattle.std.proofs.lemmas.List.Elements.{All-nil, All-cons, All-append}
 use Rattle.plx_base.specs.Labels.{IsLabel}
 use Rattle.plx_base.specs.declared.payload.Payload.{Payload}
@@ -36,9 +36,9 @@ clean-append one other here there = All-append (λ (b : ℕ). 33 ≤ b) one othe
 clean-one : (byte : ℕ) → 33 ≤ byte → Is-clean (byte ∷ [])
 clean-one byte above = All-cons (λ (b : ℕ). 33 ≤ b) byte [] above (All-nil _)
 
-clean-decimal : (n : ℕ) → n < 2 ^ 64 → Is-clean (decimal n)
+clean-decimal : (n : ℕ) → n < 10 ^ 64 → Is-clean (decimal n)
 clean-decimal n fits =
-    decimal_by_steps (λ n digits. Is-clean digits) (λ n below. clean-one (48 + n) (omega arith))
+    decimal_by_steps_wide (λ n digits. Is-clean digits) (λ n below. clean-one (48 + n) (omega arith))
     (λ n digits above told. clean-append digits ((48 + n % 10) ∷ []) told (clean-one (48 + n % 10) (omega arith))) n fits
 
 clean-digit : (value : ℕ) → 33 ≤ hex_digit value
@@ -61,11 +61,11 @@ clean-label (byte ∷ bytes) fits = λ k d below.
     let at = get_or (byte ∷ bytes) k d in
     leb-true 33 at (both (leb 33 at) (leb at 126) (fits.printable k d below)).0
 
--- the words that are written out in a line are clean, and its numbers are below 2^64
+-- the words that are written out in a line are clean, and its numbers have at most 64 digits
 abbrev pub sound : Piece → Bool
 sound (word letters) = clean letters
-sound (number least limit n) = leb limit (2 ^ 64)
-sound (named name limit n) = clean name && leb limit (2 ^ 64)
+sound (number least limit n) = leb limit (10 ^ 64)
+sound (named name limit n) = clean name && leb limit (10 ^ 64)
 sound (label name bytes) = clean name
 sound (data_word payload) = true
 sound unspelled = true
@@ -76,10 +76,10 @@ all_sound (piece ∷ pieces) = sound piece && all_sound pieces
 
 clean-piece : (piece : Piece) → sound piece ≡ true → Fits piece → Is-clean (spelled piece)
 clean-piece (word letters) test fits = clean-word letters test
-clean-piece (number least limit n) test fits = let low = leb-true limit (2 ^ 64) test in clean-decimal n (omega arith)
+clean-piece (number least limit n) test fits = let low = leb-true limit (10 ^ 64) test in clean-decimal n (omega arith)
 clean-piece (named name limit n) test fits =
-    let parts = both (clean name) (leb limit (2 ^ 64)) test in
-    let low = leb-true limit (2 ^ 64) parts.1 in
+    let parts = both (clean name) (leb limit (10 ^ 64)) test in
+    let low = leb-true limit (10 ^ 64) parts.1 in
     clean-append name (decimal n) (clean-word name parts.0) (clean-decimal n (omega arith))
 clean-piece (label name bytes) test fits = clean-append name (label_spelled bytes) (clean-word name test) (clean-label bytes fits)
 clean-piece (data_word payload) test fits = clean-data payload

@@ -1,7 +1,7 @@
 -- A word that was spelled has its value.
 use Rattle.std.proofs.Common.{◌≡◌, ◌<◌, ◌^◌, ◌+◌, ◌*◌, ◌/◌, ◌%◌, ℕ, Bool, true, false, nat_eq, lit<, List, [], ◌∷◌, codes, decimal, flat_map, refl, ap, arith}
 use Rattle.std.proofs.lemmas.Bool.Decides.{nat_tests}
-use Rattle.std.proofs.lemmas.Fmt.{decimal_is_IsNumeral}
+use Rattle.std.proofs.lemmas.Fmt.{decimal_is_IsNumeral_wide}
 use Rattle.std.proofs.lemmas.List.Elements.{All-head, All-tail}
 use Rattle.std.proofs.lemmas.Slice.Eq.{bytes_eq-Decides}
 use Rattle.std.specs.List.{All as Each}
@@ -15,8 +15,8 @@ use Rattle.plx_words.specs.Candidates.{data_of, digit_of, hex_bytes, label_of}
 use Rattle.plx_words.specs.Pieces.{IsData, data_spelled, flag, hex_byte, hex_digit, label_spelled}
 
 -- a number
-pub value : (n : ℕ) → n < 2 ^ 64 → digits_value 10 (decimal n) ≡ n
-value n fits = (decimal_is_IsNumeral n fits).1
+pub value : (n : ℕ) → n < 10 ^ 64 → digits_value 10 (decimal n) ≡ n
+value n fits = (decimal_is_IsNumeral_wide n fits).1
 
 -- 1 or 0
 pub bit-value : (bit : Bool) → nat_eq (digits_value 10 (decimal (flag bit))) 1 ≡ bit
