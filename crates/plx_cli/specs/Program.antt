@@ -11,7 +11,7 @@ use Rattle.plx_text.specs.Once.{SameTrace}
 use Rattle.plx_text.specs.Schedules.{IsSchedule, schedule_grammar}
 use Rattle.plx_text.specs.Traces.{bad_line_text, trace_lines, trace_text}
 use Rattle.plx_words.specs.Files.{IsFirstBad}
-use Rattle.plx_words.specs.Texts.{LinesFit}
+use Rattle.plx_words.specs.Texts.{LinesTell}
 
 -- the most bytes of the input
 abbrev pub input_limit : ℕ
@@ -23,15 +23,15 @@ module _ {A : Type 0} where
   IsReplay (name ∷ word ∷ []) = string_bytes word ≡ codes "replay"
   IsReplay words = ⊥
 
--- a world to which the events lead, in order: the headline holds of it, this is the text of its trace and of its two counts, and each number,
--- label and block of them is within its limits
+-- a world to which the events lead, in order: the headline holds of it, this is the text of its trace and of its two counts, and the words of
+-- the text tell their values
 pub record IsTold (slots : ℕ) (events : List Event) (text : List ℕ) : Type 0 where
   pub world : World
   pub plays : Plays (first_world slots) events world
   pub reached : Reached world
   pub headline : Headline world
   pub trace : text ≡ trace_text slots (reverse world.trace) 0 0
-  pub fits : LinesFit (trace_lines slots (reverse world.trace) 0 0)
+  pub tells : LinesTell (trace_lines slots (reverse world.trace) 0 0)
 
 -- a text that was written tells of one number of journal slots and of one trace alone
 abbrev pub ToldOnce : Type 0

@@ -4,7 +4,7 @@ use Rattle.plx_model.specs.declared.event.Event.{Event}
 use Rattle.plx_words.proofs.Once.{lines-once, one-value}
 use Rattle.plx_words.specs.Files.{Numbered}
 use Rattle.plx_words.specs.Words.{words_of}
-use Rattle.plx_text.proofs.Found.{event-found, world-found}
+use Rattle.plx_text.proofs.Found.{event-spelled, world-spelled}
 use Rattle.plx_text.specs.Events.{SpellsEvent, event_of}
 use Rattle.plx_text.specs.Once.{ScheduleOnce}
 use Rattle.plx_text.specs.Schedules.{SpellSchedule, world_of}
@@ -13,9 +13,9 @@ lines-same : (slots slots' : ℕ) (events events' : List Event) (lines : List Nu
     → (slots ≡ slots') × (events ≡ events')
 lines-same slots slots' events events' [] here there = absurd here
 lines-same slots slots' events events' (line ∷ lines) here there = (
-  one-value (world_of (words_of line.1)) slots slots' (world-found slots (words_of line.1) here.0) (world-found slots' (words_of line.1) there.0),
+  one-value (world_of (words_of line.1)) slots slots' (world-spelled slots (words_of line.1) here.0) (world-spelled slots' (words_of line.1) there.0),
   lines-once (λ (one : Event) (line : Numbered). SpellsEvent one (words_of line.1))
-      (λ (one other : Event) (line : Numbered) is too. one-value (event_of (words_of line.1)) one other (event-found one (words_of line.1) is) (event-found other (words_of line.1) too))
+      (λ (one other : Event) (line : Numbered) is too. one-value (event_of (words_of line.1)) one other (event-spelled one (words_of line.1) is) (event-spelled other (words_of line.1) too))
       events events' lines here.1 there.1,
 )
 

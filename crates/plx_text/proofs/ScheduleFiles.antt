@@ -6,15 +6,15 @@ use Rattle.plx_text.specs.Events.{SpellsEvent, event_of}
 use Rattle.plx_words.specs.Files.{Begins, IsFirstBad, Numbered}
 use Rattle.plx_text.specs.Schedules.{IsSchedule, SpellSchedule, SpellsWorld, schedule_grammar, world_of}
 use Rattle.plx_words.specs.Words.{words_of}
-use Rattle.plx_text.proofs.Found.{event-found, world-found}
+use Rattle.plx_text.proofs.Found.{event-spelled, world-spelled}
 use Rattle.plx_words.proofs.Once.{no-value}
 use Rattle.plx_words.proofs.Taken.{none-bad, spelled-in, spelled-more}
 
 pub no-world : (words : List (List ℕ)) → IfSome (world_of words) (λ slots. ¬ SpellsWorld slots words) → ¬ ((slots : ℕ) × SpellsWorld slots words)
-no-world words none = λ some. no-value (world_of words) (λ slots. SpellsWorld slots words) (λ slots is. world-found slots words is) none some.0 some.1
+no-world words none = λ some. no-value (world_of words) (λ slots. SpellsWorld slots words) (λ slots is. world-spelled slots words is) none some.0 some.1
 
 pub no-event : (words : List (List ℕ)) → IfSome (event_of words) (λ one. ¬ SpellsEvent one words) → ¬ ((one : Event) × SpellsEvent one words)
-no-event words none = λ some. no-value (event_of words) (λ one. SpellsEvent one words) (λ one is. event-found one words is) none some.0 some.1
+no-event words none = λ some. no-value (event_of words) (λ one. SpellsEvent one words) (λ one is. event-spelled one words is) none some.0 some.1
 
 pub begins : (slots : ℕ) (events : List Event) (lines : List Numbered) → SpellSchedule slots events lines → Begins schedule_grammar lines
 begins slots events [] spell = absurd spell

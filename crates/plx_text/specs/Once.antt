@@ -2,7 +2,7 @@
 use Rattle.std.specs.Prelude.{◌≡◌, ℕ, List, map}
 use Rattle.plx_model.specs.declared.entry.Entry.{Entry}
 use Rattle.plx_model.specs.declared.event.Event.{Event}
-use Rattle.plx_words.specs.Texts.{LinesFit}
+use Rattle.plx_words.specs.Texts.{LinesTell}
 use Rattle.plx_text.specs.Schedules.{IsSchedule}
 use Rattle.plx_text.specs.Traces.{plain_entry, trace_lines, trace_text}
 
@@ -13,10 +13,10 @@ pub record SameTrace (slots : ℕ) (entries : List Entry) (reachable allocated s
   pub reachable_same : reachable ≡ reachable'
   pub allocated_same : allocated ≡ allocated'
 
--- a text is the trace of one world alone, where all numbers, labels and blocks of the traces are within their limits
+-- a text is the trace of one world alone, where its words tell their values
 abbrev pub TraceOnce : Type 0
 TraceOnce = (slots slots' : ℕ) (entries entries' : List Entry) (reachable reachable' allocated allocated' : ℕ)
-    → LinesFit (trace_lines slots entries reachable allocated) → LinesFit (trace_lines slots' entries' reachable' allocated')
+    → LinesTell (trace_lines slots entries reachable allocated) → LinesTell (trace_lines slots' entries' reachable' allocated')
     → trace_text slots entries reachable allocated ≡ trace_text slots' entries' reachable' allocated'
     → SameTrace slots entries reachable allocated slots' entries' reachable' allocated'
 

@@ -1,11 +1,9 @@
 //! How traces are printed.
-ghost use Rattle.std.specs.Prelude.{◌≡◌, ◌≤◌, ◌++◌, IfOk, OnOk};
+ghost use Rattle.std.specs.Prelude.{◌≡◌, IfOk, OnOk};
 ghost use Rattle.plx_text.specs.Commands.{command_line};
 ghost use Rattle.plx_text.specs.Schedules.{world_line};
 ghost use Rattle.plx_text.specs.Traces.{bad_line_text, end_line, entry_line, plain_command, entry_lines, plain_entry, trace_lines, trace_text};
-ghost use Rattle.plx_words.specs.Pieces.{all_spelled};
-ghost use Rattle.plx_words.specs.Texts.{LinesFit};
-ghost use Rattle.plx_words.specs.Words.{line_text};
+ghost use Rattle.plx_words.specs.Texts.{LinesTell};
 ghost use Rattle.plx_words.specs.Written.{AddsLine, AddsLines, AddsWords};
 
 use crate::print_reply::push_reply;
@@ -24,8 +22,8 @@ pub fn print_trace(
     allocated: u64,
 ) -> Result<Text, NoMemory>
     ensures text { IfOk result (λ text. text ≡ trace_text slots entries.now reachable allocated) }
-    ensures fits { IfOk result (λ text. 2 ≤ slots → slots ≤ 64
-        → LinesFit (trace_lines slots entries.now reachable allocated)) }
+    ensures tells { IfOk result
+        (λ text. LinesTell (trace_lines slots entries.now reachable allocated)) }
 {
     let mut text = Text::new(alloc);
     push_world(&mut text, slots)?;
@@ -44,7 +42,7 @@ pub fn print_bad_line(alloc: Global, line: u64) -> Result<Text, NoMemory>
 }
 
 fn push_world(text: &mut Text, slots: u32) -> Result<(), NoMemory>
-    ensures { OnOk result (text.new ≡ text.old ++ line_text (all_spelled (world_line slots))) }
+    ensures { OnOk result (AddsLine text.old text.new (world_line slots)) }
 {
     text.line(
         b"world",

@@ -9,7 +9,7 @@ use Rattle.std.proofs.lemmas.List.Elements.{All-nil, All-cons, All-append}
 use Rattle.plx_base.specs.Labels.{IsLabel}
 use Rattle.plx_base.specs.declared.payload.Payload.{Payload}
 use Rattle.plx_base.specs.declared.payload.Payload.TheVariants.{All, Whole}
-use Rattle.plx_words.specs.Pieces.{AllFit, Fits, Piece, all_spelled, data_spelled, data_word, hex_byte, hex_digit, label, label_spelled, named, number, spelled, unspelled, word}
+use Rattle.plx_words.specs.Pieces.{AllFit, AllTell, Fits, Piece, Tells, all_spelled, data_spelled, data_word, hex_byte, hex_digit, label, label_spelled, named, number, spelled, unspelled, word}
 
 -- each byte is printable
 abbrev pub Is-clean : List ℕ → Type 0
@@ -61,11 +61,11 @@ clean-label (byte ∷ bytes) fits = λ k d below.
     let at = get_or (byte ∷ bytes) k d in
     leb-true 33 at (both (leb 33 at) (leb at 126) (fits.printable k d below)).0
 
--- the words that are written out in a line are clean, and its numbers have at most 64 digits
-abbrev pub sound : Piece → Bool
+-- the words that are written out in a line are clean
+abbrev sound : Piece → Bool
 sound (word letters) = clean letters
-sound (number least limit n) = leb limit (10 ^ 64)
-sound (named name limit n) = clean name && leb limit (10 ^ 64)
+sound (number least limit n) = true
+sound (named name limit n) = clean name
 sound (label name bytes) = clean name
 sound (data_word payload) = true
 sound unspelled = true
@@ -74,23 +74,45 @@ abbrev pub all_sound : List Piece → Bool
 all_sound [] = true
 all_sound (piece ∷ pieces) = sound piece && all_sound pieces
 
-clean-piece : (piece : Piece) → sound piece ≡ true → Fits piece → Is-clean (spelled piece)
-clean-piece (word letters) test fits = clean-word letters test
-clean-piece (number least limit n) test fits = let low = leb-true limit (10 ^ 64) test in clean-decimal n (omega arith)
-clean-piece (named name limit n) test fits =
-    let parts = both (clean name) (leb limit (10 ^ 64)) test in
-    let low = leb-true limit (10 ^ 64) parts.1 in
-    clean-append name (decimal n) (clean-word name parts.0) (clean-decimal n (omega arith))
-clean-piece (label name bytes) test fits = clean-append name (label_spelled bytes) (clean-word name test) (clean-label bytes fits)
-clean-piece (data_word payload) test fits = clean-data payload
-clean-piece unspelled test fits = absurd fits
+clean-piece : (piece : Piece) → sound piece ≡ true → Tells piece → Is-clean (spelled piece)
+clean-piece (word letters) test tells = clean-word letters test
+clean-piece (number least limit n) test tells = clean-decimal n tells
+clean-piece (named name limit n) test tells = clean-append name (decimal n) (clean-word name test) (clean-decimal n tells)
+clean-piece (label name bytes) test tells = clean-append name (label_spelled bytes) (clean-word name test) (clean-label bytes tells)
+clean-piece (data_word payload) test tells = clean-data payload
+clean-piece unspelled test tells = absurd tells
 
 abbrev pub All-clean : List (List ℕ) → Type 0
 All-clean [] = Unit {0}
 All-clean (text ∷ texts) = Is-clean text × All-clean texts
 
-pub clean-line : (pieces : List Piece) → all_sound pieces ≡ true → AllFit pieces → All-clean (all_spelled pieces)
-clean-line [] test fits = tt
-clean-line (piece ∷ pieces) test fits =
+pub clean-line : (pieces : List Piece) → all_sound pieces ≡ true → AllTell pieces → All-clean (all_spelled pieces)
+clean-line [] test tells = tt
+clean-line (piece ∷ pieces) test tells =
     let parts = both (sound piece) (all_sound pieces) test in
-    (clean-piece piece parts.0 fits.0, clean-line pieces parts.1 fits.1)
+    (clean-piece piece parts.0 tells.0, clean-line pieces parts.1 tells.1)
+
+-- the numbers of a line have at most 64 digits, by their limits
+abbrev bounded : Piece → Bool
+bounded (number least limit n) = leb limit (10 ^ 64)
+bounded (named name limit n) = leb limit (10 ^ 64)
+bounded other = true
+
+abbrev pub all_bounded : List Piece → Bool
+all_bounded [] = true
+all_bounded (piece ∷ pieces) = bounded piece && all_bounded pieces
+
+fits-tells : (piece : Piece) → bounded piece ≡ true → Fits piece → Tells piece
+fits-tells (word letters) test fits = tt
+fits-tells (number least limit n) test fits = let low = leb-true limit (10 ^ 64) test in omega arith
+fits-tells (named name limit n) test fits = let low = leb-true limit (10 ^ 64) test in omega arith
+fits-tells (label name bytes) test fits = fits
+fits-tells (data_word payload) test fits = fits
+fits-tells unspelled test fits = fits
+
+-- a line within such limits tells its values
+pub line-tells : (pieces : List Piece) → all_bounded pieces ≡ true → AllFit pieces → AllTell pieces
+line-tells [] test fits = tt
+line-tells (piece ∷ pieces) test fits =
+    let parts = both (bounded piece) (all_bounded pieces) test in
+    (fits-tells piece parts.0 fits.0, line-tells pieces parts.1 fits.1)

@@ -1,8 +1,8 @@
 -- Words in a line, and lines in a text.
 use Rattle.std.proofs.Common.{◌≡◌, ◌+◌, ◌<◌, ◌∙◌, ℕ, List, [], ◌∷◌, ◌++◌, length, map, take, get_or, refl, ap, sym, append-nil, append_assoc}
 use Rattle.std.proofs.lemmas.List.{map-append, take_more}
-use Rattle.plx_words.specs.Pieces.{AllFit, Fits, Piece, all_spelled, spelled, word}
-use Rattle.plx_words.specs.Texts.{LinesFit, text_of}
+use Rattle.plx_words.specs.Pieces.{AllTell, Tells, Piece, all_spelled, spelled, word}
+use Rattle.plx_words.specs.Texts.{LinesTell, text_of}
 use Rattle.plx_words.specs.Written.{AddsLine, AddsLines, AddsWords}
 use Rattle.plx_words.specs.Words.{line_text}
 use Rattle.plx_words.specs.Words.{spaced}
@@ -25,9 +25,9 @@ spelled-append : (pieces others : List Piece) → all_spelled (pieces ++ others)
 spelled-append [] others = refl
 spelled-append (piece ∷ pieces) others = ap (λ (words : List (List ℕ)). spelled piece ∷ words) (spelled-append pieces others)
 
-fit-append : (pieces others : List Piece) → AllFit pieces → AllFit others → AllFit (pieces ++ others)
-fit-append [] others here there = there
-fit-append (piece ∷ pieces) others here there = (here.0, fit-append pieces others here.1 there)
+tell-append : (pieces others : List Piece) → AllTell pieces → AllTell others → AllTell (pieces ++ others)
+tell-append [] others here there = there
+tell-append (piece ∷ pieces) others here there = (here.0, tell-append pieces others here.1 there)
 
 -- one more piece
 pub spaced-more : {A : Type 0} (piece_of : A → Piece) (words : List A) (i : ℕ) (next : A) → i < length words → get_or words i next ≡ next
@@ -36,9 +36,9 @@ spaced-more piece_of words i next below e = rw (take_more words i next below, e,
     (spaced-append (all_spelled (map piece_of (take i words))) (spelled (piece_of next) ∷ [])
     ∙ ap (λ (text : List ℕ). spaced (all_spelled (map piece_of (take i words))) ++ text) (spaced-one (spelled (piece_of next))))
 
-pub fit-more : {A : Type 0} (piece_of : A → Piece) (words : List A) (i : ℕ) (next : A) → i < length words → get_or words i next ≡ next
-    → AllFit (map piece_of (take i words)) → Fits (piece_of next) → AllFit (map piece_of (take (i + 1) words))
-fit-more piece_of words i next below e before here = rw (take_more words i next below, e, map-append) (fit-append (map piece_of (take i words)) (piece_of next ∷ []) before (here, tt))
+pub tell-more : {A : Type 0} (piece_of : A → Piece) (words : List A) (i : ℕ) (next : A) → i < length words → get_or words i next ≡ next
+    → AllTell (map piece_of (take i words)) → Tells (piece_of next) → AllTell (map piece_of (take (i + 1) words))
+tell-more piece_of words i next below e before here = rw (take_more words i next below, e, map-append) (tell-append (map piece_of (take i words)) (piece_of next ∷ []) before (here, tt))
 
 -- a line by its parts
 pub line-parts : (first : List ℕ) (others : List (List ℕ)) → line_text (first ∷ others) ≡ first ++ spaced others ++ 10 ∷ []
@@ -62,16 +62,16 @@ pub text-more : {A : Type 0} (line_of : A → List Piece) (values : List A) (i :
     → text_of (map line_of (take (i + 1) values)) ≡ text_of (map line_of (take i values)) ++ line_text (all_spelled (line_of next))
 text-more line_of values i next below e = rw (take_more values i next below, e, map-append) (text-append (map line_of (take i values)) (line_of next ∷ []) ∙ ap (λ (text : List ℕ). text_of (map line_of (take i values)) ++ text) (text-one (line_of next)))
 
-pub lines-fit-append : (lines others : List (List Piece)) → LinesFit lines → LinesFit others → LinesFit (lines ++ others)
-lines-fit-append [] others here there = there
-lines-fit-append (line ∷ lines) others here there = (here.0, lines-fit-append lines others here.1 there)
+pub lines-tell-append : (lines others : List (List Piece)) → LinesTell lines → LinesTell others → LinesTell (lines ++ others)
+lines-tell-append [] others here there = there
+lines-tell-append (line ∷ lines) others here there = (here.0, lines-tell-append lines others here.1 there)
 
 -- one more line
 pub lines-more : {A : Type 0} (line_of : A → List Piece) (values : List A) (i : ℕ) (next : A) (old before after : List ℕ) → i < length values → get_or values i next ≡ next
     → AddsLines old before (map line_of (take i values)) → AddsLine before after (line_of next) → AddsLines old after (map line_of (take (i + 1) values))
 lines-more line_of values i next old before after below e lines line = record {
   text = rw (line.text, lines.text, text-more line_of values i next below e) (simp append_assoc);
-  fits = rw (take_more values i next below, e, map-append) (lines-fit-append (map line_of (take i values)) (line_of next ∷ []) lines.fits (line.fits, tt));
+  tells = rw (take_more values i next below, e, map-append) (lines-tell-append (map line_of (take i values)) (line_of next ∷ []) lines.tells (line.tells, tt));
 }
 
 -- the first line, others, and the last one
@@ -87,5 +87,5 @@ pub line-of-parts : (old begun middle whole after first : List ℕ) (words other
     → after ≡ whole ++ 10 ∷ [] → AddsLine old after (word first ∷ (words ++ others))
 line-of-parts old begun middle whole after first words others begins here there ends = record {
   text = rw (ends, there.text, here.text, begins, line-parts, spelled-append, spaced-append) (simp append_assoc);
-  fits = (tt, fit-append words others here.fits there.fits);
+  tells = (tt, tell-append words others here.tells there.tells);
 }

@@ -11,8 +11,9 @@ use Rattle.std.specs.Str.Parse.{digits_value}
 use Rattle.plx_base.specs.Labels.{IsLabel}
 use Rattle.plx_base.specs.declared.payload.Payload.{Payload}
 use Rattle.plx_base.specs.declared.payload.Payload.TheVariants.{All, Whole}
+use Rattle.plx_words.proofs.Clean.{all_bounded, line-tells}
 use Rattle.plx_words.specs.Candidates.{data_of, digit_of, hex_bytes, label_of}
-use Rattle.plx_words.specs.Pieces.{IsData, data_spelled, flag, hex_byte, hex_digit, label_spelled}
+use Rattle.plx_words.specs.Pieces.{AllTell, IsData, Piece, Spell, all_spelled, data_spelled, flag, hex_byte, hex_digit, label_spelled}
 
 -- a number
 pub value : (n : ℕ) → n < 10 ^ 64 → digits_value 10 (decimal n) ≡ n
@@ -49,3 +50,11 @@ pub label-value : (bytes : List ℕ) → IsLabel bytes → label_of (label_spell
 label-value [] fits = refl
 label-value (byte ∷ bytes) fits =
     by_false (bytes_eq (byte ∷ bytes) (codes "-")) [] (byte ∷ bytes) (λ told. fits.no_hyphen ((bytes_eq-Decides (byte ∷ bytes) (codes "-")).0 told))
+
+-- words that tell the values of these pieces
+abbrev pub Tell : List Piece → List (List ℕ) → Type 0
+Tell pieces words = AllTell pieces × (words ≡ all_spelled pieces)
+
+-- words within limits that are bounded do
+pub spells-tell : (pieces : List Piece) (words : List (List ℕ)) → all_bounded pieces ≡ true → Spell pieces words → Tell pieces words
+spells-tell pieces words test spells = (line-tells pieces test spells.0, spells.1)

@@ -63,6 +63,19 @@ spelled (label name bytes) = name ++ label_spelled bytes
 spelled (data_word payload) = data_spelled payload
 spelled unspelled = []
 
+-- its word tells its value: a number has at most 64 digits, a label is one, and so is a block
+abbrev pub Tells : Piece → Type 0
+Tells (word letters) = Unit {0}
+Tells (number least limit n) = n < 10 ^ 64
+Tells (named name limit n) = n < 10 ^ 64
+Tells (label name bytes) = IsLabel bytes
+Tells (data_word payload) = IsData payload
+Tells unspelled = ⊥
+
+abbrev pub AllTell : List Piece → Type 0
+AllTell [] = Unit {0}
+AllTell (piece ∷ pieces) = Tells piece × AllTell pieces
+
 abbrev pub AllFit : List Piece → Type 0
 AllFit [] = Unit {0}
 AllFit (piece ∷ pieces) = Fits piece × AllFit pieces

@@ -2,8 +2,8 @@
 use Rattle.std.specs.Prelude.{◌≡◌, ℕ, ◌^◌, List, ◌++◌}
 use Rattle.plx_base.specs.Canonical.{payload_of}
 use Rattle.plx_base.specs.Payload.{bytes_of}
-use Rattle.plx_words.specs.Pieces.{AllFit, Piece, all_spelled, data_word, flag, label, named, number, word}
-use Rattle.plx_words.specs.Texts.{LinesFit, text_of}
+use Rattle.plx_words.specs.Pieces.{AllTell, Piece, all_spelled, data_word, flag, label, named, number, word}
+use Rattle.plx_words.specs.Texts.{LinesTell, text_of}
 use Rattle.plx_words.specs.Words.{line_text, spaced}
 use Rattle.plx_words.specs.declared.text.Word.{Word}
 use Rattle.plx_words.specs.declared.text.Word.TheVariants as written
@@ -19,17 +19,17 @@ piece_of (written.Flag name bit) = named name.now 2 (flag bit)
 piece_of (written.Label name label') = label name.now label'.now
 piece_of (written.Data payload) = data_word (payload_of (bytes_of payload.now))
 
--- these words were put at the end of a text, each after a space, and they are within their limits
+-- these words were put at the end of a text, each after a space, and they tell their values
 pub record AddsWords (old new : List ℕ) (pieces : List Piece) : Type 0 where
   pub text : new ≡ old ++ spaced (all_spelled pieces)
-  pub fits : AllFit pieces
+  pub tells : AllTell pieces
 
--- this line was put at the end of a text, and its words are within their limits
+-- this line was put at the end of a text, and its words tell their values
 pub record AddsLine (old new : List ℕ) (pieces : List Piece) : Type 0 where
   pub text : new ≡ old ++ line_text (all_spelled pieces)
-  pub fits : AllFit pieces
+  pub tells : AllTell pieces
 
--- these lines were put at the end of a text, and their words are within their limits
+-- these lines were put at the end of a text, and their words tell their values
 pub record AddsLines (old new : List ℕ) (lines : List (List Piece)) : Type 0 where
   pub text : new ≡ old ++ text_of lines
-  pub fits : LinesFit lines
+  pub tells : LinesTell lines

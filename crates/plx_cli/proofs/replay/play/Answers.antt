@@ -14,6 +14,6 @@ returns c =
     let P : List Event → Type 0 = λ events. PlaysAll c.in_ok-world.world c.play.new.self events in
     let plays = subst P c.as_slice.ensures c.in_ok-play.ensures.ok in
     at-ok _ _ _ c.print_trace.result
-    (λ text is fits. told c.headline.ensures _ _ text _ _ _ c.in_ok-world.world c.play.new.self c.requires.low c.requires.high c.in_ok-world.ensures plays
-    c.trace.ensures c.in_ok-reachable.ensures c.allocated-allocated.ensures is fits)
-    c.print_trace.ensures.text c.print_trace.ensures.fits
+    (λ text is tells. told c.headline.ensures _ _ text _ _ _ c.in_ok-world.world c.play.new.self c.requires.low c.requires.high c.in_ok-world.ensures plays
+    c.trace.ensures c.in_ok-reachable.ensures c.allocated-allocated.ensures is tells)
+    c.print_trace.ensures.text c.print_trace.ensures.tells

@@ -5,7 +5,7 @@ use Rattle.plx_text.specs.Traces.{entry_line, plain_entry}
 use Rattle.plx_text.proofs.print.push_entries.Goals as goal
 
 pub loop-entry-init : goal.loop-entry-init
-loop-entry-init c = record { text = rw (text-none, append-nil); fits = tt }
+loop-entry-init c = record { text = rw (text-none, append-nil); tells = tt }
 
 pub loop-entry-preserved : goal.loop-entry-preserved
 loop-entry-preserved c =

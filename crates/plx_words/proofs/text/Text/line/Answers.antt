@@ -5,4 +5,4 @@ use Rattle.plx_words.proofs.text.Text.line.Goals as goal
 
 pub returns : goal.returns
 returns c = OnOk-map c.end.result c.end.ensures
-    (λ told. record { text = rw (told, c.in_ok-words.ensures.text, c.in_ok-begin.ensures, line-parts) (simp append_assoc); fits = (tt, c.in_ok-words.ensures.fits) })
+    (λ told. record { text = rw (told, c.in_ok-words.ensures.text, c.in_ok-begin.ensures, line-parts) (simp append_assoc); tells = (tt, c.in_ok-words.ensures.tells) })
