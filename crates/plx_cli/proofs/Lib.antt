@@ -1,3 +1,3 @@
 pub mod Given
 pub mod Reached
-pub mod Tellings
+pub mod Told

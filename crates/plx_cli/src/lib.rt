@@ -2,10 +2,10 @@
 #![tactic(auto)]
 
 mod noted;
+mod once;
 mod program;
 mod replay;
 mod status;
-mod told;
 mod words;
 
 pub use noted::NotedSink;

@@ -9,9 +9,9 @@ ghost use Rattle.plx_text.specs.Once.{ScheduleOnce, TraceOnce};
 ghost use Rattle.plx_text.specs.Schedules.{IsSchedule, schedule_grammar};
 ghost use Rattle.plx_words.specs.Files.{IsFirstBad};
 
+use crate::once::told_once;
 use crate::replay::replay;
 use crate::status::{NO_MEMORY, SINK_FAULT, SOURCE_FAULT, TOO_LONG, USAGE};
-use crate::told::told_once;
 use crate::words::is_replay;
 use plx_headline::headline;
 use plx_port::{Failed, ReadError, Sink, Source, read_all, write_all};

@@ -1,7 +1,7 @@
 use Rattle.std.proofs.Common.{List, ℕ, Result, Ok, Err, IfOk, subst}
 use Rattle.plx_model.specs.declared.event.Event.{Event}
 use Rattle.plx_world.specs.Standing.{PlaysAll}
-use Rattle.plx_cli.proofs.Tellings.{told}
+use Rattle.plx_cli.proofs.Told.{told}
 use Rattle.plx_cli.proofs.replay.play.Goals as goal
 
 -- what holds of the value of an answer
