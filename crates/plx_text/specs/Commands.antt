@@ -16,6 +16,7 @@ command_line (Write slot vblock payload) = word (codes "write") ∷ small slot.0
 abbrev pub SpellsCommand : Command → List (List ℕ) → Type 0
 SpellsCommand command words = Spell (command_line command) words
 
+-- the slot that the word at this place can spell
 abbrev pub slot_at : ℕ → List (List ℕ) → SlotNo
 slot_at k words = record { 0 = number_at k words }
 

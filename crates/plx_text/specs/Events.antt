@@ -25,6 +25,7 @@ event_line (event.Upto appliance stop) = word (codes "upto") ∷ small appliance
 abbrev pub SpellsEvent : Event → List (List ℕ) → Type 0
 SpellsEvent one words = Spell (event_line one) words
 
+-- the appliance that the word at this place can spell
 abbrev pub appliance_at : ℕ → List (List ℕ) → ApplianceNo
 appliance_at k words = record { 0 = number_at k words }
 

@@ -9,7 +9,7 @@ use Rattle.plx_model.specs.declared.reply.Report.{Report}
 use Rattle.plx_model.specs.declared.reply.Reply.{Reply}
 use Rattle.plx_model.specs.declared.reply.Reply.TheVariants.{Attached, Data, Written, NotAttached, AlreadyAttached, NoImage, OutOfRange, Lost, ReadFault, WriteFault, Full}
 use Rattle.plx_words.specs.Candidates.{by_first, data_at, label_at, named_at, number_at}
-use Rattle.plx_words.specs.Pieces.{Piece, word, number, named, label, data_word, flag, Spell}
+use Rattle.plx_words.specs.Pieces.{Piece, word, number, named, label, data_word, flag}
 
 -- the word of a lease
 abbrev pub lease_piece : LeaseName → Piece
@@ -29,6 +29,7 @@ report_line report = named (codes "live=") 2 (flag report.live) ∷ named (codes
     ∷ named (codes "writes=") (2 ^ 64) report.writes ∷ named (codes "taken=") (2 ^ 32) report.taken ∷ named (codes "dropped=") (2 ^ 32) report.dropped
     ∷ label (codes "label=") report.label ∷ []
 
+-- the one report that words can spell
 abbrev pub report_of : List (List ℕ) → Report
 report_of words = record {
   live = nat_eq (named_at (codes "live=") 1 words) 1;
@@ -54,10 +55,7 @@ reply_line (ReadFault block) = word (codes "read-fault") ∷ named (codes "block
 reply_line (WriteFault block) = word (codes "write-fault") ∷ named (codes "block=") (2 ^ 64) block.0 ∷ []
 reply_line Full = word (codes "full") ∷ []
 
--- these words spell a reply
-abbrev pub SpellsReply : Reply → List (List ℕ) → Type 0
-SpellsReply reply words = Spell (reply_line reply) words
-
+-- the block that the word at this place can name
 abbrev pub block_at : ℕ → List (List ℕ) → BlockNo
 block_at k words = record { 0 = named_at (codes "block=") k words }
 

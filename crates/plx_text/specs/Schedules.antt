@@ -3,9 +3,9 @@ use Rattle.std.specs.Prelude.{◌≡◌, ℕ, List, [], ◌∷◌, Option, Some,
 use Rattle.plx_model.specs.declared.event.Event.{Event}
 use Rattle.plx_words.specs.Candidates.{Reads, by_first, number_at}
 use Rattle.plx_text.specs.Events.{SpellsEvent}
-use Rattle.plx_words.specs.Files.{Numbered, Grammar, IsFirstBad, SpellAll, contents, left}
+use Rattle.plx_words.specs.Files.{Numbered, Grammar, IsFirstBad, SpellAll, lines_left, unended}
 use Rattle.plx_words.specs.Pieces.{Piece, word, number, Spell}
-use Rattle.plx_words.specs.Words.{split, words_of}
+use Rattle.plx_words.specs.Words.{words_of}
 use Rattle.plx_text.specs.declared.schedule.TextError.{TextError}
 use Rattle.plx_text.specs.declared.schedule.TextError.TheVariants.{BadLine, NoMemory}
 
@@ -36,8 +36,8 @@ SpellSchedule slots events (line ∷ lines) = SpellsWorld slots (words_of line.1
 
 -- the bytes are the schedule of a world with so many journal slots, and of these events
 pub record IsSchedule (bytes : List ℕ) (slots : ℕ) (events : List Event) : Type 0 where
-  pub lines : SpellSchedule slots events (contents 0 (split 10 bytes))
-  pub whole : left (split 10 bytes) ≡ []
+  pub lines : SpellSchedule slots events (lines_left 0 bytes)
+  pub whole : unended bytes ≡ []
 
 -- a schedule begins with the world line, and goes on with lines of events
 abbrev pub Goes : List Numbered → List ℕ → Type 0
@@ -58,6 +58,7 @@ abbrev pub NamesFirstBad : List ℕ → TextError → Type 0
 NamesFirstBad bytes (BadLine line) = IsFirstBad schedule_grammar bytes line
 NamesFirstBad bytes NoMemory = Unit {0}
 
+-- a refusal of a line says that the bytes are no schedule
 abbrev pub SaysNoSchedule : List ℕ → TextError → Type 0
 SaysNoSchedule bytes (BadLine line) = (slots : ℕ) (events : List Event) → ¬ IsSchedule bytes slots events
 SaysNoSchedule bytes NoMemory = Unit {0}

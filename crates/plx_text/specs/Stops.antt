@@ -14,6 +14,7 @@ stop_piece (stop.Write kind.JCommit) = word (codes "jcommit")
 stop_piece (stop.Read region.Journal) = word (codes "r-journal")
 stop_piece other = unspelled
 
+-- this word spells a stop
 abbrev pub SpellsStop : Stop → List ℕ → Type 0
 SpellsStop stop text = Fits (stop_piece stop) × (text ≡ spelled (stop_piece stop))
 

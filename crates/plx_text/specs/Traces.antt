@@ -12,7 +12,7 @@ use Rattle.plx_model.specs.declared.reply.Reply.TheVariants.{Data}
 use Rattle.plx_words.specs.Candidates.{by_first}
 use Rattle.plx_text.specs.Commands.{command_line, command_of}
 use Rattle.plx_text.specs.Events.{appliance_at}
-use Rattle.plx_words.specs.Pieces.{Piece, word, number, small, named, Spell, all_spelled}
+use Rattle.plx_words.specs.Pieces.{Piece, word, number, small, named, all_spelled}
 use Rattle.plx_text.specs.Replies.{reply_line, reply_of}
 use Rattle.plx_text.specs.Schedules.{world_line}
 use Rattle.plx_words.specs.Texts.{text_of}
@@ -24,10 +24,6 @@ entry_line (entry.Start appliance command) = word (codes "start") ∷ small appl
 entry_line (entry.Reply appliance reply) = word (codes "reply") ∷ small appliance.0 ∷ reply_line reply
 entry_line (entry.Crash appliance) = word (codes "crash") ∷ small appliance.0 ∷ []
 
--- these words spell an entry
-abbrev pub SpellsEntry : Entry → List (List ℕ) → Type 0
-SpellsEntry one words = Spell (entry_line one) words
-
 -- the one entry that words can spell
 abbrev pub entry_of : List (List ℕ) → Option Entry
 entry_of words = by_first words (
@@ -36,19 +32,22 @@ entry_of words = by_first words (
     ∷ (codes "crash", Some (entry.Crash (appliance_at 1 words)))
     ∷ [])
 
--- with data by one byte exactly where all bytes are equal
+-- plain data: what a block holds, by one byte exactly where all bytes are equal
 abbrev pub plain : Payload → Payload
 plain payload = payload_of (bytes_of payload)
 
+-- a command with plain data
 abbrev pub plain_command : Command → Command
 plain_command (Attach slot) = Attach slot
 plain_command (Read slot vblock) = Read slot vblock
 plain_command (Write slot vblock payload) = Write slot vblock (plain payload)
 
+-- a reply with plain data
 abbrev pub plain_reply : Reply → Reply
 plain_reply (Data payload) = Data (plain payload)
 plain_reply other = other
 
+-- an entry with plain data
 abbrev pub plain_entry : Entry → Entry
 plain_entry (entry.Start appliance command) = entry.Start appliance (plain_command command)
 plain_entry (entry.Reply appliance reply) = entry.Reply appliance (plain_reply reply)
@@ -74,5 +73,6 @@ trace_text slots entries reachable allocated = text_of (trace_lines slots entrie
 abbrev pub bad_line : ℕ → List Piece
 bad_line n = word (codes "bad") ∷ word (codes "line") ∷ number 1 (2 ^ 64) n ∷ []
 
+-- its text
 abbrev pub bad_line_text : ℕ → List ℕ
 bad_line_text n = line_text (all_spelled (bad_line n))

@@ -24,10 +24,11 @@ abbrev pub flag : Bool → ℕ
 flag true = 1
 flag false = 0
 
--- a digit of base 16, 0 to 9 and a to f, and a byte as two of them
+-- a digit of base 16, 0 to 9 and a to f
 abbrev pub hex_digit : ℕ → ℕ
 hex_digit digit = if nat_lt digit 10 then 48 + digit else 87 + digit
 
+-- a byte as two digits
 abbrev pub hex_byte : ℕ → List ℕ
 hex_byte byte = hex_digit (byte / 16) ∷ hex_digit (byte % 16) ∷ []
 
@@ -36,6 +37,7 @@ abbrev pub data_spelled : Payload → List ℕ
 data_spelled (All byte) = codes "all:" ++ hex_byte byte
 data_spelled (Whole block) = codes "hex:" ++ flat_map hex_byte block
 
+-- the limits of what a block holds
 abbrev pub IsData : Payload → Type 0
 IsData (All byte) = byte < 256
 IsData (Whole block) = (length block ≡ 4096) × Each (λ byte. byte < 256) block
@@ -72,14 +74,17 @@ Tells (label name bytes) = IsLabel bytes
 Tells (data_word payload) = IsData payload
 Tells unspelled = ⊥
 
+-- the words of all pieces tell their values
 abbrev pub AllTell : List Piece → Type 0
 AllTell [] = Unit {0}
 AllTell (piece ∷ pieces) = Tells piece × AllTell pieces
 
+-- all pieces are within their limits
 abbrev pub AllFit : List Piece → Type 0
 AllFit [] = Unit {0}
 AllFit (piece ∷ pieces) = Fits piece × AllFit pieces
 
+-- the words of the pieces
 abbrev pub all_spelled : List Piece → List (List ℕ)
 all_spelled [] = []
 all_spelled (piece ∷ pieces) = spelled piece ∷ all_spelled pieces
