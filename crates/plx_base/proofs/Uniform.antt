@@ -1,5 +1,5 @@
 -- Blocks of one byte throughout.
-use Rattle.std.proofs.Common.{◌≡◌, ℕ, zero, suc, List, [], ◌∷◌, length, replicate, refl, ap, sym, arith, subst}
+use Rattle.std.proofs.Common.{◌≡◌, ◌↔◌, ℕ, zero, suc, List, [], ◌∷◌, length, replicate, refl, ap, sym, arith, subst}
 use Rattle.std.specs.List.{All}
 use Rattle.std.specs.Prelude.{slice_index}
 use Rattle.std.proofs.lemmas.List.{length-replicate}
@@ -16,10 +16,18 @@ replicate-All byte (suc n) (x ∷ xs) e h =
     let rest = replicate-All byte n xs (omega arith) (λ k d below. h (suc k) d (omega arith)) in
     rw first (ap (λ ys. byte ∷ ys) rest)
 
+-- each of so many copies
 All-replicate : (byte n : ℕ) → All (λ b. b ≡ byte) (replicate n byte)
 All-replicate byte zero k d below = absurd (omega arith)
 All-replicate byte (suc n) zero d below = refl
 All-replicate byte (suc n) (suc k) d below = All-replicate byte n k d (omega arith)
+
+-- a list is copies of one byte exactly where each element is that byte
+pub replicate-iff-All : (byte : ℕ) (xs : List ℕ) → (xs ≡ replicate (length xs) byte) ↔ All (λ b. b ≡ byte) xs
+replicate-iff-All byte xs = (
+  (λ e. subst (All (λ b. b ≡ byte)) (sym e) (All-replicate byte (length xs))),
+  λ h. replicate-All byte (length xs) xs refl h,
+)
 
 -- a block whose bytes are all one byte is that byte throughout
 pub filled-All : (byte : ℕ) (xs : List ℕ) → length xs ≡ 4096 → All (λ b. b ≡ byte) xs → xs ≡ filled byte

@@ -12,6 +12,8 @@ use Rattle.plx_text.specs.Schedules.{IsSchedule, schedule_grammar}
 use Rattle.plx_text.specs.Traces.{bad_line_text, trace_lines, trace_text}
 use Rattle.plx_words.specs.Files.{IsFirstBad}
 use Rattle.plx_words.specs.Texts.{LinesTell}
+use Rattle.plx_cli.specs.declared.status.Status.{Status}
+use Rattle.plx_cli.specs.declared.status.Status.TheVariants.{Done, BadLine}
 
 -- the most bytes of the input
 abbrev pub input_limit : ℕ
@@ -56,8 +58,8 @@ abbrev pub IsAnswer : List ℕ → List ℕ → Type 0
 IsAnswer bytes text = IsPlayed bytes text ⊎ IsBad bytes text
 
 -- the same, with the status once it is written
-abbrev pub IsAnswered : List ℕ → ℕ → List ℕ → Type 0
-IsAnswered bytes status text = ((status ≡ 0) × IsPlayed bytes text) ⊎ ((status ≡ 2) × IsBad bytes text)
+abbrev pub IsAnswered : List ℕ → Status → List ℕ → Type 0
+IsAnswered bytes status text = ((status ≡ Done) × IsPlayed bytes text) ⊎ ((status ≡ BadLine) × IsBad bytes text)
 
 -- such a text of these bytes was appended
 abbrev pub Appended : (List ℕ → List ℕ → Type 0) → List ℕ → Option (List ℕ) → Option (List ℕ) → Type 0

@@ -18,6 +18,10 @@ use Rattle.plx_rules.specs.World as rules
 use Rattle.plx_rules.specs.World.{Reached, Step, goes_on, stands}
 use Rattle.plx_world.specs.declared.world.World.{World}
 
+-- what was started, replied and lost, the oldest first
+abbrev pub entries_of : World → List Entry
+entries_of world = world.trace
+
 -- the one appliance
 abbrev pub the_first : ApplianceNo
 the_first = record { 0 = 0 }
@@ -52,10 +56,11 @@ Steps old new event possible =
 abbrev pub LeadsPartly : World → World → Event → Type 0
 LeadsPartly old new event = (w : rules.World) → Stands old w → (v : rules.World) × MakesPartly w event v × Stands new v
 
--- all events of a schedule were played, or some of its plain events, from the first one on
+-- all events of a schedule were played
 abbrev pub PlaysAll : World → World → List Event → Type 0
 PlaysAll old new events = (w : rules.World) → Stands old w → (v : rules.World) × Plays w events v × Stands new v
 
+-- some plain events of a schedule were made, from the first one on
 abbrev pub PlaysSome : World → World → List Event → Type 0
 PlaysSome old new events = (w : rules.World) → Stands old w → (v : rules.World) × PlaysPartly w events v × Stands new v
 
