@@ -102,12 +102,15 @@ impl Block {
     }
 }
 
-/// Whether each of at most 4,096 bytes is this one.
+/// Whether each byte is this one.
 pub fn are_all(bytes: &[u8], byte: u8) -> bool
-    requires { length bytes.now ≤ 4096 }
     ensures { IsTrue result ↔ All (λ b. b ≡ byte) bytes.now }
 {
-    bytes == &[byte; BLOCK_LEN][..bytes.len()]
+    match bytes {
+        [] => true,
+        // Each byte is the one before it.
+        [first, others @ ..] => *first == byte && others == &bytes[..others.len()],
+    }
 }
 
 // Writes bytes over those from a place on.

@@ -9,7 +9,7 @@ use Rattle.plx_text.specs.Schedules.{IsSchedule, schedule_grammar}
 use Rattle.plx_words.specs.Files.{IsFirstBad}
 use Rattle.plx_cli.specs.declared.status.Status.{Status}
 use Rattle.plx_cli.specs.declared.status.Status.TheVariants.{Done, BadLine, SinkFault, NoMemory}
-use Rattle.plx_cli.specs.Program.{Appended, IsBad, IsGiven, IsPlayed, input_limit}
+use Rattle.plx_cli.specs.Program.{Appended, IsBad, IsGiven, IsTrace, input_limit}
 
 -- what was read to the end was taken, byte for byte
 pub ends-taken : (old new : Option (List ℕ)) (bytes : List ℕ) → ReadsToEnd old new bytes → TakesCount old new (length bytes)
@@ -35,7 +35,7 @@ not-long (Some left) new bytes before after taken given =
 
 module _ (status : Status) (read bytes : List ℕ) (held held' : Option (List ℕ)) where
   -- where there is a bad line, the work isn't done
-  pub answers-bad : (line : ℕ) → (status ≡ Done) ⊎ (status ≡ BadLine) ⊎ (status ≡ SinkFault) ⊎ (status ≡ NoMemory) → (status ≡ Done → Appended IsPlayed read held held') → read ≡ bytes →
+  pub answers-bad : (line : ℕ) → (status ≡ Done) ⊎ (status ≡ BadLine) ⊎ (status ≡ SinkFault) ⊎ (status ≡ NoMemory) → (status ≡ Done → Appended IsTrace read held held') → read ≡ bytes →
       IsFirstBad schedule_grammar bytes line → (status ≡ BadLine) ⊎ (status ≡ SinkFault) ⊎ (status ≡ NoMemory)
   answers-bad line (inr others) done same first = others
   answers-bad line (inl finished) done same first =

@@ -41,7 +41,7 @@ ToldOnce = (slots slots' : ℕ) (events events' : List Event) (text : List ℕ) 
     → SameTrace slots (reverse told.world.trace) 0 0 slots' (reverse told'.world.trace) 0 0
 
 -- the bytes are a schedule, and this text tells of the world to which its events lead
-pub record IsPlayed (bytes text : List ℕ) : Type 0 where
+pub record IsTrace (bytes text : List ℕ) : Type 0 where
   pub slots : ℕ
   pub events : List Event
   pub schedule : IsSchedule bytes slots events
@@ -55,11 +55,11 @@ pub record IsBad (bytes text : List ℕ) : Type 0 where
 
 -- what is to be written for an input
 abbrev pub IsAnswer : List ℕ → List ℕ → Type 0
-IsAnswer bytes text = IsPlayed bytes text ⊎ IsBad bytes text
+IsAnswer bytes text = IsTrace bytes text ⊎ IsBad bytes text
 
 -- the same, with the status once it is written
-abbrev pub IsAnswered : List ℕ → Status → List ℕ → Type 0
-IsAnswered bytes status text = ((status ≡ Done) × IsPlayed bytes text) ⊎ ((status ≡ BadLine) × IsBad bytes text)
+abbrev pub IsOutcome : List ℕ → Status → List ℕ → Type 0
+IsOutcome bytes status text = ((status ≡ Done) × IsTrace bytes text) ⊎ ((status ≡ BadLine) × IsBad bytes text)
 
 -- such a text of these bytes was appended
 abbrev pub Appended : (List ℕ → List ℕ → Type 0) → List ℕ → Option (List ℕ) → Option (List ℕ) → Type 0

@@ -1,6 +1,6 @@
 //! The top call.
 ghost use Rattle.std.specs.Prelude.{◌≡◌, ◌≢◌, ◌≤◌, ◌+◌, ◌⊎◌, ◌↔◌, ℕ, List};
-ghost use Rattle.plx_cli.specs.Program.{Appended, AppendedPart, IsAnswer, IsBad, IsGiven, IsPlayed, IsReplay, ReadsSuch, ToldOnce, input_limit};
+ghost use Rattle.plx_cli.specs.Program.{Appended, AppendedPart, IsAnswer, IsBad, IsGiven, IsTrace, IsReplay, ReadsSuch, ToldOnce, input_limit};
 ghost use Rattle.plx_model.specs.declared.event.Event.{Event};
 ghost use Rattle.plx_port.specs.Faults.{Rose};
 ghost use Rattle.plx_port.specs.Streams.{TakesCount};
@@ -41,7 +41,7 @@ pub fn run<S: Source, K: Sink>(
 
     // What was written: the trace of the schedule, or the number of its first bad line, or a part of it.
     ensures done { result ≡ Status.Done → ReadsSuch (S.left source.old) (S.left source.new)
-        (λ bytes. Appended IsPlayed bytes (K.held sink.old) (K.held sink.new)) }
+        (λ bytes. Appended IsTrace bytes (K.held sink.old) (K.held sink.new)) }
     ensures bad { result ≡ Status.BadLine → ReadsSuch (S.left source.old) (S.left source.new)
         (λ bytes. Appended IsBad bytes (K.held sink.old) (K.held sink.new)) }
     ensures part { result ≡ Status.SinkFault → ReadsSuch (S.left source.old) (S.left source.new)
@@ -85,7 +85,7 @@ pub fn run<S: Source, K: Sink>(
 // Writes what is to be written for an input.
 fn answer<K: Sink>(alloc: Global, bytes: &[u8], sink: &mut K) -> Status
     ensures status { (result ≡ Status.Done) ⊎ (result ≡ Status.BadLine) ⊎ (result ≡ Status.SinkFault) ⊎ (result ≡ Status.NoMemory) }
-    ensures done { result ≡ Status.Done → Appended IsPlayed bytes.now (K.held sink.old) (K.held sink.new) }
+    ensures done { result ≡ Status.Done → Appended IsTrace bytes.now (K.held sink.old) (K.held sink.new) }
     ensures bad { result ≡ Status.BadLine → Appended IsBad bytes.now (K.held sink.old) (K.held sink.new) }
     ensures part { result ≡ Status.SinkFault → AppendedPart IsAnswer bytes.now (K.held sink.old) (K.held sink.new) }
     ensures silent { result ≡ Status.NoMemory → sink.new ≡ sink.old }

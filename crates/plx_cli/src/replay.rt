@@ -1,6 +1,6 @@
 //! A schedule is played, in memory.
 ghost use Rattle.std.specs.Prelude.{◌≤◌, IfOk};
-ghost use Rattle.plx_cli.specs.Program.{IsAnswered, IsTold};
+ghost use Rattle.plx_cli.specs.Program.{IsOutcome, IsTold};
 
 use crate::status::Status;
 use plx_base::NoMemory;
@@ -18,7 +18,7 @@ pub(crate) struct Answer {
 
 /// Plays the schedule that the bytes spell, or names their first bad line.
 pub(crate) fn replay(alloc: Global, bytes: &[u8]) -> Result<Answer, NoMemory>
-    ensures { IfOk result (λ answer. IsAnswered bytes.now answer.status answer.text) }
+    ensures { IfOk result (λ answer. IsOutcome bytes.now answer.status answer.text) }
 {
     match read_schedule(alloc, bytes) {
         Ok(schedule) => {

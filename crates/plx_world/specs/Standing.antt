@@ -1,10 +1,13 @@
 -- What the program's world stands for, and what its calls make of that.
-use Rattle.std.specs.Prelude.{◌≡◌, ℕ, List, [], ◌∷◌, ◌++◌, reverse, Bool, MatchBool, Option, Some, None}
+use Rattle.std.specs.Prelude.{◌≡◌, ℕ, List, [], ◌∷◌, length, reverse, Bool, MatchBool, Option, Some, None}
 use Rattle.plx_appliance.specs.Appliance.{StandsFor}
 use Rattle.plx_base.specs.declared.numbers.ApplianceNo.{ApplianceNo}
 use Rattle.plx_disk.specs.Standing.{Stands as DiskStands}
+use Rattle.plx_disk.specs.Writes.{Surface}
 use Rattle.plx_disk.specs.declared.ask.Answer.{Answer}
+use Rattle.plx_disk.specs.declared.ask.Answer.TheVariants as answer
 use Rattle.plx_disk.specs.declared.ask.Ask.{Ask}
+use Rattle.plx_disk.specs.declared.disk.Disk.{Disk}
 use Rattle.plx_model.specs.declared.entry.Entry.{Entry}
 use Rattle.plx_model.specs.declared.entry.Entry.TheVariants as entry
 use Rattle.plx_model.specs.declared.event.Event.{Event}
@@ -73,6 +76,14 @@ abbrev pub IsAnswered : World → World → Answer → Type 0
 IsAnswered old new answer =
     (w : rules.World) (event : Event) (ask : Ask) (bytes : List ℕ) (part : Part End) → Stands old w → stands w 0 ≡ In part →
     Stands new (goes_on w event the_first ask bytes part answer)
+
+-- the answer is the bytes that stand in the block, 4,096 of them
+abbrev pub GivesBlock : Disk → ℕ → Answer → Type 0
+GivesBlock disk block (answer.Bytes bytes) = (length bytes ≡ 4096) × ((s : Surface) → DiskStands disk s → bytes ≡ s.device block)
+GivesBlock disk block answer.Done = ⊥
+GivesBlock disk block (answer.Reading reading) = ⊥
+GivesBlock disk block (answer.Missed reading) = ⊥
+GivesBlock disk block answer.Fault = ⊥
 
 -- what a reply adds to a trace
 abbrev pub told_entries : Option Reply → List Entry
