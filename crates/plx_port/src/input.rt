@@ -1,5 +1,6 @@
 //! A source over a reader of the standard library, such as standard input.
 ghost use Rattle.std.specs.Prelude.{◌≡◌, ◌≤◌, MatchResult, IfOk, length, drop};
+ghost use Rattle.plx_port.specs.Adapters.{source_over};
 ghost use Rattle.plx_port.specs.Streams.{Gives};
 
 use crate::{Failed, Source};
@@ -16,7 +17,7 @@ pub struct ReadSource<B> {
 impl<B: BufRead> ReadSource<B> {
     /// A source over a reader, which has not failed.
     pub fn new(reader: B) -> ReadSource<B>
-        ensures { result ≡ record { reader = reader; faults = 0 } }
+        ensures { result ≡ source_over reader }
     {
         ReadSource { reader, faults: 0 }
     }
