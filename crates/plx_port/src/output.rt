@@ -46,7 +46,8 @@ impl<W: Write> Sink for WriteSink<W> {
 fn write_once<W: Write>(writer: &mut W, bytes: &[u8]) -> Result<usize, Failed>
     ensures count { IfOk result (λ n. n ≤ length bytes.now) }
     ensures some { IfOk result (λ n. 0 < n) }
-    ensures appended { WriteAppends (W.contents writer.old) (W.contents writer.new) result bytes.now }
+    ensures appended { WriteAppends (W.contents writer.old)
+        (W.contents writer.new) result bytes.now }
 {
     for _ in 0..u64::MAX {
         match writer.write(bytes) {
