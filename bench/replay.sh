@@ -1,6 +1,7 @@
 #!/usr/bin/env bash
-# Plays a generated schedule of 300,000 lines with `plx replay`, and prints plain events a second, input bytes a second and peak memory,
-# beside the time that `cat` takes over the same bytes. Not a part of the gate.
+# Plays two generated schedules of 300,000 lines with `plx replay`, and prints plain events a second, input bytes a second and peak
+# memory, beside the time that `cat` takes over the same bytes. Each word is a further program that is timed in turn with it, such as
+# an older build. Not a part of the gate.
 set -eu
 cd "$(dirname "$0")/.."
 work=$(mktemp -d)
@@ -8,40 +9,69 @@ trap 'rm -rf "$work"' EXIT
 
 # Builds plx, and finds it.
 (cd crates/plx && rt run -- replay < ../../examples/first.plx > /dev/null)
-plx=$(find crates/plx/out -type f -name plx -perm -u+x | head -1)
+plx=crates/plx/out/plx
+[ -x "$plx" ] || { echo "replay.sh: $plx isn't there" >&2; exit 1; }
 
-# 64 writes fill the journal; then rounds of a crash, an attach that reads 64 descriptors with their data, and reads.
-python3 - "$work/schedule" <<'PY'
+# attaches: 64 writes fill the journal; then rounds of a crash, an attach that reads 64 descriptors with their data, and reads.
+# landings: rounds of an attach of an empty journal, a write whose sectors land one by one but for the first of its descriptor, and a
+# crash.
+python3 - "$work" <<'PY'
 import sys
-lines, events = ["world 1 1 16 64 1", "start 0 attach 0", "run 0"], 1 + 1 + 64 + 1
-for number in range(64):
-    lines += [f"start 0 write 0 {number % 8} all:{number:02x}", "run 0"]
-    events += 1 + 1 + 10 + 10 + 1
-while len(lines) < 300_000:
-    lines += ["crash 0", "start 0 attach 0", "run 0"]
-    events += 1 + 1 + 1 + 128 + 1
-    for vblock in range(8):
-        lines += ["tick 1", f"start 0 read 0 {vblock}", "run 0"]
-        events += 1 + 1 + 2
-with open(sys.argv[1], "w") as out:
-    out.write("\n".join(lines) + "\n")
-with open(sys.argv[1] + ".events", "w") as out:
-    out.write(str(events))
+LINES = 300_000
+
+def attaches():
+    yield from [("world 1 1 16 64 1", 0), ("start 0 attach 0", 1), ("run 0", 1 + 64 + 1)]
+    for number in range(64):
+        yield from [(f"start 0 write 0 {number % 8} all:{number:02x}", 1), ("run 0", 1 + 10 + 10 + 1)]
+    while True:
+        yield from [("crash 0", 1), ("start 0 attach 0", 1), ("run 0", 1 + 128 + 1)]
+        for vblock in range(8):
+            yield from [("tick 1", 1), (f"start 0 read 0 {vblock}", 1), ("run 0", 2)]
+
+def landings():
+    yield ("world 1 1 16 2 1", 0)
+    number = 0
+    while True:
+        yield from [("start 0 attach 0", 1), ("run 0", 1 + 2 + 1)]
+        yield from [(f"start 0 write 0 {number % 8} all:{number % 256:02x}", 1), ("clock 0 1000", 1), ("issue 0", 1)]
+        yield from [(f"land 0 0 {(5 * place + number) % 8}", 1) for place in range(8)]
+        yield from [("done 0", 1), ("issue 0", 1)]
+        yield from [(f"land 0 0 {sector}", 1) for sector in range(7, 0, -1)]
+        yield ("crash 0", 1)
+        number += 1
+
+for name, lines in ("attaches", attaches()), ("landings", landings()):
+    events = 0
+    with open(f"{sys.argv[1]}/{name}", "w") as out:
+        for _, (line, count) in zip(range(LINES), lines):
+            print(line, file=out)
+            events += count
+    with open(f"{sys.argv[1]}/{name}.events", "w") as out:
+        print(events, file=out)
 PY
 
-python3 - "$plx" "$work/schedule" <<'PY'
-import os, resource, subprocess, sys, time
-plx, path = sys.argv[1:]
-size, events = os.path.getsize(path), int(open(path + ".events").read())
-def timed(command):
+python3 - "$work" "$plx" "$@" <<'PY'
+import os, subprocess, sys, time
+work, programs = sys.argv[1], sys.argv[2:]
+
+def timed(command, path):
+    """The seconds that a command takes over a file, and its peak memory in MiB."""
     with open(path) as source, open(os.devnull, "w") as sink:
         begun = time.monotonic()
-        subprocess.run(command, stdin=source, stdout=sink, check=True)
-        return time.monotonic() - begun
-copy = min(timed(["cat"]) for _ in range(3))
-play = min(timed([plx, "replay"]) for _ in range(3))
-peak = resource.getrusage(resource.RUSAGE_CHILDREN).ru_maxrss
-print(f"lines 300000 input_bytes {size} plain_events {events}")
-print(f"replay {play:.3f} s  events/s {events / play:,.0f}  input bytes/s {size / play:,.0f}  peak memory {peak / 1024:.1f} MiB")
-print(f"cat {copy:.4f} s")
+        child = subprocess.Popen(command, stdin=source, stdout=sink)
+        _, status, used = os.wait4(child.pid, 0)
+        taken = time.monotonic() - begun
+    if status:
+        sys.exit(f"replay.sh: {command[0]} ended with {status}")
+    return taken, used.ru_maxrss / 1024
+
+for name in "attaches", "landings":
+    path = f"{work}/{name}"
+    size, events = os.path.getsize(path), int(open(f"{path}.events").read())
+    print(f"{name}: 300000 lines, {size} input bytes, {events} plain events")
+    runs = [[timed([program, "replay"], path) for program in programs] for _ in range(5)]
+    for program, figures in zip(programs, zip(*runs)):
+        best, peak = min(it[0] for it in figures), max(it[1] for it in figures)
+        print(f"  {program}: {best:.3f} s, {events / best:,.0f} events/s, {size / best:,.0f} input bytes/s, peak memory {peak:.1f} MiB")
+    print(f"  cat: {min(timed(['cat'], path)[0] for _ in range(5)):.4f} s")
 PY

@@ -4,6 +4,10 @@ use Rattle.plx_rules.specs.Boot.{Position, Idle, Happening, position, asks}
 use Rattle.plx_appliance.specs.Places.{place_of, left_of, known_in}
 use Rattle.plx_appliance.specs.declared.appliance.Appliance.{Appliance}
 
+-- how many slots an image's journal has
+abbrev pub journal_slots : Appliance → ℕ
+journal_slots appliance = appliance.slots
+
 -- where an appliance stands
 abbrev pub place : Appliance → Position
 place appliance = place_of appliance.slots appliance.state
@@ -12,10 +16,11 @@ place appliance = place_of appliance.slots appliance.state
 abbrev pub StandsFor : Appliance → List Happening → Type 0
 StandsFor appliance log = position appliance.slots log ≡ place appliance
 
--- an appliance is in no command, or in one
+-- an appliance is in no command
 abbrev pub IsIdle : Appliance → Type 0
 IsIdle appliance = place appliance ≡ Idle (known_in appliance.state)
 
+-- an appliance is in a command
 abbrev pub IsRunning : Appliance → Type 0
 IsRunning appliance = IsSome (asks (place appliance))
 

@@ -27,6 +27,7 @@ use Rattle.plx_appliance.specs.declared.state.Turn.TheVariants as turn
 abbrev pub session_of : Session → KnownSession
 session_of session = record { slot = 0; image = first_record; writes = session.writes.items }
 
+-- what an appliance knows with a session or without one
 abbrev pub known_of : Option Session → Known
 known_of None = nothing_known
 known_of (Some session) = record { sessions = session_of session ∷ [] }
@@ -39,6 +40,7 @@ load_rest slots l = load slots nothing_known 0 first_record (slots - l.at) l.at 
 abbrev pub fetched : Fetch → List ℕ → Journaled
 fetched f bytes = record { number = f.descriptor.number; vblock = f.descriptor.vblock; block = bytes }
 
+-- what is left of an attach at the data of a slot
 abbrev pub fetch_rest : ℕ → Fetch → Part End
 fetch_rest slots f =
     read_then (data_at slots 0 f.load.at) nothing_known (λ bytes.
@@ -52,12 +54,15 @@ read_rest session block = ClockThen (λ reading. ends (reply.Data (payload_of bl
 abbrev pub confirm_rest : Change → Part End
 confirm_rest c = write_ends (known_of (Some c.session)) (session_of c.session) c.vblock c.block
 
+-- the journal slot that a write takes
 abbrev pub slot_of : ℕ → Change → ℕ
 slot_of slots c = journal_slot slots (write_count (session_of c.session) + 1)
 
+-- what is left of a write at its descriptor
 abbrev pub commit_rest : ℕ → Change → Part End
 commit_rest slots c = write_then kind.JCommit (descriptor_at slots 0 (slot_of slots c)) c.spelled 0 (confirm_rest c)
 
+-- what is left of a write at its data
 abbrev pub fill_rest : ℕ → Change → Part End
 fill_rest slots c = write_then kind.JData (data_at slots 0 (slot_of slots c)) c.block 0 (commit_rest slots c)
 
@@ -99,6 +104,7 @@ abbrev pub room_of : ℕ → Option Session → ℕ
 room_of slots None = slots
 room_of slots (Some session) = session.slots
 
+-- how many journal slots the sessions of a state are for
 abbrev pub slots_of : ℕ → State → ℕ
 slots_of slots (state.Idle session) = room_of slots session
 slots_of slots (state.Refusing session reply) = room_of slots session
@@ -122,6 +128,7 @@ abbrev pub state_after : Turn → State
 state_after (turn.On state) = state
 state_after (turn.End session reply) = state.Idle session
 
+-- the reply to which an answer leads, if the command ends
 abbrev pub reply_after : Turn → Option Reply
 reply_after (turn.On state) = None
 reply_after (turn.End session reply) = Some reply

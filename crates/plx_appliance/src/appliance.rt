@@ -34,14 +34,14 @@ impl Appliance {
     ghost use Rattle.plx_disk.specs.declared.ask.Ask.{Ask};
     ghost use Rattle.plx_rules.specs.Boot.{Happening, Began, Asked, asks, writes_out, went_on, replies};
     ghost use Rattle.plx_appliance.specs.Places.{AreWhole, FitsAsk, IsOnDevice};
-    ghost use Rattle.plx_appliance.specs.Appliance.{IsIdle, IsRunning, StandsFor, asks_left, place};
+    ghost use Rattle.plx_appliance.specs.Appliance.{IsIdle, IsRunning, StandsFor, asks_left, journal_slots, place};
 
     /// An appliance that was asked nothing yet, where an image's journal has so many slots.
     pub fn fresh(slots: u32) -> Appliance
         requires low { 2 ≤ slots }
         requires high { slots ≤ 64 }
         ensures log { StandsFor result [] }
-        ensures slots { result.slots ≡ slots }
+        ensures slots { journal_slots result ≡ slots }
         ensures idle { IsIdle result }
     {
         Appliance {
@@ -61,11 +61,13 @@ impl Appliance {
     /// A command begins, with all the memory that it can need. Without memory nothing changes.
     pub fn begin(&mut self, alloc: Global, command: Command) -> Result<(), NoMemory>
         requires { IsIdle self.old }
-        ensures ok { OnOk result ((log : List Happening) → StandsFor self.old log → StandsFor self.new (Began command ∷ log)) }
+        ensures ok { OnOk result ((log : List Happening) → StandsFor self.old log
+            → StandsFor self.new (Began command ∷ log)) }
         ensures running { OnOk result (IsRunning self.new) }
-        ensures err { OnErr result ((log : List Happening) → StandsFor self.old log → StandsFor self.new log) }
+        ensures err { OnErr result ((log : List Happening) → StandsFor self.old log
+            → StandsFor self.new log) }
         ensures idle { OnErr result (IsIdle self.new) }
-        ensures slots { self.new.slots ≡ self.old.slots }
+        ensures slots { journal_slots self.new ≡ journal_slots self.old }
     {
         let known = match mem::replace(&mut self.state, State::Idle(None)) {
             State::Idle(known) => known,
@@ -87,7 +89,7 @@ impl Appliance {
     pub fn ask(&self) -> Ask
         requires { IsRunning self.now }
         ensures ask { Some result ≡ asks (place self.now) }
-        ensures within { IsOnDevice self.now.slots result }
+        ensures within { IsOnDevice (journal_slots self.now) result }
     {
         let slots = self.slots;
         match &self.state {
@@ -139,10 +141,12 @@ impl Appliance {
     pub fn answer(&mut self, answer: &Answer) -> Option<Reply>
         requires { IsRunning self.old }
         ensures place { place self.new ≡ went_on answer.now (place self.old) }
-        ensures log { (ask : Ask) (bytes : List ℕ) (log : List Happening) → StandsFor self.old log → StandsFor self.new (Asked ask bytes answer.now ∷ log) }
+        ensures log { (ask : Ask) (bytes : List ℕ) (log : List Happening) → StandsFor self.old log
+            → StandsFor self.new (Asked ask bytes answer.now ∷ log) }
         ensures reply { result ≡ replies answer.now (place self.old) }
-        ensures fewer { FitsAsk (asks (place self.old)) answer.now → asks_left self.new < asks_left self.old }
-        ensures slots { self.new.slots ≡ self.old.slots }
+        ensures fewer { FitsAsk (asks (place self.old)) answer.now
+            → asks_left self.new < asks_left self.old }
+        ensures slots { journal_slots self.new ≡ journal_slots self.old }
     {
         let state = mem::replace(&mut self.state, State::Idle(None));
         match turned(self.slots, state, answer) {
@@ -167,7 +171,8 @@ fn begun(
 ) -> Result<State, Option<Session>>
     requires room { room_of slots known ≡ slots }
     requires small { slots ≤ 64 }
-    ensures ok { IfOk result (λ s. place_of slots s ≡ In (command_part slots (known_of known) command)) }
+    ensures ok { IfOk result (λ s. place_of slots s
+        ≡ In (command_part slots (known_of known) command)) }
     ensures room { IfOk result (λ s. slots_of slots s ≡ slots) }
     ensures err { IfErr result (λ s. s ≡ known) }
 {

@@ -1,5 +1,5 @@
 //! Blocks of 4,096 bytes, which land sector by sector.
-ghost use Rattle.std.specs.Prelude.{◌≡◌, ◌<◌, ◌+◌, ◌*◌, ◌≤◌, ◌↔◌, length, IfOk, IsTrue};
+ghost use Rattle.std.specs.Prelude.{◌≡◌, ◌<◌, ◌+◌, ◌*◌, ◌≤◌, ◌↔◌, length, All, IfOk, IsTrue};
 ghost use Rattle.plx_base.specs.Blocks.{filled, written, zeros};
 ghost use Rattle.plx_base.specs.Sectors.{landed};
 ghost use Rattle.plx_base.specs.Spelling.{fields_width, spelled};
@@ -67,7 +67,7 @@ impl Block {
     pub fn is_filled(&self, byte: u8) -> bool
         ensures { IsTrue result ↔ (self.now ≡ filled byte) }
     {
-        self.as_slice() == [byte; BLOCK_LEN].as_slice()
+        are_all(self.as_slice(), byte)
     }
 
     /// Makes the block equal to another.
@@ -99,6 +99,17 @@ impl Block {
         ensures { self.new ≡ landed sector from.now self.old }
     {
         land_sector(&mut self.bytes[..], &from.bytes[..], usize::from(sector));
+    }
+}
+
+/// Whether each byte is this one.
+pub fn are_all(bytes: &[u8], byte: u8) -> bool
+    ensures { IsTrue result ↔ All (λ b. b ≡ byte) bytes.now }
+{
+    match bytes {
+        [] => true,
+        // Each byte is the one before it.
+        [first, others @ ..] => *first == byte && others == &bytes[..others.len()],
     }
 }
 

@@ -12,7 +12,7 @@ mod ptr;
 mod stored;
 mod write_kind;
 
-pub use block::{BLOCK_LEN, Block, SECTOR_LEN, SECTORS};
+pub use block::{BLOCK_LEN, Block, SECTOR_LEN, SECTORS, are_all};
 pub use field::{get_u32, get_u64, get_u128, put_u32, put_u64, put_u128};
 pub use label::Label;
 pub use lease::{Claim, LeaseName, LeaseRecord};

@@ -6,7 +6,9 @@ use Rattle.plx_port.specs.Faults.{Rose}
 use Rattle.plx_port.specs.Streams.{ReadsToEnd, TakesCount}
 use Rattle.plx_text.proofs.FirstBad.{no-schedule}
 use Rattle.plx_text.specs.Schedules.{IsFirstBad, IsSchedule}
-use Rattle.plx_cli.specs.Program.{Appended, IsBad, IsGiven, IsPlayed, input_limit}
+use Rattle.plx_cli.specs.declared.status.Status.{Status}
+use Rattle.plx_cli.specs.declared.status.Status.TheVariants.{Done, BadLine, SinkFault, NoMemory}
+use Rattle.plx_cli.specs.Program.{Appended, IsBad, IsGiven, IsTrace, input_limit}
 
 -- what was read to the end was taken, byte for byte
 pub ends-taken : (old new : Option (List ℕ)) (bytes : List ℕ) → ReadsToEnd old new bytes → TakesCount old new (length bytes)
@@ -30,24 +32,24 @@ not-long (Some left) new bytes before after taken given =
     let same : left ≡ bytes = cc in
     omega (arith, taken.0, given.short, ap length same)
 
-module _ (status : ℕ) (read bytes : List ℕ) (held held' : Option (List ℕ)) where
+module _ (status : Status) (read bytes : List ℕ) (held held' : Option (List ℕ)) where
   -- where there is a bad line, the work isn't done
-  pub answers-bad : (line : ℕ) → (status ≡ 0) ⊎ (status ≡ 2) ⊎ (status ≡ 4) ⊎ (status ≡ 5) → (status ≡ 0 → Appended IsPlayed read held held') → read ≡ bytes →
-      IsFirstBad bytes line → (status ≡ 2) ⊎ (status ≡ 4) ⊎ (status ≡ 5)
+  pub answers-bad : (line : ℕ) → (status ≡ Done) ⊎ (status ≡ BadLine) ⊎ (status ≡ SinkFault) ⊎ (status ≡ NoMemory) → (status ≡ Done → Appended IsTrace read held held') → read ≡ bytes →
+      IsFirstBad bytes line → (status ≡ BadLine) ⊎ (status ≡ SinkFault) ⊎ (status ≡ NoMemory)
   answers-bad line (inr others) done same first = others
-  answers-bad line (inl zero) done same first =
-      let played = (done zero).1 in
+  answers-bad line (inl finished) done same first =
+      let played = (done finished).1 in
       let P : List ℕ → Type 0 = λ l. IsSchedule l played.slots played.events in
       absurd (no-schedule bytes line played.slots played.events first (subst P same played.schedule))
 
   -- where there is a schedule, no bad line is named, and without a fault of the sink the work is done
-  pub answers-schedule : (before after slots : ℕ) (events : List Event) → (status ≡ 0) ⊎ (status ≡ 2) ⊎ (status ≡ 4) ⊎ (status ≡ 5) →
-      (status ≡ 2 → Appended IsBad read held held') → (status ≡ 4 → Rose before after) → read ≡ bytes → IsSchedule bytes slots events → ¬ Rose before after →
-      (status ≡ 0) ⊎ (status ≡ 5)
-  answers-schedule before after slots events (inl zero) bad sink same schedule sound = inl zero
-  answers-schedule before after slots events (inr (inl two)) bad sink same schedule sound =
-      let named = (bad two).1 in
-      let P : List ℕ → Type 0 = λ l. IsFirstBad l named.line in
-      absurd (no-schedule bytes named.line slots events (subst P same named.first) schedule)
-  answers-schedule before after slots events (inr (inr (inl four))) bad sink same schedule sound = absurd (sound (sink four))
-  answers-schedule before after slots events (inr (inr (inr five))) bad sink same schedule sound = inr five
+  pub answers-schedule : (before after slots : ℕ) (events : List Event) → (status ≡ Done) ⊎ (status ≡ BadLine) ⊎ (status ≡ SinkFault) ⊎ (status ≡ NoMemory) →
+      (status ≡ BadLine → Appended IsBad read held held') → (status ≡ SinkFault → Rose before after) → read ≡ bytes → IsSchedule bytes slots events → ¬ Rose before after →
+      (status ≡ Done) ⊎ (status ≡ NoMemory)
+  answers-schedule before after slots events (inl finished) bad sink same schedule sound = inl finished
+  answers-schedule before after slots events (inr (inl named)) bad sink same schedule sound =
+      let line = (bad named).1 in
+      let P : List ℕ → Type 0 = λ l. IsFirstBad l line.line in
+      absurd (no-schedule bytes line.line slots events (subst P same line.first) schedule)
+  answers-schedule before after slots events (inr (inr (inl failed))) bad sink same schedule sound = absurd (sound (sink failed))
+  answers-schedule before after slots events (inr (inr (inr short))) bad sink same schedule sound = inr short

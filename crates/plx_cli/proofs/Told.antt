@@ -8,7 +8,7 @@ use Rattle.plx_text.specs.Traces.{trace_text}
 use Rattle.plx_world.specs.Standing.{PlaysAll, Stands}
 use Rattle.plx_world.specs.declared.world.World.{World}
 use Rattle.plx_cli.specs.Program.{IsTold}
-use Rattle.plx_cli.proofs.Reached.{by-schedule}
+use Rattle.plx_headline.proofs.Reaching.{reached-plays}
 
 -- the world that the program has stands for one that was reached
 pub told : HeadlineOfAll → (slots : ℕ) (events : List Event) (text : List ℕ) (entries : List Entry) (reachable allocated : ℕ) (first last : World) →
@@ -16,7 +16,7 @@ pub told : HeadlineOfAll → (slots : ℕ) (events : List Event) (text : List �
     text ≡ trace_text slots entries reachable allocated → IsTold slots events text
 told law slots events text entries reachable allocated first last low high stands plays same none nothing is =
     let found = plays (first_world slots) stands in
-    let reached = by-schedule (Reached.first low high) found.1 in
+    let reached = reached-plays (Reached.first low high) found.1 in
     record {
       world = found.0;
       plays = found.1;

@@ -9,6 +9,8 @@ use Rattle.plx_rules.specs.Sequences.{Plays}
 use Rattle.plx_rules.specs.World.{World, Reached, first_world}
 use Rattle.plx_text.specs.Schedules.{IsSchedule, IsFirstBad}
 use Rattle.plx_text.specs.Traces.{bad_line_text, trace_text}
+use Rattle.plx_cli.specs.declared.status.Status.{Status}
+use Rattle.plx_cli.specs.declared.status.Status.TheVariants.{Done, BadLine}
 
 -- the most bytes of the input
 abbrev pub input_limit : ℕ
@@ -29,7 +31,7 @@ pub record IsTold (slots : ℕ) (events : List Event) (text : List ℕ) : Type 0
   pub trace : text ≡ trace_text slots (reverse world.trace) 0 0
 
 -- the bytes are a schedule, and this text tells of the world to which its events lead
-pub record IsPlayed (bytes text : List ℕ) : Type 0 where
+pub record IsTrace (bytes text : List ℕ) : Type 0 where
   pub slots : ℕ
   pub events : List Event
   pub schedule : IsSchedule bytes slots events
@@ -43,11 +45,11 @@ pub record IsBad (bytes text : List ℕ) : Type 0 where
 
 -- what is to be written for an input
 abbrev pub IsAnswer : List ℕ → List ℕ → Type 0
-IsAnswer bytes text = IsPlayed bytes text ⊎ IsBad bytes text
+IsAnswer bytes text = IsTrace bytes text ⊎ IsBad bytes text
 
 -- the same, with the status once it is written
-abbrev pub IsAnswered : List ℕ → ℕ → List ℕ → Type 0
-IsAnswered bytes status text = ((status ≡ 0) × IsPlayed bytes text) ⊎ ((status ≡ 2) × IsBad bytes text)
+abbrev pub IsOutcome : List ℕ → Status → List ℕ → Type 0
+IsOutcome bytes status text = ((status ≡ Done) × IsTrace bytes text) ⊎ ((status ≡ BadLine) × IsBad bytes text)
 
 -- such a text of these bytes was appended
 abbrev pub Appended : (List ℕ → List ℕ → Type 0) → List ℕ → Option (List ℕ) → Option (List ℕ) → Type 0

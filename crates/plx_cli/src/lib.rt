@@ -1,14 +1,12 @@
 //! The top call of the program, and what it stands on.
 #![tactic(auto)]
 
-mod noted;
 mod program;
 mod replay;
 mod status;
 mod words;
 
-pub use noted::NotedSink;
 pub use plx_port::{MemSink, MemSource, Sink, Source};
 pub use plx_text::{print_trace, read_schedule};
 pub use program::run;
-pub use status::{BAD_LINE, DONE, NO_MEMORY, SINK_FAULT, SOURCE_FAULT, TOO_LONG, USAGE};
+pub use status::Status;

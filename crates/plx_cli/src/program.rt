@@ -1,6 +1,6 @@
 //! The top call.
 ghost use Rattle.std.specs.Prelude.{◌≡◌, ◌≢◌, ◌≤◌, ◌+◌, ◌⊎◌, ◌↔◌, ℕ, List};
-ghost use Rattle.plx_cli.specs.Program.{Appended, AppendedPart, IsAnswer, IsBad, IsGiven, IsPlayed, IsReplay, ReadsSuch, input_limit};
+ghost use Rattle.plx_cli.specs.Program.{Appended, AppendedPart, IsAnswer, IsBad, IsGiven, IsTrace, IsReplay, ReadsSuch, input_limit};
 ghost use Rattle.plx_model.specs.declared.event.Event.{Event};
 ghost use Rattle.plx_port.specs.Faults.{Rose};
 ghost use Rattle.plx_port.specs.Streams.{TakesCount};
@@ -9,7 +9,7 @@ ghost use Rattle.plx_text.specs.SameTraces.{TraceOnce};
 ghost use Rattle.plx_text.specs.Schedules.{IsFirstBad, IsSchedule};
 
 use crate::replay::replay;
-use crate::status::{NO_MEMORY, SINK_FAULT, SOURCE_FAULT, TOO_LONG, USAGE};
+use crate::status::Status;
 use crate::words::is_replay;
 use plx_headline::headline;
 use plx_port::{Failed, ReadError, Sink, Source, read_all, write_all};
@@ -19,78 +19,89 @@ use std::alloc::Global;
 /// The most bytes of the input.
 const INPUT_LIMIT: usize = 64 * 1024 * 1024;
 
-/// Does what the words ask for, from the source to the sink, and answers the program's status: 0 the
-/// work was done, 1 usage, 2 a bad line, 3 a fault of the source, 4 a fault of the sink, 5 want of
-/// memory, 6 the input is too long. The source is read to its end before all else, and the text is
-/// whole before any of it is written.
+/// Does what the words ask for, from the source to the sink, and says how that ended. The source is
+/// read to its end before all else, and the text is whole before any of it is written.
+///
+/// It returns where the calls of the source and of the sink do. The clauses on bytes speak of streams
+/// that tell what they hold: of standard input and output nothing is known.
 pub fn run<S: Source, K: Sink>(
     alloc: Global,
     words: &Vec<String>,
     source: &mut S,
     sink: &mut K,
-) -> u8
-    ensures status { result ≤ 6 }
-
+) -> Status
     // The laws on all worlds, and on all texts of traces.
     ensures headline { HeadlineOfAll }
     ensures once { TraceOnce }
 
     // What was written: the trace of the schedule, or the number of its first bad line, or a part of it.
-    ensures done { result ≡ 0 → ReadsSuch (S.left source.old) (S.left source.new)
-        (λ bytes. Appended IsPlayed bytes (K.held sink.old) (K.held sink.new)) }
-    ensures bad { result ≡ 2 → ReadsSuch (S.left source.old) (S.left source.new)
+    ensures done { result ≡ Status.Done → ReadsSuch (S.left source.old) (S.left source.new)
+        (λ bytes. Appended IsTrace bytes (K.held sink.old) (K.held sink.new)) }
+    ensures bad { result ≡ Status.BadLine → ReadsSuch (S.left source.old) (S.left source.new)
         (λ bytes. Appended IsBad bytes (K.held sink.old) (K.held sink.new)) }
-    ensures part { result ≡ 4 → ReadsSuch (S.left source.old) (S.left source.new)
+    ensures part { result ≡ Status.SinkFault → ReadsSuch (S.left source.old) (S.left source.new)
         (λ bytes. AppendedPart IsAnswer bytes (K.held sink.old) (K.held sink.new)) }
-    ensures silent { result ≢ 0 → result ≢ 2 → result ≢ 4 → sink.new ≡ sink.old }
+    ensures silent { result ≢ Status.Done → result ≢ Status.BadLine → result ≢ Status.SinkFault
+        → sink.new ≡ sink.old }
 
     // When each other status comes.
-    ensures usage { result ≡ 1 ↔ ¬ IsReplay words.now.items }
-    ensures idle { result ≡ 1 → source.new ≡ source.old }
-    ensures source { result ≡ 3 → Rose (S.faults source.old) (S.faults source.new) }
-    ensures sink { result ≡ 4 → Rose (K.faults sink.old) (K.faults sink.new) }
-    ensures long { result ≡ 6 → TakesCount (S.left source.old) (S.left source.new) (input_limit + 1) }
-    ensures within { result ≢ 6 → (n : ℕ) × (n ≤ input_limit) × TakesCount (S.left source.old) (S.left source.new) n }
+    ensures usage { result ≡ Status.Usage ↔ ¬ IsReplay words.now.items }
+    ensures idle { result ≡ Status.Usage → source.new ≡ source.old }
+    ensures source { result ≡ Status.SourceFault
+        → Rose (S.faults source.old) (S.faults source.new) }
+    ensures sink { result ≡ Status.SinkFault → Rose (K.faults sink.old) (K.faults sink.new) }
+    ensures long { result ≡ Status.TooLong → TakesCount (S.left source.old) (S.left source.new)
+        (input_limit + 1) }
+    ensures within { result ≢ Status.TooLong → (n : ℕ) × (n ≤ input_limit)
+        × TakesCount (S.left source.old) (S.left source.new) n }
 
     // Where the source gives an input of at most the limit: a bad line is answered, and a schedule is played.
     ensures exact { (bytes : List ℕ) (line : ℕ) → IsReplay words.now.items
-        → IsGiven bytes (S.left source.old) (S.faults source.old) (S.faults source.new) → IsFirstBad bytes line
-        → (result ≡ 2) ⊎ (result ≡ 4) ⊎ (result ≡ 5) }
+        → IsGiven bytes (S.left source.old) (S.faults source.old) (S.faults source.new)
+        → IsFirstBad bytes line
+        → (result ≡ Status.BadLine) ⊎ (result ≡ Status.SinkFault) ⊎ (result ≡ Status.NoMemory) }
     ensures complete { (bytes : List ℕ) (slots : ℕ) (events : List Event) → IsReplay words.now.items
-        → IsGiven bytes (S.left source.old) (S.faults source.old) (S.faults source.new) → IsSchedule bytes slots events
-        → ¬ Rose (K.faults sink.old) (K.faults sink.new) → (result ≡ 0) ⊎ (result ≡ 5) }
+        → IsGiven bytes (S.left source.old) (S.faults source.old) (S.faults source.new)
+        → IsSchedule bytes slots events
+        → ¬ Rose (K.faults sink.old) (K.faults sink.new) → (result ≡ Status.Done)
+        ⊎ (result ≡ Status.NoMemory) }
 
     // Counts of faults never fall.
-    ensures counts { (S.faults source.old ≤ S.faults source.new) × (K.faults sink.old ≤ K.faults sink.new) }
+    ensures counts { (S.faults source.old ≤ S.faults source.new)
+        × (K.faults sink.old ≤ K.faults sink.new) }
 {
     headline();
     trace_once();
     if !is_replay(words.as_slice()) {
-        return USAGE;
+        return Status::Usage;
     }
     match read_all(alloc, source, INPUT_LIMIT) {
         Ok(bytes) => answer(alloc, bytes.as_slice(), sink),
-        Err(ReadError::Failed) => SOURCE_FAULT,
-        Err(ReadError::NoMemory) => NO_MEMORY,
-        Err(ReadError::TooLong) => TOO_LONG,
+        Err(ReadError::Failed) => Status::SourceFault,
+        Err(ReadError::NoMemory) => Status::NoMemory,
+        Err(ReadError::TooLong) => Status::TooLong,
     }
 }
 
 // Writes what is to be written for an input.
-fn answer<K: Sink>(alloc: Global, bytes: &[u8], sink: &mut K) -> u8
-    ensures status { (result ≡ 0) ⊎ (result ≡ 2) ⊎ (result ≡ 4) ⊎ (result ≡ 5) }
-    ensures done { result ≡ 0 → Appended IsPlayed bytes.now (K.held sink.old) (K.held sink.new) }
-    ensures bad { result ≡ 2 → Appended IsBad bytes.now (K.held sink.old) (K.held sink.new) }
-    ensures part { result ≡ 4 → AppendedPart IsAnswer bytes.now (K.held sink.old) (K.held sink.new) }
-    ensures silent { result ≡ 5 → sink.new ≡ sink.old }
-    ensures sink { result ≡ 4 → Rose (K.faults sink.old) (K.faults sink.new) }
+fn answer<K: Sink>(alloc: Global, bytes: &[u8], sink: &mut K) -> Status
+    ensures status { (result ≡ Status.Done) ⊎ (result ≡ Status.BadLine)
+        ⊎ (result ≡ Status.SinkFault) ⊎ (result ≡ Status.NoMemory) }
+    ensures done { result ≡ Status.Done → Appended IsTrace bytes.now (K.held sink.old)
+        (K.held sink.new) }
+    ensures bad { result ≡ Status.BadLine → Appended IsBad bytes.now (K.held sink.old)
+        (K.held sink.new) }
+    ensures part { result ≡ Status.SinkFault
+        → AppendedPart IsAnswer bytes.now (K.held sink.old) (K.held sink.new) }
+    ensures silent { result ≡ Status.NoMemory → sink.new ≡ sink.old }
+    ensures sink { result ≡ Status.SinkFault → Rose (K.faults sink.old) (K.faults sink.new) }
     ensures counts { K.faults sink.old ≤ K.faults sink.new }
 {
     let Ok(answer) = replay(alloc, bytes) else {
-        return NO_MEMORY;
+        return Status::NoMemory;
     };
     match write_all(sink, answer.text.as_slice()) {
         Ok(()) => answer.status,
-        Err(Failed) => SINK_FAULT,
+        Err(Failed) => Status::SinkFault,
     }
 }

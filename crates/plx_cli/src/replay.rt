@@ -1,8 +1,8 @@
 //! A schedule is played, in memory.
 ghost use Rattle.std.specs.Prelude.{◌≤◌, IfOk};
-ghost use Rattle.plx_cli.specs.Program.{IsAnswered, IsTold};
+ghost use Rattle.plx_cli.specs.Program.{IsOutcome, IsTold};
 
-use crate::status::{BAD_LINE, DONE};
+use crate::status::Status;
 use plx_base::NoMemory;
 use plx_headline::headline;
 use plx_text::{Schedule, Text, TextError, print_bad_line, print_trace, read_schedule};
@@ -12,23 +12,26 @@ use std::alloc::{AllocError, Global};
 /// What is to be written, and the status once it is.
 #[derive(Drop)]
 pub(crate) struct Answer {
-    pub(crate) status: u8,
+    pub(crate) status: Status,
     pub(crate) text: Text,
 }
 
 /// Plays the schedule that the bytes spell, or names their first bad line.
 pub(crate) fn replay(alloc: Global, bytes: &[u8]) -> Result<Answer, NoMemory>
-    ensures { IfOk result (λ answer. IsAnswered bytes.now answer.status answer.text) }
+    ensures { IfOk result (λ answer. IsOutcome bytes.now answer.status answer.text) }
 {
     match read_schedule(alloc, bytes) {
         Ok(schedule) => {
             let text = play(alloc, &schedule)?;
-            Ok(Answer { status: DONE, text })
+            Ok(Answer {
+                status: Status::Done,
+                text,
+            })
         }
         Err(TextError::BadLine { line }) => {
             let text = print_bad_line(alloc, line)?;
             Ok(Answer {
-                status: BAD_LINE,
+                status: Status::BadLine,
                 text,
             })
         }

@@ -1,16 +1,20 @@
-//! The statuses with which the program ends.
+//! How the program ends.
 
-/// The work was done.
-pub const DONE: u8 = 0;
-/// The words aren't ones that the program knows.
-pub const USAGE: u8 = 1;
-/// A line of the input isn't in the grammar.
-pub const BAD_LINE: u8 = 2;
-/// The source failed.
-pub const SOURCE_FAULT: u8 = 3;
-/// The sink failed.
-pub const SINK_FAULT: u8 = 4;
-/// Memory ran out.
-pub const NO_MEMORY: u8 = 5;
-/// The input has more bytes than the limit.
-pub const TOO_LONG: u8 = 6;
+/// How a run ends. The number is the program's exit status.
+#[derive(Clone, Copy, PartialEq, Eq, Debug)]
+pub enum Status {
+    /// The work was done.
+    Done = 0,
+    /// The words aren't ones that the program knows.
+    Usage = 1,
+    /// A line of the input isn't in the grammar.
+    BadLine = 2,
+    /// The source failed.
+    SourceFault = 3,
+    /// The sink failed.
+    SinkFault = 4,
+    /// Memory ran out.
+    NoMemory = 5,
+    /// The input has more bytes than the limit.
+    TooLong = 6,
+}

@@ -5,4 +5,4 @@ use Rattle.plx_disk.specs.Writes.{Surface}
 
 -- the device with bytes put into one block
 abbrev pub with_block : Surface → ℕ → List ℕ → Surface
-with_block s block bytes = record { blocks = s.blocks; device = put s.device block bytes; writes = s.writes; time = s.time }
+with_block s block bytes = record s { device = put s.device block bytes }

@@ -51,6 +51,10 @@ Turns old new change = (s : Surface) → Stands old s → Stands new (change s)
 abbrev pub Stays : Disk → Disk → Type 0
 Stays old new = (s : Surface) → Stands old s → Stands new s
 
+-- how many blocks the device has
+abbrev pub device_size : Disk → ℕ
+device_size disk = disk.blocks
+
 -- how many writes were issued
 abbrev pub issued_count : Disk → ℕ
 issued_count disk = length disk.writes.items

@@ -21,9 +21,11 @@ pub record Surface : Type 0 where
   pub writes : List Issued
   pub time : ℕ
 
+-- the flags of a write of which nothing has landed
 abbrev pub no_sectors : List Bool
 no_sectors = false ∷ false ∷ false ∷ false ∷ false ∷ false ∷ false ∷ false ∷ []
 
+-- the flags of a write that has landed whole
 abbrev pub all_sectors : List Bool
 all_sectors = true ∷ true ∷ true ∷ true ∷ true ∷ true ∷ true ∷ true ∷ []
 
@@ -45,30 +47,15 @@ fresh_write owner kind block bytes guard = record {
 
 -- the write with one more sector landed, and the write cancelled
 abbrev pub with_sector : Issued → ℕ → Issued
-with_sector write sector = record {
-  owner = write.owner;
-  kind = write.kind;
-  block = write.block;
-  bytes = write.bytes;
-  guard = write.guard;
-  landed = slice_set write.landed sector true;
-  cancelled = write.cancelled;
-}
+with_sector write sector = record write { landed = slice_set write.landed sector true }
 
+-- a write of which no further sector lands
 abbrev pub with_cancel : Issued → Issued
-with_cancel write = record {
-  owner = write.owner;
-  kind = write.kind;
-  block = write.block;
-  bytes = write.bytes;
-  guard = write.guard;
-  landed = write.landed;
-  cancelled = true;
-}
+with_cancel write = record write { cancelled = true }
 
 -- the device once a write is issued
 abbrev pub issued : Surface → Issued → Surface
-issued s write = record { blocks = s.blocks; device = s.device; writes = s.writes ++ write ∷ []; time = s.time }
+issued s write = record s { writes = s.writes ++ write ∷ [] }
 
 -- this sector of the write with this number may land: it hasn't, the write wasn't cancelled, and the time is at most 50 ms past its guard
 pub record MayLand (s : Surface) (number sector : ℕ) (write : Issued) : Type 0 where
@@ -79,11 +66,9 @@ pub record MayLand (s : Surface) (number sector : ℕ) (write : Issued) : Type 0
 
 -- the device once a sector of a write has landed
 abbrev pub after_landing : Surface → ℕ → Issued → ℕ → Surface
-after_landing s number write sector = record {
-  blocks = s.blocks;
+after_landing s number write sector = record s {
   device = put s.device write.block (landed sector write.bytes (s.device write.block));
   writes = slice_set s.writes number (with_sector write sector);
-  time = s.time;
 }
 
 -- the write with this number has landed whole
@@ -98,8 +83,8 @@ cancelled_at (write ∷ writes) (suc number) = write ∷ cancelled_at writes num
 
 -- the device once the write with this number is cancelled
 abbrev pub cancelled : Surface → ℕ → Surface
-cancelled s number = record { blocks = s.blocks; device = s.device; writes = cancelled_at s.writes number; time = s.time }
+cancelled s number = record s { writes = cancelled_at s.writes number }
 
 -- the device once time has passed
 abbrev pub passed : Surface → ℕ → Surface
-passed s by = record { blocks = s.blocks; device = s.device; writes = s.writes; time = s.time + by }
+passed s by = record s { time = s.time + by }

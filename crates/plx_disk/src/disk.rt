@@ -27,14 +27,14 @@ impl Disk {
     ghost use Rattle.std.specs.Prelude.{◌≡◌, ◌<◌, ◌+◌, ◌^◌, ◌↔◌, None, false, length, slice_get, IfOk, IfSome, IsOkAnd, OnOk, OnErr, IsTrue, MatchOption};
     ghost use Rattle.plx_disk.specs.Filled.{with_block};
     ghost use Rattle.plx_disk.specs.Missing.{IsMissing, IsOwner, MissesNone};
-    ghost use Rattle.plx_disk.specs.Standing.{Stands, Stays, Turns, issued_count};
+    ghost use Rattle.plx_disk.specs.Standing.{Stands, Stays, Turns, device_size, issued_count};
     ghost use Rattle.plx_disk.specs.Writes.{Issued, Surface, MayLand, HasLanded, after_landing, blank, cancelled, fresh_write, issued, passed};
 
     /// A device of so many blocks, all zeros, at that time in milliseconds.
     pub fn new(alloc: Global, blocks: u64, time: u64) -> Result<Disk, NoMemory>
         requires { time < 2 ^ 47 }
         ensures blank { IsOkAnd result (λ disk. Stands disk (blank blocks time)) }
-        ensures blocks { IfOk result (λ disk. disk.blocks ≡ blocks) }
+        ensures blocks { IfOk result (λ disk. device_size disk ≡ blocks) }
     {
         Ok(Disk {
             alloc,
@@ -47,7 +47,7 @@ impl Disk {
 
     /// How many blocks the device has.
     pub fn blocks(&self) -> u64
-        ensures { result ≡ self.now.blocks }
+        ensures { result ≡ device_size self.now }
     {
         self.blocks
     }
@@ -71,7 +71,7 @@ impl Disk {
     /// Puts bytes into a block of a device that is being filled. After NoMemory it stands as before.
     pub fn set(&mut self, block: BlockNo, bytes: &[u8]) -> Result<(), NoMemory>
         requires unissued { issued_count self.old ≡ 0 }
-        requires within { block.0 < self.old.blocks }
+        requires within { block.0 < device_size self.old }
         requires whole { length bytes.now ≡ 4096 }
         ensures ok { OnOk result (Turns self.old self.new (λ s. with_block s block.0 bytes.now)) }
         ensures err { OnErr result (Stays self.old self.new) }
@@ -83,7 +83,7 @@ impl Disk {
 
     /// What stands in a block.
     pub fn read(&self, block: BlockNo, into: &mut Block)
-        requires { block.0 < self.now.blocks }
+        requires { block.0 < device_size self.now }
         ensures bytes { (s : Surface) → Stands self.now s → into.new ≡ s.device block.0 }
         ensures len { length into.new ≡ 4096 }
     {
@@ -101,13 +101,15 @@ impl Disk {
         bytes: &[u8],
         guard: u64,
     ) -> Result<u64, NoMemory>
-        requires within { block.0 < self.old.blocks }
+        requires within { block.0 < device_size self.old }
         requires whole { length bytes.now ≡ 4096 }
         requires guarded { guard < 2 ^ 49 }
-        ensures number { IfOk result (λ number. (s : Surface) → Stands self.old s → number ≡ length s.writes) }
-        ensures ok { OnOk result (Turns self.old self.new (λ s. issued s (fresh_write owner.0 kind block.0 bytes.now guard))) }
+        ensures number { IfOk result (λ number. (s : Surface) → Stands self.old s → number
+            ≡ length s.writes) }
+        ensures ok { OnOk result (Turns self.old self.new
+            (λ s. issued s (fresh_write owner.0 kind block.0 bytes.now guard))) }
         ensures err { OnErr result (Stays self.old self.new) }
-        ensures blocks { self.new.blocks ≡ self.old.blocks }
+        ensures blocks { device_size self.new ≡ device_size self.old }
     {
         let bytes = block_of(self.alloc, bytes)?;
         make_place(self.alloc, &mut self.stored, block.0)?;
@@ -128,10 +130,12 @@ impl Disk {
 
     /// One sector of a write lands, if it may.
     pub fn land(&mut self, write: u64, sector: u8) -> bool
-        ensures landed { IsTrue result → (s : Surface) → Stands self.old s → (w : Issued) × MayLand s write sector w × Stands self.new (after_landing s write w sector) }
-        ensures refused { result ≡ false → (s : Surface) → Stands self.old s → (w : Issued) → MayLand s write sector w → ⊥ }
+        ensures landed { IsTrue result → (s : Surface) → Stands self.old s → (w : Issued)
+            × MayLand s write sector w × Stands self.new (after_landing s write w sector) }
+        ensures refused { result ≡ false → (s : Surface) → Stands self.old s → (w : Issued)
+            → MayLand s write sector w → ⊥ }
         ensures same { result ≡ false → Stays self.old self.new }
-        ensures blocks { self.new.blocks ≡ self.old.blocks }
+        ensures blocks { device_size self.new ≡ device_size self.old }
     {
         let index = write as usize;
         if index >= self.writes.len() {
@@ -145,7 +149,7 @@ impl Disk {
     pub fn settle(&mut self, write: u64) -> bool
         ensures whole { (s : Surface) → Stands self.old s → (IsTrue result ↔ HasLanded s write) }
         ensures same { Stays self.old self.new }
-        ensures blocks { self.new.blocks ≡ self.old.blocks }
+        ensures blocks { device_size self.new ≡ device_size self.old }
     {
         let index = write as usize;
         if index >= self.writes.len() {
@@ -157,7 +161,7 @@ impl Disk {
     /// No further sector of a write lands.
     pub fn cancel(&mut self, write: u64)
         ensures cancelled { Turns self.old self.new (λ s. cancelled s write) }
-        ensures blocks { self.new.blocks ≡ self.old.blocks }
+        ensures blocks { device_size self.new ≡ device_size self.old }
     {
         let index = write as usize;
         if index >= self.writes.len() {
@@ -168,10 +172,11 @@ impl Disk {
 
     /// Time passes, in milliseconds. False, and nothing changes, where it would reach its end.
     pub fn tick(&mut self, by: u32) -> bool
-        ensures early { (s : Surface) → Stands self.old s → (IsTrue result ↔ (s.time + by < 2 ^ 47)) }
+        ensures early { (s : Surface) → Stands self.old s
+            → (IsTrue result ↔ (s.time + by < 2 ^ 47)) }
         ensures passed { IsTrue result → Turns self.old self.new (λ s. passed s by) }
         ensures same { result ≡ false → Stays self.old self.new }
-        ensures blocks { self.new.blocks ≡ self.old.blocks }
+        ensures blocks { device_size self.new ≡ device_size self.old }
     {
         let time = self.time + u64::from(by);
         if time >= END_OF_TIME {
@@ -183,7 +188,8 @@ impl Disk {
 
     /// The boot that issued a write.
     pub fn owner(&self, write: u64) -> Option<Boot>
-        ensures { (s : Surface) → Stands self.now s → MatchOption result (slice_get s.writes write ≡ None) (IsOwner s write) }
+        ensures { (s : Surface) → Stands self.now s
+            → MatchOption result (slice_get s.writes write ≡ None) (IsOwner s write) }
     {
         let index = write as usize;
         if index >= self.writes.len() {
@@ -194,7 +200,8 @@ impl Disk {
 
     /// The least sector that hasn't landed, of a write that was issued and not cancelled. None of any other write.
     pub fn missing(&self, write: u64) -> Option<u8>
-        ensures missing { (s : Surface) → Stands self.now s → MatchOption result (MissesNone s write) (IsMissing s write) }
+        ensures missing { (s : Surface) → Stands self.now s
+            → MatchOption result (MissesNone s write) (IsMissing s write) }
         ensures within { IfSome result (λ sector. sector < 8) }
     {
         let index = write as usize;

@@ -10,6 +10,7 @@ pub mod Journals
 pub mod Landings
 pub mod Lists
 pub mod Load
+pub mod Reaching
 pub mod Refused
 pub mod Replies
 pub mod Runs

@@ -33,14 +33,7 @@ report_of image = record {
 
 -- the image once one of its blocks is written
 abbrev pub written : Image → ℕ → List ℕ → Image
-written image vblock bytes = record {
-  live = image.live;
-  generation = image.generation;
-  size = image.size;
-  label = image.label;
-  writes = image.writes + 1;
-  content = λ v. if v == vblock then bytes else image.content v;
-}
+written image vblock bytes = record image { writes = image.writes + 1; content = λ v. if v == vblock then bytes else image.content v }
 
 -- the image that a command makes of this one
 abbrev pub after : Image → Command → Image
@@ -48,11 +41,13 @@ after image (Attach slot) = image
 after image (Read slot vblock) = image
 after image (Write slot vblock payload) = written image vblock (bytes_of payload)
 
+-- whether two flags are equal
 abbrev pub same_flag : Bool → Bool → Bool
 same_flag true b = b
 same_flag false true = false
 same_flag false false = true
 
+-- whether two lists of bytes are equal
 abbrev pub same_bytes : List ℕ → List ℕ → Bool
 same_bytes [] [] = true
 same_bytes [] (y ∷ ys) = false

@@ -24,6 +24,7 @@ IsOfAttach (ReadFault block) = Unit {0}
 IsOfAttach (WriteFault block) = Unit {0}
 IsOfAttach reply = ⊥
 
+-- the reply is one of a read's
 abbrev pub IsOfRead : Reply → Type 0
 IsOfRead (Data payload) = Unit {0}
 IsOfRead NotAttached = Unit {0}
@@ -33,6 +34,7 @@ IsOfRead (Lost lease until reading) = Unit {0}
 IsOfRead (ReadFault block) = Unit {0}
 IsOfRead reply = ⊥
 
+-- the reply is one of a write's
 abbrev pub IsOfWrite : Reply → Type 0
 IsOfWrite (Written number) = Unit {0}
 IsOfWrite NotAttached = Unit {0}
@@ -66,11 +68,13 @@ IsReportFor m (Attach slot) report = (slot.0 < m.images) × IsReported (m.slots 
 IsReportFor m (Read slot vblock) report = Unit {0}
 IsReportFor m (Write slot vblock payload) report = Unit {0}
 
+-- the data is what the model's image holds in the virtual block that is read
 abbrev pub IsDataFor : Model → Command → Payload → Type 0
 IsDataFor m (Attach slot) payload = Unit {0}
 IsDataFor m (Read slot vblock) payload = (slot.0 < m.images) × (bytes_of payload ≡ (m.slots slot.0).image.content vblock)
 IsDataFor m (Write slot vblock written) payload = Unit {0}
 
+-- the number is that of the image's next write
 abbrev pub IsNumberFor : Model → Command → ℕ → Type 0
 IsNumberFor m (Attach slot) number = Unit {0}
 IsNumberFor m (Read slot vblock) number = Unit {0}

@@ -18,6 +18,7 @@ pub record Model : Type 0 where
   pub sessions : ℕ → ℕ → Bool
   pub running : ℕ → Option Command
 
+-- a slot before the first entry
 abbrev pub first_slot : Slot
 first_slot = record { image = first_image; change = None; owner = None }
 

@@ -13,14 +13,15 @@ use Rattle.plx_model.specs.declared.entry.Entry.TheVariants as entry
 
 -- the slot once a change of its image is under way
 abbrev pub under_way : Slot → Command → Slot
-under_way slot command = record { image = slot.image; change = Some (after slot.image command); owner = slot.owner }
+under_way slot command = record slot { change = Some (after slot.image command) }
 
 -- the slot once the change under way is given up, or made
 abbrev pub given_up : Slot → Slot
-given_up slot = record { image = slot.image; change = None; owner = slot.owner }
+given_up slot = record slot { change = None }
 
+-- a slot whose change under way was made
 abbrev pub made : Slot → Slot
-made slot = record { image = unwrap_or slot.change slot.image; change = None; owner = slot.owner }
+made slot = record slot { image = unwrap_or slot.change slot.image; change = None }
 
 -- the slot once an attach reported which image it is
 abbrev pub attached : Slot → ℕ → Report → Slot
@@ -36,19 +37,18 @@ abbrev pub slots_started : Model → ℕ → Command → ℕ → Slot
 slots_started m appliance command =
     if begins_change m appliance command then at m.slots (named command) (under_way (m.slots (named command)) command) else m.slots
 
+-- the slots after a refusal: a change of the owner's own command is given up
 abbrev pub slots_refused : Model → ℕ → ℕ → Bool → ℕ → Slot
 slots_refused m appliance slot changes =
     if changes && owns (m.slots slot).owner appliance then at m.slots slot (given_up (m.slots slot)) else m.slots
 
 -- the slot once the appliance owns it no longer
 abbrev pub given_back : Slot → ℕ → Slot
-given_back slot appliance = record { image = slot.image; change = slot.change; owner = disowned slot.owner appliance }
+given_back slot appliance = record slot { owner = disowned slot.owner appliance }
 
 -- the model in which the appliance owns nothing and has no session
 abbrev pub forgotten : Model → ℕ → Model
-forgotten m appliance = record {
-  images = m.images;
-  appliances = m.appliances;
+forgotten m appliance = record m {
   slots = λ slot. given_back (m.slots slot) appliance;
   sessions = at m.sessions appliance (λ slot. false);
   running = at m.running appliance None;
@@ -56,19 +56,11 @@ forgotten m appliance = record {
 
 -- the model in which the appliance is in no command, with these slots
 abbrev pub rested : Model → ℕ → (ℕ → Slot) → Model
-rested m appliance slots = record {
-  images = m.images;
-  appliances = m.appliances;
-  slots = slots;
-  sessions = m.sessions;
-  running = at m.running appliance None;
-}
+rested m appliance slots = record m { slots = slots; running = at m.running appliance None }
 
 -- the model in which the appliance has a session of the slot and owns it, since an attach reported which image it is
 abbrev pub entered : Model → ℕ → ℕ → Report → Model
-entered m appliance slot report = record {
-  images = m.images;
-  appliances = m.appliances;
+entered m appliance slot report = record m {
   slots = at m.slots slot (attached (m.slots slot) appliance report);
   sessions = at m.sessions appliance (at (m.sessions appliance) slot true);
   running = at m.running appliance None;
@@ -88,17 +80,15 @@ replied m appliance slot changes (OutOfRange size) = rested m appliance (slots_r
 replied m appliance slot changes (ReadFault block) = rested m appliance (slots_refused m appliance slot changes)
 replied m appliance slot changes Full = rested m appliance (slots_refused m appliance slot changes)
 
+-- the model after a reply to the command that the appliance is in
 abbrev pub replied_in : Model → ℕ → Option Command → Reply → Model
 replied_in m appliance None reply = m
 replied_in m appliance (Some command) reply = replied m appliance (named command) (is_changing command) reply
 
 -- the model after an entry
 abbrev pub moved : Model → Entry → Model
-moved m (entry.Start appliance command) = record {
-  images = m.images;
-  appliances = m.appliances;
+moved m (entry.Start appliance command) = record m {
   slots = slots_started m appliance.0 command;
-  sessions = m.sessions;
   running = at m.running appliance.0 (Some command);
 }
 moved m (entry.Reply appliance reply) = replied_in m appliance.0 (m.running appliance.0) reply

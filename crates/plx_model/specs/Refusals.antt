@@ -12,6 +12,7 @@ abbrev pub where_holds : Bool → Reply → List Reply
 where_holds true refusal = refusal ∷ []
 where_holds false refusal = []
 
+-- the other flag
 abbrev pub not : Bool → Bool
 not true = false
 not false = true
@@ -38,6 +39,7 @@ abbrev pub IsAmong : Reply → List Reply → Type 0
 IsAmong reply [] = ⊥
 IsAmong reply (other ∷ others) = (reply ≡ other) ⊎ IsAmong reply others
 
+-- whether there is no refusal
 abbrev pub is_none : List Reply → Bool
 is_none [] = true
 is_none (refusal ∷ others) = false

@@ -6,5 +6,5 @@ abbrev pub Rose : ℕ → ℕ → Type 0
 Rose before after = before < 2 ^ 64 - 1 → before < after
 
 -- one more, up to the end of the type
-abbrev pub one_more : ℕ → ℕ
-one_more count = min (count + 1) (2 ^ 64 - 1)
+abbrev pub next_count : ℕ → ℕ
+next_count count = min (count + 1) (2 ^ 64 - 1)

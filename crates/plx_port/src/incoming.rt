@@ -1,6 +1,6 @@
 //! A source in memory.
 ghost use Rattle.std.specs.Prelude.{◌≡◌, ◌<◌, ◌≤◌, ◌++◌, ◌↔◌, Contains, IfOk, OnErr, IsErr, IsTrue, MatchResult, Some, length, take, drop, min};
-ghost use Rattle.plx_port.specs.Faults.{Rose, one_more};
+ghost use Rattle.plx_port.specs.Faults.{Rose, next_count};
 ghost use Rattle.plx_port.specs.Streams.{Gives};
 
 use crate::{Failed, Source};
@@ -81,22 +81,24 @@ impl Source for MemSource {
         // A call fails exactly where its number is listed, and changes nothing but the counts.
         ensures fails { IsErr result ↔ Contains self.old.fails self.old.calls }
         ensures err { OnErr result (self.new ≡ record self.old {
-          calls = one_more self.old.calls;
-          faults = one_more self.old.faults;
+          calls = next_count self.old.calls;
+          faults = next_count self.old.faults;
         }) }
 
         // Otherwise it gives as much as the buffer, the piece and what is left allow.
-        ensures length { IfOk result (λ n. n ≡ min (length into.old) (min self.old.piece (length self.old.left))) }
+        ensures length { IfOk result (λ n. n
+            ≡ min (length into.old) (min self.old.piece (length self.old.left))) }
         ensures bytes { IfOk result (λ n. into.new ≡ take n self.old.left ++ drop n into.old) }
         ensures ok { IfOk result (λ n. self.new ≡ record self.old {
           left = drop n self.old.left;
-          calls = one_more self.old.calls;
+          calls = next_count self.old.calls;
         }) }
 
         // What each source ensures.
         ensures count { IfOk result (λ n. n ≤ length into.old) }
         ensures given { Gives (Some self.old.left) (Some self.new.left) result into.new }
-        ensures rest { MatchResult result (λ n. drop n into.new ≡ drop n into.old) (λ _. into.new ≡ into.old) }
+        ensures rest { MatchResult result (λ n. drop n into.new ≡ drop n into.old)
+            (λ _. into.new ≡ into.old) }
         ensures faults { self.old.faults ≤ self.new.faults }
         ensures failed { OnErr result (Rose self.old.faults self.new.faults) }
     {

@@ -1,7 +1,7 @@
 //! A sink in memory.
 ghost use Rattle.std.specs.Prelude.{◌≡◌, ◌<◌, ◌≤◌, ◌-◌, ◌++◌, ◌↔◌, ◌⊎◌, [], Contains, IfOk, OnErr, IsErr, Some, length, take, min};
 ghost use Rattle.std.specs.Io.KnownBytes.{WriteAppends};
-ghost use Rattle.plx_port.specs.Faults.{Rose, one_more};
+ghost use Rattle.plx_port.specs.Faults.{Rose, next_count};
 
 use crate::{Failed, Sink};
 use std::alloc::{AllocError, Global};
@@ -93,8 +93,8 @@ impl Sink for MemSink {
         ensures fails { IsErr result ↔ (Contains self.old.fails self.old.calls
             ⊎ ((self.old.room ≤ length self.old.held) × (0 < length bytes.now))) }
         ensures err { OnErr result (self.new ≡ record self.old {
-          calls = one_more self.old.calls;
-          faults = one_more self.old.faults;
+          calls = next_count self.old.calls;
+          faults = next_count self.old.faults;
         }) }
 
         // Otherwise it takes as much as the piece and the room allow.
@@ -102,7 +102,7 @@ impl Sink for MemSink {
             (min self.old.piece (self.old.room - length self.old.held))) }
         ensures ok { IfOk result (λ n. self.new ≡ record self.old {
           held = self.old.held ++ take n bytes.now;
-          calls = one_more self.old.calls;
+          calls = next_count self.old.calls;
         }) }
 
         // What each sink ensures.

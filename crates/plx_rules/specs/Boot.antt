@@ -22,6 +22,7 @@ pub data Position : Type 0 where
   Idle : Known → Position
   In : Part End → Position
 
+-- the position at a part: at its ask, or idle where it has ended
 abbrev pub settled : Part End → Position
 settled (Ends end) = Idle end.known
 settled (ReadThen block rest fault) = In (ReadThen block rest fault)
@@ -29,10 +30,12 @@ settled (WriteThen kind block bytes guard done fault missed) = In (WriteThen kin
 settled (ClockThen rest) = In (ClockThen rest)
 settled (UntilThen from rest) = In (UntilThen from rest)
 
+-- the position after a command began
 abbrev pub began : ℕ → Command → Position → Position
 began slots command (Idle known) = In (command_part slots known command)
 began slots command (In part) = In part
 
+-- the position after an answer
 abbrev pub went_on : Answer → Position → Position
 went_on answer (Idle known) = Idle known
 went_on answer (In part) = settled (answered part answer)
@@ -48,6 +51,7 @@ abbrev pub asks : Position → Option Ask
 asks (Idle known) = None
 asks (In part) = standing part
 
+-- the bytes of the write that is asked for, if one is
 abbrev pub writes_out : Position → List ℕ
 writes_out (Idle known) = []
 writes_out (In part) = bytes_out part
@@ -60,6 +64,7 @@ reply_of (WriteThen kind block bytes guard done fault missed) = None
 reply_of (ClockThen rest) = None
 reply_of (UntilThen from rest) = None
 
+-- the reply to which an answer leads, if the command ends
 abbrev pub replies : Answer → Position → Option Reply
 replies answer (Idle known) = None
 replies answer (In part) = reply_of (answered part answer)

@@ -22,6 +22,7 @@ pub record End : Type 0 where
   pub reply : Reply
   pub known : Known
 
+-- a command ends with a reply, and this is known from then on
 abbrev pub ends : Reply → Known → Part End
 ends reply known = Ends (record { reply = reply; known = known })
 
@@ -33,12 +34,15 @@ no_guard = 2 ^ 48 - 1
 abbrev pub read_failed : ℕ → Known → Part End
 read_failed block known = ends (reply.ReadFault (record { 0 = block })) known
 
+-- a command whose write of that block failed ends, and nothing is known
 abbrev pub write_failed : ℕ → Part End
 write_failed block = ends (reply.WriteFault (record { 0 = block })) nothing_known
 
+-- a command whose write came too late ends, and nothing is known
 abbrev pub missed : ℕ → ℕ → Part End
 missed slot reading = ends (reply.Lost (lease.Image (record { 0 = slot })) no_guard reading) nothing_known
 
+-- a block is read, and what follows its bytes; a failed read ends the command
 abbrev pub read_then : ℕ → Known → (List ℕ → Part End) → Part End
 read_then block known rest = ReadThen block rest (read_failed block known)
 
@@ -73,19 +77,23 @@ read_part known session vblock = ClockThen (λ reading. ends (reply.Data (payloa
 abbrev pub next_write : Session → ℕ → List ℕ → Journaled
 next_write session vblock bytes = record { number = write_count session + 1; vblock = vblock; block = bytes }
 
+-- the descriptor of a session's next write
 abbrev pub descriptor_for : Session → ℕ → Descriptor
 descriptor_for session vblock = record { generation = session.image.generation; vblock = vblock; number = write_count session + 1 }
 
+-- the last clock reading of a write, and its reply
 abbrev pub write_ends : Known → Session → ℕ → List ℕ → Part End
 write_ends known session vblock bytes =
     ClockThen (λ reading. ends (reply.Written (write_count session + 1))
     (record { sessions = with_session known.sessions (with_write session (next_write session vblock bytes)) }))
 
+-- the write of the descriptor, which commits, and the rest
 abbrev pub commit_part : ℕ → Known → Session → ℕ → List ℕ → Part End
 commit_part slots known session vblock bytes =
     write_then kind.JCommit (descriptor_at slots session.slot (journal_slot slots (write_count session + 1)))
     (descriptor_bytes (descriptor_for session vblock)) session.slot (write_ends known session vblock bytes)
 
+-- the write of the data, and the rest
 abbrev pub write_part : ℕ → Known → Session → ℕ → List ℕ → Part End
 write_part slots known session vblock bytes =
     write_then kind.JData (data_at slots session.slot (journal_slot slots (write_count session + 1))) bytes session.slot
@@ -95,6 +103,7 @@ write_part slots known session vblock bytes =
 abbrev pub past_the_end : Session → ℕ → Option Reply
 past_the_end session vblock = if nat_lt vblock session.image.size then None else Some (reply.OutOfRange session.image.size)
 
+-- the refusal of a command, if there is one, by the session of the image that it names
 abbrev pub refused : Option Session → Command → Option Reply
 refused (Some session) (Attach slot) = Some reply.AlreadyAttached
 refused None (Attach slot) = if nat_lt slot.0 image_count then None else Some reply.NoImage
@@ -111,6 +120,7 @@ work slots known (Some session) (Write slot vblock payload) =
     if write_count session == slots then ends reply.Full known else write_part slots known session vblock (bytes_of payload)
 work slots known session command = ends reply.NotAttached known
 
+-- a refusal, or else the part
 abbrev pub unless_refused : Option Reply → Known → Part End → Part End
 unless_refused (Some refusal) known part = ends refusal known
 unless_refused None known part = part
@@ -120,5 +130,6 @@ abbrev pub begun_with : ℕ → Known → Option Session → Command → Part En
 begun_with slots known session command =
     ClockThen (λ reading. unless_refused (refused session command) known (work slots known session command))
 
+-- what a command asks, one ask after another, from what is known
 abbrev pub command_part : ℕ → Known → Command → Part End
 command_part slots known command = begun_with slots known (session_of known.sessions (named command)) command

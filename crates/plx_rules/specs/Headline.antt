@@ -24,6 +24,7 @@ told_by (event.Start appliance command) others = entry.Start appliance command �
 told_by (event.Crash appliance) others = entry.Crash appliance ∷ others
 told_by event others = others
 
+-- the starts and crashes among the events, in their order
 abbrev pub events_told : List Event → List Entry
 events_told [] = []
 events_told (event ∷ others) = told_by event (events_told others)

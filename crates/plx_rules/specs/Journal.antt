@@ -7,6 +7,7 @@ use Rattle.plx_gate.specs.declared.descriptor.Descriptor.{Descriptor}
 abbrev pub image_count : ℕ
 image_count = 1
 
+-- the block in which the journal begins
 abbrev pub first_journal_block : ℕ
 first_journal_block = 6
 
@@ -18,6 +19,7 @@ block_count slots = first_journal_block + 2 * slots + 16
 abbrev pub descriptor_at : ℕ → ℕ → ℕ → ℕ
 descriptor_at slots image slot = first_journal_block + 2 * (image * slots + slot)
 
+-- the block of a journal slot's data
 abbrev pub data_at : ℕ → ℕ → ℕ → ℕ
 data_at slots image slot = first_journal_block + 2 * (image * slots + slot) + 1
 

@@ -20,6 +20,7 @@ abbrev pub one_more : Option ℕ → Option ℕ
 one_more None = None
 one_more (Some sector) = Some (sector + 1)
 
+-- the least sector that hasn't landed, by the flags
 abbrev pub missing : List Bool → Option ℕ
 missing [] = None
 missing (false ∷ flags) = Some 0
@@ -35,6 +36,7 @@ abbrev pub next_landing : ApplianceNo → ℕ → Option Issued → Option Event
 next_landing appliance back None = None
 next_landing appliance back (Some write) = if is_boot_of appliance.0 write.owner then landing appliance back (missing write.landed) else None
 
+-- the next event of a write: it is issued, its least missing sector lands, or it is answered
 abbrev pub next_of_write : World → ApplianceNo → Option ℕ → Option Event
 next_of_write w appliance None = Some (event.Issue appliance)
 next_of_write w appliance (Some number) =

@@ -15,6 +15,7 @@ pub record Session : Type 0 where
 pub record Known : Type 0 where
   pub sessions : List Session
 
+-- an appliance that knows no session
 abbrev pub nothing_known : Known
 nothing_known = record { sessions = [] }
 
@@ -55,4 +56,4 @@ content session vblock = latest zeros vblock session.writes
 
 -- the session once one more write is journalled
 abbrev pub with_write : Session → Journaled → Session
-with_write session write = record { slot = session.slot; image = session.image; writes = session.writes ++ write ∷ [] }
+with_write session write = record session { writes = session.writes ++ write ∷ [] }

@@ -35,6 +35,7 @@ pub record World : Type 0 where
   pub trace : List Entry
   pub history : List Event
 
+-- an appliance that was asked nothing yet
 abbrev pub first_seat : Seat
 first_seat = record { boots = 0; log = []; pending = None }
 
@@ -63,12 +64,8 @@ told appliance (UntilThen from rest) trace = trace
 
 -- the world once the ask of an appliance is answered, of which `part` was still to be asked
 abbrev pub goes_on : World → Event → ApplianceNo → Ask → List ℕ → Part End → Answer → World
-goes_on w event appliance ask bytes part answer = record {
-  slots = w.slots;
-  appliances = w.appliances;
-  surface = w.surface;
-  seats = at w.seats appliance.0 (record {
-    boots = (w.seats appliance.0).boots;
+goes_on w event appliance ask bytes part answer = record w {
+  seats = at w.seats appliance.0 (record (w.seats appliance.0) {
     log = Asked ask bytes answer ∷ (w.seats appliance.0).log;
     pending = None;
   });
@@ -78,42 +75,21 @@ goes_on w event appliance ask bytes part answer = record {
 
 -- the world once an event has changed the device alone
 abbrev pub with_surface : World → Event → Surface → World
-with_surface w event surface = record {
-  slots = w.slots;
-  appliances = w.appliances;
-  surface = surface;
-  seats = w.seats;
-  trace = w.trace;
-  history = event ∷ w.history;
-}
+with_surface w event surface = record w { surface = surface; history = event ∷ w.history }
 
 -- the world once an appliance has begun a command
 abbrev pub after_start : World → ApplianceNo → Command → World
-after_start w appliance command = record {
-  slots = w.slots;
-  appliances = w.appliances;
-  surface = w.surface;
-  seats = at w.seats appliance.0 (record {
-    boots = (w.seats appliance.0).boots;
-    log = Began command ∷ (w.seats appliance.0).log;
-    pending = None;
-  });
+after_start w appliance command = record w {
+  seats = at w.seats appliance.0 (record (w.seats appliance.0) { log = Began command ∷ (w.seats appliance.0).log; pending = None });
   trace = entry.Start appliance command ∷ w.trace;
   history = event.Start appliance command ∷ w.history;
 }
 
 -- the world once the write that an appliance asks for is issued
 abbrev pub after_issue : World → ApplianceNo → WriteKind → ℕ → List ℕ → ℕ → World
-after_issue w appliance kind block bytes guard = record {
-  slots = w.slots;
-  appliances = w.appliances;
+after_issue w appliance kind block bytes guard = record w {
   surface = issued w.surface (fresh_write (boot_number appliance.0 (w.seats appliance.0).boots) kind block bytes guard);
-  seats = at w.seats appliance.0 (record {
-    boots = (w.seats appliance.0).boots;
-    log = (w.seats appliance.0).log;
-    pending = Some (length w.surface.writes);
-  });
-  trace = w.trace;
+  seats = at w.seats appliance.0 (record (w.seats appliance.0) { pending = Some (length w.surface.writes) });
   history = event.Issue appliance ∷ w.history;
 }
 
@@ -124,9 +100,7 @@ without_pending surface (Some number) = cancelled surface number
 
 -- the world once an appliance has lost its memory: it is the fresh appliance of its next boot
 abbrev pub after_crash : World → ApplianceNo → World
-after_crash w appliance = record {
-  slots = w.slots;
-  appliances = w.appliances;
+after_crash w appliance = record w {
   surface = without_pending w.surface (w.seats appliance.0).pending;
   seats = at w.seats appliance.0 (record { boots = (w.seats appliance.0).boots + 1; log = []; pending = None });
   trace = entry.Crash appliance ∷ w.trace;

@@ -1,5 +1,6 @@
 //! One large schedule: a body that wants memory past a small size fails here.
 use crate::program::in_pieces;
+use plx_cli::Status;
 use std::alloc::AllocError;
 use std::test::Fail;
 
@@ -91,7 +92,7 @@ fn a_full_journal_is_filled_over_crashes(rt: HostRuntime) -> Result<(), Fail> {
     trace.extend_from_slice(b"end reachable=0 allocated=0\n")?;
     assert!(rt; schedule.len() > 65_536);
     let outcome = in_pieces(alloc, schedule.as_slice(), 100)?;
-    assert_eq!(rt; outcome.status, 0);
+    assert_eq!(rt; outcome.status, Status::Done);
     assert_eq!(rt; outcome.written.as_slice(), trace.as_slice());
     Ok(())
 }

@@ -1,11 +1,11 @@
 //! A run of the top call in memory.
-use plx_cli::{MemSink, MemSource, run};
+use plx_cli::{MemSink, MemSource, Status, run};
 use std::alloc::{AllocError, Global};
 
 /// What a run gave: its status, and what it wrote.
 #[derive(Drop)]
 pub(crate) struct Outcome {
-    pub(crate) status: u8,
+    pub(crate) status: Status,
     pub(crate) written: Vec<u8>,
 }
 

@@ -1,5 +1,6 @@
 //! Whole schedules and their traces, written out by hand from the rules.
 use crate::program::{attached, replay};
+use plx_cli::Status;
 use std::alloc::AllocError;
 use std::test::Fail;
 
@@ -66,7 +67,7 @@ end reachable=0 allocated=0
         };
         let mut trace = Vec::from_slice(alloc, start)?;
         trace.extend_from_slice(end)?;
-        assert_eq!(rt; outcome.status, 0);
+        assert_eq!(rt; outcome.status, Status::Done);
         assert_eq!(rt; outcome.written.as_slice(), trace.as_slice());
     }
     Ok(())
@@ -80,7 +81,7 @@ fn each_refusal_comes_where_its_fact_holds(rt: HostRuntime) -> Result<(), Fail> 
         b"start 0 write 0 0 all:01\nrun 0\nstart 0 write 0 0 all:01\nrun 0\nstart 0 write 0 0 all:01\nrun 0\nstart 0 write 0 8 all:01\nrun 0\nstart 0 attach 1\nrun 0\nstart 0 attach 0\nrun 0\n",
     )?;
     let outcome = replay(alloc, schedule.as_slice())?;
-    assert_eq!(rt; outcome.status, 0);
+    assert_eq!(rt; outcome.status, Status::Done);
     assert_eq!(rt;
         outcome.written.as_slice(),
         b"world 1 1 16 2 1
@@ -111,7 +112,7 @@ fn events_that_are_not_possible_change_nothing(rt: HostRuntime) -> Result<(), Fa
         rt.alloc(),
         b"world 1 1 16 2 1\nrun 0\nread 0\nissue 0\nland 0 0 0\ndone 0\nclock 0 1000\nstart 1 attach 0\nrun 1\nstart 0 read 0 0\nstart 0 attach 0\nclock 0 900\nclock 0 1051\nclock 0 1050\n",
     )?;
-    assert_eq!(rt; outcome.status, 0);
+    assert_eq!(rt; outcome.status, Status::Done);
     assert_eq!(rt;
         outcome.written.as_slice(),
         b"world 1 1 16 2 1\nstart 0 read 0 0\nreply 0 not-attached\nend reachable=0 allocated=0\n".as_slice()

@@ -1,6 +1,6 @@
 //! Streams that are interrupted, give little, take nothing or fail.
 use crate::program::words;
-use plx_cli::{MemSink, MemSource, run};
+use plx_cli::{MemSink, MemSource, Status, run};
 use plx_port::{Failed, ReadError, ReadSource, WriteSink, read_all, write_all};
 use std::io;
 use std::io::{BufReader, ErrorKind, Read, Write};
@@ -139,7 +139,10 @@ fn a_source_that_fails_at_any_call_gives_nothing(rt: HostRuntime) -> Result<(), 
             Vec::from_slice(alloc, &[call])?,
         );
         let mut sink = MemSink::new(alloc, 8, 64, Vec::new(alloc))?;
-        assert_eq!(rt; run(alloc, &words, &mut source, &mut sink), 3);
+        assert_eq!(rt;
+            run(alloc, &words, &mut source, &mut sink),
+            Status::SourceFault
+        );
         assert_eq!(rt; sink.held(), b"".as_slice());
     }
     Ok(())
@@ -157,7 +160,10 @@ fn a_sink_that_fails_at_any_call_holds_a_front_of_the_trace(rt: HostRuntime) -> 
             Vec::new(alloc),
         );
         let mut sink = MemSink::new(alloc, 1, 64, Vec::from_slice(alloc, &[call])?)?;
-        assert_eq!(rt; run(alloc, &words, &mut source, &mut sink), 4);
+        assert_eq!(rt;
+            run(alloc, &words, &mut source, &mut sink),
+            Status::SinkFault
+        );
         assert_eq!(rt; Some(sink.held()), whole.get(..call as usize));
     }
     Ok(())

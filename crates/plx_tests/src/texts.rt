@@ -3,6 +3,7 @@ use crate::program::replay;
 use plx_base::{
     ApplianceNo, Block, BlockNo, ExtentNo, Label, LeaseName, NoMemory, Payload, SlotNo,
 };
+use plx_cli::Status;
 use plx_model::{Command, Entries, Entry, Reply, Report};
 use plx_text::{print_trace, read_schedule};
 use std::test::Fail;
@@ -187,7 +188,7 @@ fn the_first_bad_line_is_named(rt: HostRuntime) -> Result<(), Fail> {
     ];
     for (input, want) in cases {
         let outcome = replay(alloc, input)?;
-        assert_eq!(rt; outcome.status, 2);
+        assert_eq!(rt; outcome.status, Status::BadLine);
         assert_eq!(rt; outcome.written.as_slice(), want);
     }
     Ok(())
@@ -237,7 +238,7 @@ fn a_line_outside_the_grammar_is_refused(rt: HostRuntime) -> Result<(), Fail> {
         input.extend_from_slice(line)?;
         input.extend_from_slice(b"\nrun 0\n")?;
         let outcome = replay(alloc, input.as_slice())?;
-        assert_eq!(rt; outcome.status, 2);
+        assert_eq!(rt; outcome.status, Status::BadLine);
         assert_eq!(rt; outcome.written.as_slice(), b"bad line 3\n".as_slice());
     }
     Ok(())

@@ -1,11 +1,10 @@
 -- Where a boot stands, by what it asks.
-use Rattle.std.proofs.Common.{◌≡◌, ℕ, List, Option, Some, None, refl, ap, sym, subst, ◌∙◌}
+use Rattle.std.proofs.Common.{◌≡◌, ℕ, List, Some, refl, ap, sym, ◌∙◌}
 use Rattle.plx_appliance.specs.Appliance.{place}
 use Rattle.plx_base.specs.declared.numbers.BlockNo.{BlockNo}
 use Rattle.plx_base.specs.declared.write_kind.WriteKind.{WriteKind}
-use Rattle.plx_disk.specs.declared.ask.Ask.{Ask}
 use Rattle.plx_disk.specs.declared.ask.Ask.TheVariants as ask
-use Rattle.plx_rules.specs.Boot.{Position, Idle, In, asks, writes_out, position}
+use Rattle.plx_rules.specs.Boot.{Position, Idle, In, asks, position}
 use Rattle.plx_rules.specs.Commands.{End}
 use Rattle.plx_rules.specs.Part.{Part, Ends, ReadThen, WriteThen, ClockThen, UntilThen}
 use Rattle.plx_rules.specs.World as rules

@@ -1,5 +1,5 @@
 -- An appliance is given a command, or loses what it has in memory.
-use Rattle.std.proofs.Common.{◌≡◌, ◌≢◌, ◌+◌, ◌^◌, ◌≤◌, ◌<◌, ℕ, List, [], ◌∷◌, ◌++◌, length, reverse, IsSome, Option, Some, None, Bool, true, false, refl, ap, sym, subst, ◌∙◌, arith}
+use Rattle.std.proofs.Common.{◌≡◌, ◌+◌, ◌^◌, ◌<◌, ℕ, List, [], ◌∷◌, ◌++◌, length, reverse, IsSome, Option, Some, None, true, false, ap, sym, subst, ◌∙◌, arith}
 use Rattle.std.proofs.lemmas.Grind.{reverse_onto}
 use Rattle.plx_appliance.specs.Appliance.{IsIdle, IsRunning, StandsFor, place}
 use Rattle.plx_appliance.specs.Places.{known_in}
@@ -18,9 +18,8 @@ use Rattle.plx_model.specs.declared.entry.Entry.{Entry}
 use Rattle.plx_model.specs.declared.entry.Entry.TheVariants as entry
 use Rattle.plx_model.specs.declared.event.Event.TheVariants as event
 use Rattle.plx_rules.specs.Boot.{Happening, Began, IsWhole, asks}
-use Rattle.plx_rules.specs.World as rules
-use Rattle.plx_rules.specs.World.{Step, after_crash, after_start, crashes, starts, stands, without_pending}
-use Rattle.plx_world.specs.Standing.{Stands, Stays, Steps, the_first}
+use Rattle.plx_rules.specs.World.{after_crash, after_start, crashes, starts, without_pending}
+use Rattle.plx_world.specs.Standing.{Steps, the_first}
 use Rattle.plx_world.specs.declared.world.World.{World}
 use Rattle.plx_world.proofs.Asked.{position-of}
 use Rattle.plx_world.proofs.Inverted.{step-crash, step-start}

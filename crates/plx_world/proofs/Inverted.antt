@@ -1,17 +1,15 @@
 -- What stands where an event of the first appliance is possible, and what it leaves.
-use Rattle.std.proofs.Common.{◌≡◌, ◌+◌, ◌^◌, ◌≤◌, ◌<◌, ◌⊎◌, ℕ, List, [], ◌∷◌, ◌++◌, length, Option, Some, None, refl, ap, inl, inr}
+use Rattle.std.proofs.Common.{◌≡◌, ◌+◌, ◌^◌, ◌≤◌, ◌<◌, ℕ, Option, Some, None, refl, ap}
 use Rattle.plx_base.specs.declared.numbers.ApplianceNo.{ApplianceNo}
 use Rattle.plx_base.specs.declared.numbers.BlockNo.{BlockNo}
 use Rattle.plx_base.specs.declared.write_kind.WriteKind.{WriteKind}
-use Rattle.plx_disk.specs.Writes.{Issued, HasLanded, MayLand, after_landing}
-use Rattle.plx_disk.specs.declared.ask.Ask.{Ask}
+use Rattle.plx_disk.specs.Writes.{Issued, HasLanded, MayLand}
 use Rattle.plx_disk.specs.declared.ask.Ask.TheVariants as ask
 use Rattle.plx_model.specs.declared.command.Command.{Command}
 use Rattle.plx_model.specs.declared.event.Event.{Event}
 use Rattle.plx_model.specs.declared.event.Event.TheVariants as event
 use Rattle.plx_model.specs.declared.event.Stop.{Stop}
-use Rattle.plx_rules.specs.Boot.{Position, Idle, In, asks, IsWhole}
-use Rattle.plx_rules.specs.Session.{Known}
+use Rattle.plx_rules.specs.Boot.{asks}
 use Rattle.plx_rules.specs.World.{World, IsBack, Step, stands, ticks, starts, reads, issues, lands, dones, clocks, waits, crashes}
 use Rattle.plx_world.specs.Named.{named}
 use Rattle.plx_world.specs.Standing.{the_first}

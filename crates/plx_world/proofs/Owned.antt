@@ -1,7 +1,6 @@
 -- The appliance's writes, counted from the newest.
-use Rattle.std.proofs.Common.{◌≡◌, ◌+◌, ◌-◌, ◌≤◌, ◌<◌, ◌⊎◌, ◌↔◌, ℕ, zero, suc, List, [], ◌∷◌, length, drop, Option, Some, None, Bool, true, false, if◌then◌else◌, refl, ap, sym, subst, ◌∙◌, inl, inr, arith, add-one, IsTrue}
+use Rattle.std.proofs.Common.{◌≡◌, ◌+◌, ◌-◌, ◌≤◌, ◌<◌, ◌⊎◌, ℕ, zero, suc, List, [], ◌∷◌, length, drop, Some, Bool, true, false, if◌then◌else◌, refl, ap, sym, subst, inl, inr, arith, add-one}
 use Rattle.std.specs.Prelude.{slice_get}
-use Rattle.std.proofs.lemmas.Option.{slice_get_within}
 use Rattle.plx_disk.specs.Standing.{Stands}
 use Rattle.plx_disk.specs.Writes.{Issued, Surface}
 use Rattle.plx_disk.specs.declared.disk.Disk.{Disk}

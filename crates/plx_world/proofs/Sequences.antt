@@ -1,6 +1,6 @@
 -- Runs and schedules, put together from their parts.
-use Rattle.std.proofs.Common.{◌≡◌, ◌+◌, ◌<◌, ◌⊎◌, ℕ, List, [], ◌∷◌, ◌++◌, Option, Some, None, Bool, true, false, if◌then◌else◌, refl, ap, sym, subst, ◌∙◌, inl, inr, arith}
-use Rattle.std.specs.Prelude.{MatchBool, nat_lt, nat_le, slice_get}
+use Rattle.std.proofs.Common.{◌≡◌, ◌+◌, ◌<◌, ℕ, List, [], ◌∷◌, ◌++◌, Option, Some, None, Bool, true, false, if◌then◌else◌, ap, sym, subst, ◌∙◌, inl, inr, arith}
+use Rattle.std.specs.Prelude.{nat_le, slice_get}
 use Rattle.std.proofs.lemmas.Bool.{ltb-true}
 use Rattle.plx_base.specs.declared.numbers.ApplianceNo.{ApplianceNo}
 use Rattle.plx_disk.specs.Writes.{Issued}
@@ -8,15 +8,15 @@ use Rattle.plx_model.specs.declared.event.Event.{Event}
 use Rattle.plx_model.specs.declared.event.Event.TheVariants as event
 use Rattle.plx_model.specs.declared.event.Stop.{Stop}
 use Rattle.plx_rules.specs.Boot.{Position, Idle, In}
-use Rattle.plx_rules.specs.Commands.{End}
-use Rattle.plx_rules.specs.Headline.{Headline, HeadlineOfAll}
-use Rattle.plx_rules.specs.Part.{Part, Ends, ReadThen, WriteThen, ClockThen, UntilThen}
+use Rattle.plx_rules.specs.Headline.{HeadlineOfAll}
+use Rattle.plx_rules.specs.Part.{Ends, ReadThen, WriteThen, ClockThen, UntilThen}
 use Rattle.plx_rules.specs.Sequences.{Runs, ends, halts, goes, RunsPartly, none_yet, more, Makes, plain, runs, runs_upto, MakesPartly, nothing, of_run, of_upto, IsPlayed, made, skipped, Plays, PlaysPartly, next_event, next_at, next_of_write, next_landing, landing, missing, stops}
 use Rattle.plx_rules.specs.Sequences as sequences
 use Rattle.plx_rules.specs.World as rules
 use Rattle.plx_rules.specs.World.{Step, Reached, later, stands, is_boot_of}
+use Rattle.plx_headline.proofs.Reaching.{reached-makes, reached-partly, reached-plays, reached-plays_partly}
 use Rattle.plx_world.specs.Named.{named, is_other}
-use Rattle.plx_world.specs.Running.{IsOver, IsRun, MakesRun, OneMore, GoesOn, RunsSome, RunsWhole, work}
+use Rattle.plx_world.specs.Running.{IsOver, MakesRun, GoesOn, RunsSome, RunsWhole, work}
 use Rattle.plx_world.specs.Standing.{KeepsHeadline, Leads, LeadsPartly, PlaysAll, PlaysSome, Stands, Stays, Steps, the_first}
 use Rattle.plx_world.specs.declared.world.World.{World}
 use Rattle.plx_world.proofs.Inverted.{IsThere, step-run, step-there, step-upto}
@@ -120,39 +120,6 @@ other-elsewhere w (Some a) single other there = let above : 0 < a.0 = ltb-true 0
 
 pub leads-other : (old : World) (one : Event) → is_other (named one) ≡ true → Leads old old one false
 leads-other old one other w h = ((λ v makes. other-elsewhere w (named one) h.single other (there-makes makes)), h)
-
--- what is reached
-reached-runs : {a : ApplianceNo} {stop : Option Stop} {w v : rules.World} → Reached w → Runs a stop w v → Reached v
-reached-runs reached (ends none) = reached
-reached-runs reached (halts one next never) = reached
-reached-runs reached (goes one next step rest) = reached-runs (later reached step) rest
-
-reached-some : {a : ApplianceNo} {stop : Option Stop} {w v : rules.World} → Reached w → RunsPartly a stop w v → Reached v
-reached-some reached none_yet = reached
-reached-some reached (more one next step rest) = reached-some (later reached step) rest
-
-reached-makes : {w v : rules.World} {one : Event} → Reached w → Makes w one v → Reached v
-reached-makes reached (plain step) = later reached step
-reached-makes reached (runs a one next step rest) = reached-runs (later reached step) rest
-reached-makes reached (runs_upto a stop one next step rest) = reached-runs (later reached step) rest
-
-reached-partly : {w v : rules.World} {one : Event} → Reached w → MakesPartly w one v → Reached v
-reached-partly reached nothing = reached
-reached-partly reached (of_run a some) = reached-some reached some
-reached-partly reached (of_upto a stop some) = reached-some reached some
-
-reached-played : {w v : rules.World} {one : Event} → Reached w → IsPlayed w one v → Reached v
-reached-played reached (made makes) = reached-makes reached makes
-reached-played reached (skipped never) = reached
-
-reached-plays : {w v : rules.World} {events : List Event} → Reached w → Plays w events v → Reached v
-reached-plays reached sequences.Plays.over = reached
-reached-plays reached (sequences.Plays.next played rest) = reached-plays (reached-played reached played) rest
-
-reached-plays_partly : {w v : rules.World} {events : List Event} → Reached w → PlaysPartly w events v → Reached v
-reached-plays_partly reached sequences.PlaysPartly.over = reached
-reached-plays_partly reached (sequences.PlaysPartly.within partly) = reached-partly reached partly
-reached-plays_partly reached (sequences.PlaysPartly.next played rest) = reached-plays_partly (reached-played reached played) rest
 
 -- so the headline holds
 pub headline-leads : HeadlineOfAll → (old new : World) (one : Event) (possible : Bool) → Leads old new one possible → KeepsHeadline old new

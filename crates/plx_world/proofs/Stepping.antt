@@ -1,12 +1,14 @@
 -- Each event of the program is one of the world that it stands for.
-use Rattle.std.proofs.Common.{◌≡◌, ◌≢◌, ◌+◌, ◌^◌, ◌≤◌, ◌<◌, ℕ, List, [], ◌∷◌, Option, Some, None, Bool, true, false, refl, ap, sym, subst, ◌∙◌, arith}
+use Rattle.std.proofs.Common.{◌≡◌, ◌≢◌, ◌+◌, ◌≤◌, ◌<◌, ℕ, List, [], Option, Some, None, true, false, ap, sym, subst, ◌∙◌, arith}
 use Rattle.plx_appliance.specs.Appliance.{place}
+use Rattle.plx_appliance.specs.Places.{FitsAsk}
 use Rattle.plx_base.specs.declared.numbers.BlockNo.{BlockNo}
 use Rattle.plx_base.specs.declared.write_kind.WriteKind.{WriteKind}
 use Rattle.plx_disk.specs.Standing.{Stands as DiskStands}
-use Rattle.plx_disk.specs.Standing.{Turns}
 use Rattle.plx_disk.specs.Writes.{HasLanded, Surface}
+use Rattle.plx_disk.specs.declared.ask.Answer.{Answer}
 use Rattle.plx_disk.specs.declared.ask.Answer.TheVariants as answer
+use Rattle.plx_disk.specs.declared.disk.Disk.{Disk}
 use Rattle.plx_disk.specs.declared.ask.Ask.{Ask}
 use Rattle.plx_disk.specs.declared.ask.Ask.TheVariants as ask
 use Rattle.plx_model.specs.declared.event.Event.{Event}
@@ -15,7 +17,7 @@ use Rattle.plx_rules.specs.Boot.{In, asks}
 use Rattle.plx_rules.specs.Part.{ReadThen, WriteThen, ClockThen, UntilThen}
 use Rattle.plx_rules.specs.World as rules
 use Rattle.plx_rules.specs.World.{Step, stands, reads, dones, clocks, waits, goes_on}
-use Rattle.plx_world.specs.Standing.{Stands, Stays, Steps, IsAnswered, the_first}
+use Rattle.plx_world.specs.Standing.{GivesBlock, Stands, Stays, Steps, IsAnswered, the_first}
 use Rattle.plx_world.specs.declared.world.World.{World}
 use Rattle.plx_world.proofs.Asked.{position-of, asked-read, asked-write, asked-clock, asked-until}
 use Rattle.plx_world.proofs.Inverted.{step-read, step-done, step-reading, Answers, clock, wait}
@@ -45,6 +47,24 @@ reads-block old new block bytes same asked stored answered w h =
       reads block.0 found.0 found.1 (first-there h) at,
       subst P (stored w.surface h.surface) (answered w one (ask.Read (record { 0 = block.0 })) [] part h at),
     )
+
+-- the same of an answer that gives the block
+pub gives-block : (old new : World) (block : BlockNo) (given : Answer) → old.appliance.slots ≡ old.slots →
+    Some (ask.Read block) ≡ asks (place old.appliance) → GivesBlock old.disk block.0 given →
+    IsAnswered old new given → Steps old new (event.Read the_first) true
+gives-block old new block (answer.Bytes bytes) same asked gives answered = reads-block old new block bytes same asked gives.1 answered
+gives-block old new block answer.Done same asked gives answered = absurd gives
+gives-block old new block (answer.Reading reading) same asked gives answered = absurd gives
+gives-block old new block (answer.Missed reading) same asked gives answered = absurd gives
+gives-block old new block answer.Fault same asked gives answered = absurd gives
+
+-- it fits the ask
+pub gives-fits : (disk : Disk) (block : BlockNo) (asked : Option Ask) (given : Answer) → Some (ask.Read block) ≡ asked → GivesBlock disk block.0 given → FitsAsk asked given
+gives-fits disk block asked (answer.Bytes bytes) is gives = let P : Option Ask → Type 0 = λ a. FitsAsk a (answer.Bytes bytes) in subst P is gives.0
+gives-fits disk block asked answer.Done is gives = absurd gives
+gives-fits disk block asked (answer.Reading reading) is gives = absurd gives
+gives-fits disk block asked (answer.Missed reading) is gives = absurd gives
+gives-fits disk block asked answer.Fault is gives = absurd gives
 
 -- no read is asked for
 pub reads-none : (old : World) (asked : Option Ask) → old.appliance.slots ≡ old.slots → asked ≡ asks (place old.appliance) →

@@ -1,20 +1,17 @@
 -- The next plain event of a run, and that less is left after it.
-use Rattle.std.proofs.Common.{◌≡◌, ◌≢◌, ◌+◌, ◌-◌, ◌*◌, ◌≤◌, ◌<◌, ◌⊎◌, ℕ, zero, suc, List, [], ◌∷◌, ◌++◌, length, drop, Option, Some, None, Bool, true, false, if◌then◌else◌, refl, ap, sym, subst, ◌∙◌, inl, inr, arith, add-one, slice_set, IsTrue}
-use Rattle.std.specs.Prelude.{slice_get, nat_le, IfOk, MatchBool, MatchOption, Result, Ok, Err}
+use Rattle.std.proofs.Common.{◌≡◌, ◌+◌, ◌-◌, ◌*◌, ◌≤◌, ◌<◌, ℕ, zero, suc, List, [], ◌∷◌, drop, Option, Some, None, Bool, true, false, if◌then◌else◌, refl, ap, sym, subst, ◌∙◌, inl, inr, arith, add-one, slice_set, IsTrue}
+use Rattle.std.specs.Prelude.{slice_get, nat_le, IfOk, MatchBool, Result, Ok, Err}
 use Rattle.std.proofs.lemmas.Bool.{le-leb}
 use Rattle.plx_appliance.specs.Appliance.{asks_left, place}
 use Rattle.plx_appliance.specs.Places.{left_of}
 use Rattle.plx_appliance.specs.declared.state.State.{State}
 use Rattle.plx_appliance.specs.declared.state.State.TheVariants as state
 use Rattle.plx_appliance.specs.declared.appliance.Appliance.{Appliance}
-use Rattle.plx_base.specs.declared.numbers.ApplianceNo.{ApplianceNo}
 use Rattle.plx_base.specs.declared.numbers.BlockNo.{BlockNo}
-use Rattle.plx_base.specs.declared.write_kind.WriteKind.{WriteKind}
 use Rattle.plx_disk.proofs.Lists.{push-last, set-same}
 use Rattle.plx_disk.specs.Missing.{IsLeastMissing, IsMissing, MissesNone}
 use Rattle.plx_disk.specs.Standing.{Stands as DiskStands, Stays as DiskStays}
 use Rattle.plx_disk.specs.Writes.{HasLanded, Issued, MayLand, Surface, after_landing, all_sectors, with_sector}
-use Rattle.plx_disk.specs.declared.ask.Ask.{Ask}
 use Rattle.plx_disk.specs.declared.ask.Ask.TheVariants as ask
 use Rattle.plx_model.specs.declared.event.Event.{Event}
 use Rattle.plx_model.specs.declared.event.Event.TheVariants as event
@@ -26,7 +23,7 @@ use Rattle.plx_rules.specs.World as rules
 use Rattle.plx_rules.specs.World.{IsBack, Step, is_boot_of, issued_by, issues, lands, stands, with_surface}
 use Rattle.plx_world.specs.Owned.{IsOwn}
 use Rattle.plx_world.specs.Running.{AsksClock, GoesOn, IsOver, IsWriting, OneMore, events_left, sectors_left, work, write_left}
-use Rattle.plx_world.specs.Standing.{Stands, Stays, Steps, the_first}
+use Rattle.plx_world.specs.Standing.{Stands, Steps, the_first}
 use Rattle.plx_world.specs.declared.world.World.{World}
 use Rattle.plx_world.proofs.Asked.{asked-clock, asked-read, asked-until, asked-write, position-of}
 use Rattle.plx_world.proofs.Inverted.{Answers, clock, wait, step-done, step-land, step-read, step-reading}

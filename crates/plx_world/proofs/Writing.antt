@@ -1,5 +1,5 @@
 -- Writes are issued, and land. Time passes.
-use Rattle.std.proofs.Common.{◌≡◌, ◌≢◌, ◌+◌, ◌*◌, ◌^◌, ◌≤◌, ◌<◌, ℕ, List, [], ◌∷◌, ◌++◌, length, Option, Some, None, Bool, true, false, refl, ap, sym, subst, ◌∙◌, arith, IsTrue, ◌↔◌}
+use Rattle.std.proofs.Common.{◌≡◌, ◌≢◌, ◌+◌, ◌^◌, ◌<◌, ℕ, List, length, Option, Some, None, Bool, true, false, refl, ap, sym, subst, ◌∙◌, IsTrue, ◌↔◌}
 use Rattle.std.specs.Prelude.{is_some, slice_get}
 use Rattle.plx_appliance.specs.Appliance.{StandsFor, place}
 use Rattle.plx_appliance.specs.declared.appliance.Appliance.{Appliance}
@@ -16,7 +16,7 @@ use Rattle.plx_rules.specs.Boot.{In, asks, boot_number, writes_out}
 use Rattle.plx_rules.specs.Part.{WriteThen}
 use Rattle.plx_rules.specs.World as rules
 use Rattle.plx_rules.specs.World.{IsBack, Step, after_issue, is_boot_of, issues, lands, stands, ticks, with_surface}
-use Rattle.plx_world.specs.Owned.{HasNone, IsNumber, IsOwn}
+use Rattle.plx_world.specs.Owned.{HasNone, IsNumber}
 use Rattle.plx_world.specs.Standing.{Stands, Stays, Steps, the_first}
 use Rattle.plx_world.specs.declared.world.World.{World}
 use Rattle.plx_world.proofs.Asked.{asked-write, position-of}

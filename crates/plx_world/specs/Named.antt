@@ -1,5 +1,5 @@
 -- The appliance that an event names.
-use Rattle.std.specs.Prelude.{Option, Some, None, Bool, true, false, nat_lt}
+use Rattle.std.specs.Prelude.{Option, Some, None, Bool, false, nat_lt}
 use Rattle.plx_base.specs.declared.numbers.ApplianceNo.{ApplianceNo}
 use Rattle.plx_model.specs.declared.event.Event.{Event}
 use Rattle.plx_model.specs.declared.event.Event.TheVariants as event

@@ -1,5 +1,5 @@
 -- The issued write that a landing names by how many newer ones its appliance has.
-use Rattle.std.specs.Prelude.{◌≡◌, ℕ, Option, Some, None, MatchOption, true, false, slice_get}
+use Rattle.std.specs.Prelude.{◌≡◌, ℕ, Some, true, slice_get}
 use Rattle.plx_disk.specs.Standing.{Stands}
 use Rattle.plx_disk.specs.Writes.{Issued, Surface}
 use Rattle.plx_disk.specs.declared.disk.Disk.{Disk}

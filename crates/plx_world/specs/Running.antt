@@ -19,6 +19,7 @@ abbrev pub sectors_left : Option ℕ → ℕ
 sectors_left None = 0
 sectors_left (Some sector) = 8 - sector
 
+-- how many sectors of a write haven't landed
 abbrev pub write_left : Option Issued → ℕ
 write_left None = 0
 write_left (Some write) = sectors_left (missing write.landed)
@@ -67,6 +68,7 @@ pub record IsRun (stop : Option Stop) (new : World) (w v : rules.World) : Type 0
   pub rest : Runs the_first stop after v
   pub stands : Stands new v
 
+-- a run from each world that the old one stands for to one that the new one stands for, or none where it makes no event
 abbrev pub MakesRun : Option Stop → World → World → Bool → Type 0
 MakesRun stop old new made =
     (w : rules.World) → Stands old w → MatchBool made ((v : rules.World) × IsRun stop new w v) (IsOver stop w × Stands new w)

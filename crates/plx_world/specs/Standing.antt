@@ -1,10 +1,13 @@
 -- What the program's world stands for, and what its calls make of that.
-use Rattle.std.specs.Prelude.{◌≡◌, ℕ, List, [], ◌∷◌, ◌++◌, reverse, Bool, MatchBool, Option, Some, None}
+use Rattle.std.specs.Prelude.{◌≡◌, ℕ, List, [], ◌∷◌, length, reverse, Bool, MatchBool, Option, Some, None}
 use Rattle.plx_appliance.specs.Appliance.{StandsFor}
 use Rattle.plx_base.specs.declared.numbers.ApplianceNo.{ApplianceNo}
 use Rattle.plx_disk.specs.Standing.{Stands as DiskStands}
+use Rattle.plx_disk.specs.Writes.{Surface}
 use Rattle.plx_disk.specs.declared.ask.Answer.{Answer}
+use Rattle.plx_disk.specs.declared.ask.Answer.TheVariants as answer
 use Rattle.plx_disk.specs.declared.ask.Ask.{Ask}
+use Rattle.plx_disk.specs.declared.disk.Disk.{Disk}
 use Rattle.plx_model.specs.declared.entry.Entry.{Entry}
 use Rattle.plx_model.specs.declared.entry.Entry.TheVariants as entry
 use Rattle.plx_model.specs.declared.event.Event.{Event}
@@ -17,6 +20,10 @@ use Rattle.plx_rules.specs.Sequences.{Makes, MakesPartly, Plays, PlaysPartly}
 use Rattle.plx_rules.specs.World as rules
 use Rattle.plx_rules.specs.World.{Reached, Step, goes_on, stands}
 use Rattle.plx_world.specs.declared.world.World.{World}
+
+-- what was started, replied and lost, the oldest first
+abbrev pub entries_of : World → List Entry
+entries_of world = world.trace
 
 -- the one appliance
 abbrev pub the_first : ApplianceNo
@@ -52,10 +59,11 @@ Steps old new event possible =
 abbrev pub LeadsPartly : World → World → Event → Type 0
 LeadsPartly old new event = (w : rules.World) → Stands old w → (v : rules.World) × MakesPartly w event v × Stands new v
 
--- all events of a schedule were played, or some of its plain events, from the first one on
+-- all events of a schedule were played
 abbrev pub PlaysAll : World → World → List Event → Type 0
 PlaysAll old new events = (w : rules.World) → Stands old w → (v : rules.World) × Plays w events v × Stands new v
 
+-- some plain events of a schedule were made, from the first one on
 abbrev pub PlaysSome : World → World → List Event → Type 0
 PlaysSome old new events = (w : rules.World) → Stands old w → (v : rules.World) × PlaysPartly w events v × Stands new v
 
@@ -68,6 +76,14 @@ abbrev pub IsAnswered : World → World → Answer → Type 0
 IsAnswered old new answer =
     (w : rules.World) (event : Event) (ask : Ask) (bytes : List ℕ) (part : Part End) → Stands old w → stands w 0 ≡ In part →
     Stands new (goes_on w event the_first ask bytes part answer)
+
+-- the answer is the bytes that stand in the block, 4,096 of them
+abbrev pub GivesBlock : Disk → ℕ → Answer → Type 0
+GivesBlock disk block (answer.Bytes bytes) = (length bytes ≡ 4096) × ((s : Surface) → DiskStands disk s → bytes ≡ s.device block)
+GivesBlock disk block answer.Done = ⊥
+GivesBlock disk block (answer.Reading reading) = ⊥
+GivesBlock disk block (answer.Missed reading) = ⊥
+GivesBlock disk block answer.Fault = ⊥
 
 -- what a reply adds to a trace
 abbrev pub told_entries : Option Reply → List Entry

@@ -1,17 +1,19 @@
 //! The ask that stands is answered.
-ghost use Rattle.std.specs.Prelude.{◌≡◌, ◌<◌, ◌-◌, ◌++◌, length, take};
-ghost use Rattle.plx_world.specs.Standing.{told_entries};
+ghost use Rattle.std.specs.Prelude.{◌≡◌, ◌<◌, ◌-◌, ◌++◌, OnOk, length, take};
+ghost use Rattle.plx_disk.specs.Standing.{device_size};
+ghost use Rattle.plx_world.specs.Standing.{GivesBlock, told_entries};
 
 use crate::world::{FIRST, World};
-use plx_base::{Block, NoMemory};
-use plx_disk::{Answer, Ask};
+use plx_base::{Block, BlockNo, NoMemory};
+use plx_disk::{Answer, Ask, Disk};
 use plx_model::{Entries, Entry, Reply};
+use std::alloc::Global;
 
 /// How far a clock may be from the time, in milliseconds.
 const DRIFT: u64 = 50;
 
 impl World {
-    ghost use Rattle.std.specs.Prelude.{◌≡◌, ◌<◌, IfOk, OnOk, OnErr, IsTrue};
+    ghost use Rattle.std.specs.Prelude.{IfOk, OnErr, IsTrue};
     ghost use Rattle.plx_appliance.specs.Appliance.{IsRunning, asks_left, place};
     ghost use Rattle.plx_appliance.specs.Places.{FitsAsk};
     ghost use Rattle.plx_model.specs.declared.event.Event.TheVariants as event;
@@ -22,7 +24,8 @@ impl World {
     fn answer(&mut self, answer: &Answer) -> Result<(), NoMemory>
         requires { IsRunning self.old.appliance }
         ensures ok { OnOk result (IsAnswered self.old self.new answer.now) }
-        ensures fewer { FitsAsk (asks (place self.old.appliance)) answer.now → OnOk result (asks_left self.new.appliance < asks_left self.old.appliance) }
+        ensures fewer { FitsAsk (asks (place self.old.appliance)) answer.now
+            → OnOk result (asks_left self.new.appliance < asks_left self.old.appliance) }
         ensures err { OnErr result (Stays self.old self.new) }
     {
         self.trace.push(Entry::Crash { appliance: FIRST })?;
@@ -32,17 +35,17 @@ impl World {
         Ok(())
     }
 
-    // The read that is asked for is answered.
-    pub(crate) fn read(&mut self) -> Result<bool, NoMemory>
+    // The read that is asked for is answered, by way of the buffer.
+    pub(crate) fn read(&mut self, buffer: &mut Answer) -> Result<bool, NoMemory>
         ensures ok { IfOk result (Steps self.old self.new (event.Read the_first)) }
-        ensures fewer { IfOk result (λ made. IsTrue made → asks_left self.new.appliance < asks_left self.old.appliance) }
+        ensures fewer { IfOk result (λ made. IsTrue made
+            → asks_left self.new.appliance < asks_left self.old.appliance) }
         ensures err { OnErr result (Stays self.old self.new) }
     {
         match self.asked() {
             Some(Ask::Read { block }) => {
-                let mut bytes = Block::zeros(self.alloc)?;
-                self.disk.read(block, &mut bytes);
-                self.answer(&Answer::Bytes(bytes))?;
+                fetch(self.alloc, &self.disk, block, buffer)?;
+                self.answer(buffer)?;
                 Ok(true)
             }
             Some(Ask::Write { .. }) => Ok(false),
@@ -55,7 +58,8 @@ impl World {
     // The write that is asked for is answered, if all of it has landed.
     pub(crate) fn done(&mut self) -> Result<bool, NoMemory>
         ensures ok { IfOk result (Steps self.old self.new (event.Done the_first)) }
-        ensures fewer { IfOk result (λ made. IsTrue made → asks_left self.new.appliance < asks_left self.old.appliance) }
+        ensures fewer { IfOk result (λ made. IsTrue made
+            → asks_left self.new.appliance < asks_left self.old.appliance) }
         ensures err { OnErr result (Stays self.old self.new) }
     {
         let Some(number) = self.pending else {
@@ -79,7 +83,8 @@ impl World {
     // The clock answers.
     pub(crate) fn reading(&mut self, reading: u64) -> Result<bool, NoMemory>
         ensures ok { IfOk result (Steps self.old self.new (event.Reading the_first reading)) }
-        ensures fewer { IfOk result (λ made. IsTrue made → asks_left self.new.appliance < asks_left self.old.appliance) }
+        ensures fewer { IfOk result (λ made. IsTrue made
+            → asks_left self.new.appliance < asks_left self.old.appliance) }
         ensures err { OnErr result (Stays self.old self.new) }
     {
         let time = self.disk.time();
@@ -106,6 +111,21 @@ impl World {
             None => Ok(false),
         }
     }
+}
+
+// What stands in a block, in the buffer. Memory is taken where it isn't the bytes of a block yet.
+fn fetch(alloc: Global, disk: &Disk, block: BlockNo, buffer: &mut Answer) -> Result<(), NoMemory>
+    requires { block.0 < device_size disk.now }
+    ensures { OnOk result (GivesBlock disk.now block.0 buffer.new) }
+{
+    if let Answer::Bytes(bytes) = buffer {
+        disk.read(block, bytes);
+        return Ok(());
+    }
+    let mut bytes = Block::zeros(alloc)?;
+    disk.read(block, &mut bytes);
+    *buffer = Answer::Bytes(bytes);
+    Ok(())
 }
 
 // The last entry gives way to the reply, if there is one.

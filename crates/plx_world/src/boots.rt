@@ -1,7 +1,7 @@
 //! An appliance is given a command, or loses what it has in memory.
 ghost use Rattle.std.specs.Prelude.{◌≡◌, ◌≤◌, []};
-ghost use Rattle.plx_appliance.specs.Appliance.{StandsFor};
-ghost use Rattle.plx_disk.specs.Standing.{Turns};
+ghost use Rattle.plx_appliance.specs.Appliance.{StandsFor, journal_slots};
+ghost use Rattle.plx_disk.specs.Standing.{Turns, device_size};
 ghost use Rattle.plx_rules.specs.Boot.{IsWhole};
 ghost use Rattle.plx_rules.specs.World.{without_pending};
 
@@ -60,7 +60,7 @@ impl World {
 // The write with this number, if there is one, lands no further.
 fn cancel(disk: &mut Disk, pending: Option<u64>)
     ensures cancelled { Turns disk.old disk.new (λ s. without_pending s pending) }
-    ensures blocks { disk.new.blocks ≡ disk.old.blocks }
+    ensures blocks { device_size disk.new ≡ device_size disk.old }
 {
     if let Some(number) = pending {
         disk.cancel(number);
@@ -72,7 +72,7 @@ fn restart(appliance: &mut Appliance, slots: u32)
     requires low { 2 ≤ slots }
     requires high { slots ≤ 64 }
     ensures log { StandsFor appliance.new [] }
-    ensures slots { appliance.new.slots ≡ slots }
+    ensures slots { journal_slots appliance.new ≡ slots }
 {
     let _lost = mem::replace(appliance, Appliance::fresh(slots));
 }

@@ -4,6 +4,7 @@ ghost use Rattle.plx_world.specs.Named.{is_other as names_other, named};
 
 use crate::world::{FIRST, World};
 use plx_base::NoMemory;
+use plx_disk::Answer;
 use plx_model::Event;
 
 impl World {
@@ -18,7 +19,7 @@ impl World {
         ensures err { OnErr result (LeadsPartly self.old self.new event.now) }
         ensures headline { KeepsHeadline self.old self.new }
     {
-        self.make(event)
+        self.make(event, &mut Answer::Done)
     }
 
     /// The events of a schedule, one after another. It stops at the first one that finds no memory, and what was played
@@ -28,25 +29,27 @@ impl World {
         ensures err { OnErr result (PlaysSome self.old self.new events.now) }
         ensures headline { KeepsHeadline self.old self.new }
     {
+        // One block serves all reads.
+        let mut buffer = Answer::Done;
         for event in events {
-            self.make(event)?;
+            self.make(event, &mut buffer)?;
         }
         Ok(())
     }
 
     // One event.
-    fn make(&mut self, event: &Event) -> Result<bool, NoMemory>
+    fn make(&mut self, event: &Event, buffer: &mut Answer) -> Result<bool, NoMemory>
         ensures ok { IfOk result (Leads self.old self.new event.now) }
         ensures err { OnErr result (LeadsPartly self.old self.new event.now) }
     {
         if is_other(event) {
             return Ok(false);
         }
-        self.make_here(event)
+        self.make_here(event, buffer)
     }
 
     // One event that names no other appliance.
-    fn make_here(&mut self, event: &Event) -> Result<bool, NoMemory>
+    fn make_here(&mut self, event: &Event, buffer: &mut Answer) -> Result<bool, NoMemory>
         requires { names_other (named event.now) ≡ false }
         ensures ok { IfOk result (Leads self.old self.new event.now) }
         ensures err { OnErr result (LeadsPartly self.old self.new event.now) }
@@ -54,14 +57,14 @@ impl World {
         match event {
             Event::Tick { by } => Ok(self.tick(*by)),
             Event::Start { command, .. } => self.start(command),
-            Event::Read { .. } => self.read(),
+            Event::Read { .. } => self.read(buffer),
             Event::Issue { .. } => self.issue(),
             Event::Land { back, sector, .. } => Ok(self.land(*back, *sector)),
             Event::Done { .. } => self.done(),
             Event::Reading { reading, .. } => self.reading(*reading),
             Event::Crash { .. } => self.crash(),
-            Event::Run { .. } => self.run(None),
-            Event::Upto { stop, .. } => self.run(Some(*stop)),
+            Event::Run { .. } => self.run(None, buffer),
+            Event::Upto { stop, .. } => self.run(Some(*stop), buffer),
         }
     }
 }

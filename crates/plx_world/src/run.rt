@@ -5,7 +5,7 @@ ghost use Rattle.plx_rules.specs.Sequences.{is_in as is_in_region};
 use crate::landing::is_own;
 use crate::world::World;
 use plx_base::{BlockNo, NoMemory, WriteKind};
-use plx_disk::Ask;
+use plx_disk::{Answer, Ask};
 use plx_model::{Region, Stop};
 
 /// More plain events than a run can have: 10 for each ask, of which a command has at most 2 for each of 64 slots, and 2.
@@ -23,24 +23,24 @@ impl World {
     ghost use Rattle.plx_world.specs.Standing.{Stays};
 
     // A run, until the appliance's reply or until it stops. False, and nothing changes, where it makes no event.
-    pub(crate) fn run(&mut self, stop: Option<Stop>) -> Result<bool, NoMemory>
+    pub(crate) fn run(&mut self, stop: Option<Stop>, buffer: &mut Answer) -> Result<bool, NoMemory>
         ensures ok { IfOk result (MakesRun stop self.old self.new) }
         ensures err { OnErr result (RunsSome stop self.old self.new) }
     {
-        if !self.advance(stop)? {
+        if !self.advance(stop, buffer)? {
             return Ok(false);
         }
-        self.finish(stop)?;
+        self.finish(stop, buffer)?;
         Ok(true)
     }
 
     // The rest of a run.
-    fn finish(&mut self, stop: Option<Stop>) -> Result<(), NoMemory>
+    fn finish(&mut self, stop: Option<Stop>, buffer: &mut Answer) -> Result<(), NoMemory>
         ensures ok { OnOk result (RunsWhole stop self.old self.new) }
         ensures err { OnErr result (RunsSome stop self.old self.new) }
     {
         for _ in 0..MOST {
-            if !self.advance(stop)? {
+            if !self.advance(stop, buffer)? {
                 return Ok(());
             }
         }
@@ -48,23 +48,23 @@ impl World {
     }
 
     // The next plain event of a run, unless it stops there.
-    fn advance(&mut self, stop: Option<Stop>) -> Result<bool, NoMemory>
+    fn advance(&mut self, stop: Option<Stop>, buffer: &mut Answer) -> Result<bool, NoMemory>
         ensures ok { IfOk result (GoesOn stop self.old self.new) }
         ensures err { OnErr result (Stays self.old self.new) }
     {
         if self.stops(stop) {
             return Ok(false);
         }
-        self.go_on()
+        self.go_on(buffer)
     }
 
     // The next plain event of a run that doesn't stop.
-    fn go_on(&mut self) -> Result<bool, NoMemory>
+    fn go_on(&mut self, buffer: &mut Answer) -> Result<bool, NoMemory>
         ensures ok { IfOk result (GoesOn None self.old self.new) }
         ensures err { OnErr result (Stays self.old self.new) }
     {
         match self.asked() {
-            Some(Ask::Read { .. }) => self.read(),
+            Some(Ask::Read { .. }) => self.read(buffer),
             Some(Ask::Write { .. }) => self.write_on(),
             Some(Ask::Clock) => self.read_clock(),
             Some(Ask::Until { .. }) => self.read_clock(),

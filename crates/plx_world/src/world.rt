@@ -1,5 +1,7 @@
 //! The world and what it tells of itself.
 ghost use Rattle.std.specs.Prelude.{◌≡◌, ◌≤◌};
+ghost use Rattle.plx_appliance.specs.Appliance.{journal_slots};
+ghost use Rattle.plx_disk.specs.Standing.{device_size};
 ghost use Rattle.plx_rules.specs.Journal.{block_count};
 
 use plx_appliance::Appliance;
@@ -32,8 +34,8 @@ pub struct World {
     pub(crate) trace: Entries,
     ghost low: { 2 ≤ slots },
     ghost high: { slots ≤ 64 },
-    ghost same: { appliance.slots ≡ slots },
-    ghost sized: { disk.blocks ≡ block_count slots },
+    ghost same: { journal_slots appliance ≡ slots },
+    ghost sized: { device_size disk ≡ block_count slots },
 }
 
 impl World {
@@ -43,7 +45,7 @@ impl World {
     ghost use Rattle.plx_rules.specs.Boot.{asks};
     ghost use Rattle.plx_rules.specs.World as rules;
     ghost use Rattle.plx_rules.specs.World.{first_world};
-    ghost use Rattle.plx_world.specs.Standing.{Stands};
+    ghost use Rattle.plx_world.specs.Standing.{Stands, entries_of};
 
     /// A world at time 1,000 milliseconds: a device of zeros, and an appliance that was asked nothing yet, where an image's
     /// journal has so many slots, 2 to 64.
@@ -66,7 +68,7 @@ impl World {
 
     /// What was started, replied and lost, the oldest first.
     pub fn trace(&self) -> &Entries
-        ensures { result.now ≡ self.now.trace }
+        ensures { result.now ≡ entries_of self.now }
     {
         &self.trace
     }

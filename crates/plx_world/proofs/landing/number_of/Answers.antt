@@ -1,4 +1,4 @@
-use Rattle.std.proofs.Common.{◌≡◌, ◌-◌, ◌<◌, ◌≤◌, ℕ, subst, arith}
+use Rattle.std.proofs.Common.{◌≡◌, ◌-◌, ℕ, subst, arith}
 use Rattle.plx_world.proofs.Owned.{HasCounted, counted-all, counted-at, counted-other, counted-own}
 use Rattle.plx_world.proofs.landing.number_of.Goals as goal
 

@@ -1,13 +1,11 @@
-use Rattle.std.proofs.Common.{◌∙◌, sym}
-use Rattle.std.proofs.lemmas.Slice.Eq.{bytes_eq-Decides}
-use Rattle.plx_base.specs.Blocks.{filled}
+use Rattle.std.proofs.Common.{◌≡◌, ◌∙◌, sym, ap, length}
+use Rattle.plx_base.proofs.Uniform.{All-filled, filled-All}
 use Rattle.plx_base.proofs.block.Block.is_filled.Goals as goal
 
 pub returns : goal.returns
-unfolding filled
 returns c =
     let same = c.as_slice.ensures.same in
-    let decides = bytes_eq-Decides c.as_slice.result.now c.as_slice-2.result.now in (
-      (λ h. sym same ∙ (decides.0 (sym c.eq.ensures ∙ h) ∙ c.as_slice-2.ensures)),
-      λ h. c.eq.ensures ∙ decides.1 (same ∙ (h ∙ sym c.as_slice-2.ensures)),
+    let long : length c.as_slice.result.now ≡ 4096 = ap length same ∙ c.as_slice.ensures.len in (
+      (λ h. sym same ∙ filled-All c.args.byte c.as_slice.result.now long (c.are_all.ensures.0 h)),
+      λ h. c.are_all.ensures.1 (All-filled c.args.byte c.as_slice.result.now (same ∙ h)),
     )

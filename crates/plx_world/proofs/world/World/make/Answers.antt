@@ -1,4 +1,4 @@
-use Rattle.std.proofs.Common.{◌≡◌, true, sym, ◌∙◌}
+use Rattle.std.proofs.Common.{◌≡◌, true}
 use Rattle.plx_world.specs.Named.{is_other, named}
 use Rattle.plx_world.proofs.Sequences.{leads-other}
 use Rattle.plx_world.proofs.world.World.make.Goals as goal

@@ -1,6 +1,5 @@
-use Rattle.std.proofs.Common.{Some, refl}
+use Rattle.std.proofs.Common.{refl}
 use Rattle.plx_model.specs.declared.event.Event.TheVariants as event
-use Rattle.plx_world.specs.Standing.{the_first}
 use Rattle.plx_world.proofs.Made.{err-plain, err-run, err-upto, first-event, leads-as, ok-plain, ok-run, ok-upto}
 use Rattle.plx_world.proofs.world.World.make_here.Goals as goal
 

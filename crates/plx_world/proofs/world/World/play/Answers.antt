@@ -1,4 +1,4 @@
-use Rattle.std.proofs.Common.{◌≡◌, ◌<◌, List, arith, drop, length, subst, suc, take}
+use Rattle.std.proofs.Common.{◌<◌, List, arith, drop, length, subst, suc, take}
 use Rattle.std.proofs.lemmas.List.{take_more}
 use Rattle.plx_headline.proofs.HeadlineProved.{headline-of-all}
 use Rattle.plx_model.specs.declared.event.Event.{Event}

@@ -1,4 +1,4 @@
-use Rattle.std.proofs.Common.{◌+◌, ◌≤◌, arith}
+use Rattle.std.proofs.Common.{arith}
 use Rattle.plx_world.proofs.Stepping.{clocks-now, waits-until}
 use Rattle.plx_world.proofs.world.World.reading.Goals as goal
 

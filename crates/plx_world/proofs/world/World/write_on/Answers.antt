@@ -1,8 +1,4 @@
-use Rattle.std.proofs.Common.{◌≡◌, true, refl, IsTrue, ◌<◌}
-use Rattle.plx_appliance.specs.Appliance.{asks_left}
-use Rattle.plx_model.specs.declared.event.Event.TheVariants as event
-use Rattle.plx_world.specs.Running.{GoesOn}
-use Rattle.plx_world.specs.Standing.{Steps, the_first}
+use Rattle.std.proofs.Common.{◌≡◌, true, refl}
 use Rattle.plx_world.proofs.Working.{goes-done, goes-land, if-ok}
 use Rattle.plx_world.proofs.world.World.write_on.Goals as goal
 
