@@ -1,0 +1,5 @@
+pub mod Foreign
+pub mod Harmless
+pub mod ModelFacts
+pub mod Owners
+pub mod Replied

@@ -1,0 +1,2 @@
+//! Laws on the block-list model under leases, and on the worlds that it judges.
+#![tactic(auto)]
