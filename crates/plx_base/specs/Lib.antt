@@ -5,3 +5,4 @@ pub mod Labels
 pub mod Payload
 pub mod Pointers
 pub mod Sectors
+pub mod Spelling

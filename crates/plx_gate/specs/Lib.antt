@@ -1,1 +1,4 @@
 pub mod Descriptors
+pub mod Entries
+pub mod Images
+pub mod Leases

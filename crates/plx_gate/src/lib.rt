@@ -2,8 +2,12 @@
 #![tactic(auto)]
 
 mod descriptor;
+mod entry;
+mod image;
 
 pub use descriptor::{Descriptor, read_descriptor, write_descriptor};
+pub use entry::LogEntry;
+pub use image::ImageRecord;
 
 #[cfg(test)]
 mod tests;
