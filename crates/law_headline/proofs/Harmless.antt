@@ -1,8 +1,8 @@
 -- Replies that every model permits, by what the appliance knows of its sessions.
 use Rattle.std.proofs.Common.{◌≡◌, ◌≢◌, ℕ, ◌≤◌, inl, inr, List, [], ◌∷◌, ◌++◌, Bool, true, false, Option, Some, None, refl, ap, sym, subst, ◌∙◌, arith}
-use Rattle.std.specs.Prelude.{◌==◌, ◌&&◌, nat_le}
+use Rattle.std.specs.Prelude.{◌==◌, ◌&&◌, nat_le, not}
 use Rattle.plx_base.specs.declared.numbers.SlotNo.{SlotNo}
-use Rattle.plx_commands.specs.Facts.{refusals, of_claims, of_sessions, of_images, where_holds, not, IsAmong}
+use Rattle.plx_commands.specs.Facts.{refusals, of_claims, of_sessions, of_images, where_holds, IsAmong}
 use Rattle.plx_commands.specs.Limits.{last_claim}
 use Rattle.plx_commands.specs.Model.{Model, owns, has_all}
 use Rattle.plx_commands.specs.Moves.{given_up, where_owned, refused_at, given, replied}

@@ -1,9 +1,9 @@
 -- What holds of the model after every trace that is permitted.
 use Rattle.std.proofs.Common.{◌≡◌, ◌≢◌, ℕ, ◌+◌, ◌<◌, inl, inr, List, [], ◌∷◌, ◌++◌, length, Bool, true, false, Option, Some, None, refl, ap, sym, subst, ◌∙◌, arith}
-use Rattle.std.specs.Prelude.{◌==◌, ◌&&◌, nat_lt}
+use Rattle.std.specs.Prelude.{◌==◌, ◌&&◌, nat_lt, not}
 use Rattle.std.proofs.lemmas.Bool.Decides.{eqb_tells}
 use Rattle.plx_base.specs.declared.numbers.SlotNo.{SlotNo}
-use Rattle.plx_commands.specs.Facts.{refusals, where_holds, where_is, not, of_none, is_none}
+use Rattle.plx_commands.specs.Facts.{refusals, where_holds, where_is, of_none, is_none}
 use Rattle.plx_commands.specs.Images.{Image, report_of, count_dropped}
 use Rattle.plx_commands.specs.Judge.{Accepts, Permitted}
 use Rattle.plx_commands.specs.Model.{Model, Slot, first_model, images_in, owns_all, has_all}

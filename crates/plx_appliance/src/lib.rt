@@ -7,8 +7,6 @@ mod places;
 mod read;
 mod session;
 mod state;
-#[cfg(test)]
-mod tests;
 mod write;
 
 pub use appliance::Appliance;

@@ -1,6 +1,8 @@
 -- Pointers with and without their mark.
-use Rattle.std.proofs.Common.{◌≡◌, ◌^◌, ◌<◌, ◌≤◌, ℕ, inl, inr, arith}
-use Rattle.plx_base.specs.Pointers.{IsMarked, IsPointer, marked, unmarked}
+use Rattle.std.proofs.Common.{◌≡◌, ◌^◌, ◌<◌, ◌≤◌, ℕ, Bool, true, false, refl, inl, inr, arith}
+use Rattle.std.proofs.lemmas.Bool.Decides.{nat_tests, Decides-eqb}
+use Rattle.std.specs.Prelude.{◌==◌, ◌||◌, ◌&&◌, nat_le, nat_lt}
+use Rattle.plx_base.specs.Pointers.{IsMarked, IsPointer, is_pointer, marked, unmarked}
 
 -- a number below the mark is its own block
 pub unmarked-same : (block : ℕ) → block < 2 ^ 63 → unmarked block ≡ block
@@ -37,3 +39,16 @@ IsPointer-frozen block low high = inr (omega arith, omega arith, omega arith)
 -- a block's writable pointer
 pub IsPointer-marked : (block : ℕ) → 1 ≤ block → block < 2 ^ 26 → IsPointer (marked block)
 IsPointer-marked block low high = inr (omega arith, omega arith, omega arith)
+
+-- the test of a pointer tells
+pub is_pointer-true : (number : ℕ) → IsPointer number → is_pointer number ≡ true
+is_pointer-true number (inl hole) = grind (arith, nat_tests)
+is_pointer-true number (inr block) = let a = block.0 in let b = block.1 in let c = block.2 in grind (arith, nat_tests)
+
+pub true-is_pointer : (number : ℕ) → is_pointer number ≡ true → IsPointer number
+true-is_pointer number h = by_cases (number == 0) ((Decides-eqb number 0).0) h
+  where
+    by_cases : (b : Bool) → (b ≡ true → number ≡ 0) →
+        (b || (nat_lt number (2 ^ 64) && (nat_le 1 (unmarked number) && nat_lt (unmarked number) (2 ^ 26)))) ≡ true → IsPointer number
+    by_cases true zero h = inl (zero refl)
+    by_cases false zero h = inr (grind (arith, nat_tests), grind (arith, nat_tests), grind (arith, nat_tests))

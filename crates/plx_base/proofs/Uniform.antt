@@ -1,13 +1,9 @@
 -- Blocks of one byte throughout.
-use Rattle.std.proofs.Common.{◌≡◌, Bool, true, false, ℕ, zero, suc, List, [], ◌∷◌, length, replicate, refl, ap, sym, arith, subst}
+use Rattle.std.proofs.Common.{◌≡◌, ℕ, zero, suc, List, [], ◌∷◌, length, replicate, refl, ap, sym, arith, subst}
 use Rattle.std.specs.List.{All}
-use Rattle.std.specs.Prelude.{if◌then◌else◌, slice_index}
-use Rattle.std.specs.Str.{bytes_eq}
+use Rattle.std.specs.Prelude.{slice_index}
 use Rattle.std.proofs.lemmas.List.{length-replicate}
-use Rattle.std.proofs.lemmas.Slice.Eq.{bytes_eq-Decides}
 use Rattle.plx_base.specs.Blocks.{filled}
-use Rattle.plx_base.specs.Canonical.{payload_of}
-use Rattle.plx_base.specs.declared.payload.Payload.TheVariants as payload
 use Rattle.plx_base.specs.Payload.{IsUniform}
 
 -- a list whose elements are all one byte
@@ -45,22 +41,3 @@ pub IsUniform-first : (xs : List ℕ) → length xs ≡ 4096 → IsUniform xs �
 IsUniform-first xs e h =
     let first : slice_index xs 0 ≡ h.0 = All-filled h.0 xs h.1 0 0 (omega (arith, e)) in
     rw first h.1
-
--- the payload of a block whose bytes are all its first, and of another
-pub payload-uniform : (xs : List ℕ) → length xs ≡ 4096 → All (λ b. b ≡ slice_index xs 0) xs → payload_of xs ≡ payload.All (slice_index xs 0)
-payload-uniform xs long all =
-    let e : bytes_eq xs (filled (slice_index xs 0)) ≡ true =
-    (bytes_eq-Decides xs (filled (slice_index xs 0))).1 (filled-All (slice_index xs 0) xs long all) in
-    ap (λ b. if b then payload.All (slice_index xs 0) else payload.Whole xs) e
-
--- a test of a fact that doesn't hold is false
-fails : {P : Type 0} (b : Bool) → (b ≡ true → P) → (P → ⊥) → b ≡ false
-fails true holds other = absurd (other (holds refl))
-fails false holds other = refl
-
-pub payload-whole : (xs : List ℕ) → (All (λ b. b ≡ slice_index xs 0) xs → ⊥) → payload_of xs ≡ payload.Whole xs
-payload-whole xs other =
-    let e : bytes_eq xs (filled (slice_index xs 0)) ≡ false =
-    fails (bytes_eq xs (filled (slice_index xs 0))) ((bytes_eq-Decides xs (filled (slice_index xs 0))).0)
-    (λ same. other (All-filled (slice_index xs 0) xs same)) in
-    ap (λ b. if b then payload.All (slice_index xs 0) else payload.Whole xs) e

@@ -1,6 +1,7 @@
 -- Bytes after others were written over them at a place.
-use Rattle.std.proofs.Common.{◌≡◌, ℕ, ◌+◌, ◌-◌, ◌≤◌, ◌<◌, List, ◌++◌, length, take, drop, get_or, refl, ap, ◌∙◌, arith, append_assoc, length-append, length-drop}
-use Rattle.std.proofs.lemmas.List.{length-take-le, get_or_append_left, get_or-append_right, get_or-take, get_or-drop, take-append-drop, drop-drop}
+use Rattle.std.proofs.Common.{◌≡◌, ℕ, ◌+◌, ◌-◌, ◌≤◌, ◌<◌, List, [], ◌++◌, length, take, drop, get_or, refl, ap, sym, ◌∙◌, arith, append_assoc, length-append, length-drop}
+use Rattle.std.proofs.lemmas.List.{append-nil, length-take-le, drop_all, drop_at, take_at, drop-take, drop-append-le, take-append-le, take-take, get_or_append_left, get_or-append_right, get_or-take, get_or-drop, take-append-drop, drop-drop}
+use Rattle.std.proofs.Math.Seq.{take-add}
 use Rattle.std.specs.Prelude.{slice_index}
 use Rattle.plx_base.specs.Blocks.{written}
 
@@ -43,3 +44,50 @@ pub written-again : (at n : ℕ) (old : List ℕ) → at + n ≤ length old → 
 written-again at n old h =
     let long : length (take n (drop at old)) ≡ n = length-take-le n (drop at old) (rw (length-drop at old) (omega arith)) in
     rw (written-parts at (take n (drop at old)) old, long, ← drop-drop n at old, take-append-drop n (drop at old), take-append-drop at old) refl
+
+-- the new bytes are those at the place
+pub part-written : (at : ℕ) (new old : List ℕ) → at ≤ length old → take (length new) (drop at (written at new old)) ≡ new
+part-written at new old h =
+    rw (written-parts at new old, drop_at (take at old) (new ++ drop (at + length new) old) at (length-take-le at old h))
+    (take_at new (drop (at + length new) old) (length new) refl)
+
+-- a part before the place stays
+pub part-before : (at : ℕ) (new old : List ℕ) (place n : ℕ) → at ≤ length old → place + n ≤ at → take n (drop place (written at new old)) ≡ take n (drop place old)
+part-before at new old place n h before =
+    let long = length-take-le at old h in
+    let rest = new ++ drop (at + length new) old in
+    let e : place + (at - place) ≡ at = omega (arith, before) in
+    let cut : drop place (take at old) ≡ take (at - place) (drop place old) = ap (λ m. drop place (take m old)) (sym e) ∙ drop-take place (at - place) old in
+    let short : length (drop place (take at old)) ≡ at - place = length-drop place (take at old) ∙ ap (λ m. m - place) long in
+    rw (written-parts at new old, drop-append-le place (take at old) rest (omega (arith, long, before)), take-append-le n (drop place (take at old)) rest (omega (arith, short, before)), cut)
+    (take-take n (at - place) (drop place old) (omega (arith, before)))
+
+-- all that stands after the new bytes stays
+pub drop-written : (at : ℕ) (new old : List ℕ) (place : ℕ) → at ≤ length old → at + length new ≤ place → drop place (written at new old) ≡ drop place old
+drop-written at new old place h after =
+    let front = take at old ++ new in
+    let m = at + length new in
+    let long : length front ≡ m = let a = length-append (take at old) new in let b = length-take-le at old h in omega (arith, a, b) in
+    let e : m + (place - m) ≡ place = omega (arith, after) in
+    let parts : written at new old ≡ front ++ drop m old = written-parts at new old ∙ sym (append_assoc (take at old) new (drop m old)) in
+    ap (λ n. drop n (written at new old)) (sym e)
+    ∙ (ap (drop (m + (place - m))) parts
+    ∙ (sym (drop-drop (place - m) m (front ++ drop m old)) ∙ (ap (drop (place - m)) (drop_at front (drop m old) m long) ∙ (drop-drop (place - m) m old ∙ ap (λ n. drop n old) e))))
+
+-- a part after the new bytes stays
+pub part-after : (at : ℕ) (new old : List ℕ) (place n : ℕ) → at ≤ length old → at + length new ≤ place → take n (drop place (written at new old)) ≡ take n (drop place old)
+part-after at new old place n h after = ap (take n) (drop-written at new old place h after)
+
+-- a write past some first bytes
+pub written-past : (n at : ℕ) (new old : List ℕ) → n ≤ length old → written (n + at) new old ≡ take n old ++ written at new (drop n old)
+written-past n at new old h =
+    let e : n + at + length new ≡ n + (at + length new) = omega arith in
+    let f : n + (at + length new) ≡ at + length new + n = omega arith in
+    let back : drop (at + length new) (drop n old) ≡ drop (n + at + length new) old = drop-drop (at + length new) n old ∙ ap (λ m. drop m old) (omega arith) in
+    rw (written-parts (n + at) new old, written-parts at new (drop n old), take-add n at old, back) (append_assoc (take n old) (take at (drop n old)) (new ++ drop (n + at + length new) old))
+
+-- a write over all
+pub written-whole : (new old : List ℕ) → length new ≡ length old → written 0 new old ≡ new
+written-whole new old long =
+    let none : drop (0 + length new) old ≡ [] = drop_all (0 + length new) old (omega (arith, long)) in
+    written-parts 0 new old ∙ (ap (λ rest. take 0 old ++ (new ++ rest)) none ∙ append-nil new)

@@ -3,21 +3,41 @@ use Rattle.std.specs.Prelude.{◌≡◌, ◌≢◌, ◌+◌, ◌-◌, ℕ, List,
 use Rattle.std.specs.Str.{bytes_eq}
 use Rattle.plx_base.specs.Fields.{little, number_at}
 use Rattle.plx_base.specs.Sectors.{landed}
+use Rattle.plx_base.specs.declared.stored.Field.{Field}
+use Rattle.plx_base.specs.declared.stored.Field.TheVariants.{U32, U64, U128}
 
--- a number, and of how many bytes it is
-pub record Field : Type 0 where
-  pub width : ℕ
-  pub number : ℕ
+-- how many bytes a field has
+abbrev pub width_of : Field → ℕ
+width_of (U32 number) = 4
+width_of (U64 number) = 8
+width_of (U128 number) = 16
+
+-- the number that a field is
+abbrev pub number_of : Field → ℕ
+number_of (U32 number) = number
+number_of (U64 number) = number
+number_of (U128 number) = number
+
+-- a field of the same kind with this number
+abbrev pub with_number : Field → ℕ → Field
+with_number (U32 number) new = U32 new
+with_number (U64 number) new = U64 new
+with_number (U128 number) new = U128 new
+
+-- how many bytes fields have together
+abbrev pub fields_width : List Field → ℕ
+fields_width [] = 0
+fields_width (field ∷ fields) = width_of field + fields_width fields
 
 -- the bytes of fields, one after another
 abbrev pub fields_bytes : List Field → List ℕ
 fields_bytes [] = []
-fields_bytes (field ∷ fields) = little field.width field.number ++ fields_bytes fields
+fields_bytes (field ∷ fields) = little (width_of field) (number_of field) ++ fields_bytes fields
 
--- the fields of these widths that stand one after another from that place on
-abbrev pub fields_at : (widths : List ℕ) (place : ℕ) → List ℕ → List Field
+-- the fields of these kinds that stand one after another from that place on
+abbrev pub fields_at : (kinds : List Field) (place : ℕ) → List ℕ → List Field
 fields_at [] place bytes = []
-fields_at (width ∷ widths) place bytes = record { width = width; number = number_at width place bytes } ∷ fields_at widths (place + width) bytes
+fields_at (field ∷ fields) place bytes = with_number field (number_at (width_of field) place bytes) ∷ fields_at fields (place + width_of field) bytes
 
 -- these bytes, and zeros up to the end of a block
 unfoldable pub padded : List ℕ → List ℕ

@@ -1,8 +1,10 @@
 //! Blocks of 4,096 bytes, which land sector by sector.
-ghost use Rattle.std.specs.Prelude.{◌≡◌, ◌<◌, ◌+◌, ◌*◌, ◌≤◌, length, IfOk};
+ghost use Rattle.std.specs.Prelude.{◌≡◌, ◌<◌, ◌+◌, ◌*◌, ◌≤◌, ◌↔◌, length, IfOk, IsTrue};
 ghost use Rattle.plx_base.specs.Blocks.{filled, written, zeros};
 ghost use Rattle.plx_base.specs.Sectors.{landed};
+ghost use Rattle.plx_base.specs.Spelling.{fields_width, spelled};
 
+use crate::stored::{Field, put_record};
 use std::alloc::{AllocError, Global};
 use std::marker::Model;
 
@@ -61,6 +63,13 @@ impl Block {
         Ok(Block { bytes })
     }
 
+    /// Whether each byte is this one.
+    pub fn is_filled(&self, byte: u8) -> bool
+        ensures { IsTrue result ↔ (self.now ≡ filled byte) }
+    {
+        self.as_slice() == [byte; BLOCK_LEN].as_slice()
+    }
+
     /// Makes the block equal to another.
     pub fn set(&mut self, from: &Block)
         ensures { self.new ≡ from.now }
@@ -76,6 +85,14 @@ impl Block {
         copy_at(&mut self.bytes[..], at, bytes);
     }
 
+    /// Makes the block a record: the magic, the fields one after another, the last bytes, and zeros.
+    pub fn put_record(&mut self, magic: &[u8], fields: &[Field], last: &[u8])
+        requires { length magic.now + (fields_width fields.now + length last.now) ≤ 4096 }
+        ensures { self.new ≡ spelled magic.now fields.now last.now }
+    {
+        put_record(&mut self.bytes[..], magic, fields, last);
+    }
+
     /// One sector of another block lands.
     pub fn land(&mut self, sector: u8, from: &Block)
         requires { sector < 8 }
@@ -85,7 +102,8 @@ impl Block {
     }
 }
 
-fn copy_at(bytes: &mut [u8], at: usize, new: &[u8])
+// Writes bytes over those from a place on.
+pub(crate) fn copy_at(bytes: &mut [u8], at: usize, new: &[u8])
     requires { at + length new.now ≤ length bytes.old }
     ensures { bytes.new ≡ written at new.now bytes.old }
 {

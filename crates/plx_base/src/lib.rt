@@ -9,8 +9,7 @@ mod lease;
 mod numbers;
 mod payload;
 mod ptr;
-#[cfg(test)]
-mod tests;
+mod stored;
 mod write_kind;
 
 pub use block::{BLOCK_LEN, Block, SECTOR_LEN, SECTORS};
@@ -21,4 +20,5 @@ pub use numbers::{ApplianceNo, BlockNo, Boot, ExtentNo, SlotNo};
 pub use payload::Payload;
 pub use ptr::Ptr;
 pub use std::alloc::AllocError as NoMemory;
+pub use stored::{Field, is_record, put_fields, put_record};
 pub use write_kind::WriteKind;

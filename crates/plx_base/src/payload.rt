@@ -1,6 +1,5 @@
 //! What a block holds, without a block where one byte says it.
-ghost use Rattle.std.specs.Prelude.{◌≡◌, ◌↔◌, IfOk, IsTrue};
-ghost use Rattle.std.specs.List.{All};
+ghost use Rattle.std.specs.Prelude.{◌≡◌, ◌↔◌, IfOk};
 ghost use Rattle.plx_base.specs.Canonical.{payload_of};
 ghost use Rattle.plx_base.specs.Payload.{IsAll, IsUniform, bytes_of};
 
@@ -21,10 +20,9 @@ impl Payload {
         ensures all { IfOk result (λ p. IsAll p ↔ IsUniform block.now) }
         ensures canonical { IfOk result (λ p. p ≡ payload_of block.now) }
     {
-        let bytes = block.as_slice();
-        let first = bytes[0];
-        if are_all(bytes, first) {
-            return Ok(Payload::All(first));
+        let byte = block.as_slice()[0];
+        if block.is_filled(byte) {
+            return Ok(Payload::All(byte));
         }
         Ok(Payload::Whole(block.copy(alloc)?))
     }
@@ -33,9 +31,8 @@ impl Payload {
     pub fn holding(block: Block) -> Payload
         ensures { result ≡ payload_of block }
     {
-        let bytes = block.as_slice();
-        let byte = bytes[0];
-        if are_all(bytes, byte) {
+        let byte = block.as_slice()[0];
+        if block.is_filled(byte) {
             return Payload::All(byte);
         }
         Payload::Whole(block)
@@ -60,11 +57,4 @@ impl Payload {
             Payload::Whole(block) => Ok(Payload::Whole(block.copy(alloc)?)),
         }
     }
-}
-
-// Whether each byte is this one.
-fn are_all(bytes: &[u8], byte: u8) -> bool
-    ensures { IsTrue result ↔ All (λ b. b ≡ byte) bytes.now }
-{
-    bytes.iter().all(|b| *b == byte)
 }

@@ -4,8 +4,6 @@
 mod ask;
 mod blocks;
 mod disk;
-#[cfg(test)]
-mod tests;
 mod write;
 
 pub use ask::{Answer, Ask};

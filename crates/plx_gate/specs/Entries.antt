@@ -3,7 +3,9 @@ use Rattle.std.specs.Prelude.{◌*◌, ◌<◌, ◌^◌, ◌==◌, ℕ, List, []
 use Rattle.plx_base.specs.Blocks.{written}
 use Rattle.plx_base.specs.Fields.{number_at}
 use Rattle.plx_base.specs.Pointers.{IsPointer, is_pointer}
-use Rattle.plx_base.specs.Spelling.{Field, fields_bytes, read_by}
+use Rattle.plx_base.specs.Spelling.{fields_bytes, read_by}
+use Rattle.plx_base.specs.declared.stored.Field.{Field}
+use Rattle.plx_base.specs.declared.stored.Field.TheVariants.{U32, U64}
 use Rattle.plx_gate.specs.declared.entry.LogEntry.{LogEntry}
 
 -- 1 for a dropped entry, else 0
@@ -14,11 +16,11 @@ flag_of true = 1
 -- an entry's fields: the root, whether it is dropped, four unnamed bytes, the stamp, and eight unnamed bytes
 abbrev pub entry_fields : LogEntry → List Field
 entry_fields entry =
-    record { width = 8; number = entry.root }
-    ∷ record { width = 4; number = flag_of entry.dropped }
-    ∷ record { width = 4; number = 0 }
-    ∷ record { width = 8; number = entry.stamp }
-    ∷ record { width = 8; number = 0 }
+    U64 entry.root
+    ∷ U32 (flag_of entry.dropped)
+    ∷ U32 0
+    ∷ U64 entry.stamp
+    ∷ U64 0
     ∷ []
 
 -- the 32 bytes that spell an entry
@@ -47,9 +49,13 @@ found_entry bytes = record { root = number_at 8 0 bytes; dropped = not (number_a
 abbrev pub entry_part : ℕ → List ℕ → List ℕ
 entry_part index block = take 32 (drop (entry_start index) block)
 
--- what a log block says at an entry's place: an entry within the limits, or nothing
+-- what the 32 bytes of an entry say: an entry within the limits, or nothing
+abbrev pub entry_of : List ℕ → Option LogEntry
+entry_of bytes = read_by is_entry entry_bytes (found_entry bytes) bytes
+
+-- what a log block says at an entry's place
 unfoldable pub read_entry : ℕ → List ℕ → Option LogEntry
-read_entry index block = read_by is_entry entry_bytes (found_entry (entry_part index block)) (entry_part index block)
+read_entry index block = entry_of (entry_part index block)
 
 -- a log block with an entry written at its place; the others stay
 abbrev pub with_entry : ℕ → LogEntry → List ℕ → List ℕ

@@ -3,7 +3,9 @@ use Rattle.std.specs.Prelude.{◌≤◌, ◌<◌, ◌^◌, ◌==◌, ℕ, List, 
 use Rattle.plx_base.specs.Fields.{number_at}
 use Rattle.plx_base.specs.Labels.{IsLabel, is_label}
 use Rattle.plx_base.specs.Pointers.{IsPointer, is_pointer}
-use Rattle.plx_base.specs.Spelling.{Field, spelled, read_by}
+use Rattle.plx_base.specs.Spelling.{spelled, read_by}
+use Rattle.plx_base.specs.declared.stored.Field.{Field}
+use Rattle.plx_base.specs.declared.stored.Field.TheVariants.{U32, U64}
 use Rattle.plx_gate.specs.declared.image.ImageRecord.{ImageRecord}
 use Rattle.plx_gate.specs.declared.image.ImageRecord.TheVariants.{Free, Live}
 
@@ -15,14 +17,14 @@ image_magic = 80 ∷ 76 ∷ 88 ∷ 73 ∷ 77 ∷ 65 ∷ 71 ∷ 49 ∷ []
 -- the label's length, and four unnamed bytes
 abbrev pub fields_of : (state generation size taken root applied label_len : ℕ) → List Field
 fields_of state generation size taken root applied label_len =
-    record { width = 4; number = state }
-    ∷ record { width = 4; number = generation }
-    ∷ record { width = 4; number = size }
-    ∷ record { width = 4; number = taken }
-    ∷ record { width = 8; number = root }
-    ∷ record { width = 8; number = applied }
-    ∷ record { width = 4; number = label_len }
-    ∷ record { width = 4; number = 0 }
+    U32 state
+    ∷ U32 generation
+    ∷ U32 size
+    ∷ U32 taken
+    ∷ U64 root
+    ∷ U64 applied
+    ∷ U32 label_len
+    ∷ U32 0
     ∷ []
 
 -- a free slot has state 0, its generation and zeros; a live one has state 1 and all its fields
@@ -55,22 +57,29 @@ abbrev pub IsImage : ImageRecord → Type 0
 IsImage (Free generation) = generation < 2 ^ 32
 IsImage (Live generation size taken root applied label) = IsLive generation size taken root applied label
 
--- the same limits, tested
+-- the limits of a live image's generation, size, snapshots and last write applied, tested
+abbrev pub are_within : (generation size taken applied : ℕ) → Bool
+are_within generation size taken applied =
+    nat_le 1 generation && (nat_lt generation (2 ^ 32) && (nat_le 1 size && (nat_le size (2 ^ 27) && (nat_le taken 128 && nat_lt applied (2 ^ 48)))))
+
+-- the limits of an image record, tested
 abbrev pub is_image : ImageRecord → Bool
 is_image (Free generation) = nat_lt generation (2 ^ 32)
-is_image (Live generation size taken root applied label) =
-    nat_le 1 generation && (nat_lt generation (2 ^ 32) && (nat_le 1 size && (nat_le size (2 ^ 27) && (nat_le taken 128
-    && (is_pointer root && (nat_lt applied (2 ^ 48) && is_label label))))))
+is_image (Live generation size taken root applied label) = are_within generation size taken applied && (is_pointer root && is_label label)
 
 -- the image record of these numbers and this label
 abbrev pub image_of : (state generation size taken root applied : ℕ) → List ℕ → ImageRecord
 image_of state generation size taken root applied label = if state == 0 then Free generation else Live generation size taken root applied label
 
+-- the label that stands at its place
+abbrev pub found_label : List ℕ → List ℕ
+found_label bytes = take (number_at 4 40 bytes) (drop 48 bytes)
+
 -- the image record whose numbers and label stand at the places of the fields
 abbrev pub found_image : List ℕ → ImageRecord
 found_image bytes =
     image_of (number_at 4 8 bytes) (number_at 4 12 bytes) (number_at 4 16 bytes) (number_at 4 20 bytes) (number_at 8 24 bytes) (number_at 8 32 bytes)
-    (take (number_at 4 40 bytes) (drop 48 bytes))
+    (found_label bytes)
 
 -- what a block says: an image record within the limits, or nothing
 unfoldable pub read_image : List ℕ → Option ImageRecord

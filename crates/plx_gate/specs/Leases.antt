@@ -1,7 +1,9 @@
 -- Leases as bytes.
 use Rattle.std.specs.Prelude.{◌+◌, ◌≤◌, ◌<◌, ◌^◌, ◌==◌, ℕ, List, [], ◌∷◌, Bool, true, ◌&&◌, nat_lt, nat_le, if◌then◌else◌, Option}
 use Rattle.plx_base.specs.Fields.{number_at}
-use Rattle.plx_base.specs.Spelling.{Field, spelled, read_by}
+use Rattle.plx_base.specs.Spelling.{spelled, read_by}
+use Rattle.plx_base.specs.declared.stored.Field.{Field}
+use Rattle.plx_base.specs.declared.stored.Field.TheVariants.{U32, U64, U128}
 use Rattle.plx_base.specs.declared.lease.Claim.{Claim}
 use Rattle.plx_base.specs.declared.lease.LeaseRecord.{LeaseRecord}
 use Rattle.plx_base.specs.declared.lease.LeaseRecord.TheVariants.{Free, Claimed}
@@ -13,12 +15,12 @@ lease_magic = 80 ∷ 76 ∷ 88 ∷ 76 ∷ 69 ∷ 65 ∷ 83 ∷ 49 ∷ []
 -- a lease's fields from byte 8 on: the state, four unnamed bytes, and the boot, the number, the sample and the moment `until` of its claim
 abbrev pub fields_of : (state boot number sample until : ℕ) → List Field
 fields_of state boot number sample until =
-    record { width = 4; number = state }
-    ∷ record { width = 4; number = 0 }
-    ∷ record { width = 16; number = boot }
-    ∷ record { width = 8; number = number }
-    ∷ record { width = 8; number = sample }
-    ∷ record { width = 8; number = until }
+    U32 state
+    ∷ U32 0
+    ∷ U128 boot
+    ∷ U64 number
+    ∷ U64 sample
+    ∷ U64 until
     ∷ []
 
 -- a free lease has state 0 and zeros; a claimed one has state 1 and its claim

@@ -1,8 +1,13 @@
 -- Which blocks are apart from which.
-use Rattle.std.proofs.Common.{◌≡◌, ◌≢◌, ℕ, suc, ◌+◌, ◌*◌, ◌/◌, ◌^◌, ◌≤◌, ◌<◌, ap, sym, ◌∙◌, arith}
+use Rattle.std.proofs.Common.{◌≡◌, ◌≢◌, ◌⊎◌, ℕ, zero, suc, ◌+◌, ◌-◌, ◌*◌, ◌/◌, ◌^◌, ◌≤◌, ◌<◌, Option, Some, None, inl, inr, refl, ap, sym, subst, ◌∙◌, arith}
 use Rattle.std.proofs.Math.Nat.{mul-le-mul_right, suc-mul}
 use Rattle.std.proofs.lemmas.Nat.{div-mul-add}
-use Rattle.plx_geom.specs.Geometry.{Geometry, IsGeometry, IsPoolBlock, lease_count, root_lease, image_lease, extent_lease, lease_at, record_at, log_at, descriptor_at, data_at, extents_start, map_at, pool_at, block_count}
+use Rattle.std.proofs.lemmas.Bool.Decides.{leb_tells}
+use Rattle.plx_geom.specs.Limits.{StandsIn}
+use Rattle.plx_geom.specs.Places.{IsPlace, block_of}
+use Rattle.plx_geom.specs.declared.place.Place.{Place}
+use Rattle.plx_geom.specs.declared.place.Place.TheVariants.{Super, RootLease, ImageLease, ExtentLease, Record, Log, JDesc, JData, Map, Pool}
+use Rattle.plx_geom.specs.Geometry.{Geometry, journal_start, IsGeometry, IsPoolBlock, lease_count, root_lease, image_lease, extent_lease, lease_at, record_at, log_at, descriptor_at, data_at, extents_start, map_at, pool_at, block_count}
 
 -- a number of rows and a place in the last one tell both
 pub row-row : (width i j s t : ℕ) → s < width → t < width → i * width + s ≡ j * width + t → i ≡ j
@@ -232,3 +237,135 @@ one-extent g d e j k block x y = pool-pool g d e j k x.bit_high y.bit_high (sym 
 
 pub one-bit : (g : Geometry) (d e j k block : ℕ) → IsPoolBlock g d j block → IsPoolBlock g e k block → j ≡ k
 one-bit g d e j k block x y = pool-bit g d e j k x.bit_high y.bit_high (sym x.here ∙ y.here)
+
+-- what stands in a block is one place
+
+-- the regions of a device in their order: superblock, root's lease, leases of images, leases of extents, records, logs, journals and extents
+region_of : Place → ℕ
+region_of Super = 0
+region_of RootLease = 1
+region_of (ImageLease image) = 2
+region_of (ExtentLease extent) = 3
+region_of (Record image) = 4
+region_of (Log image) = 5
+region_of (JDesc image slot) = 6
+region_of (JData image slot) = 6
+region_of (Map extent) = 7
+region_of (Pool extent bit) = 7
+
+-- the first block of a region
+region_start : Geometry → ℕ → ℕ
+region_start g zero = 0
+region_start g (suc zero) = 1
+region_start g (suc (suc zero)) = 2
+region_start g (suc (suc (suc zero))) = 2 + g.images
+region_start g (suc (suc (suc (suc zero)))) = 2 + g.images + g.extents
+region_start g (suc (suc (suc (suc (suc zero))))) = 2 + 2 * g.images + g.extents
+region_start g (suc (suc (suc (suc (suc (suc zero)))))) = journal_start g
+region_start g (suc (suc (suc (suc (suc (suc (suc zero))))))) = extents_start g
+region_start g (suc (suc (suc (suc (suc (suc (suc (suc more)))))))) = block_count g + more
+
+-- each place lies in its region
+in-region : (g : Geometry) (p : Place) → 1 ≤ g.extent_blocks → IsPlace g p → (region_start g (region_of p) ≤ block_of g p) × (block_of g p < region_start g (suc (region_of p)))
+unfolding region_of region_start
+in-region g Super some is = (omega arith, omega arith)
+in-region g RootLease some is = (omega arith, omega arith)
+in-region g (ImageLease image) some is = (omega (arith, is), omega (arith, is))
+in-region g (ExtentLease extent) some is = (omega (arith, is), omega (arith, is))
+in-region g (Record image) some is = (omega (arith, is), omega (arith, is))
+in-region g (Log image) some is = (omega (arith, is), omega (arith, is))
+in-region g (JDesc image slot) some is = let b = descriptor-below g image.0 slot is.0 is.1 in (omega arith, omega (arith, b))
+in-region g (JData image slot) some is = let b = data-below g image.0 slot is.0 is.1 in (omega arith, omega (arith, b))
+in-region g (Map extent) some is = let b = map-within g extent.0 some is in (omega arith, omega (arith, b))
+in-region g (Pool extent bit) some is = let b = pool-within g extent.0 bit is.0 is.2 in (omega arith, omega (arith, b))
+
+-- regions follow each other
+region-next : (g : Geometry) (r : ℕ) → region_start g r ≤ region_start g (suc r)
+unfolding region_start
+region-next g zero = omega arith
+region-next g (suc zero) = omega arith
+region-next g (suc (suc zero)) = omega arith
+region-next g (suc (suc (suc zero))) = omega arith
+region-next g (suc (suc (suc (suc zero)))) = omega arith
+region-next g (suc (suc (suc (suc (suc zero))))) = omega arith
+region-next g (suc (suc (suc (suc (suc (suc zero)))))) = omega arith
+region-next g (suc (suc (suc (suc (suc (suc (suc zero))))))) = omega arith
+region-next g (suc (suc (suc (suc (suc (suc (suc (suc more)))))))) = omega arith
+
+region-after : (g : Geometry) (r d : ℕ) → region_start g r ≤ region_start g (r + d)
+region-after g r zero = let e : r + 0 ≡ r = omega arith in rw e (omega arith)
+region-after g r (suc d) =
+    let e : r + suc d ≡ suc (r + d) = omega arith in
+    let a = region-after g r d in
+    let b = region-next g (r + d) in
+    rw e (omega (arith, a, b))
+
+-- the first of two numbers is at most the second, or the second is less
+le-or-lt : (a b : ℕ) → (a ≤ b) ⊎ (b < a)
+le-or-lt a b = elim (leb_tells a b) [ inl x ↦ inl x.1 | inr x ↦ inr x.1 ]
+
+-- a region begins at or past the end of each one before it
+region-order : (g : Geometry) (r s : ℕ) → r < s → region_start g (suc r) ≤ region_start g s
+region-order g r s less =
+    let e : suc r + (s - suc r) ≡ s = omega (arith, less) in
+    subst (λ n. region_start g (suc r) ≤ region_start g n) e (region-after g (suc r) (s - suc r))
+
+-- a block lies in one region
+one-region : (g : Geometry) (r s block : ℕ) → region_start g r ≤ block → block < region_start g (suc r) → region_start g s ≤ block → block < region_start g (suc s) → r ≡ s
+one-region g r s block a b c d = go (le-or-lt r s) (le-or-lt s r)
+  where
+    go : (r ≤ s) ⊎ (s < r) → (s ≤ r) ⊎ (r < s) → r ≡ s
+    go (inr less) other = absurd (let f = region-order g s r less in omega (arith, f, a, d))
+    go (inl low) (inr less) = absurd (let f = region-order g r s less in omega (arith, f, b, c))
+    go (inl low) (inl high) = omega (arith, low, high)
+
+-- two places of one block are one
+pub place-place : (g : Geometry) (p q : Place) → 1 ≤ g.extent_blocks → IsPlace g p → IsPlace g q → block_of g p ≡ block_of g q → p ≡ q
+unfolding region_of
+place-place g p q some is other same =
+    let a = in-region g p some is in
+    let b = in-region g q some other in
+    go p q is other same (one-region g (region_of p) (region_of q) (block_of g p) a.0 a.1 (omega (arith, same, b.0)) (omega (arith, same, b.1)))
+  where
+    go : (p q : Place) → IsPlace g p → IsPlace g q → block_of g p ≡ block_of g q → region_of p ≡ region_of q → p ≡ q
+    go Super Super is other same region = refl
+    go RootLease RootLease is other same region = refl
+    go (ImageLease i) (ImageLease j) is other same region = let e : i.0 ≡ j.0 = omega (arith, same) in ap (λ n. ImageLease (record { 0 = n })) e
+    go (ExtentLease d) (ExtentLease e) is other same region = let f : d.0 ≡ e.0 = omega (arith, same) in ap (λ n. ExtentLease (record { 0 = n })) f
+    go (Record i) (Record j) is other same region = let e : i.0 ≡ j.0 = omega (arith, same) in ap (λ n. Record (record { 0 = n })) e
+    go (Log i) (Log j) is other same region = let e : i.0 ≡ j.0 = omega (arith, same) in ap (λ n. Log (record { 0 = n })) e
+    go (JDesc i s) (JDesc j t) is other same region =
+        let e = descriptor-descriptor g i.0 j.0 s t is.1 other.1 same in
+        let f = descriptor-slot g i.0 j.0 s t is.1 other.1 same in
+        λ x. JDesc (record { 0 = e x }) (f x)
+    go (JData i s) (JData j t) is other same region =
+        let e = data-data g i.0 j.0 s t is.1 other.1 same in
+        let f = data-slot g i.0 j.0 s t is.1 other.1 same in
+        λ x. JData (record { 0 = e x }) (f x)
+    go (JDesc i s) (JData j t) is other same region = absurd (data-descriptor g j.0 i.0 t s (sym same))
+    go (JData i s) (JDesc j t) is other same region = absurd (data-descriptor g i.0 j.0 s t same)
+    go (Map d) (Map e) is other same region = let f = map-map g d.0 e.0 some same in ap (λ n. Map (record { 0 = n })) f
+    go (Pool d j) (Pool e k) is other same region =
+        let f = pool-pool g d.0 e.0 j k is.2 other.2 same in
+        let h = pool-bit g d.0 e.0 j k is.2 other.2 same in
+        λ x. Pool (record { 0 = f x }) (h x)
+    go (Map d) (Pool e k) is other same region = absurd (map-pool g d.0 e.0 k other.1 other.2 same)
+    go (Pool d j) (Map e) is other same region = absurd (map-pool g e.0 d.0 j is.1 is.2 (sym same))
+    go p q is other same region = absurd (omega (arith, region))
+
+-- so what stands in a block is its one place
+pub stands-one : (g : Geometry) (block : ℕ) (found : Option Place) (p : Place) → 1 ≤ g.extent_blocks → StandsIn g block found → IsPlace g p → block_of g p ≡ block → found ≡ Some p
+stands-one g block (Some q) p some stands is here = ap Some (place-place g q p some stands.0 is (stands.1 ∙ sym here))
+stands-one g block None p some stands is here = absurd (let b = place-within g p some is in omega (arith, stands, here, b))
+  where
+    place-within : (g : Geometry) (p : Place) → 1 ≤ g.extent_blocks → IsPlace g p → block_of g p < block_count g
+    place-within g Super some is = omega arith
+    place-within g RootLease some is = omega arith
+    place-within g (ImageLease image) some is = omega (arith, is)
+    place-within g (ExtentLease extent) some is = omega (arith, is)
+    place-within g (Record image) some is = omega (arith, is)
+    place-within g (Log image) some is = omega (arith, is)
+    place-within g (JDesc image slot) some is = descriptor-within g image.0 slot is.0 is.1
+    place-within g (JData image slot) some is = data-within g image.0 slot is.0 is.1
+    place-within g (Map extent) some is = map-within g extent.0 some is
+    place-within g (Pool extent bit) some is = pool-within g extent.0 bit is.0 is.2

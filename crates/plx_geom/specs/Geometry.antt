@@ -1,5 +1,5 @@
 -- Geometries, and where the blocks of a device stand.
-use Rattle.std.specs.Prelude.{◌≡◌, ◌+◌, ◌*◌, ◌≤◌, ◌<◌, ◌&&◌, nat_le, ℕ, zero, suc, Bool}
+use Rattle.std.specs.Prelude.{◌≡◌, ◌+◌, ◌*◌, ◌≤◌, ◌<◌, ℕ, zero, suc}
 use Rattle.plx_base.specs.declared.lease.LeaseName.{LeaseName}
 use Rattle.plx_base.specs.declared.lease.LeaseName.TheVariants.{Root, Image, Extent}
 
@@ -9,6 +9,10 @@ pub record Geometry : Type 0 where
   pub extents : ℕ
   pub extent_blocks : ℕ
   pub slots : ℕ
+
+-- the geometry of these numbers
+abbrev pub geometry_of : (images extents extent_blocks slots : ℕ) → Geometry
+geometry_of images extents extent_blocks slots = record { images = images; extents = extents; extent_blocks = extent_blocks; slots = slots }
 
 -- the limits of a geometry
 pub record IsGeometry (g : Geometry) : Type 0 where
@@ -20,12 +24,6 @@ pub record IsGeometry (g : Geometry) : Type 0 where
   pub blocks_high : g.extent_blocks ≤ 32768
   pub slots_low : 2 ≤ g.slots
   pub slots_high : g.slots ≤ 64
-
--- the same limits, tested
-abbrev pub is_geometry : Geometry → Bool
-is_geometry g =
-    nat_le 1 g.images && (nat_le g.images 256 && (nat_le 1 g.extents && (nat_le g.extents 512
-    && (nat_le 16 g.extent_blocks && (nat_le g.extent_blocks 32768 && (nat_le 2 g.slots && nat_le g.slots 64))))))
 
 -- the fields in their order, counted from 0: images, extents, blocks of an extent, slots
 abbrev pub field_of : Geometry → ℕ → ℕ

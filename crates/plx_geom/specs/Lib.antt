@@ -1,3 +1,4 @@
 pub mod Geometry
+pub mod Limits
 pub mod Places
 pub mod Superblock

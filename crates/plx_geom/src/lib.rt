@@ -8,4 +8,4 @@ mod superblock;
 
 pub use geometry::{Geometry, GeometryError};
 pub use place::Place;
-pub use superblock::Damaged;
+pub use superblock::{Damaged, read_superblock, write_superblock};

@@ -1,6 +1,6 @@
 //! What the virtual blocks of an image hold.
-ghost use Rattle.std.specs.Prelude.{◌≡◌, ◌↔◌, IsTrue, length, slice_index, EachIndex};
-ghost use Rattle.plx_base.specs.Blocks.{filled, zeros};
+ghost use Rattle.std.specs.Prelude.{◌≡◌, ◌↔◌, IsTrue};
+ghost use Rattle.plx_base.specs.Blocks.{zeros};
 ghost use Rattle.plx_base.specs.Payload.{bytes_of};
 ghost use Rattle.plx_model.specs.Image.{same_bytes};
 ghost use Rattle.plx_model.specs.Shown.{content_of};
@@ -22,7 +22,7 @@ fn is_block(payload: &Payload, block: &Block) -> bool
     ensures { IsTrue result ↔ (bytes_of payload.now ≡ block.now) }
 {
     match payload {
-        Payload::All(byte) => is_filled(block, *byte),
+        Payload::All(byte) => block.is_filled(*byte),
         Payload::Whole(bytes) => is_same(bytes.as_slice(), block.as_slice()),
     }
 }
@@ -32,20 +32,8 @@ fn is_zeros(payload: &Payload) -> bool
 {
     match payload {
         Payload::All(byte) => *byte == 0,
-        Payload::Whole(block) => is_filled(block, 0),
+        Payload::Whole(block) => block.is_filled(0),
     }
-}
-
-fn is_filled(block: &Block, byte: u8) -> bool
-    ensures { IsTrue result ↔ (block.now ≡ filled byte) }
-{
-    is_all(block.as_slice(), byte)
-}
-
-fn is_all(bytes: &[u8], byte: u8) -> bool
-    ensures { IsTrue result ↔ EachIndex bytes.now (λ k. slice_index bytes.now k ≡ byte) }
-{
-    bytes.iter().all(|b| *b == byte)
 }
 
 // Whether the labels are the same.

@@ -10,7 +10,7 @@ pub enum JudgeError {
     /// The entry breaks this rule, and no rule of a lower number.
     #[error("not permitted by rule {rule}")]
     NotPermitted { rule: u8 },
-    /// There is no memory for what the entry changes.
+    /// The entry keeps all rules, and there is no memory for what it changes.
     #[error("out of memory")]
     NoMemory,
 }

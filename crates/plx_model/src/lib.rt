@@ -17,8 +17,6 @@ mod reply;
 mod rules;
 mod seat;
 mod slot;
-#[cfg(test)]
-mod tests;
 
 pub use command::Command;
 pub use entry::Entry;

@@ -10,8 +10,6 @@ mod output;
 mod reading;
 mod sink;
 mod source;
-#[cfg(test)]
-mod tests;
 mod writing;
 
 pub use failed::Failed;

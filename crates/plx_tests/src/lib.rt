@@ -1,13 +1,21 @@
-//! Tests that cross crates: whole schedules through the top call.
+//! Tests over the public calls of all crates: what no clause says.
 #![tactic(auto)]
 
 #[cfg(test)]
-mod bad_lines;
+mod asks;
 #[cfg(test)]
-mod crashes;
+mod device;
 #[cfg(test)]
-mod faults;
+mod judge;
+#[cfg(test)]
+mod large;
+#[cfg(test)]
+mod program;
+#[cfg(test)]
+mod records;
 #[cfg(test)]
 mod schedules;
 #[cfg(test)]
-mod session;
+mod streams;
+#[cfg(test)]
+mod texts;

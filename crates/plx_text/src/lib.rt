@@ -8,11 +8,7 @@ mod once;
 mod print;
 mod print_data;
 mod print_reply;
-#[cfg(test)]
-mod print_tests;
 mod read;
-#[cfg(test)]
-mod read_tests;
 mod schedule;
 mod text;
 mod word;

@@ -6,8 +6,6 @@ mod boots;
 mod landing;
 mod play;
 mod run;
-#[cfg(test)]
-mod tests;
 mod world;
 
 pub use world::World;

@@ -1,12 +1,12 @@
 -- The device with which a world begins.
-use Rattle.std.specs.Prelude.{◌≡◌, ◌≤◌, ◌∷◌, ℕ, List, replicate}
+use Rattle.std.specs.Prelude.{◌≡◌, ◌∷◌, ℕ, List, length, replicate}
 use Rattle.plx_base.specs.Blocks.{zeros}
 use Rattle.plx_base.specs.Sectors.{Device}
 use Rattle.plx_base.specs.declared.lease.LeaseRecord.TheVariants as lease_is
 use Rattle.plx_gate.specs.Images.{image_bytes}
 use Rattle.plx_gate.specs.Leases.{lease_bytes}
 use Rattle.plx_gate.specs.declared.image.ImageRecord.TheVariants as image_is
-use Rattle.plx_geom.specs.Geometry.{Geometry, block_count}
+use Rattle.plx_geom.specs.Geometry.{Geometry}
 use Rattle.plx_geom.specs.Places.{IsPlace, block_of}
 use Rattle.plx_geom.specs.Superblock.{superblock_bytes}
 use Rattle.plx_geom.specs.declared.place.Place.{Place}
@@ -29,7 +29,7 @@ formatted_block g (JData image slot) = zeros
 formatted_block g (Map extent) = empty_map
 formatted_block g (Pool extent bit) = zeros
 
--- a device is formatted; past its end it reads as zeros
+-- a device is formatted: each block has 4,096 bytes, and each place holds what it is to
 pub record IsFormatted (g : Geometry) (device : Device) : Type 0 where
+  pub whole : (block : ℕ) → length (device block) ≡ 4096
   pub places : (place : Place) → IsPlace g place → device (block_of g place) ≡ formatted_block g place
-  pub past : (block : ℕ) → block_count g ≤ block → device block ≡ zeros

@@ -1,0 +1,411 @@
+-- Each write that a command asks is allowed by what its boot holds.
+use Rattle.std.proofs.Common.{◌≡◌, ℕ, zero, suc, ◌+◌, ◌-◌, ◌^◌, ◌≤◌, ◌<◌, inl, inr, List, [], ◌∷◌, Bool, true, false, Option, Some, None, refl, ap, sym, ◌∙◌, arith, length}
+use Rattle.std.proofs.Math.Nat.{mod-lt}
+use Rattle.std.proofs.lemmas.Bool.Decides.{leb_tells}
+use Rattle.std.specs.Prelude.{if◌then◌else◌, nat_le, nat_lt, ◌==◌, not}
+use Rattle.std.specs.Str.{bytes_eq}
+use Rattle.plx_base.proofs.Spelling.{length-spelled}
+use Rattle.plx_base.specs.Labels.{IsLabel}
+use Rattle.plx_base.specs.Payload.{bytes_of}
+use Rattle.plx_base.specs.declared.lease.Claim.{Claim}
+use Rattle.plx_base.specs.declared.lease.LeaseRecord.{LeaseRecord}
+use Rattle.plx_base.specs.declared.lease.LeaseRecord.TheVariants.{Free, Claimed}
+use Rattle.plx_commands.specs.Facts.{is_size, is_worn}
+use Rattle.plx_commands.specs.Limits.{last_claim, last_generation, last_write, greatest_size}
+use Rattle.plx_commands.specs.declared.command.Command.{Command}
+use Rattle.plx_commands.specs.declared.command.Command.TheVariants.{Attach, Detach, Create, Delete, Read, Write, Flush, Reserve, Renew, Retire, Reclaim}
+use Rattle.plx_commands.specs.declared.reply.Reply.{Reply}
+use Rattle.plx_commands.specs.declared.reply.Reply.TheVariants as reply
+use Rattle.plx_commands.proofs.Places.{at-same, at-other}
+use Rattle.plx_gate.specs.Images.{image_bytes, image_magic, image_fields, label_of}
+use Rattle.plx_gate.specs.Leases.{read_lease, lease_bytes}
+use Rattle.plx_gate.specs.declared.image.ImageRecord.{ImageRecord}
+use Rattle.plx_gate.specs.declared.image.ImageRecord.TheVariants as image_is
+use Rattle.plx_gate.proofs.Descriptors.{length-descriptor}
+use Rattle.plx_geom.specs.Geometry.{Geometry, IsGeometry, data_at, descriptor_at, lease_count, image_lease, lease_at}
+use Rattle.plx_geom.proofs.Places.{lease-lease, image-below, record-record, data-data, descriptor-descriptor}
+use Rattle.plx_rules.specs.Part.{Part, Ends, ReadThen, WriteThen, ClockThen, UntilThen}
+use Rattle.plx_rules.specs.declared.journaled.Journaled.{Journaled}
+use Rattle.plx_worlds.specs.Attaching.{image_use, after_load, load_journal, after_record, load_image, after_claim, claim_image, attach_part}
+use Rattle.plx_worlds.specs.Claims.{ClaimEnd, ClaimHeld, ClaimBusy, ClaimLost, ClaimReadFault, ClaimWriteFault, ClaimDamaged, claim_of, own_record, own_use, claim_in_time, claim_damaged, reread_by, reread_part, written_part, if_expired, seen_part, claim_part}
+use Rattle.plx_worlds.specs.Commands.{unless, attached_part, detach_part, record_part, create_part, delete_part, read_part, write_part, journal_part, next_slot, next_descriptor, next_write, later_of, renewal, renew_part, attached_uses, IsWellFormed, command_part}
+use Rattle.plx_worlds.specs.Ends.{End, ends, lost, in_time, ends_in_time}
+use Rattle.plx_worlds.specs.Holds.{Hold, Nothing, Seen, Wrote, Waited, Held, after_first, first_hold, session_at, seen_by, shown, timed}
+use Rattle.plx_worlds.specs.InUse.{InUse, first_reached, unless_reached}
+use Rattle.plx_worlds.specs.Journal.{Finding, Outside, Unused, Counts, finding}
+use Rattle.plx_worlds.specs.Loading.{LoadEnd, Loaded, LoadReadFault, LoadDamaged, load_found, load_part}
+use Rattle.plx_worlds.specs.Parts.{followed_by}
+use Rattle.plx_worlds.specs.Records.{is_live, generation_of, size_of, made_record, attached_record}
+use Rattle.plx_worlds.specs.Session.{Session, Known, with_claim, with_session, new_session, with_write, write_count, inserted}
+use Rattle.plx_worlds.specs.Settings.{Setting}
+use Rattle.plx_worlds.specs.Times.{is_expired, term}
+use Rattle.plx_gate.proofs.Leases.{length-lease}
+use Rattle.law_lease.proofs.Leased.{IsGranted, Lawful, LawfulRest}
+
+-- between commands a lease is held, or not
+abbrev pub IsRest : Hold → Type 0
+IsRest Nothing = Unit {0}
+IsRest (Held claim until) = Unit {0}
+IsRest (Seen sample) = ⊥
+IsRest (Wrote claim until) = ⊥
+IsRest (Waited claim until) = ⊥
+
+pub first-rests : (session : Option Session) (reading : ℕ) (hold : Hold) → IsRest (first_hold session reading hold)
+first-rests None reading (Held claim until) = by_test (nat_le until reading)
+  where
+    by_test : (a : Bool) → IsRest (if a then Nothing else Held claim until)
+    by_test true = tt
+    by_test false = tt
+first-rests (Some session) reading (Held claim until) = tt
+first-rests None reading Nothing = tt
+first-rests None reading (Seen sample) = tt
+first-rests None reading (Wrote claim until) = tt
+first-rests None reading (Waited claim until) = tt
+first-rests (Some session) reading Nothing = tt
+first-rests (Some session) reading (Seen sample) = tt
+first-rests (Some session) reading (Wrote claim until) = tt
+first-rests (Some session) reading (Waited claim until) = tt
+
+-- what a test of numbers tells
+pub below-tested : (a b : ℕ) → nat_lt a b ≡ true → a < b
+below-tested a b e = elim (leb_tells (suc a) b) [ inl below ↦ below.1 | inr not' ↦ absurd (let f : true ≡ false = sym e ∙ not'.0 in let P : ⊥ = cc in P) ]
+
+-- a record is a block of 4,096 bytes, where its label is one
+pub length-labelled : (kept : ImageRecord) → length (label_of kept) ≤ 32 → length (image_bytes kept) ≡ 4096
+unfolding image_bytes
+length-labelled (image_is.Free generation) short = length-spelled image_magic (image_fields (image_is.Free generation)) [] (omega arith)
+length-labelled (image_is.Live generation size taken root applied label) short =
+    length-spelled image_magic (image_fields (image_is.Live generation size taken root applied label)) label (omega (arith, short))
+
+module _ (g : Geometry) (boot : ℕ) where
+  -- one part and then another
+  pub lawful-followed : {E F : Type 0} (At : E → (ℕ → Hold) → Option ℕ → Type 0) (At' : F → (ℕ → Hold) → Option ℕ → Type 0) (part : Part E) (next : E → Part F) (holds : ℕ → Hold) (sample : Option ℕ) →
+      Lawful At g boot holds sample part → ((end : E) (h : ℕ → Hold) (s : Option ℕ) → At end h s → Lawful At' g boot h s (next end)) →
+      Lawful At' g boot holds sample (followed_by part next)
+  lawful-followed At At' (Ends end) next holds sample lawful then' = then' end holds sample lawful
+  lawful-followed At At' (ReadThen block rest fault) next holds sample lawful then' = (
+    λ bytes. lawful-followed At At' (rest bytes) next _ _ (lawful.0 bytes) then',
+    lawful-followed At At' fault next _ _ lawful.1 then',
+  )
+  lawful-followed At At' (WriteThen kind block bytes guard done fault missed) next holds sample lawful then' = (
+    lawful.0,
+    lawful-followed At At' done next _ _ lawful.1 then',
+    lawful-followed At At' fault next _ _ lawful.2 then',
+    λ reading. lawful-followed At At' (missed reading) next _ _ (lawful.3 reading) then',
+    lawful.4,
+  )
+  lawful-followed At At' (ClockThen rest) next holds sample lawful then' = λ reading early. lawful-followed At At' (rest reading) next _ _ (lawful reading early) then'
+  lawful-followed At At' (UntilThen from rest) next holds sample lawful then' = λ reading early. lawful-followed At At' (rest reading) next _ _ (lawful reading early) then'
+
+  -- ---- a claim
+
+  claim-in_time : (uses : List InUse) (reading : ℕ) (rest : Part ClaimEnd) (holds : ℕ → Hold) (sample : Option ℕ) → LawfulRest g boot holds sample rest →
+      LawfulRest g boot holds sample (claim_in_time uses reading rest)
+  claim-in_time uses reading rest holds sample lawful = by_found (first_reached uses reading)
+    where
+      by_found : (found : Option InUse) → LawfulRest g boot holds sample (unless_reached found (λ due. Ends (ClaimLost due reading)) rest)
+      by_found None = lawful
+      by_found (Some due) = tt
+
+  claim-damaged : (uses : List InUse) (holds : ℕ → Hold) (sample : Option ℕ) → LawfulRest g boot holds sample (claim_damaged uses)
+  claim-damaged uses holds sample = λ reading early. claim-in_time uses reading (Ends ClaimDamaged) _ _ tt
+
+  claim-reread : (own : Bool) (uses : List InUse) (claim : Claim) (seen : Option LeaseRecord) (holds : ℕ → Hold) (sample : Option ℕ) →
+      LawfulRest g boot holds sample (reread_by own uses claim seen)
+  claim-reread true uses claim seen holds sample = tt
+  claim-reread false uses claim None holds sample = claim-damaged uses holds sample
+  claim-reread false uses claim (Some seen) holds sample = tt
+
+  claim-written : (others : List InUse) (lease number sample : ℕ) (holds : ℕ → Hold) (last : Option ℕ) → lease < lease_count g → number < 2 ^ 40 → sample < 2 ^ 48 →
+      holds (lease_at lease) ≡ Seen sample → LawfulRest g boot holds last (written_part others lease (claim_of boot number sample))
+  claim-written others lease number sample holds last within few early is = (
+    record { lease = lease; number = number; sample = sample; within = within; at_lease = refl; hold = is; spells = refl; few = few; early = early; guarded = refl },
+    λ reading below. claim-in_time uses reading (reread_part uses lease claim) _ _ (
+      λ bytes. claim-reread (bytes_eq bytes (lease_bytes (own_record claim))) uses claim (read_lease bytes) _ _,
+      tt,
+    ),
+    tt,
+    λ reading. tt,
+    length-lease (own_record claim),
+  )
+    where
+      claim : Claim
+      claim = claim_of boot number sample
+
+      uses : List InUse
+      uses = own_use lease claim ∷ others
+
+  claim-seen : (others : List InUse) (lease number sample : ℕ) (found : Option LeaseRecord) (holds : ℕ → Hold) → lease < lease_count g → number < 2 ^ 40 → sample < 2 ^ 48 →
+      holds (lease_at lease) ≡ seen_by found sample → LawfulRest g boot holds None (seen_part others lease (claim_of boot number sample) found)
+  claim-seen others lease number sample None holds within few early is = claim-damaged others holds None
+  claim-seen others lease number sample (Some seen) holds within few early is = by_test (is_expired seen sample) is
+    where
+      by_test : (a : Bool) → holds (lease_at lease) ≡ (if a then Seen sample else Nothing) →
+          LawfulRest g boot holds None (if_expired a seen (written_part others lease (claim_of boot number sample)))
+      by_test false is' = tt
+      by_test true is' = claim-written others lease number sample holds None within few early is'
+
+  pub lawful-claim : (others : List InUse) (lease number : ℕ) (holds : ℕ → Hold) (last : Option ℕ) → lease < lease_count g → number < 2 ^ 40 → holds (lease_at lease) ≡ Nothing →
+      LawfulRest g boot holds last (claim_part boot others lease number)
+  lawful-claim others lease number holds last within few is = λ sample early. claim-in_time others sample _ _ _ (
+    λ bytes.
+        let before : ℕ → Hold = λ block. timed sample (holds block) in
+        claim-seen others lease number sample (read_lease bytes) _ within few early
+        (at-same before (lease_at lease) (shown (Some sample) bytes (before (lease_at lease))) ∙ ap (λ (h : Hold). shown (Some sample) bytes (timed sample h)) is),
+    tt,
+  )
+
+  -- ---- the reading of a journal
+
+  pub lawful-load : (image : ℕ) (kept : ImageRecord) (left slot : ℕ) (writes : List Journaled) (holds : ℕ → Hold) (sample : Option ℕ) →
+      LawfulRest g boot holds sample (load_part g image kept left slot writes)
+  lawful-load image kept zero slot writes holds sample = tt
+  lawful-load image kept (suc left) slot writes holds sample = (
+    λ bytes. by_found (finding kept g.slots slot bytes) _ _ (λ h s w. lawful-load image kept left (slot + 1) w h s),
+    tt,
+  )
+    where
+      by_found : (found : Finding) (h : ℕ → Hold) (s : Option ℕ) → ((h' : ℕ → Hold) (s' : Option ℕ) (w : List Journaled) → LawfulRest g boot h' s' (load_part g image kept left (slot + 1) w)) →
+          LawfulRest g boot h s (load_found (descriptor_at g image slot) found (load_part g image kept left (slot + 1) writes)
+          (λ number vblock. ReadThen (data_at g image slot) (λ data'. load_part g image kept left (slot + 1) (inserted (record { number = number; vblock = vblock; block = data' }) writes)) (Ends (LoadReadFault (data_at g image slot)))))
+      by_found Outside h s rest = tt
+      by_found Unused h s rest = rest h s writes
+      by_found (Counts d) h s rest = (λ data'. rest _ _ _, tt)
+
+module _ (s : Setting) where
+  abbrev g : Geometry
+  g = s.geometry
+
+  -- the rest of a command
+  abbrev Right : (ℕ → Hold) → Option ℕ → Part End → Type 0
+  Right holds sample part = LawfulRest s.geometry s.boot holds sample part
+
+  -- ---- tests and last readings
+
+  right-in_time : (known : Known) (uses : List InUse) (reading : ℕ) (part : Part End) (holds : ℕ → Hold) (sample : Option ℕ) → Right holds sample part →
+      Right holds sample (in_time s known uses reading part)
+  right-in_time known uses reading part holds sample right = by_found (first_reached uses reading)
+    where
+      by_found : (found : Option InUse) → Right holds sample (unless_reached found (λ due. lost s known due reading) part)
+      by_found None = right
+      by_found (Some due) = tt
+
+  right-ends : (known : Known) (uses : List InUse) (reply : Reply) (after : Known) (holds : ℕ → Hold) (sample : Option ℕ) → Right holds sample (ends_in_time s known uses reply after)
+  right-ends known uses reply after holds sample = λ reading early. right-in_time known uses reading (ends reply after) _ _ tt
+
+  right-unless : (refused : Bool) (refusal : Reply) (known : Known) (part : Part End) (holds : ℕ → Hold) (sample : Option ℕ) → Right holds sample part →
+      Right holds sample (unless refused refusal known part)
+  right-unless true refusal known part holds sample right = tt
+  right-unless false refusal known part holds sample right = right
+
+  -- ---- attach
+
+  right-loaded : (known : Known) (image until : ℕ) (kept : ImageRecord) (end : LoadEnd) (holds : ℕ → Hold) (sample : Option ℕ) → Right holds sample (after_load s known image until kept end)
+  right-loaded known image until kept (Loaded writes) holds sample = right-ends known (image_use image until) _ _ holds sample
+  right-loaded known image until kept (LoadReadFault block) holds sample = tt
+  right-loaded known image until kept (LoadDamaged block) holds sample = right-ends known (image_use image until) _ _ holds sample
+
+  right-journal : (known : Known) (image until : ℕ) (kept : ImageRecord) (live : Bool) (holds : ℕ → Hold) (sample : Option ℕ) → Right holds sample (load_journal s known image until kept live)
+  right-journal known image until kept true holds sample =
+      lawful-followed s.geometry s.boot (λ end held last. Unit {0}) (λ end held last. Unit {0}) (load_part s.geometry image kept s.geometry.slots 0 []) (after_load s known image until kept) holds sample
+      (lawful-load s.geometry s.boot image kept s.geometry.slots 0 [] holds sample)
+      (λ end h l any. right-loaded known image until kept end h l)
+  right-journal known image until kept false holds sample = right-ends known (image_use image until) _ _ holds sample
+
+  right-record : (known : Known) (image until : ℕ) (found : Option ImageRecord) (holds : ℕ → Hold) (sample : Option ℕ) → Right holds sample (after_record s known image until found)
+  right-record known image until None holds sample = right-ends known (image_use image until) _ _ holds sample
+  right-record known image until (Some kept) holds sample = right-journal known image until kept (is_live kept) holds sample
+
+  right-image : (known : Known) (image until : ℕ) (holds : ℕ → Hold) (sample : Option ℕ) → Right holds sample (load_image s known image until)
+  right-image known image until holds sample = (λ bytes. right-record known image until (attached_record bytes) _ _, tt)
+
+  right-claimed : (known : Known) (image : ℕ) (end : ClaimEnd) (holds : ℕ → Hold) (sample : Option ℕ) → Right holds sample (after_claim s known image end)
+  right-claimed known image (ClaimHeld claim until) holds sample = right-image known image until holds sample
+  right-claimed known image (ClaimBusy seen) holds sample = tt
+  right-claimed known image (ClaimLost due reading) holds sample = tt
+  right-claimed known image ClaimReadFault holds sample = tt
+  right-claimed known image ClaimWriteFault holds sample = tt
+  right-claimed known image ClaimDamaged holds sample = tt
+
+  right-claim : (enough : Bool) (known : Known) (image : ℕ) (holds : ℕ → Hold) (sample : Option ℕ) → nat_lt known.claims last_claim ≡ enough → image < s.geometry.images →
+      holds (lease_at (image_lease image)) ≡ Nothing → Right holds sample (claim_image enough s known image)
+  right-claim false known image holds sample e within is = tt
+  right-claim true known image holds sample e within is =
+      let few = below-tested known.claims last_claim e in
+      lawful-followed s.geometry s.boot (λ end held last. Unit {0}) (λ end held last. Unit {0}) (claim_part s.boot [] (image_lease image) known.claims) (after_claim s (with_claim known) image) holds sample
+      (lawful-claim s.geometry s.boot [] (image_lease image) known.claims holds sample (image-below s.geometry image within) (omega (arith, few)) is)
+      (λ end h l any. right-claimed (with_claim known) image end h l)
+
+  right-attach : (known : Known) (image : ℕ) (holds : ℕ → Hold) (sample : Option ℕ) (session : Option Session) (within : Bool) (hold : Hold) → nat_lt image s.geometry.images ≡ within →
+      holds (lease_at (image_lease image)) ≡ hold → IsRest hold → Right holds sample (attach_part s known image session within hold)
+  right-attach known image holds sample (Some session) within hold e is rests = tt
+  right-attach known image holds sample None false hold e is rests = tt
+  right-attach known image holds sample None true (Held claim until) e is rests = right-image known image until holds sample
+  right-attach known image holds sample None true Nothing e is rests =
+      right-claim (nat_lt known.claims last_claim) known image holds sample refl (below-tested image s.geometry.images e) is
+  right-attach known image holds sample None true (Seen l) e is rests = absurd rests
+  right-attach known image holds sample None true (Wrote claim until) e is rests = absurd rests
+  right-attach known image holds sample None true (Waited claim until) e is rests = absurd rests
+
+  -- ---- commands of an attached image
+
+  right-attached : (known : Known) (image reading : ℕ) (holds : ℕ → Hold) (sample : Option ℕ) (session : Option Session) (within : Bool) (hold : Hold) (rest : Session → ℕ → Part End) →
+      nat_lt image s.geometry.images ≡ within → holds (lease_at (image_lease image)) ≡ hold →
+      ((session : Session) (claim : Claim) (until : ℕ) → image < s.geometry.images → holds (lease_at (image_lease image)) ≡ Held claim until → Right holds sample (rest session until)) →
+      Right holds sample (attached_part s known image session within hold reading rest)
+  right-attached known image reading holds sample None within hold rest e is right = tt
+  right-attached known image reading holds sample (Some session) false hold rest e is right = tt
+  right-attached known image reading holds sample (Some session) true (Held claim until) rest e is right =
+      right-in_time known (image_use image until) reading (rest session until) holds sample (right session claim until (below-tested image s.geometry.images e) is)
+  right-attached known image reading holds sample (Some session) true Nothing rest e is right = tt
+  right-attached known image reading holds sample (Some session) true (Seen l) rest e is right = tt
+  right-attached known image reading holds sample (Some session) true (Wrote claim until) rest e is right = tt
+  right-attached known image reading holds sample (Some session) true (Waited claim until) rest e is right = tt
+
+  module _ (known : Known) (image : ℕ) (holds : ℕ → Hold) (sample : Option ℕ) (claim : Claim) (until : ℕ) (within : image < s.geometry.images)
+      (is : holds (lease_at (image_lease image)) ≡ Held claim until) where
+    -- the image's lease is granted
+    granted : (lease : ℕ) → lease ≡ image_lease image → IsGranted holds lease until
+    granted lease same = record { claim = claim; until = until; hold = ap (λ (n : ℕ). holds (lease_at n)) same ∙ is; guarded = omega arith }
+
+    right-detach : (session : Session) → Right holds sample (detach_part s known image session until)
+    right-detach session = (
+      record { lease = image_lease image; claim = claim; until = until; within = image-below s.geometry image within; at_lease = refl; hold = is; spells = refl; guarded = refl },
+      tt,
+      tt,
+      λ r. tt,
+      length-lease Free,
+    )
+
+    right-made : (made : ImageRecord) (done : Reply) → length (label_of made) ≤ 32 → Right holds sample (record_part s known image until made done)
+    right-made made done short = (
+      record {
+        placed = (image, within, refl);
+        grants = λ lease below needs. granted lease (needs.3 ∙ ap image_lease (record-record s.geometry needs.0 image (sym needs.2)));
+      },
+      right-ends known (image_use image until) done (with_session known image (Some (new_session made))) _ None,
+      tt,
+      λ reading. tt,
+      length-labelled made short,
+    )
+
+    right-create : (size : ℕ) (label : List ℕ) (session : Session) → IsLabel label → Right holds sample (create_part s known image size label session until)
+    right-create size label session label-is =
+        right-unless (is_live session.image) reply.Exists known _ holds sample
+        (right-unless (not (is_size size)) (reply.OutOfRange greatest_size) known _ holds sample
+        (right-unless (is_worn last_generation (generation_of session.image)) (reply.WornOut last_generation) known _ holds sample
+        (right-made (made_record (generation_of session.image + 1) size label) reply.Created label-is.short)))
+
+    right-delete : (session : Session) → Right holds sample (delete_part s known image session until)
+    right-delete session =
+        right-unless (not (is_live session.image)) reply.NoImage known _ holds sample
+        (right-made (image_is.Free (generation_of session.image)) reply.Deleted (omega arith))
+
+    right-read : (vblock : ℕ) (session : Session) → Right holds sample (read_part s known image vblock session until)
+    right-read vblock session =
+        right-unless (not (is_live session.image)) reply.NoImage known _ holds sample
+        (right-unless (nat_le (size_of session.image) vblock) (reply.OutOfRange (size_of session.image)) known _ holds sample
+        (right-ends known (image_use image until) _ _ holds sample))
+
+    right-journaled : (vblock : ℕ) (bytes : List ℕ) (session : Session) → 2 ≤ s.geometry.slots → length bytes ≡ 4096 → Right holds sample (journal_part s known image vblock bytes session until)
+    right-journaled vblock bytes session some long = (
+      record {
+        placed = (image, next_slot s session, within, room, refl);
+        grants = λ lease below needs. granted lease (needs.5 ∙ ap image_lease (data-data s.geometry needs.0 image needs.1 (next_slot s session) needs.3 room (sym needs.4)));
+      },
+      (
+        record {
+          placed = (image, next_slot s session, within, room, refl);
+          grants = λ lease below needs. granted lease (needs.5 ∙ ap image_lease (descriptor-descriptor s.geometry needs.0 image needs.1 (next_slot s session) needs.3 room (sym needs.4)));
+        },
+        right-ends known (image_use image until) (reply.Written (write_count session + 1)) (with_session known image (Some (with_write session (next_write session vblock bytes)))) _ None,
+        tt,
+        λ reading. tt,
+        length-descriptor (next_descriptor session vblock),
+      ),
+      tt,
+      λ reading. tt,
+      long,
+    )
+      where
+        room : next_slot s session < s.geometry.slots
+        room = mod-lt (write_count session + 1 - 1) (omega arith)
+
+    right-write : (vblock : ℕ) (bytes : List ℕ) (session : Session) → 2 ≤ s.geometry.slots → length bytes ≡ 4096 → Right holds sample (write_part s known image vblock bytes session until)
+    right-write vblock bytes session some long =
+        right-unless (not (is_live session.image)) reply.NoImage known _ holds sample
+        (right-unless (nat_le (size_of session.image) vblock) (reply.OutOfRange (size_of session.image)) known _ holds sample
+        (right-unless (is_worn last_write (write_count session)) (reply.WornOut last_write) known _ holds sample
+        (right-unless (length session.writes == s.geometry.slots) reply.Full known _ holds sample
+        (right-journaled vblock bytes session some long))))
+
+  -- ---- renew
+
+  later-least : (a b : ℕ) → a ≤ later_of a b
+  later-least a b = elim (leb_tells a b) [ inl below ↦ rw below.0 below.1 | inr not' ↦ rw not'.0 (omega arith) ]
+
+  later-below : (a b m : ℕ) → a < m → b < m → later_of a b < m
+  later-below a b m one other = elim (leb_tells a b) [ inl below ↦ rw below.0 other | inr not' ↦ rw not'.0 one ]
+
+  right-renew : (known : Known) (holds0 : ℕ → Hold) (reading left lease : ℕ) (holds : ℕ → Hold) (sample : Option ℕ) → reading < 2 ^ 48 → left + lease ≡ lease_count s.geometry →
+      ((j : ℕ) → lease ≤ j → holds (lease_at j) ≡ holds0 (lease_at j)) → Right holds sample (renew_part s known holds0 reading left lease)
+  right-renew known holds0 reading zero lease holds sample early all same = tt
+  right-renew known holds0 reading (suc left) lease holds sample early all same =
+      by_hold (λ h l same'. right-renew known holds0 reading left (lease + 1) h l early (omega arith) same') (holds0 (lease_at lease)) (same lease (omega arith))
+    where
+      by_hold : (rest : (h : ℕ → Hold) (l : Option ℕ) → ((j : ℕ) → lease + 1 ≤ j → h (lease_at j) ≡ holds0 (lease_at j)) →
+          Right h l (renew_part s known holds0 reading left (lease + 1))) (hold : Hold) → holds (lease_at lease) ≡ hold → Right holds sample (renewal s known reading lease hold (renew_part s known holds0 reading left (lease + 1)))
+      by_hold rest (Held claim until) is =
+          let next = later_of until (reading + term) in (
+            record {
+              lease = lease;
+              claim = claim;
+              until = until;
+              next = next;
+              within = omega arith;
+              at_lease = refl;
+              hold = is;
+              spells = refl;
+              later = later-least until (reading + term);
+              early = λ low. later-below until (reading + term) (2 ^ 49) low (omega arith);
+              guarded = refl;
+            },
+            rest _ _ (λ j past. at-other holds (lease_at lease) (lease_at j) _ (λ e. let f = lease-lease j lease e in omega (arith, f, past)) ∙ same j (omega arith)),
+            tt,
+            λ r. tt,
+            length-lease (Claimed claim next),
+          )
+      by_hold rest Nothing is = rest holds sample (λ j past. same j (omega arith))
+      by_hold rest (Seen l) is = rest holds sample (λ j past. same j (omega arith))
+      by_hold rest (Wrote claim until) is = rest holds sample (λ j past. same j (omega arith))
+      by_hold rest (Waited claim until) is = rest holds sample (λ j past. same j (omega arith))
+
+  -- ---- all commands
+
+  pub lawful-command : IsGeometry s.geometry → (known : Known) (holds : ℕ → Hold) (reading : ℕ) (command : Command) → reading < 2 ^ 48 → IsWellFormed command →
+      LawfulRest s.geometry s.boot (after_first s.geometry known reading holds) (Some reading) (command_part s known (after_first s.geometry known reading holds) reading command)
+  lawful-command geometry known holds reading (Attach slot) early whole =
+      right-attach known slot.0 (after_first s.geometry known reading holds) (Some reading) (known.sessions slot.0) (nat_lt slot.0 s.geometry.images) _ refl refl
+      (first-rests (session_at s.geometry known (lease_at (image_lease slot.0))) reading (holds (lease_at (image_lease slot.0))))
+  lawful-command geometry known holds reading (Detach slot) early whole =
+      right-attached known slot.0 reading (after_first s.geometry known reading holds) (Some reading) (known.sessions slot.0) (nat_lt slot.0 s.geometry.images) _ (detach_part s known slot.0) refl refl
+      (λ session claim until within is. right-detach known slot.0 (after_first s.geometry known reading holds) (Some reading) claim until within is session)
+  lawful-command geometry known holds reading (Create slot size label) early whole =
+      right-attached known slot.0 reading (after_first s.geometry known reading holds) (Some reading) (known.sessions slot.0) (nat_lt slot.0 s.geometry.images) _ (create_part s known slot.0 size label) refl refl
+      (λ session claim until within is. right-create known slot.0 (after_first s.geometry known reading holds) (Some reading) claim until within is size label session whole)
+  lawful-command geometry known holds reading (Delete slot) early whole =
+      right-attached known slot.0 reading (after_first s.geometry known reading holds) (Some reading) (known.sessions slot.0) (nat_lt slot.0 s.geometry.images) _ (delete_part s known slot.0) refl refl
+      (λ session claim until within is. right-delete known slot.0 (after_first s.geometry known reading holds) (Some reading) claim until within is session)
+  lawful-command geometry known holds reading (Read slot vblock) early whole =
+      right-attached known slot.0 reading (after_first s.geometry known reading holds) (Some reading) (known.sessions slot.0) (nat_lt slot.0 s.geometry.images) _ (read_part s known slot.0 vblock) refl refl
+      (λ session claim until within is. right-read known slot.0 (after_first s.geometry known reading holds) (Some reading) claim until within is vblock session)
+  lawful-command geometry known holds reading (Write slot vblock payload) early whole =
+      right-attached known slot.0 reading (after_first s.geometry known reading holds) (Some reading) (known.sessions slot.0) (nat_lt slot.0 s.geometry.images) _ (write_part s known slot.0 vblock (bytes_of payload)) refl refl
+      (λ session claim until within is. right-write known slot.0 (after_first s.geometry known reading holds) (Some reading) claim until within is vblock (bytes_of payload) session geometry.slots_low whole)
+  lawful-command geometry known holds reading Renew early whole =
+      right-in_time known (attached_uses known (after_first s.geometry known reading holds) s.geometry.images 0) reading _ (after_first s.geometry known reading holds) (Some reading)
+      (right-renew known (after_first s.geometry known reading holds) reading (lease_count s.geometry) 0 (after_first s.geometry known reading holds) (Some reading) early (omega arith) (λ j past. refl))
+  lawful-command geometry known holds reading (Flush slot) early whole = tt
+  lawful-command geometry known holds reading (Reserve count) early whole = tt
+  lawful-command geometry known holds reading Retire early whole = tt
+  lawful-command geometry known holds reading Reclaim early whole = tt

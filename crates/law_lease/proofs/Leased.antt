@@ -1,0 +1,265 @@
+-- What holds of each lease in every world that events lead to.
+use Rattle.std.proofs.Common.{◌≡◌, ◌≢◌, ℕ, ◌+◌, ◌^◌, ◌≤◌, ◌<◌, ◌⊎◌, List, [], Bool, true, false, Option, Some, None, length}
+use Rattle.std.specs.Prelude.{slice_get, ◌==◌}
+use Rattle.plx_base.specs.Sectors.{Device}
+use Rattle.plx_base.specs.declared.lease.Claim.{Claim}
+use Rattle.plx_base.specs.declared.lease.LeaseRecord.{LeaseRecord}
+use Rattle.plx_base.specs.declared.lease.LeaseRecord.TheVariants.{Free, Claimed}
+use Rattle.plx_base.specs.declared.write_kind.WriteKind.{WriteKind}
+use Rattle.plx_base.specs.declared.write_kind.WriteKind.TheVariants as kind
+use Rattle.plx_disk.specs.Writes.{Issued, all_sectors}
+use Rattle.plx_disk.specs.declared.ask.Ask.TheVariants as ask
+use Rattle.plx_disk.specs.declared.ask.Answer.TheVariants as answer
+use Rattle.plx_rules.specs.Part.{Part, Ends, ReadThen, WriteThen, ClockThen, UntilThen}
+use Rattle.plx_worlds.specs.Boot.{Place, Idle, Begins, In, Position, position}
+use Rattle.plx_worlds.specs.Claims.{claim_of}
+use Rattle.plx_worlds.specs.Commands.{IsWellFormed}
+use Rattle.plx_geom.specs.Geometry.{Geometry, IsGeometry, lease_count, map_at, record_at, lease_at, descriptor_at, data_at}
+use Rattle.plx_worlds.specs.Holds.{Hold, Nothing, Seen, Wrote, Waited, Held, no_holds, after_answer, after_write, renewed, timed}
+use Rattle.plx_gate.specs.Leases.{lease_bytes, read_lease, IsLease, IsClaimed}
+use Rattle.plx_worlds.specs.Owners.{Needs, first_landed, pending_write}
+use Rattle.plx_worlds.specs.Settings.{boot_number}
+use Rattle.plx_worlds.specs.World.{World, Seat, setting_at}
+
+-- a write is where its kind may be
+abbrev pub IsPlaced : Geometry → WriteKind → ℕ → List ℕ → Type 0
+IsPlaced g kind.Claim block bytes = (lease : ℕ) × (lease < lease_count g) × (block ≡ lease_at lease) × ((r : LeaseRecord) × (bytes ≡ lease_bytes r))
+IsPlaced g kind.Renew block bytes = (lease : ℕ) × (lease < lease_count g) × (block ≡ lease_at lease) × ((r : LeaseRecord) × (bytes ≡ lease_bytes r))
+IsPlaced g kind.Release block bytes = (lease : ℕ) × (lease < lease_count g) × (block ≡ lease_at lease) × ((r : LeaseRecord) × (bytes ≡ lease_bytes r))
+IsPlaced g kind.Take block bytes = (extent : ℕ) × (extent < g.extents) × (block ≡ map_at g extent)
+IsPlaced g kind.Give block bytes = (extent : ℕ) × (extent < g.extents) × (block ≡ map_at g extent)
+IsPlaced g kind.Sweep block bytes = (extent : ℕ) × (extent < g.extents) × (block ≡ map_at g extent)
+IsPlaced g kind.Record block bytes = (image : ℕ) × (image < g.images) × (block ≡ record_at g image)
+IsPlaced g kind.JData block bytes = (image : ℕ) × (slot : ℕ) × (image < g.images) × (slot < g.slots) × (block ≡ data_at g image slot)
+IsPlaced g kind.JCommit block bytes = (image : ℕ) × (slot : ℕ) × (image < g.images) × (slot < g.slots) × (block ≡ descriptor_at g image slot)
+IsPlaced g other block bytes = ⊥
+
+-- ---- what a boot may ask, by what it holds
+
+-- a claim of a lease that was seen to be free or expired
+pub record MayClaim (g : Geometry) (boot : ℕ) (holds : ℕ → Hold) (block : ℕ) (bytes : List ℕ) (guard : ℕ) : Type 0 where
+  pub lease : ℕ
+  pub number : ℕ
+  pub sample : ℕ
+  pub within : lease < lease_count g
+  pub at_lease : block ≡ lease_at lease
+  pub hold : holds (lease_at lease) ≡ Seen sample
+  pub spells : bytes ≡ lease_bytes (Claimed (claim_of boot number sample) (sample + 10000))
+  pub few : number < 2 ^ 40
+  pub early : sample < 2 ^ 48
+  pub guarded : guard ≡ sample + 200
+
+-- a renewal of a lease that is held
+pub record MayRenew (g : Geometry) (holds : ℕ → Hold) (block : ℕ) (bytes : List ℕ) (guard : ℕ) : Type 0 where
+  pub lease : ℕ
+  pub claim : Claim
+  pub until : ℕ
+  pub next : ℕ
+  pub within : lease < lease_count g
+  pub at_lease : block ≡ lease_at lease
+  pub hold : holds (lease_at lease) ≡ Held claim until
+  pub spells : bytes ≡ lease_bytes (Claimed claim next)
+  pub later : until ≤ next
+  pub early : until < 2 ^ 49 → next < 2 ^ 49
+  pub guarded : guard ≡ until
+
+pub record MayRelease (g : Geometry) (holds : ℕ → Hold) (block : ℕ) (bytes : List ℕ) (guard : ℕ) : Type 0 where
+  pub lease : ℕ
+  pub claim : Claim
+  pub until : ℕ
+  pub within : lease < lease_count g
+  pub at_lease : block ≡ lease_at lease
+  pub hold : holds (lease_at lease) ≡ Held claim until
+  pub spells : bytes ≡ lease_bytes Free
+  pub guarded : guard ≡ until
+
+-- a write of any other kind: each lease that it needs is held, and its guard is not above the end of any
+pub record IsGranted (holds : ℕ → Hold) (lease guard : ℕ) : Type 0 where
+  pub claim : Claim
+  pub until : ℕ
+  pub hold : holds (lease_at lease) ≡ Held claim until
+  pub guarded : guard ≤ until
+
+pub record MayUse (g : Geometry) (holds : ℕ → Hold) (kind : WriteKind) (block : ℕ) (bytes : List ℕ) (guard : ℕ) : Type 0 where
+  pub placed : IsPlaced g kind block bytes
+  pub grants : (lease : ℕ) → lease < lease_count g → Needs g kind block lease → IsGranted holds lease guard
+
+abbrev pub MayAsk : Geometry → ℕ → (ℕ → Hold) → WriteKind → ℕ → List ℕ → ℕ → Type 0
+MayAsk g boot holds kind.Claim block bytes guard = MayClaim g boot holds block bytes guard
+MayAsk g boot holds kind.Renew block bytes guard = MayRenew g holds block bytes guard
+MayAsk g boot holds kind.Release block bytes guard = MayRelease g holds block bytes guard
+MayAsk g boot holds kind.Take block bytes guard = MayUse g holds kind.Take block bytes guard
+MayAsk g boot holds kind.Give block bytes guard = MayUse g holds kind.Give block bytes guard
+MayAsk g boot holds kind.Sweep block bytes guard = MayUse g holds kind.Sweep block bytes guard
+MayAsk g boot holds kind.Record block bytes guard = MayUse g holds kind.Record block bytes guard
+MayAsk g boot holds kind.JData block bytes guard = MayUse g holds kind.JData block bytes guard
+MayAsk g boot holds kind.JCommit block bytes guard = MayUse g holds kind.JCommit block bytes guard
+MayAsk g boot holds other block bytes guard = ⊥
+
+-- however a rest is answered, each write that it asks is allowed and is a block; `At` holds at each end, of what is held there
+abbrev pub Lawful : {E : Type 0} → (At : E → (ℕ → Hold) → Option ℕ → Type 0) → Geometry → ℕ → (ℕ → Hold) → Option ℕ → Part E → Type 0
+Lawful At g boot holds sample (Ends end) = At end holds sample
+Lawful At g boot holds sample (ReadThen block rest fault) =
+    ((bytes : List ℕ) → Lawful At g boot (after_answer sample (ask.Read (record { 0 = block })) [] (answer.Bytes bytes) holds) None (rest bytes))
+    × Lawful At g boot holds None fault
+Lawful At g boot holds sample (WriteThen kind block bytes guard done fault missed) =
+    MayAsk g boot holds kind block bytes guard × Lawful At g boot (after_write kind block bytes holds) None done × Lawful At g boot no_holds None fault
+    × ((reading : ℕ) → Lawful At g boot no_holds None (missed reading)) × (length bytes ≡ 4096)
+Lawful At g boot holds sample (ClockThen rest) =
+    (reading : ℕ) → reading < 2 ^ 48 → Lawful At g boot (λ block. timed reading (holds block)) (Some reading) (rest reading)
+Lawful At g boot holds sample (UntilThen from rest) =
+    (reading : ℕ) → reading < 2 ^ 48 → Lawful At g boot (λ block. timed reading (holds block)) (Some reading) (rest reading)
+
+-- the same, where nothing is asked of the ends
+abbrev pub LawfulRest : {E : Type 0} → Geometry → ℕ → (ℕ → Hold) → Option ℕ → Part E → Type 0
+LawfulRest g boot holds sample part = Lawful (λ end held last. Unit {0}) g boot holds sample part
+
+abbrev pub LawfulAt : Geometry → ℕ → (ℕ → Hold) → Option ℕ → Place → Type 0
+LawfulAt g boot holds sample (Idle known) = Unit {0}
+LawfulAt g boot holds sample (Begins known command) = IsWellFormed command
+LawfulAt g boot holds sample (In known command part) = LawfulRest g boot holds sample part
+
+-- ---- the writes that may still change something under a lease
+
+abbrev pub Unlanded : WriteKind → List Bool → Type 0
+Unlanded kind.Renew landed = slice_get landed 0 ≡ Some false
+Unlanded kind.Release landed = slice_get landed 0 ≡ Some false
+Unlanded other landed = landed ≢ all_sectors
+
+pub record IsOpen (g : Geometry) (time : ℕ) (writes : List Issued) (lease number : ℕ) (write : Issued) : Type 0 where
+  pub found : slice_get writes number ≡ Some write
+  pub needs : Needs g write.kind write.block lease
+  pub missing : Unlanded write.kind write.landed
+  pub live : time ≤ write.guard + 50
+
+abbrev pub NoneOpen : Geometry → ℕ → List Issued → ℕ → Type 0
+NoneOpen g time writes lease = (number : ℕ) (write : Issued) → IsOpen g time writes lease number write → ⊥
+
+abbrev pub OpenOnly : Geometry → ℕ → List Issued → ℕ → Option ℕ → Type 0
+OpenOnly g time writes lease pending = (number : ℕ) (write : Issued) → IsOpen g time writes lease number write → pending ≡ Some number
+
+-- what the record says where an open write stands
+abbrev pub IsOfKind : WriteKind → Claim → ℕ → ℕ → List ℕ → Type 0
+IsOfKind kind.Renew claim until guard bytes = (guard ≡ until) × ((next : ℕ) × (bytes ≡ lease_bytes (Claimed claim next)) × (until ≤ next) × IsClaimed claim next)
+IsOfKind kind.Release claim until guard bytes = (guard ≡ until) × (bytes ≡ lease_bytes Free)
+IsOfKind other claim until guard bytes = Unit {0}
+
+pub record IsBacked (time : ℕ) (standing : LeaseRecord) (write : Issued) : Type 0 where
+  pub claim : Claim
+  pub until : ℕ
+  pub there : standing ≡ Claimed claim until
+  pub owner : claim.boot.0 ≡ write.owner
+  pub guarded : write.guard ≤ until
+  pub waited : claim.sample + 551 ≤ time
+  pub of_kind : IsOfKind write.kind claim until write.guard write.bytes
+
+-- ---- claims
+
+-- a claim with this sample, if it lands now, takes no confirmed and unexpired lease away
+abbrev pub Clear : LeaseRecord → ℕ → Type 0
+Clear Free sample = Unit {0}
+Clear (Claimed claim until) sample = (until + 100 < sample) ⊎ (sample ≤ claim.sample + 300)
+
+pub record Waits (time : ℕ) (standing : LeaseRecord) (sample : ℕ) : Type 0 where
+  pub sampled : sample ≤ time + 50
+  pub clear : Clear standing sample
+
+pub record IsClaiming (time : ℕ) (standing : LeaseRecord) (write : Issued) : Type 0 where
+  pub claim : Claim
+  pub spells : write.bytes ≡ lease_bytes (Claimed claim (claim.sample + 10000))
+  pub limits : IsClaimed claim (claim.sample + 10000)
+  pub owner : claim.boot.0 ≡ write.owner
+  pub guarded : write.guard ≡ claim.sample + 200
+  pub waits : slice_get write.landed 0 ≡ Some false → time ≤ write.guard + 50 → Waits time standing claim.sample
+
+-- ---- what a boot holds
+
+-- a record of the boot's own claim stands before nothing rests on it
+abbrev pub Mine : Geometry → ℕ → List Issued → ℕ → LeaseRecord → ℕ → ℕ → Type 0
+Mine g time writes lease standing boot sample =
+    (claim : Claim) (until : ℕ) → standing ≡ Claimed claim until → claim.boot.0 ≡ boot → claim.sample ≡ sample → NoneOpen g time writes lease
+
+pub record IsSeen (g : Geometry) (time : ℕ) (writes : List Issued) (lease : ℕ) (standing : LeaseRecord) (boot sample : ℕ) : Type 0 where
+  pub waits : Waits time standing sample
+  pub mine : Mine g time writes lease standing boot sample
+
+pub record IsWritten (g : Geometry) (time : ℕ) (writes : List Issued) (lease : ℕ) (standing : LeaseRecord) (boot : ℕ) (claim : Claim) (until : ℕ) : Type 0 where
+  pub own : claim.boot.0 ≡ boot
+  pub ends : until ≡ claim.sample + 10000
+  pub limits : IsClaimed claim until
+  pub mine : Mine g time writes lease standing boot claim.sample
+
+-- a confirmed lease's record stands on the device until it has run out, and nothing rests on it but what its boot waits for
+pub record IsHeld (g : Geometry) (time : ℕ) (writes : List Issued) (lease : ℕ) (standing : LeaseRecord) (boot : ℕ) (pending : Option ℕ) (claim : Claim) (until : ℕ) : Type 0 where
+  pub own : claim.boot.0 ≡ boot
+  pub limits : IsClaimed claim until
+  pub waited : claim.sample + 551 ≤ time
+  pub there : time ≤ until + 50 → standing ≡ Claimed claim until
+  pub only : time ≤ until + 50 → OpenOnly g time writes lease pending
+
+abbrev pub Good : Geometry → ℕ → List Issued → ℕ → LeaseRecord → ℕ → Option ℕ → Hold → Type 0
+Good g time writes lease standing boot pending Nothing = Unit {0}
+Good g time writes lease standing boot pending (Seen sample) = IsSeen g time writes lease standing boot sample
+Good g time writes lease standing boot pending (Wrote claim until) = IsWritten g time writes lease standing boot claim until
+Good g time writes lease standing boot pending (Waited claim until) = IsWritten g time writes lease standing boot claim until × (claim.sample + 551 ≤ time)
+Good g time writes lease standing boot pending (Held claim until) = IsHeld g time writes lease standing boot pending claim until
+
+-- what a boot holds while a write of it is asked, once its first sector has landed
+abbrev pub grip_while : WriteKind → Bool → Bool → List ℕ → Hold → Hold
+grip_while kind.Release true true bytes hold = Nothing
+grip_while kind.Renew true true bytes hold = renewed (read_lease bytes)
+grip_while kind same landed bytes hold = hold
+
+abbrev pub grip_at : Place → Option Issued → ℕ → Hold → Hold
+grip_at (In known command (WriteThen kind block bytes guard done fault missed)) pending lease hold =
+    grip_while kind (lease == block) (first_landed pending) bytes hold
+grip_at other pending lease hold = hold
+
+-- what an appliance's present boot holds of a lease is right
+abbrev pub GoodAt : Geometry → ℕ → List Issued → ℕ → LeaseRecord → ℕ → Option ℕ → Position → Type 0
+GoodAt g time writes lease standing boot pending p =
+    Good g time writes lease standing boot pending (grip_at p.place (pending_write writes pending) (lease_at lease) (p.holds (lease_at lease)))
+
+abbrev pub GoodSeat : Geometry → ℕ → List Issued → ℕ → LeaseRecord → ℕ → Seat → Type 0
+GoodSeat g time writes lease standing appliance seat =
+    GoodAt g time writes lease standing (boot_number appliance seat.boots) seat.pending (position (setting_at g appliance seat.boots) seat.log)
+
+pub record LeaseOn (g : Geometry) (appliances time : ℕ) (device : Device) (writes : List Issued) (seats : ℕ → Seat) (lease : ℕ) : Type 0 where
+  pub standing : LeaseRecord
+  pub limits : IsLease standing
+  pub spells : device (lease_at lease) ≡ lease_bytes standing
+  pub alone : (m n : ℕ) (x y : Issued) → IsOpen g time writes lease m x → IsOpen g time writes lease n y → m ≡ n
+  pub backed : (n : ℕ) (x : Issued) → IsOpen g time writes lease n x → IsBacked time standing x
+  pub claims : (n : ℕ) (x : Issued) → slice_get writes n ≡ Some x → x.kind ≡ kind.Claim → x.block ≡ lease_at lease → IsClaiming time standing x
+  pub each : (a : ℕ) → a < appliances → GoodSeat g time writes lease standing a (seats a)
+
+-- ---- what holds of each write and each boot
+
+pub record IsRight (g : Geometry) (write : Issued) : Type 0 where
+  pub placed : IsPlaced g write.kind write.block write.bytes
+  pub flags : length write.landed ≡ 8
+  pub long : length write.bytes ≡ 4096
+  pub uncancelled : write.cancelled ≡ false
+
+-- the write that is waited for is the one that is asked
+abbrev pub IsAskedAt : Place → ℕ → Issued → Type 0
+IsAskedAt (In known command (WriteThen kind block bytes guard done fault missed)) boot write =
+    (write.kind ≡ kind) × (write.block ≡ block) × (write.bytes ≡ bytes) × (write.guard ≡ guard) × (write.owner ≡ boot)
+IsAskedAt other boot write = ⊥
+
+pub record IsSeat (g : Geometry) (time : ℕ) (writes : List Issued) (appliance : ℕ) (seat : Seat) : Type 0 where
+  pub boots : seat.boots < 2 ^ 32
+  pub lawful : LawfulAt g (boot_number appliance seat.boots) (position (setting_at g appliance seat.boots) seat.log).holds
+      (position (setting_at g appliance seat.boots) seat.log).sample (position (setting_at g appliance seat.boots) seat.log).place
+  pub sampled : (sample : ℕ) → (position (setting_at g appliance seat.boots) seat.log).sample ≡ Some sample → sample ≤ time + 50
+  pub asked : (number : ℕ) → seat.pending ≡ Some number →
+      (write : Issued) × (slice_get writes number ≡ Some write) × IsAskedAt (position (setting_at g appliance seat.boots) seat.log).place (boot_number appliance seat.boots) write
+
+pub record Leased (w : World) : Type 0 where
+  pub geometry : IsGeometry w.geometry
+  pub few : w.appliances ≤ 8
+  pub early : w.surface.time < 2 ^ 47
+  pub long : (block : ℕ) → length (w.surface.device block) ≡ 4096
+  pub right : (n : ℕ) (x : Issued) → slice_get w.surface.writes n ≡ Some x → IsRight w.geometry x
+  pub seated : (a : ℕ) → a < w.appliances → IsSeat w.geometry w.surface.time w.surface.writes a (w.seats a)
+  pub on : (lease : ℕ) → lease < lease_count w.geometry → LeaseOn w.geometry w.appliances w.surface.time w.surface.device w.surface.writes w.seats lease

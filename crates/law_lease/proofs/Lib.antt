@@ -1,0 +1,12 @@
+pub mod LawfulCommands
+pub mod LeaseSectors
+pub mod LeaseFrames
+pub mod LeaseGoes
+pub mod LeaseIssues
+pub mod LeaseLands
+pub mod LeaseSteps
+pub mod Leased
+pub mod Lists
+pub mod Owners
+pub mod Runs
+pub mod Stages

@@ -1,0 +1,34 @@
+//! The law of leases: theorems on every world of appliances that events lead to.
+//!
+//! The functions of this crate are laws: they have no parameters and an empty body, and their contracts
+//! are the theorems. They speak of leases, writes and times, and of no image's content.
+#![tactic(auto)]
+
+ghost use Rattle.plx_worlds.specs.Owners.{Exclusion, Guarding};
+ghost use Rattle.plx_worlds.specs.Sequences.{PlayedIsReached, RunsGoOn};
+ghost use Rattle.plx_worlds.specs.World.{BootsRun};
+
+/// At most one boot owns a lease, the root's, an image's or an extent's.
+pub fn exclusion()
+    ensures { Exclusion }
+{}
+
+/// No landing of a write that needed a lease changes a byte while another boot owns that lease.
+pub fn guarding()
+    ensures { Guarding }
+{}
+
+/// The log of each boot is a run: each answer was to the ask that stood.
+pub fn boots_run()
+    ensures { BootsRun }
+{}
+
+/// A run of an appliance is never stuck: its next event is possible.
+pub fn runs_go_on()
+    ensures { RunsGoOn }
+{}
+
+/// What a schedule plays from a world that events lead to is such a world, wherever it stops.
+pub fn played_is_reached()
+    ensures { PlayedIsReached }
+{}

@@ -1,0 +1,398 @@
+-- Records as blocks: each is read back as itself, is spelled in one way, and differs from another in its first sector alone.
+use Rattle.std.proofs.Common.{◌≡◌, ◌≢◌, ◌⊎◌, ℕ, zero, suc, ◌+◌, ◌-◌, ◌*◌, ◌^◌, ◌<◌, ◌≤◌, List, [], ◌∷◌, ◌++◌, length, take, drop, replicate, get_or, refl, ap, sym, ◌∙◌, arith, inl, inr, subst, append_assoc, length-append, Bool, true, false, Option, Some, None}
+use Rattle.std.proofs.Math.Seq.{take-add}
+use Rattle.std.proofs.lemmas.List.{drop-drop, drop_at, take_at, drop-replicate, length-replicate, length-drop, length-take-le, take-append-drop, append-nil, drop_all, get_or_append_left, get_or-append_right}
+use Rattle.std.proofs.lemmas.Slice.Eq.{bytes_eq-Decides}
+use Rattle.std.specs.Prelude.{slice_index, slice_index_or, ◌&&◌, if◌then◌else◌}
+use Rattle.std.specs.Str.{bytes_eq}
+use Rattle.plx_base.specs.Blocks.{zeros, written}
+use Rattle.plx_base.specs.Fields.{little, number_at}
+use Rattle.plx_base.specs.Sectors.{landed}
+use Rattle.plx_base.specs.declared.stored.Field.{Field}
+use Rattle.plx_base.specs.declared.stored.Field.TheVariants.{U32, U64, U128}
+use Rattle.plx_base.specs.Spelling.{width_of, number_of, with_number, fields_width, fields_bytes, fields_at, padded, spelled, read_by, IsReading, OnlySector}
+use Rattle.plx_base.proofs.Written.{length-written, drop-written, written-past}
+use Rattle.plx_base.proofs.Fields.{length-little, number_at-along, number_at-little, little-number_at}
+
+-- each field is a number of its width
+abbrev pub AreFields : List Field → Type 0
+AreFields [] = Unit {0}
+AreFields (field ∷ fields) = (number_of field < 256 ^ width_of field) × AreFields fields
+
+-- a field with its own number is the same
+with-same : (field : Field) → with_number field (number_of field) ≡ field
+with-same (U32 number) = refl
+with-same (U64 number) = refl
+with-same (U128 number) = refl
+
+-- with a number it keeps its width
+width-with : (field : Field) (n : ℕ) → width_of (with_number field n) ≡ width_of field
+width-with (U32 number) n = refl
+width-with (U64 number) n = refl
+width-with (U128 number) n = refl
+
+-- and has that number
+number-with : (field : Field) (n : ℕ) → number_of (with_number field n) ≡ n
+number-with (U32 number) n = refl
+number-with (U64 number) n = refl
+number-with (U128 number) n = refl
+
+-- fields have as many bytes as their widths say
+pub length-fields : (fields : List Field) → length (fields_bytes fields) ≡ fields_width fields
+length-fields [] = refl
+length-fields (field ∷ fields) =
+    length-append (little (width_of field) (number_of field)) (fields_bytes fields)
+    ∙ (ap (λ n. n + length (fields_bytes fields)) (length-little (width_of field) (number_of field)) ∙ ap (λ n. width_of field + n) (length-fields fields))
+
+-- a number that stands between other bytes
+pub number_at-between : (width number place : ℕ) (front back : List ℕ) → length front ≡ place → number < 256 ^ width →
+    number_at width place (front ++ (little width number ++ back)) ≡ number
+number_at-between width number place front back long small =
+    number_at-along width place 0 (front ++ (little width number ++ back)) (little width number)
+    (λ k below.
+    let wide = length-little width number in
+    let e : place + k - place ≡ k = omega arith in
+    let a : 0 + k ≡ k = omega arith in
+    rw a
+    (get_or-append_right front (little width number ++ back) place (place + k) 0 long (omega arith)
+    ∙ (ap (λ j. get_or (little width number ++ back) j 0) e ∙ get_or_append_left (little width number) back 0 k (omega (arith, wide, below)))))
+    ∙ number_at-little width number small
+
+-- fields that stand between other bytes are read back
+pub fields-back : (fields : List Field) (place : ℕ) (front back : List ℕ) → length front ≡ place → AreFields fields →
+    fields_at fields place (front ++ (fields_bytes fields ++ back)) ≡ fields
+fields-back [] place front back long small = refl
+fields-back (field ∷ fields) place front back long small =
+    let here = little (width_of field) (number_of field) in
+    let bytes = front ++ ((here ++ fields_bytes fields) ++ back) in
+    let first : number_at (width_of field) place bytes ≡ number_of field =
+    ap (λ xs. number_at (width_of field) place (front ++ xs)) (append_assoc here (fields_bytes fields) back)
+    ∙ number_at-between (width_of field) (number_of field) place front (fields_bytes fields ++ back) long small.0 in
+    let longer : length (front ++ here) ≡ place + width_of field =
+    let a = length-append front here in let b = length-little (width_of field) (number_of field) in omega (arith, a, b, long) in
+    let regrouped : bytes ≡ (front ++ here) ++ (fields_bytes fields ++ back) =
+    ap (λ xs. front ++ xs) (append_assoc here (fields_bytes fields) back) ∙ sym (append_assoc front here (fields_bytes fields ++ back)) in
+    let rest : fields_at fields (place + width_of field) bytes ≡ fields =
+    ap (fields_at fields (place + width_of field)) regrouped ∙ fields-back fields (place + width_of field) (front ++ here) back longer small.1 in
+    let same : with_number field (number_at (width_of field) place bytes) ≡ field = ap (with_number field) first ∙ with-same field in
+    λ i. same i ∷ rest i
+
+-- the bytes of the fields that stand at a place are the bytes there
+pub fields-bytes : (kinds : List Field) (place : ℕ) (bytes : List ℕ) → ((k : ℕ) → slice_index bytes k < 256) → place + fields_width kinds ≤ length bytes →
+    fields_bytes (fields_at kinds place bytes) ≡ take (fields_width kinds) (drop place bytes)
+fields-bytes [] place bytes small within = refl
+fields-bytes (field ∷ fields) place bytes small within =
+    let width = width_of field in
+    let first = little-number_at width place bytes small (omega (arith, within)) in
+    let rest = fields-bytes fields (place + width) bytes small (omega (arith, within)) in
+    rw (width-with field (number_at width place bytes), number-with field (number_at width place bytes), first, rest, ← drop-drop width place bytes)
+    (sym (take-add width (fields_width fields) (drop place bytes)))
+
+-- two writes, the second at the end of the first, are one
+pub written-next : (at : ℕ) (one other old : List ℕ) → at + length one ≤ length old →
+    written (at + length one) other (written at one old) ≡ written at (one ++ other) old
+unfolding written
+written-next at one other old within =
+    let front = take at old ++ one in
+    let long : length front ≡ at + length one = let a = length-append (take at old) one in let b = length-take-le at old (omega (arith, within)) in omega (arith, a, b) in
+    let m = at + length one in
+    let cut : take m (front ++ drop m old) ≡ front = take_at front (drop m old) m long in
+    let past : drop (m + length other) (front ++ drop m old) ≡ drop (length other) (drop m old) =
+    ap (λ n. drop n (front ++ drop m old)) (let e : m + length other ≡ length other + m = omega arith in e)
+    ∙ (ap (λ n. drop n (front ++ drop m old)) (let e : length other + m ≡ m + length other = omega arith in e)
+    ∙ (sym (drop-drop (length other) m (front ++ drop m old)) ∙ ap (drop (length other)) (drop_at front (drop m old) m long))) in
+    let far : drop (length other) (drop m old) ≡ drop (at + length (one ++ other)) old =
+    drop-drop (length other) m old ∙ ap (λ n. drop n old) (let e : m + length other ≡ at + length (one ++ other) = let a = length-append one other in omega (arith, a) in e) in
+    rw (cut, past, far, append_assoc (take at old) one other) refl
+
+-- a write over a block of zeros, from its begin on
+pub written-zeros : (bytes : List ℕ) → written 0 bytes zeros ≡ padded bytes
+unfolding written padded zeros
+written-zeros bytes = ap (λ rest. bytes ++ rest) (let e : 0 + length bytes ≡ length bytes = omega arith in ap (λ n. drop n (replicate 4096 0)) e ∙ drop-replicate (length bytes) 4096 0)
+
+-- a padded list fills a block
+pub length-padded : (bytes : List ℕ) → length bytes ≤ 4096 → length (padded bytes) ≡ 4096
+unfolding padded
+length-padded bytes short =
+    let a = length-append bytes (replicate (4096 - length bytes) 0) in
+    let b = length-replicate {A = ℕ} (4096 - length bytes) 0 in
+    omega (arith, a, b, short)
+
+-- nothing, padded, is a block of zeros
+pub padded-nil : padded [] ≡ zeros
+unfolding padded zeros
+padded-nil = refl
+
+-- past its bytes a padded list is zeros
+pub drop-padded : (place : ℕ) (bytes : List ℕ) → length bytes ≤ place → drop place (padded bytes) ≡ replicate (4096 - place) 0
+unfolding padded
+drop-padded place bytes short =
+    let n = length bytes in
+    let e : place - n + n ≡ place = omega (arith, short) in
+    let f : (4096 - n) - (place - n) ≡ 4096 - place = omega (arith, short) in
+    ap (λ p. drop p (bytes ++ replicate (4096 - n) 0)) (sym (let x : n + (place - n) ≡ place = omega (arith, short) in x))
+    ∙ (sym (drop-drop (place - n) n (bytes ++ replicate (4096 - n) 0))
+    ∙ (ap (drop (place - n)) (drop_at bytes (replicate (4096 - n) 0) n refl) ∙ (drop-replicate (place - n) (4096 - n) 0 ∙ ap (λ m. replicate m 0) f)))
+
+-- up to its end a padded list is the list
+pub take-padded : (bytes : List ℕ) → take (length bytes) (padded bytes) ≡ bytes
+unfolding padded
+take-padded bytes = take_at bytes (replicate (4096 - length bytes) 0) (length bytes) refl
+
+-- a record, written out
+pub spelled-eq : (magic : List ℕ) (fields : List Field) (last : List ℕ) →
+    spelled magic fields last ≡ magic ++ (fields_bytes fields ++ (last ++ replicate (4096 - length (magic ++ (fields_bytes fields ++ last))) 0))
+unfolding spelled padded
+spelled-eq magic fields last =
+    let rest = replicate (4096 - length (magic ++ (fields_bytes fields ++ last))) 0 in
+    append_assoc magic (fields_bytes fields ++ last) rest ∙ ap (λ xs. magic ++ xs) (append_assoc (fields_bytes fields) last rest)
+
+-- the bytes of a record before its zeros
+pub length-spelled_head : (magic : List ℕ) (fields : List Field) (last : List ℕ) →
+    length (magic ++ (fields_bytes fields ++ last)) ≡ length magic + (fields_width fields + length last)
+length-spelled_head magic fields last =
+    let a = length-append magic (fields_bytes fields ++ last) in
+    let b = length-append (fields_bytes fields) last in
+    let c = length-fields fields in
+    omega (arith, a, b, c)
+
+-- a record fills a block
+pub length-spelled : (magic : List ℕ) (fields : List Field) (last : List ℕ) → length magic + (fields_width fields + length last) ≤ 4096 →
+    length (spelled magic fields last) ≡ 4096
+unfolding spelled
+length-spelled magic fields last short =
+    let a = length-spelled_head magic fields last in
+    length-padded (magic ++ (fields_bytes fields ++ last)) (omega (arith, a, short))
+
+-- the fields of a record are read back
+pub spelled-fields : (magic : List ℕ) (fields : List Field) (last : List ℕ) → AreFields fields → fields_at fields (length magic) (spelled magic fields last) ≡ fields
+spelled-fields magic fields last small =
+    ap (fields_at fields (length magic)) (spelled-eq magic fields last)
+    ∙ fields-back fields (length magic) magic (last ++ replicate (4096 - length (magic ++ (fields_bytes fields ++ last))) 0) refl small
+
+-- and so are its last bytes
+pub spelled-last : (magic : List ℕ) (fields : List Field) (last : List ℕ) (place : ℕ) → length magic + fields_width fields ≡ place →
+    take (length last) (drop place (spelled magic fields last)) ≡ last
+spelled-last magic fields last place here =
+    let rest : List ℕ = replicate (4096 - length (magic ++ (fields_bytes fields ++ last))) 0 in
+    let a = length-append magic (fields_bytes fields) in
+    let b = length-fields fields in
+    ap (λ xs. take (length last) (drop place xs)) (spelled-eq magic fields last ∙ sym (append_assoc magic (fields_bytes fields) (last ++ rest)))
+    ∙ (ap (take (length last)) (drop_at (magic ++ fields_bytes fields) (last ++ rest) place (omega (arith, a, b, here))) ∙ take_at last rest (length last) refl)
+
+-- one sector tells all
+
+-- a block that lands on itself stays
+pub landed-same : (sector : ℕ) (bytes : List ℕ) → landed sector bytes bytes ≡ bytes
+landed-same zero bytes = take-append-drop 512 bytes
+landed-same (suc sector) bytes = ap (λ rest. take 512 bytes ++ rest) (landed-same sector (drop 512 bytes)) ∙ take-append-drop 512 bytes
+
+-- two blocks that differ in their first sector alone
+pub only-first : (new old : List ℕ) → drop 512 new ≡ drop 512 old → OnlySector 0 new old
+only-first new old same = record {
+  own = ap (λ rest. take 512 new ++ rest) (sym same) ∙ take-append-drop 512 new;
+  others = past;
+}
+  where
+    past : (other : ℕ) → other ≢ 0 → landed other new old ≡ old
+    past zero not_first = absurd (not_first refl)
+    past (suc other) not_first =
+        ap (λ rest. take 512 old ++ landed other rest (drop 512 old)) same
+        ∙ (ap (λ rest. take 512 old ++ rest) (landed-same other (drop 512 old)) ∙ take-append-drop 512 old)
+
+-- records within the first sector
+pub only-padded : (new old : List ℕ) → length new ≤ 512 → length old ≤ 512 → OnlySector 0 (padded new) (padded old)
+only-padded new old short short_old = only-first (padded new) (padded old) (drop-padded 512 new short ∙ sym (drop-padded 512 old short_old))
+
+-- so two records differ in their first sector alone
+pub only-spelled : (magic : List ℕ) (fields : List Field) (last : List ℕ) (old_magic : List ℕ) (old_fields : List Field) (old_last : List ℕ) →
+    length magic + (fields_width fields + length last) ≤ 512 → length old_magic + (fields_width old_fields + length old_last) ≤ 512 →
+    OnlySector 0 (spelled magic fields last) (spelled old_magic old_fields old_last)
+unfolding spelled
+only-spelled magic fields last old_magic old_fields old_last short short_old =
+    let a = length-spelled_head magic fields last in
+    let b = length-spelled_head old_magic old_fields old_last in
+    only-padded (magic ++ (fields_bytes fields ++ last)) (old_magic ++ (fields_bytes old_fields ++ old_last)) (omega (arith, a, short)) (omega (arith, b, short_old))
+
+-- a record and an empty block
+pub only-zeros : (new : List ℕ) → length new ≤ 512 → OnlySector 0 (padded new) zeros
+only-zeros new short = subst (OnlySector 0 (padded new)) padded-nil (only-padded new [] short (omega arith))
+
+-- and the other way round
+pub zeros-only : (old : List ℕ) → length old ≤ 512 → OnlySector 0 zeros (padded old)
+zeros-only old short = subst (λ x. OnlySector 0 x (padded old)) padded-nil (only-padded [] old (omega arith) short)
+
+-- after a sector that both have, the next one tells all
+only-next : (front : List ℕ) (sector : ℕ) (new old : List ℕ) → length front ≡ 512 → OnlySector sector new old → OnlySector (suc sector) (front ++ new) (front ++ old)
+only-next front sector new old long h = record {
+  own = next sector ∙ ap (λ rest. front ++ rest) h.own;
+  others = past;
+}
+  where
+    next : (k : ℕ) → landed (suc k) (front ++ new) (front ++ old) ≡ front ++ landed k new old
+    next k = rw (take_at front old 512 long, drop_at front new 512 long, drop_at front old 512 long) refl
+
+    past : (other : ℕ) → other ≢ suc sector → landed other (front ++ new) (front ++ old) ≡ front ++ old
+    past zero not_here = rw (take_at front new 512 long, drop_at front old 512 long) refl
+    past (suc other) not_here = next other ∙ ap (λ rest. front ++ rest) (h.others other (λ e. not_here (ap suc e)))
+
+-- a write within one sector
+pub only-written : (sector at : ℕ) (new old : List ℕ) → 512 * sector ≤ at → at + length new ≤ 512 * sector + 512 → 512 * sector + 512 ≤ length old →
+    OnlySector sector (written at new old) old
+only-written zero at new old low high within = only-first (written at new old) old (drop-written at new old 512 (omega (arith, high, within)) (omega (arith, high)))
+only-written (suc sector) at new old low high within =
+    let e : 512 + (at - 512) ≡ at = omega (arith, low) in
+    let rest = drop 512 old in
+    let ih = only-written sector (at - 512) new rest (omega (arith, low)) (omega (arith, low, high)) (rw (length-drop 512 old) (omega (arith, within))) in
+    let both = only-next (take 512 old) sector (written (at - 512) new rest) rest (length-take-le 512 old (omega (arith, within))) ih in
+    let new_is : take 512 old ++ written (at - 512) new rest ≡ written at new old =
+    sym (written-past 512 (at - 512) new old (omega (arith, within))) ∙ ap (λ n. written n new old) e in
+    subst (λ x. OnlySector (suc sector) x old) new_is (subst (OnlySector (suc sector) (take 512 old ++ written (at - 512) new rest)) (take-append-drop 512 old) both)
+
+-- readings are exact
+
+either : (b : Bool) → (b ≡ true) ⊎ (b ≡ false)
+either true = inl refl
+either false = inr refl
+
+both-left : (a b : Bool) → (a && b) ≡ true → a ≡ true
+both-left true b h = refl
+both-left false b h = cc
+
+both-right : (a b : Bool) → (a && b) ≡ true → b ≡ true
+both-right true b h = h
+both-right false b h = cc
+
+-- a value within its limits is read back from its spelling
+pub read-back : {A : Type 0} (is_within : A → Bool) (spelling : A → List ℕ) (found a : A) → is_within a ≡ true → found ≡ a →
+    read_by is_within spelling found (spelling a) ≡ Some a
+read-back is_within spelling found a within same =
+    rw (same, within, (bytes_eq-Decides (spelling a) (spelling a)).1 refl) refl
+
+-- bytes that spell what was found
+pub read-some : {A : Type 0} (is_within : A → Bool) (spelling : A → List ℕ) (found : A) (bytes : List ℕ) → is_within found ≡ true → bytes ≡ spelling found →
+    read_by is_within spelling found bytes ≡ Some found
+read-some is_within spelling found bytes within is = rw (within, (bytes_eq-Decides bytes (spelling found)).1 is) refl
+
+-- what was found is past its limits
+pub read-past : {A : Type 0} (is_within : A → Bool) (spelling : A → List ℕ) (found : A) (bytes : List ℕ) → is_within found ≡ false →
+    read_by is_within spelling found bytes ≡ None
+read-past is_within spelling found bytes past = rw past refl
+
+-- other bytes spell what was found
+pub read-unspelled : {A : Type 0} (is_within : A → Bool) (spelling : A → List ℕ) (found : A) (bytes : List ℕ) → bytes ≢ spelling found →
+    read_by is_within spelling found bytes ≡ None
+read-unspelled is_within spelling found bytes other =
+    go (is_within found) (bytes_eq bytes (spelling found)) (λ e. other ((bytes_eq-Decides bytes (spelling found)).0 e))
+  where
+    go : (a b : Bool) → ¬ (b ≡ true) → (if a && b then Some found else None) ≡ None
+    go false b h = refl
+    go true true h = absurd (h refl)
+    go true false h = refl
+
+-- what is read is within its limits and spelled by the bytes
+pub read-only : {A : Type 0} (is_within : A → Bool) (spelling : A → List ℕ) (found a : A) (bytes : List ℕ) → read_by is_within spelling found bytes ≡ Some a →
+    (is_within a ≡ true) × (bytes ≡ spelling a) × (found ≡ a)
+read-only is_within spelling found a bytes h = elim (either (is_within found && bytes_eq bytes (spelling found))) [
+  | inl taken ↦
+      let same : found ≡ a = some-same (read-by-true found _ taken ∙ h) in
+      let within = both-left (is_within found) (bytes_eq bytes (spelling found)) taken in
+      let here = (bytes_eq-Decides bytes (spelling found)).0 (both-right (is_within found) (bytes_eq bytes (spelling found)) taken) in
+      (ap is_within (sym same) ∙ within, here ∙ ap spelling same, same)
+  | inr refused ↦ let bad : None ≡ Some a = sym (read-by-false found _ refused) ∙ h in absurd (cc)
+]
+  where
+    read-by-true : {A : Type 0} (x : A) (b : Bool) → b ≡ true → Some x ≡ (if b then Some x else None)
+    read-by-true x b e = rw e refl
+
+    read-by-false : {A : Type 0} (x : A) (b : Bool) → b ≡ false → (if b then Some x else None) ≡ None
+    read-by-false x b e = rw e refl
+
+    some-same : {A : Type 0} {x y : A} → Some x ≡ Some y → x ≡ y
+    some-same e = cc
+
+-- so the reading is exact, where values within the limits are found in their spelling
+pub read-exact : {A : Type 0} (Is : A → Type 0) (is_within : A → Bool) (spelling : A → List ℕ) (found : List ℕ → A) →
+    ((a : A) → Is a → is_within a ≡ true) → ((a : A) → is_within a ≡ true → Is a) → ((a : A) → Is a → found (spelling a) ≡ a) →
+    (bytes : List ℕ) → IsReading Is spelling bytes (read_by is_within spelling (found bytes) bytes)
+read-exact Is is_within spelling found tests told back bytes =
+    by_result (read_by is_within spelling (found bytes) bytes)
+    (λ a h. let x = read-only is_within spelling (found bytes) a bytes h in (told a x.0, x.1))
+    (λ a is same.
+    ap (λ xs. read_by is_within spelling (found xs) xs) same ∙ read-back is_within spelling (found (spelling a)) a (tests a is) (back a is))
+  where
+    by_result : (result : Option _) → ((a : _) → result ≡ Some a → Is a × (bytes ≡ spelling a)) → ((a : _) → Is a → bytes ≡ spelling a → result ≡ Some a) →
+        IsReading Is spelling bytes result
+    by_result (Some a) one other = one a refl
+    by_result None one other = λ a is same. let bad = other a is same in absurd (cc)
+
+-- the fields that are left, the first of them and the others
+fields-left : (fields : List Field) (index : ℕ) (other : Field) → index < length fields → drop index fields ≡ slice_index_or fields index other ∷ drop (index + 1) fields
+fields-left [] index other below = absurd (omega (arith, below))
+fields-left (field ∷ fields) zero other below = refl
+fields-left (field ∷ fields) (suc index) other below =
+    let e : suc index + 1 ≡ suc (index + 1) = omega arith in
+    fields-left fields index other (omega (arith, below)) ∙ ap (λ n. slice_index_or fields index other ∷ drop n (field ∷ fields)) (sym e)
+
+-- what is still to be written makes the whole, also after one more field was written
+pub put-next : (fields : List Field) (index place end : ℕ) (other : Field) (bytes new whole : List ℕ) → index < length fields → end ≤ length bytes →
+    place + fields_width (drop index fields) ≡ end → written place (fields_bytes (drop index fields)) bytes ≡ whole →
+    new ≡ written place (little (width_of (slice_index_or fields index other)) (number_of (slice_index_or fields index other))) bytes →
+    (length new ≡ length bytes)
+    × (place + width_of (slice_index_or fields index other) + fields_width (drop (index + 1) fields) ≡ end)
+    × (written (place + width_of (slice_index_or fields index other)) (fields_bytes (drop (index + 1) fields)) new ≡ whole)
+put-next fields index place end other bytes new whole below within width is made =
+    go (slice_index_or fields index other) (drop index fields) (drop (index + 1) fields) (fields-left fields index other below) width is made
+  where
+    go : (field : Field) (left rest : List Field) → left ≡ field ∷ rest → place + fields_width left ≡ end → written place (fields_bytes left) bytes ≡ whole →
+        new ≡ written place (little (width_of field) (number_of field)) bytes →
+        (length new ≡ length bytes) × (place + width_of field + fields_width rest ≡ end) × (written (place + width_of field) (fields_bytes rest) new ≡ whole)
+    go field left rest same width is made =
+        let long = length-little (width_of field) (number_of field) in
+        let wide : place + (width_of field + fields_width rest) ≡ end = ap (λ xs. place + fields_width xs) (sym same) ∙ width in
+        let here : place + length (little (width_of field) (number_of field)) ≤ length bytes = omega (arith, long, wide, within) in (
+          ap length made ∙ length-written place (little (width_of field) (number_of field)) bytes here,
+          omega (arith, wide),
+          ap (λ n. written (place + n) (fields_bytes rest) new) (sym long)
+              ∙ (ap (written (place + length (little (width_of field) (number_of field))) (fields_bytes rest)) made
+              ∙ (written-next place (little (width_of field) (number_of field)) (fields_bytes rest) bytes here
+              ∙ (ap (λ xs. written place (fields_bytes xs) bytes) (sym same) ∙ is))),
+        )
+
+-- a write of nothing changes nothing
+pub written-nil : (at : ℕ) (bytes : List ℕ) → written at [] bytes ≡ bytes
+unfolding written
+written-nil at bytes = let e : at + 0 ≡ at = omega arith in rw (append-nil (take at bytes), e) (take-append-drop at bytes)
+
+-- where nothing is left, all is written
+pub put-end : (fields : List Field) (index place : ℕ) (bytes whole : List ℕ) → length fields ≤ index → written place (fields_bytes (drop index fields)) bytes ≡ whole → bytes ≡ whole
+put-end fields index place bytes whole past is =
+    sym (written-nil place bytes) ∙ (ap (λ xs. written place (fields_bytes xs) bytes) (sym (drop_all index fields past)) ∙ is)
+
+-- a block of zeros is full
+pub length-zeros : length zeros ≡ 4096
+unfolding zeros
+length-zeros = length-replicate {A = ℕ} 4096 0
+
+-- as many zeros as a block has bytes
+pub zeros-is : (bytes : List ℕ) (n : ℕ) → n ≡ 4096 → bytes ≡ replicate n 0 → bytes ≡ zeros
+unfolding zeros
+zeros-is bytes n full is = is ∙ ap (λ m. replicate m 0) full
+
+-- a record is written over zeros: the magic, the fields and the last bytes, each after the one before
+pub record-written : (magic : List ℕ) (fields : List Field) (last : List ℕ) (end : ℕ) → length magic + (fields_width fields + length last) ≤ 4096 →
+    length magic + fields_width fields ≡ end →
+    written end last (written (length magic) (fields_bytes fields) (written 0 magic zeros)) ≡ spelled magic fields last
+unfolding spelled
+record-written magic fields last end short here =
+    let full = length-zeros in
+    let long = length-fields fields in
+    let both = length-append magic (fields_bytes fields) in
+    let a : 0 + length magic ≡ length magic = omega arith in
+    let b : 0 + length (magic ++ fields_bytes fields) ≡ end = omega (arith, both, long, here) in
+    let one : written (length magic) (fields_bytes fields) (written 0 magic zeros) ≡ written 0 (magic ++ fields_bytes fields) zeros =
+    ap (λ n. written n (fields_bytes fields) (written 0 magic zeros)) (sym a) ∙ written-next 0 magic (fields_bytes fields) zeros (omega (arith, full, short)) in
+    ap (written end last) one
+    ∙ (ap (λ n. written n last (written 0 (magic ++ fields_bytes fields) zeros)) (sym b)
+    ∙ (written-next 0 (magic ++ fields_bytes fields) last zeros (omega (arith, full, short, both, long))
+    ∙ (written-zeros ((magic ++ fields_bytes fields) ++ last) ∙ ap padded (append_assoc magic (fields_bytes fields) last))))

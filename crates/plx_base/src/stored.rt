@@ -1,0 +1,74 @@
+//! Records as they are stored: what tells the kind, fields one after another, and zeros.
+ghost use Rattle.std.specs.Prelude.{◌≡◌, ◌↔◌, ◌+◌, ◌≤◌, length, IsTrue};
+ghost use Rattle.plx_base.specs.Blocks.{written};
+ghost use Rattle.plx_base.specs.Fields.{little};
+ghost use Rattle.plx_base.specs.Spelling.{fields_bytes, fields_width, number_of, spelled, width_of};
+
+use crate::block::{BLOCK_LEN, copy_at};
+use crate::field::{put_u32, put_u64, put_u128};
+
+/// A number as it is stored.
+#[derive(Clone, Copy, PartialEq, Eq, Debug)]
+pub enum Field {
+    U32(u32),
+    U64(u64),
+    U128(u128),
+}
+
+/// Writes fields one after another from `at` on, and gives the place after them.
+pub fn put_fields(bytes: &mut [u8], at: usize, fields: &[Field]) -> usize
+    requires { at + fields_width fields.now ≤ length bytes.old }
+    ensures same { bytes.new ≡ written at (fields_bytes fields.now) bytes.old }
+    ensures next { result ≡ at + fields_width fields.now }
+{
+    let mut place = at;
+    for field in fields {
+        place = put_field(bytes, place, *field);
+    }
+    place
+}
+
+// Writes one field, and gives the place after it.
+fn put_field(bytes: &mut [u8], at: usize, field: Field) -> usize
+    requires { at + width_of field ≤ length bytes.old }
+    ensures same { bytes.new ≡ written at (little (width_of field) (number_of field)) bytes.old }
+    ensures next { result ≡ at + width_of field }
+{
+    match field {
+        Field::U32(number) => {
+            put_u32(bytes, at, number);
+            at + 4
+        }
+        Field::U64(number) => {
+            put_u64(bytes, at, number);
+            at + 8
+        }
+        Field::U128(number) => {
+            put_u128(bytes, at, number);
+            at + 16
+        }
+    }
+}
+
+/// Makes a block of 4,096 bytes a record: the magic, the fields one after another, the last bytes,
+/// and zeros.
+pub fn put_record(bytes: &mut [u8], magic: &[u8], fields: &[Field], last: &[u8])
+    requires block { length bytes.old ≡ 4096 }
+    requires short { length magic.now + (fields_width fields.now + length last.now) ≤ 4096 }
+    ensures { bytes.new ≡ spelled magic.now fields.now last.now }
+{
+    bytes.fill(0);
+    copy_at(bytes, 0, magic);
+    let end = put_fields(bytes, magic.len(), fields);
+    copy_at(bytes, end, last);
+}
+
+/// Whether a block is this record.
+pub fn is_record(bytes: &[u8], magic: &[u8], fields: &[Field], last: &[u8]) -> bool
+    requires { length magic.now + (fields_width fields.now + length last.now) ≤ 4096 }
+    ensures { IsTrue result ↔ (bytes.now ≡ spelled magic.now fields.now last.now) }
+{
+    let mut spelled = [0; BLOCK_LEN];
+    put_record(&mut spelled, magic, fields, last);
+    bytes == spelled.as_slice()
+}
