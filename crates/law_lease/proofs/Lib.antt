@@ -9,3 +9,4 @@ pub mod Leased
 pub mod Lists
 pub mod Owners
 pub mod Runs
+pub mod Stages

@@ -105,7 +105,7 @@ above : (a b : ℕ) → nat_le a b ≡ false → b < a
 above a b e = elim (leb_tells a b) [ inl under ↦ absurd (let f : true ≡ false = sym under.0 ∙ e in let P : ⊥ = cc in P) | inr past ↦ omega (arith, past.1) ]
 
 -- the boot of an appliance is its own
-own-boot : (a boots : ℕ) → a < 8 → is_boot_of a (boot_number a boots) ≡ true
+pub own-boot : (a boots : ℕ) → a < 8 → is_boot_of a (boot_number a boots) ≡ true
 own-boot a boots below =
     let e : boot_number a boots - 1 ≡ boots * 256 + a = omega arith in
     let m : (boot_number a boots - 1) % 256 ≡ a = ap (λ n. n % 256) e ∙ mod-mul-add boots 256 a (omega (arith, below)) in

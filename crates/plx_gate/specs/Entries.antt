@@ -49,9 +49,13 @@ found_entry bytes = record { root = number_at 8 0 bytes; dropped = not (number_a
 abbrev pub entry_part : ℕ → List ℕ → List ℕ
 entry_part index block = take 32 (drop (entry_start index) block)
 
--- what a log block says at an entry's place: an entry within the limits, or nothing
+-- what the 32 bytes of an entry say: an entry within the limits, or nothing
+abbrev pub entry_of : List ℕ → Option LogEntry
+entry_of bytes = read_by is_entry entry_bytes (found_entry bytes) bytes
+
+-- what a log block says at an entry's place
 unfoldable pub read_entry : ℕ → List ℕ → Option LogEntry
-read_entry index block = read_by is_entry entry_bytes (found_entry (entry_part index block)) (entry_part index block)
+read_entry index block = entry_of (entry_part index block)
 
 -- a log block with an entry written at its place; the others stay
 abbrev pub with_entry : ℕ → LogEntry → List ℕ → List ℕ
