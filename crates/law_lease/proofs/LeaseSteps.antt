@@ -35,6 +35,7 @@ use Rattle.plx_worlds.specs.Session.{Known}
 use Rattle.plx_worlds.specs.Settings.{Setting, boot_number}
 use Rattle.plx_worlds.specs.World as world
 use Rattle.plx_worlds.specs.World.{World, Seat, Step, Reached, IsReading, first_world, setting_at}
+use Rattle.plx_worlds.specs.Times.{term}
 use Rattle.law_lease.proofs.LawfulCommands.{lawful-command}
 use Rattle.law_lease.proofs.LeaseFrames.{Shrinks, good-shrinks}
 use Rattle.law_lease.proofs.LeaseGoes.{good-part, good-timed, good-first, lease-log, good-free, good-read, good-written}
@@ -264,7 +265,7 @@ module _ (w : World) (leased : Leased w) (a : ℕ) (below : a < w.appliances) (t
 
 placed-may : (g : Geometry) (b : ℕ) (holds : ℕ → Hold) (k : WriteKind) (block : ℕ) (bytes : List ℕ) (guard : ℕ) → MayAsk g b holds k block bytes guard → IsPlaced g k block bytes
 placed-may g b holds kind.Claim block bytes guard may =
-    (may.lease, may.within, may.at_lease, (Claimed (claim_of b may.number may.sample) (may.sample + 10000), may.spells))
+    (may.lease, may.within, may.at_lease, (Claimed (claim_of b may.number may.sample) (may.sample + term), may.spells))
 placed-may g b holds kind.Renew block bytes guard may = (may.lease, may.within, may.at_lease, (Claimed may.claim may.next, may.spells))
 placed-may g b holds kind.Release block bytes guard may = (may.lease, may.within, may.at_lease, (Free, may.spells))
 placed-may g b holds kind.Take block bytes guard may = may.placed

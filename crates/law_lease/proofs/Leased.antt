@@ -19,6 +19,7 @@ use Rattle.plx_worlds.specs.Holds.{Hold, Nothing, Seen, Wrote, Waited, Held, no_
 use Rattle.plx_gate.specs.Leases.{lease_bytes, read_lease, IsLease, IsClaimed}
 use Rattle.plx_worlds.specs.Owners.{Needs, first_landed, pending_write}
 use Rattle.plx_worlds.specs.Settings.{boot_number}
+use Rattle.plx_worlds.specs.Times.{window, term}
 use Rattle.plx_worlds.specs.World.{World, Seat, setting_at}
 
 -- a write is where its kind may be
@@ -44,10 +45,10 @@ pub record MayClaim (g : Geometry) (boot : ℕ) (holds : ℕ → Hold) (block : 
   pub within : lease < lease_count g
   pub at_lease : block ≡ lease_at lease
   pub hold : holds (lease_at lease) ≡ Seen sample
-  pub spells : bytes ≡ lease_bytes (Claimed (claim_of boot number sample) (sample + 10000))
+  pub spells : bytes ≡ lease_bytes (Claimed (claim_of boot number sample) (sample + term))
   pub few : number < 2 ^ 40
   pub early : sample < 2 ^ 48
-  pub guarded : guard ≡ sample + 200
+  pub guarded : guard ≡ sample + window
 
 -- a renewal of a lease that is held
 pub record MayRenew (g : Geometry) (holds : ℕ → Hold) (block : ℕ) (bytes : List ℕ) (guard : ℕ) : Type 0 where
@@ -166,10 +167,10 @@ pub record Waits (time : ℕ) (standing : LeaseRecord) (sample : ℕ) : Type 0 w
 
 pub record IsClaiming (time : ℕ) (standing : LeaseRecord) (write : Issued) : Type 0 where
   pub claim : Claim
-  pub spells : write.bytes ≡ lease_bytes (Claimed claim (claim.sample + 10000))
-  pub limits : IsClaimed claim (claim.sample + 10000)
+  pub spells : write.bytes ≡ lease_bytes (Claimed claim (claim.sample + term))
+  pub limits : IsClaimed claim (claim.sample + term)
   pub owner : claim.boot.0 ≡ write.owner
-  pub guarded : write.guard ≡ claim.sample + 200
+  pub guarded : write.guard ≡ claim.sample + window
   pub waits : slice_get write.landed 0 ≡ Some false → time ≤ write.guard + 50 → Waits time standing claim.sample
 
 -- ---- what a boot holds
@@ -185,7 +186,7 @@ pub record IsSeen (g : Geometry) (time : ℕ) (writes : List Issued) (lease : �
 
 pub record IsWritten (g : Geometry) (time : ℕ) (writes : List Issued) (lease : ℕ) (standing : LeaseRecord) (boot : ℕ) (claim : Claim) (until : ℕ) : Type 0 where
   pub own : claim.boot.0 ≡ boot
-  pub ends : until ≡ claim.sample + 10000
+  pub ends : until ≡ claim.sample + term
   pub limits : IsClaimed claim until
   pub mine : Mine g time writes lease standing boot claim.sample
 
