@@ -311,6 +311,7 @@ long-landed device block sector bytes long whole below =
     (length-landed sector bytes (device block) (omega (arith, whole, below)) (omega (arith, long block, below)) ∙ long block)
     (λ b ne. long b)
 
+-- each step keeps it
 pub keeps-leases : {w v : World} {event : Event} → Step w event v → Leased w → Leased v
 keeps-leases (world.ticks {w = w} {by = by} room) leased = record {
   geometry = leased.geometry;
@@ -428,6 +429,7 @@ lease-formatted g device formatted (suc lease) within = elim (leb_tells (suc lea
       ap device e ∙ formatted.places (place.ExtentLease extent) (omega (arith, above.1, within))
 ]
 
+-- the first world has it
 pub first-leased : (g : Geometry) (appliances : ℕ) (device : Device) → IsGeometry g → appliances ≤ 8 → IsFormatted g device → Leased (first_world g appliances device)
 first-leased g appliances device geometry few formatted = record {
   geometry = geometry;
@@ -447,6 +449,7 @@ first-leased g appliances device geometry few formatted = record {
   };
 }
 
+-- and so has every world that events lead to
 pub reached-leased : {w : World} → Reached w → Leased w
 reached-leased (world.first {g = g} {appliances = appliances} {device = device} geometry some few formatted) = first-leased g appliances device geometry few formatted
 reached-leased (world.later reached step) = keeps-leases step (reached-leased reached)

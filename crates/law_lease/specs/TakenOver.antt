@@ -17,9 +17,11 @@ use Rattle.plx_worlds.specs.World.{World, Reached}
 abbrev pub one : ApplianceNo
 one = record { 0 = 0 }
 
+-- the appliance that takes over
 abbrev pub other : ApplianceNo
 other = record { 0 = 1 }
 
+-- the slot of the image
 abbrev pub slot : SlotNo
 slot = record { 0 = 0 }
 
@@ -27,6 +29,7 @@ slot = record { 0 = 0 }
 abbrev pub free_report : Report
 free_report = record { live = false; generation = 0; size = 0; writes = 0; taken = 0; dropped = 0; label = [] }
 
+-- what it reports of the image once that is made and written
 abbrev pub written_report : Report
 written_report = record { live = true; generation = 1; size = 8; writes = 1; taken = 0; dropped = 0; label = [] }
 
