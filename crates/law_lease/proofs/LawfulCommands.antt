@@ -71,10 +71,10 @@ pub below-tested : (a b : ℕ) → nat_lt a b ≡ true → a < b
 below-tested a b e = elim (leb_tells (suc a) b) [ inl below ↦ below.1 | inr not' ↦ absurd (let f : true ≡ false = sym e ∙ not'.0 in let P : ⊥ = cc in P) ]
 
 -- a record is a block of 4,096 bytes, where its label is one
-pub length-image : (kept : ImageRecord) → length (label_of kept) ≤ 32 → length (image_bytes kept) ≡ 4096
+pub length-labelled : (kept : ImageRecord) → length (label_of kept) ≤ 32 → length (image_bytes kept) ≡ 4096
 unfolding image_bytes
-length-image (image_is.Free generation) short = length-spelled image_magic (image_fields (image_is.Free generation)) [] (omega arith)
-length-image (image_is.Live generation size taken root applied label) short =
+length-labelled (image_is.Free generation) short = length-spelled image_magic (image_fields (image_is.Free generation)) [] (omega arith)
+length-labelled (image_is.Live generation size taken root applied label) short =
     length-spelled image_magic (image_fields (image_is.Live generation size taken root applied label)) label (omega (arith, short))
 
 module _ (g : Geometry) (boot : ℕ) where
@@ -286,7 +286,7 @@ module _ (s : Setting) where
       right-ends known (image_use image until) done (with_session known image (Some (new_session made))) _ None,
       tt,
       λ reading. tt,
-      length-image made short,
+      length-labelled made short,
     )
 
     right-create : (size : ℕ) (label : List ℕ) (session : Session) → IsLabel label → Right holds sample (create_part s known image size label session until)

@@ -9,3 +9,6 @@ pub mod Leased
 pub mod Lists
 pub mod Owners
 pub mod Runs
+pub mod Stages
+pub mod FirstDevice
+pub mod Witness

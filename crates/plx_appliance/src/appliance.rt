@@ -61,9 +61,11 @@ impl Appliance {
     /// A command begins, with all the memory that it can need. Without memory nothing changes.
     pub fn begin(&mut self, alloc: Global, command: Command) -> Result<(), NoMemory>
         requires { IsIdle self.old }
-        ensures ok { OnOk result ((log : List Happening) → StandsFor self.old log → StandsFor self.new (Began command ∷ log)) }
+        ensures ok { OnOk result ((log : List Happening) → StandsFor self.old log
+            → StandsFor self.new (Began command ∷ log)) }
         ensures running { OnOk result (IsRunning self.new) }
-        ensures err { OnErr result ((log : List Happening) → StandsFor self.old log → StandsFor self.new log) }
+        ensures err { OnErr result ((log : List Happening) → StandsFor self.old log
+            → StandsFor self.new log) }
         ensures idle { OnErr result (IsIdle self.new) }
         ensures slots { journal_slots self.new ≡ journal_slots self.old }
     {
@@ -139,9 +141,11 @@ impl Appliance {
     pub fn answer(&mut self, answer: &Answer) -> Option<Reply>
         requires { IsRunning self.old }
         ensures place { place self.new ≡ went_on answer.now (place self.old) }
-        ensures log { (ask : Ask) (bytes : List ℕ) (log : List Happening) → StandsFor self.old log → StandsFor self.new (Asked ask bytes answer.now ∷ log) }
+        ensures log { (ask : Ask) (bytes : List ℕ) (log : List Happening) → StandsFor self.old log
+            → StandsFor self.new (Asked ask bytes answer.now ∷ log) }
         ensures reply { result ≡ replies answer.now (place self.old) }
-        ensures fewer { FitsAsk (asks (place self.old)) answer.now → asks_left self.new < asks_left self.old }
+        ensures fewer { FitsAsk (asks (place self.old)) answer.now
+            → asks_left self.new < asks_left self.old }
         ensures slots { journal_slots self.new ≡ journal_slots self.old }
     {
         let state = mem::replace(&mut self.state, State::Idle(None));
@@ -167,7 +171,8 @@ fn begun(
 ) -> Result<State, Option<Session>>
     requires room { room_of slots known ≡ slots }
     requires small { slots ≤ 64 }
-    ensures ok { IfOk result (λ s. place_of slots s ≡ In (command_part slots (known_of known) command)) }
+    ensures ok { IfOk result (λ s. place_of slots s
+        ≡ In (command_part slots (known_of known) command)) }
     ensures room { IfOk result (λ s. slots_of slots s ≡ slots) }
     ensures err { IfErr result (λ s. s ≡ known) }
 {

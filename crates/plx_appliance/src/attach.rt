@@ -27,7 +27,8 @@ pub fn begin_attach(
     slot: SlotNo,
 ) -> Result<State, Option<Session>>
     requires room { room_of slots known ≡ slots }
-    ensures ok { IfOk result (λ s. place_of slots s ≡ In (command_part slots (known_of known) (Attach slot))) }
+    ensures ok { IfOk result (λ s. place_of slots s
+        ≡ In (command_part slots (known_of known) (Attach slot))) }
     ensures room { IfOk result (λ s. slots_of slots s ≡ slots) }
     ensures err { IfErr result (λ s. s ≡ known) }
 {
@@ -202,7 +203,8 @@ pub fn after_fetching(slots: u32, fetch: Fetch, answer: &Answer) -> Turn
 fn fetched(fetch: Fetch, bytes: &Block) -> Load
     ensures at { result.at ≡ fetch.load.at + 1 }
     ensures slots { result.session.slots ≡ fetch.load.session.slots }
-    ensures writes { result.session.writes.items ≡ fetch.load.session.writes.items ++ fetched_write fetch bytes.now ∷ [] }
+    ensures writes { result.session.writes.items
+        ≡ fetch.load.session.writes.items ++ fetched_write fetch bytes.now ∷ [] }
 {
     let Fetch { load, descriptor } = fetch;
     let Load {

@@ -22,7 +22,8 @@ pub fn begin_read(
     vblock: u32,
 ) -> Result<State, Option<Session>>
     requires { room_of slots known ≡ slots }
-    ensures ok { IfOk result (λ s. place_of slots s ≡ In (command_part slots (known_of known) (Read slot vblock))) }
+    ensures ok { IfOk result (λ s. place_of slots s
+        ≡ In (command_part slots (known_of known) (Read slot vblock))) }
     ensures room { IfOk result (λ s. slots_of slots s ≡ slots) }
     ensures err { IfErr result (λ s. s ≡ known) }
 {
@@ -43,7 +44,8 @@ fn begin_known_read(
     vblock: u32,
 ) -> Result<State, Option<Session>>
     requires { session.slots ≡ slots }
-    ensures ok { IfOk result (λ s. place_of slots s ≡ In (command_part slots (known_of (Some session)) (Read (record { 0 = 0 }) vblock))) }
+    ensures ok { IfOk result (λ s. place_of slots s
+        ≡ In (command_part slots (known_of (Some session)) (Read (record { 0 = 0 }) vblock))) }
     ensures room { IfOk result (λ s. slots_of slots s ≡ slots) }
     ensures err { IfErr result (λ s. s ≡ Some session) }
 {

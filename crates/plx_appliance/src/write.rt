@@ -33,7 +33,8 @@ pub fn begin_write(
 ) -> Result<State, Option<Session>>
     requires room { room_of slots known ≡ slots }
     requires small { slots ≤ 64 }
-    ensures ok { IfOk result (λ s. place_of slots s ≡ In (command_part slots (known_of known) (Write slot vblock payload.now))) }
+    ensures ok { IfOk result (λ s. place_of slots s
+        ≡ In (command_part slots (known_of known) (Write slot vblock payload.now))) }
     ensures room { IfOk result (λ s. slots_of slots s ≡ slots) }
     ensures err { IfErr result (λ s. s ≡ known) }
 {
@@ -56,7 +57,9 @@ fn begin_known_write(
 ) -> Result<State, Option<Session>>
     requires room { session.slots ≡ slots }
     requires small { slots ≤ 64 }
-    ensures ok { IfOk result (λ s. place_of slots s ≡ In (command_part slots (known_of (Some session)) (Write (record { 0 = 0 }) vblock payload.now))) }
+    ensures ok { IfOk result (λ s. place_of slots s
+        ≡ In (command_part slots (known_of (Some session))
+        (Write (record { 0 = 0 }) vblock payload.now))) }
     ensures room { IfOk result (λ s. slots_of slots s ≡ slots) }
     ensures err { IfErr result (λ s. s ≡ Some session) }
 {
@@ -87,7 +90,8 @@ fn blocks(
     requires small { count < 64 }
     requires within { vblock < 8 }
     ensures data { IfOk result (λ bs. bs.0 ≡ bytes_of payload.now) }
-    ensures spelled { IfOk result (λ bs. bs.1 ≡ descriptor_bytes (record { generation = 1; vblock = vblock; number = count + 1 })) }
+    ensures spelled { IfOk result (λ bs. bs.1
+        ≡ descriptor_bytes (record { generation = 1; vblock = vblock; number = count + 1 })) }
 {
     let block = payload.to_block(alloc)?;
     let spelled = spelling(

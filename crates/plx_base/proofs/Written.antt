@@ -1,6 +1,6 @@
 -- Bytes after others were written over them at a place.
-use Rattle.std.proofs.Common.{◌≡◌, ℕ, ◌+◌, ◌-◌, ◌≤◌, ◌<◌, List, ◌++◌, length, take, drop, get_or, refl, ap, sym, ◌∙◌, arith, append_assoc, length-append, length-drop}
-use Rattle.std.proofs.lemmas.List.{length-take-le, drop_at, take_at, drop-take, drop-append-le, take-append-le, take-take, get_or_append_left, get_or-append_right, get_or-take, get_or-drop, take-append-drop, drop-drop}
+use Rattle.std.proofs.Common.{◌≡◌, ℕ, ◌+◌, ◌-◌, ◌≤◌, ◌<◌, List, [], ◌++◌, length, take, drop, get_or, refl, ap, sym, ◌∙◌, arith, append_assoc, length-append, length-drop}
+use Rattle.std.proofs.lemmas.List.{append-nil, length-take-le, drop_all, drop_at, take_at, drop-take, drop-append-le, take-append-le, take-take, get_or_append_left, get_or-append_right, get_or-take, get_or-drop, take-append-drop, drop-drop}
 use Rattle.std.proofs.Math.Seq.{take-add}
 use Rattle.std.specs.Prelude.{slice_index}
 use Rattle.plx_base.specs.Blocks.{written}
@@ -85,3 +85,9 @@ written-past n at new old h =
     let f : n + (at + length new) ≡ at + length new + n = omega arith in
     let back : drop (at + length new) (drop n old) ≡ drop (n + at + length new) old = drop-drop (at + length new) n old ∙ ap (λ m. drop m old) (omega arith) in
     rw (written-parts (n + at) new old, written-parts at new (drop n old), take-add n at old, back) (append_assoc (take n old) (take at (drop n old)) (new ++ drop (n + at + length new) old))
+
+-- a write over all
+pub written-whole : (new old : List ℕ) → length new ≡ length old → written 0 new old ≡ new
+written-whole new old long =
+    let none : drop (0 + length new) old ≡ [] = drop_all (0 + length new) old (omega (arith, long)) in
+    written-parts 0 new old ∙ (ap (λ rest. take 0 old ++ (new ++ rest)) none ∙ append-nil new)

@@ -46,26 +46,34 @@ pub fn run<S: Source, K: Sink>(
         (λ bytes. Appended IsBad bytes (K.held sink.old) (K.held sink.new)) }
     ensures part { result ≡ Status.SinkFault → ReadsSuch (S.left source.old) (S.left source.new)
         (λ bytes. AppendedPart IsAnswer bytes (K.held sink.old) (K.held sink.new)) }
-    ensures silent { result ≢ Status.Done → result ≢ Status.BadLine → result ≢ Status.SinkFault → sink.new ≡ sink.old }
+    ensures silent { result ≢ Status.Done → result ≢ Status.BadLine → result ≢ Status.SinkFault
+        → sink.new ≡ sink.old }
 
     // When each other status comes.
     ensures usage { result ≡ Status.Usage ↔ ¬ IsReplay words.now.items }
     ensures idle { result ≡ Status.Usage → source.new ≡ source.old }
-    ensures source { result ≡ Status.SourceFault → Rose (S.faults source.old) (S.faults source.new) }
+    ensures source { result ≡ Status.SourceFault
+        → Rose (S.faults source.old) (S.faults source.new) }
     ensures sink { result ≡ Status.SinkFault → Rose (K.faults sink.old) (K.faults sink.new) }
-    ensures long { result ≡ Status.TooLong → TakesCount (S.left source.old) (S.left source.new) (input_limit + 1) }
-    ensures within { result ≢ Status.TooLong → (n : ℕ) × (n ≤ input_limit) × TakesCount (S.left source.old) (S.left source.new) n }
+    ensures long { result ≡ Status.TooLong → TakesCount (S.left source.old) (S.left source.new)
+        (input_limit + 1) }
+    ensures within { result ≢ Status.TooLong → (n : ℕ) × (n ≤ input_limit)
+        × TakesCount (S.left source.old) (S.left source.new) n }
 
     // Where the source gives an input of at most the limit: a bad line is answered, and a schedule is played.
     ensures exact { (bytes : List ℕ) (line : ℕ) → IsReplay words.now.items
-        → IsGiven bytes (S.left source.old) (S.faults source.old) (S.faults source.new) → IsFirstBad schedule_grammar bytes line
+        → IsGiven bytes (S.left source.old) (S.faults source.old) (S.faults source.new)
+        → IsFirstBad schedule_grammar bytes line
         → (result ≡ Status.BadLine) ⊎ (result ≡ Status.SinkFault) ⊎ (result ≡ Status.NoMemory) }
     ensures complete { (bytes : List ℕ) (slots : ℕ) (events : List Event) → IsReplay words.now.items
-        → IsGiven bytes (S.left source.old) (S.faults source.old) (S.faults source.new) → IsSchedule bytes slots events
-        → ¬ Rose (K.faults sink.old) (K.faults sink.new) → (result ≡ Status.Done) ⊎ (result ≡ Status.NoMemory) }
+        → IsGiven bytes (S.left source.old) (S.faults source.old) (S.faults source.new)
+        → IsSchedule bytes slots events
+        → ¬ Rose (K.faults sink.old) (K.faults sink.new) → (result ≡ Status.Done)
+        ⊎ (result ≡ Status.NoMemory) }
 
     // Counts of faults never fall.
-    ensures counts { (S.faults source.old ≤ S.faults source.new) × (K.faults sink.old ≤ K.faults sink.new) }
+    ensures counts { (S.faults source.old ≤ S.faults source.new)
+        × (K.faults sink.old ≤ K.faults sink.new) }
 {
     headline();
     trace_once();
@@ -84,10 +92,14 @@ pub fn run<S: Source, K: Sink>(
 
 // Writes what is to be written for an input.
 fn answer<K: Sink>(alloc: Global, bytes: &[u8], sink: &mut K) -> Status
-    ensures status { (result ≡ Status.Done) ⊎ (result ≡ Status.BadLine) ⊎ (result ≡ Status.SinkFault) ⊎ (result ≡ Status.NoMemory) }
-    ensures done { result ≡ Status.Done → Appended IsTrace bytes.now (K.held sink.old) (K.held sink.new) }
-    ensures bad { result ≡ Status.BadLine → Appended IsBad bytes.now (K.held sink.old) (K.held sink.new) }
-    ensures part { result ≡ Status.SinkFault → AppendedPart IsAnswer bytes.now (K.held sink.old) (K.held sink.new) }
+    ensures status { (result ≡ Status.Done) ⊎ (result ≡ Status.BadLine)
+        ⊎ (result ≡ Status.SinkFault) ⊎ (result ≡ Status.NoMemory) }
+    ensures done { result ≡ Status.Done → Appended IsTrace bytes.now (K.held sink.old)
+        (K.held sink.new) }
+    ensures bad { result ≡ Status.BadLine → Appended IsBad bytes.now (K.held sink.old)
+        (K.held sink.new) }
+    ensures part { result ≡ Status.SinkFault
+        → AppendedPart IsAnswer bytes.now (K.held sink.old) (K.held sink.new) }
     ensures silent { result ≡ Status.NoMemory → sink.new ≡ sink.old }
     ensures sink { result ≡ Status.SinkFault → Rose (K.faults sink.old) (K.faults sink.new) }
     ensures counts { K.faults sink.old ≤ K.faults sink.new }

@@ -1,5 +1,5 @@
 -- The refusals of a command whose fact holds, by sessions and by the model's images.
-use Rattle.std.specs.Prelude.{◌≡◌, ℕ, List, [], ◌∷◌, ◌++◌, Bool, true, false, ◌&&◌, ◌⊎◌, nat_lt, nat_le}
+use Rattle.std.specs.Prelude.{◌≡◌, ℕ, List, [], ◌∷◌, ◌++◌, Bool, true, false, ◌&&◌, ◌⊎◌, nat_lt, nat_le, not}
 use Rattle.plx_commands.specs.Images.{Image}
 use Rattle.plx_commands.specs.Limits.{last_generation, last_write, last_claim, greatest_size}
 use Rattle.plx_commands.specs.Model.{Model, has_all}
@@ -14,10 +14,6 @@ use Rattle.plx_commands.specs.declared.reply.Reply.TheVariants.{NotAttached, Alr
 abbrev pub where_holds : Bool → Reply → List Reply
 where_holds true refusal = refusal ∷ []
 where_holds false refusal = []
-
-abbrev pub not : Bool → Bool
-not true = false
-not false = true
 
 -- an image has at least one block, and at most 2^27
 abbrev pub is_size : ℕ → Bool

@@ -30,7 +30,9 @@ pub fn clear(block: &mut Block)
 pub fn land_on(blocks: &mut BTreeMap<u64, Block>, block: u64, sector: u8, bytes: &Block)
     requires within { sector < 8 }
     requires present { is_stored blocks.old block ≡ true }
-    ensures lands { (b : ℕ) → device_of blocks.new b ≡ put (device_of blocks.old) block (landed sector bytes.now (device_of blocks.old block)) b }
+    ensures lands { (b : ℕ) → device_of blocks.new b
+        ≡ put (device_of blocks.old) block (landed sector bytes.now
+        (device_of blocks.old block)) b }
     ensures stored { (b : ℕ) → is_stored blocks.new b ≡ is_stored blocks.old b }
 {
     match blocks.get_mut(&block) {
@@ -59,7 +61,8 @@ pub fn make_place(
 
 /// Puts bytes into a block.
 pub fn store(blocks: &mut BTreeMap<u64, Block>, block: u64, bytes: Block) -> Result<(), NoMemory>
-    ensures ok { OnOk result ((b : ℕ) → device_of blocks.new b ≡ put (device_of blocks.old) block bytes b) }
+    ensures ok { OnOk result ((b : ℕ) → device_of blocks.new b
+        ≡ put (device_of blocks.old) block bytes b) }
     ensures err { OnErr result ((b : ℕ) → device_of blocks.new b ≡ device_of blocks.old b) }
     ensures others { (b : ℕ) → is_stored blocks.old b ≡ true → is_stored blocks.new b ≡ true }
 {

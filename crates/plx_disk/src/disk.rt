@@ -104,8 +104,10 @@ impl Disk {
         requires within { block.0 < device_size self.old }
         requires whole { length bytes.now ≡ 4096 }
         requires guarded { guard < 2 ^ 49 }
-        ensures number { IfOk result (λ number. (s : Surface) → Stands self.old s → number ≡ length s.writes) }
-        ensures ok { OnOk result (Turns self.old self.new (λ s. issued s (fresh_write owner.0 kind block.0 bytes.now guard))) }
+        ensures number { IfOk result (λ number. (s : Surface) → Stands self.old s → number
+            ≡ length s.writes) }
+        ensures ok { OnOk result (Turns self.old self.new
+            (λ s. issued s (fresh_write owner.0 kind block.0 bytes.now guard))) }
         ensures err { OnErr result (Stays self.old self.new) }
         ensures blocks { device_size self.new ≡ device_size self.old }
     {
@@ -128,8 +130,10 @@ impl Disk {
 
     /// One sector of a write lands, if it may.
     pub fn land(&mut self, write: u64, sector: u8) -> bool
-        ensures landed { IsTrue result → (s : Surface) → Stands self.old s → (w : Issued) × MayLand s write sector w × Stands self.new (after_landing s write w sector) }
-        ensures refused { result ≡ false → (s : Surface) → Stands self.old s → (w : Issued) → MayLand s write sector w → ⊥ }
+        ensures landed { IsTrue result → (s : Surface) → Stands self.old s → (w : Issued)
+            × MayLand s write sector w × Stands self.new (after_landing s write w sector) }
+        ensures refused { result ≡ false → (s : Surface) → Stands self.old s → (w : Issued)
+            → MayLand s write sector w → ⊥ }
         ensures same { result ≡ false → Stays self.old self.new }
         ensures blocks { device_size self.new ≡ device_size self.old }
     {
@@ -168,7 +172,8 @@ impl Disk {
 
     /// Time passes, in milliseconds. False, and nothing changes, where it would reach its end.
     pub fn tick(&mut self, by: u32) -> bool
-        ensures early { (s : Surface) → Stands self.old s → (IsTrue result ↔ (s.time + by < 2 ^ 47)) }
+        ensures early { (s : Surface) → Stands self.old s
+            → (IsTrue result ↔ (s.time + by < 2 ^ 47)) }
         ensures passed { IsTrue result → Turns self.old self.new (λ s. passed s by) }
         ensures same { result ≡ false → Stays self.old self.new }
         ensures blocks { device_size self.new ≡ device_size self.old }
@@ -183,7 +188,8 @@ impl Disk {
 
     /// The boot that issued a write.
     pub fn owner(&self, write: u64) -> Option<Boot>
-        ensures { (s : Surface) → Stands self.now s → MatchOption result (slice_get s.writes write ≡ None) (IsOwner s write) }
+        ensures { (s : Surface) → Stands self.now s
+            → MatchOption result (slice_get s.writes write ≡ None) (IsOwner s write) }
     {
         let index = write as usize;
         if index >= self.writes.len() {
@@ -194,7 +200,8 @@ impl Disk {
 
     /// The least sector that hasn't landed, of a write that was issued and not cancelled. None of any other write.
     pub fn missing(&self, write: u64) -> Option<u8>
-        ensures missing { (s : Surface) → Stands self.now s → MatchOption result (MissesNone s write) (IsMissing s write) }
+        ensures missing { (s : Surface) → Stands self.now s
+            → MatchOption result (MissesNone s write) (IsMissing s write) }
         ensures within { IfSome result (λ sector. sector < 8) }
     {
         let index = write as usize;

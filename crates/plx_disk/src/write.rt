@@ -62,7 +62,8 @@ impl Pending {
         ensures within { IsTrue result → sector < 8 }
         ensures missing { IsTrue result → slice_get self.now.landed sector ≡ Some false }
         ensures early { IsTrue result → time ≤ self.now.guard + 50 }
-        ensures refused { result ≡ false → slice_get self.now.landed sector ≡ Some false → time ≤ self.now.guard + 50 → ⊥ }
+        ensures refused { result ≡ false → slice_get self.now.landed sector ≡ Some false
+            → time ≤ self.now.guard + 50 → ⊥ }
     {
         if sector >= SECTORS {
             return false;
@@ -78,11 +79,16 @@ impl Write {
     /// One sector lands on its block at that time, in milliseconds, if it may.
     pub fn land(&mut self, stored: &mut BTreeMap<u64, Block>, sector: u8, time: u64) -> bool
         requires placed { has_place stored.old self.old.progress ≡ true }
-        ensures allowed { (w : Issued) → StandsFor self.old w → IsTrue result → MayLandAt w sector time }
-        ensures landed { (w : Issued) → StandsFor self.old w → IsTrue result → StandsFor self.new (with_sector w sector) }
-        ensures bytes { (w : Issued) → StandsFor self.old w → IsTrue result → (b : ℕ) → device_of stored.new b ≡ put (device_of stored.old) w.block (landed sector w.bytes (device_of stored.old w.block)) b }
+        ensures allowed { (w : Issued) → StandsFor self.old w → IsTrue result
+            → MayLandAt w sector time }
+        ensures landed { (w : Issued) → StandsFor self.old w → IsTrue result
+            → StandsFor self.new (with_sector w sector) }
+        ensures bytes { (w : Issued) → StandsFor self.old w → IsTrue result → (b : ℕ)
+            → device_of stored.new b ≡ put (device_of stored.old) w.block
+            (landed sector w.bytes (device_of stored.old w.block)) b }
 
-        ensures refused { (w : Issued) → StandsFor self.old w → result ≡ false → MayLandAt w sector time → ⊥ }
+        ensures refused { (w : Issued) → StandsFor self.old w → result ≡ false
+            → MayLandAt w sector time → ⊥ }
         ensures same { result ≡ false → (self.new ≡ self.old) × (stored.new ≡ stored.old) }
 
         ensures place { has_place stored.new self.new.progress ≡ true }
@@ -108,8 +114,10 @@ impl Write {
 
     /// No further sector of it lands.
     pub fn cancel(&mut self)
-        ensures cancelled { (w : Issued) → StandsFor self.old w → StandsFor self.new (with_cancel w) }
-        ensures place { (blocks : Blocks) → has_place blocks self.old.progress ≡ true → has_place blocks self.new.progress ≡ true }
+        ensures cancelled { (w : Issued) → StandsFor self.old w
+            → StandsFor self.new (with_cancel w) }
+        ensures place { (blocks : Blocks) → has_place blocks self.old.progress ≡ true
+            → has_place blocks self.new.progress ≡ true }
     {
         if let Progress::Open(_) = &self.progress {
             self.progress = Progress::Closed;
@@ -118,8 +126,10 @@ impl Write {
 
     /// The least sector that hasn't landed, of a write that may still land.
     pub fn missing(&self) -> Option<u8>
-        ensures none { (w : Issued) → StandsFor self.now w → result ≡ None → w.cancelled ≡ false → w.landed ≡ all_sectors }
-        ensures least { (w : Issued) → StandsFor self.now w → (k : ℕ) → result ≡ Some k → (w.cancelled ≡ false) × IsLeastMissing w.landed k }
+        ensures none { (w : Issued) → StandsFor self.now w → result ≡ None → w.cancelled ≡ false
+            → w.landed ≡ all_sectors }
+        ensures least { (w : Issued) → StandsFor self.now w → (k : ℕ) → result ≡ Some k
+            → (w.cancelled ≡ false) × IsLeastMissing w.landed k }
         ensures within { IfSome result (λ sector. sector < 8) }
     {
         match &self.progress {

@@ -1,14 +1,12 @@
 -- Leases as bytes: each is read back, is spelled in one way, and differs from another in its first sector alone.
-use Rattle.std.proofs.Common.{◌≡◌, ◌≢◌, ℕ, ◌+◌, ◌^◌, ◌<◌, ◌≤◌, List, [], ◌∷◌, length, refl, ap, sym, ◌∙◌, subst, arith, Bool, true, false, Option, Some, None}
+use Rattle.std.proofs.Common.{◌≡◌, ◌≢◌, ℕ, List, [], ◌∷◌, length, refl, ap, sym, ◌∙◌, subst, arith, true, false, Some, None}
 use Rattle.std.proofs.lemmas.Bool.Decides.{nat_tests}
-use Rattle.std.specs.Prelude.{◌&&◌, nat_lt, nat_le}
-use Rattle.plx_base.specs.Blocks.{zeros}
 use Rattle.plx_base.specs.Spelling.{IsReading, OnlySector, fields_width, number_of, read_by, spelled}
 use Rattle.plx_base.specs.declared.lease.LeaseRecord.{LeaseRecord}
 use Rattle.plx_base.specs.declared.lease.LeaseRecord.TheVariants.{Free, Claimed}
 use Rattle.plx_base.specs.declared.stored.Field.{Field}
 use Rattle.plx_base.proofs.Spelling.{AreFields, length-spelled, only-spelled, read-exact, read-past, read-some, read-unspelled, spelled-fields}
-use Rattle.plx_gate.specs.Leases.{IsClaimed, IsLease, found_lease, is_lease, lease_bytes, lease_fields, lease_magic, lease_of, read_lease}
+use Rattle.plx_gate.specs.Leases.{IsLease, found_lease, is_lease, lease_bytes, lease_fields, lease_magic, lease_of, read_lease}
 
 -- the lease of its fields
 abbrev of_fields : List Field → LeaseRecord

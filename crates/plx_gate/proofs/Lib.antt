@@ -1,3 +1,4 @@
 pub mod Descriptors
-pub mod Spelling
+pub mod Entries
+pub mod Images
 pub mod Leases

@@ -1,5 +1,5 @@
 -- Entries of a snapshot log as bytes: each is 32 bytes of the log's block.
-use Rattle.std.specs.Prelude.{◌*◌, ◌<◌, ◌^◌, ◌==◌, ℕ, List, [], ◌∷◌, take, drop, Bool, true, false, not, ◌&&◌, nat_lt, Option}
+use Rattle.std.specs.Prelude.{◌*◌, ◌/◌, ◌<◌, ◌^◌, ◌==◌, ℕ, List, [], ◌∷◌, take, drop, Bool, true, false, not, ◌&&◌, nat_lt, Option}
 use Rattle.plx_base.specs.Blocks.{written}
 use Rattle.plx_base.specs.Fields.{number_at}
 use Rattle.plx_base.specs.Pointers.{IsPointer, is_pointer}
@@ -49,9 +49,17 @@ found_entry bytes = record { root = number_at 8 0 bytes; dropped = not (number_a
 abbrev pub entry_part : ℕ → List ℕ → List ℕ
 entry_part index block = take 32 (drop (entry_start index) block)
 
--- what a log block says at an entry's place: an entry within the limits, or nothing
+-- the sector in which an entry lies
+abbrev pub entry_sector : ℕ → ℕ
+entry_sector index = index / 16
+
+-- what the 32 bytes of an entry say: an entry within the limits, or nothing
+abbrev pub entry_of : List ℕ → Option LogEntry
+entry_of bytes = read_by is_entry entry_bytes (found_entry bytes) bytes
+
+-- what a log block says at an entry's place
 unfoldable pub read_entry : ℕ → List ℕ → Option LogEntry
-read_entry index block = read_by is_entry entry_bytes (found_entry (entry_part index block)) (entry_part index block)
+read_entry index block = entry_of (entry_part index block)
 
 -- a log block with an entry written at its place; the others stay
 abbrev pub with_entry : ℕ → LogEntry → List ℕ → List ℕ

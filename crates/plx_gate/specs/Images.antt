@@ -57,22 +57,29 @@ abbrev pub IsImage : ImageRecord → Type 0
 IsImage (Free generation) = generation < 2 ^ 32
 IsImage (Live generation size taken root applied label) = IsLive generation size taken root applied label
 
--- the same limits, tested
+-- the limits of a live image's generation, size, snapshots and last write applied, tested
+abbrev pub are_within : (generation size taken applied : ℕ) → Bool
+are_within generation size taken applied =
+    nat_le 1 generation && (nat_lt generation (2 ^ 32) && (nat_le 1 size && (nat_le size (2 ^ 27) && (nat_le taken 128 && nat_lt applied (2 ^ 48)))))
+
+-- the limits of an image record, tested
 abbrev pub is_image : ImageRecord → Bool
 is_image (Free generation) = nat_lt generation (2 ^ 32)
-is_image (Live generation size taken root applied label) =
-    nat_le 1 generation && (nat_lt generation (2 ^ 32) && (nat_le 1 size && (nat_le size (2 ^ 27) && (nat_le taken 128
-    && (is_pointer root && (nat_lt applied (2 ^ 48) && is_label label))))))
+is_image (Live generation size taken root applied label) = are_within generation size taken applied && (is_pointer root && is_label label)
 
 -- the image record of these numbers and this label
 abbrev pub image_of : (state generation size taken root applied : ℕ) → List ℕ → ImageRecord
 image_of state generation size taken root applied label = if state == 0 then Free generation else Live generation size taken root applied label
 
+-- the label that stands at its place
+abbrev pub found_label : List ℕ → List ℕ
+found_label bytes = take (number_at 4 40 bytes) (drop 48 bytes)
+
 -- the image record whose numbers and label stand at the places of the fields
 abbrev pub found_image : List ℕ → ImageRecord
 found_image bytes =
     image_of (number_at 4 8 bytes) (number_at 4 12 bytes) (number_at 4 16 bytes) (number_at 4 20 bytes) (number_at 8 24 bytes) (number_at 8 32 bytes)
-    (take (number_at 4 40 bytes) (drop 48 bytes))
+    (found_label bytes)
 
 -- what a block says: an image record within the limits, or nothing
 unfoldable pub read_image : List ℕ → Option ImageRecord

@@ -1,10 +1,12 @@
 //! The descriptor that commits a journal slot.
 ghost use Rattle.std.specs.Prelude.{◌≡◌, ◌↔◌, length, IsTrue};
 ghost use Rattle.std.specs.List.{All};
-ghost use Rattle.plx_gate.specs.Descriptors.{IsDescriptor, descriptor_bytes, fields_of, is_descriptor};
+ghost use Rattle.plx_base.specs.Blocks.{zeros};
+ghost use Rattle.plx_base.specs.Spelling.{OnlySector};
+ghost use Rattle.plx_gate.specs.Descriptors.{IsDescriptor, IsDescriptorReading, descriptor_bytes, descriptor_fields, found_descriptor, is_descriptor};
 ghost use Rattle.plx_gate.specs.Descriptors.{read_descriptor as descriptor_in};
 
-use plx_base::{get_u32, get_u64, put_u32, put_u64};
+use plx_base::{Field, get_u32, get_u64, is_record, put_record};
 
 /// The bytes that begin every descriptor.
 const MAGIC: &[u8] = b"PLXJRNL1";
@@ -30,38 +32,38 @@ pub struct Descriptor {
 /// the format.
 pub fn read_descriptor(bytes: &[u8]) -> Option<Option<Descriptor>>
     requires { length bytes.now ≡ 4096 }
-    ensures { result ≡ descriptor_in bytes.now }
+    ensures same { result ≡ descriptor_in bytes.now }
+    ensures grammar { IsDescriptorReading bytes.now result }
 {
     if are_zeros(bytes) {
         return Some(None);
     }
-    if !is_spelled(bytes) {
+    let descriptor = found(bytes);
+    if !is_within(&descriptor) {
         return None;
     }
-    let found = fields(bytes);
-    if !is_within(&found) {
+    if !is_record(bytes, MAGIC, &fields(&descriptor), &[]) {
         return None;
     }
-    Some(Some(found))
+    Some(Some(descriptor))
 }
 
-/// Makes a block of 4,096 bytes the spelling of a descriptor.
+/// Makes a block of 4,096 bytes the spelling of a descriptor. Over another descriptor and over an
+/// empty one the first sector tells all.
 pub fn write_descriptor(value: &Descriptor, bytes: &mut [u8])
     requires long { length bytes.old ≡ 4096 }
     requires limits { IsDescriptor value.now }
-    ensures { bytes.new ≡ descriptor_bytes value.now }
+    ensures spelled { bytes.new ≡ descriptor_bytes value.now }
+    ensures sector { (old : Descriptor) → bytes.old ≡ descriptor_bytes old → OnlySector 0 bytes.new bytes.old }
+    ensures empty { bytes.old ≡ zeros → OnlySector 0 bytes.new bytes.old }
 {
-    bytes.fill(0);
-    bytes[..8].copy_from_slice(MAGIC);
-    put_u32(bytes, 8, value.generation);
-    put_u32(bytes, 12, value.vblock);
-    put_u64(bytes, 16, value.number);
+    put_record(bytes, MAGIC, &fields(value), &[]);
 }
 
-// The numbers at the places of the fields.
-fn fields(bytes: &[u8]) -> Descriptor
+// The descriptor whose numbers stand at the places of the fields.
+fn found(bytes: &[u8]) -> Descriptor
     requires { length bytes.now ≡ 4096 }
-    ensures { result ≡ fields_of bytes.now }
+    ensures { result ≡ found_descriptor bytes.now }
 {
     Descriptor {
         generation: get_u32(bytes, 8),
@@ -70,7 +72,7 @@ fn fields(bytes: &[u8]) -> Descriptor
     }
 }
 
-// Whether the fields are within their limits.
+// Whether a descriptor is within its limits.
 fn is_within(value: &Descriptor) -> bool
     ensures { result ≡ is_descriptor value.now }
 {
@@ -80,12 +82,15 @@ fn is_within(value: &Descriptor) -> bool
         && value.number < NUMBERS_END
 }
 
-// Whether all but the fields is as in a descriptor: what begins it, and zeros after it.
-fn is_spelled(bytes: &[u8]) -> bool
-    requires { length bytes.now ≡ 4096 }
-    ensures { IsTrue result ↔ (bytes.now ≡ descriptor_bytes (fields_of bytes.now)) }
+// The fields of a descriptor.
+fn fields(value: &Descriptor) -> [Field; 3]
+    ensures { result ≡ descriptor_fields value.now }
 {
-    bytes.starts_with(MAGIC) && are_zeros(&bytes[24..])
+    [
+        Field::U32(value.generation),
+        Field::U32(value.vblock),
+        Field::U64(value.number),
+    ]
 }
 
 // Whether each byte is zero.

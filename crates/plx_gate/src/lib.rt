@@ -4,7 +4,9 @@
 mod descriptor;
 mod entry;
 mod image;
+mod lease;
 
 pub use descriptor::{Descriptor, read_descriptor, write_descriptor};
-pub use entry::LogEntry;
-pub use image::ImageRecord;
+pub use entry::{LogEntry, read_entry, write_entry};
+pub use image::{ImageRecord, read_image, write_image};
+pub use lease::{read_lease, write_lease};

@@ -7,7 +7,8 @@ use crate::slot::SlotState;
 
 // The appliance owns none of the slots.
 pub fn disown_all(slots: &mut [SlotState], appliance: u32)
-    ensures { map slot_of slots.new ≡ map (λ slot. given_back slot appliance) (map slot_of slots.old) }
+    ensures { map slot_of slots.new ≡ map (λ slot. given_back slot appliance)
+        (map slot_of slots.old) }
 {
     for slot in slots.iter_mut() {
         slot.disown(appliance);

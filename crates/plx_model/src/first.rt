@@ -21,8 +21,10 @@ pub fn first_slots(alloc: Global, images: u32) -> Result<Vec<SlotState>, NoMemor
 
 // The appliances before the first entry.
 pub fn first_seats(alloc: Global, appliances: u32) -> Result<Vec<Seat>, NoMemory>
-    ensures sessions { IfOk result (λ seats. map sessions_of seats.items ≡ replicate appliances (λ slot. false)) }
-    ensures running { IfOk result (λ seats. map running_of seats.items ≡ replicate appliances None) }
+    ensures sessions { IfOk result (λ seats. map sessions_of seats.items
+        ≡ replicate appliances (λ slot. false)) }
+    ensures running { IfOk result (λ seats. map running_of seats.items
+        ≡ replicate appliances None) }
 {
     let mut seats = Vec::new(alloc);
     for _ in 0..appliances {

@@ -57,8 +57,10 @@ impl Model {
     }
 
     fn broken_by_start(&self, appliance: ApplianceNo, command: &Command) -> Option<u8>
-        ensures none { IfNone result (Accepts (shown self.now) (Entry.Start appliance command.now)) }
-        ensures least { IfSome result (λ rule. IsLeastBroken (shown self.now) (Entry.Start appliance command.now) rule) }
+        ensures none { IfNone result (Accepts (shown self.now)
+            (Entry.Start appliance command.now)) }
+        ensures least { IfSome result (λ rule. IsLeastBroken (shown self.now)
+            (Entry.Start appliance command.now) rule) }
     {
         if !self.is_known(appliance) {
             return Some(1);
@@ -72,7 +74,8 @@ impl Model {
 
     fn broken_by_crash(&self, appliance: ApplianceNo) -> Option<u8>
         ensures none { IfNone result (Accepts (shown self.now) (Entry.Crash appliance)) }
-        ensures least { IfSome result (λ rule. IsLeastBroken (shown self.now) (Entry.Crash appliance) rule) }
+        ensures least { IfSome result (λ rule. IsLeastBroken (shown self.now)
+            (Entry.Crash appliance) rule) }
     {
         if !self.is_known(appliance) {
             return Some(1);
@@ -82,7 +85,8 @@ impl Model {
 
     fn broken_by_reply(&self, appliance: ApplianceNo, reply: &Reply) -> Option<u8>
         ensures none { IfNone result (Accepts (shown self.now) (Entry.Reply appliance reply.now)) }
-        ensures least { IfSome result (λ rule. IsLeastBroken (shown self.now) (Entry.Reply appliance reply.now) rule) }
+        ensures least { IfSome result (λ rule. IsLeastBroken (shown self.now)
+            (Entry.Reply appliance reply.now) rule) }
     {
         if !self.is_known(appliance) {
             return Some(1);
@@ -99,7 +103,8 @@ impl Model {
         requires known { appliance.0 < length self.now.seats.items }
         requires running { (shown self.now).running appliance.0 ≡ Some command.now }
         ensures none { IfNone result (Accepts (shown self.now) (Entry.Reply appliance reply.now)) }
-        ensures least { IfSome result (λ rule. IsLeastBroken (shown self.now) (Entry.Reply appliance reply.now) rule) }
+        ensures least { IfSome result (λ rule. IsLeastBroken (shown self.now)
+            (Entry.Reply appliance reply.now) rule) }
     {
         if !is_listed(command, reply) {
             return Some(4);

@@ -30,7 +30,8 @@ impl Model {
     // The appliance is in the command, and the change that it makes is under way.
     fn start(&mut self, appliance: ApplianceNo, command: &Command) -> Result<(), NoMemory>
         requires { appliance.0 < length self.old.seats.items }
-        ensures ok { OnOk result (shown self.new ≡ moved (shown self.old) (Entry.Start appliance command.now)) }
+        ensures ok { OnOk result (shown self.new
+            ≡ moved (shown self.old) (Entry.Start appliance command.now)) }
         ensures err { OnErr result (shown self.new ≡ shown self.old) }
     {
         let copied = command.copy(self.alloc)?;
@@ -41,7 +42,11 @@ impl Model {
 
     fn begin_change(&mut self, appliance: ApplianceNo, command: &Command) -> Result<(), NoMemory>
         requires { appliance.0 < length self.old.seats.items }
-        ensures ok { OnOk result (shown self.new ≡ record (shown self.old) { slots = slots_started (shown self.old) appliance.0 command.now }) }
+        ensures ok { OnOk result (shown self.new
+            ≡ record (shown self.old) {
+              slots = slots_started
+                  (shown self.old) appliance.0 command.now;
+            }) }
         ensures err { OnErr result (shown self.new ≡ shown self.old) }
         ensures seats { length self.new.seats.items ≡ length self.old.seats.items }
     {
@@ -73,7 +78,10 @@ impl Model {
     // The appliance is in this command, or in none.
     fn run(&mut self, appliance: ApplianceNo, command: Option<Command>)
         requires { appliance.0 < length self.old.seats.items }
-        ensures { shown self.new ≡ record (shown self.old) { running = at (shown self.old).running appliance.0 command } }
+        ensures { shown self.new ≡ record (shown self.old) {
+          running = at
+              (shown self.old).running appliance.0 command;
+        } }
     {
         let seat = &mut self.seats[appliance.0 as usize];
         seat.running = command;
@@ -82,7 +90,8 @@ impl Model {
     // The model moves by a reply that it accepts.
     fn reply(&mut self, appliance: ApplianceNo, reply: &Reply) -> Result<(), NoMemory>
         requires { Accepts (shown self.old) (Entry.Reply appliance reply.now) }
-        ensures ok { OnOk result (shown self.new ≡ moved (shown self.old) (Entry.Reply appliance reply.now)) }
+        ensures ok { OnOk result (shown self.new
+            ≡ moved (shown self.old) (Entry.Reply appliance reply.now)) }
         ensures err { OnErr result (shown self.new ≡ shown self.old) }
     {
         let seat = &self.seats[appliance.0 as usize];
@@ -104,7 +113,8 @@ impl Model {
     ) -> Result<(), NoMemory>
         requires known { appliance.0 < length self.old.seats.items }
         requires fit { IsFitFor (shown self.old) slot reply.now }
-        ensures ok { OnOk result (shown self.new ≡ replied (shown self.old) appliance.0 slot changes reply.now) }
+        ensures ok { OnOk result (shown self.new
+            ≡ replied (shown self.old) appliance.0 slot changes reply.now) }
         ensures err { OnErr result (shown self.new ≡ shown self.old) }
     {
         match reply {
@@ -154,7 +164,8 @@ impl Model {
         requires known { appliance.0 < length self.old.seats.items }
         requires within { slot < length self.old.slots.items }
         requires reported { IsReported ((shown self.old).slots slot) report.now }
-        ensures ok { OnOk result (shown self.new ≡ entered (shown self.old) appliance.0 slot report.now) }
+        ensures ok { OnOk result (shown self.new
+            ≡ entered (shown self.old) appliance.0 slot report.now) }
         ensures err { OnErr result (shown self.new ≡ shown self.old) }
     {
         let state = &mut self.slots[slot as usize];
@@ -170,7 +181,9 @@ impl Model {
         requires known { appliance.0 < length self.old.seats.items }
         requires within { slot < length self.old.slots.items }
         requires next { number ≡ ((shown self.old).slots slot).image.writes + 1 }
-        ensures ok { OnOk result (shown self.new ≡ rested (shown self.old) appliance.0 (at (shown self.old).slots slot (made ((shown self.old).slots slot)))) }
+        ensures ok { OnOk result (shown self.new
+            ≡ rested (shown self.old) appliance.0
+            (at (shown self.old).slots slot (made ((shown self.old).slots slot)))) }
         ensures err { OnErr result (shown self.new ≡ shown self.old) }
     {
         let state = &mut self.slots[slot as usize];
@@ -183,14 +196,16 @@ impl Model {
     // The command is refused, and a change of its own is given up.
     fn refuse(&mut self, appliance: ApplianceNo, slot: u32, changes: bool)
         requires { appliance.0 < length self.old.seats.items }
-        ensures { shown self.new ≡ rested (shown self.old) appliance.0 (slots_refused (shown self.old) appliance.0 slot changes) }
+        ensures { shown self.new ≡ rested (shown self.old) appliance.0
+            (slots_refused (shown self.old) appliance.0 slot changes) }
     {
         self.give_up(appliance, slot, changes);
         self.run(appliance, None);
     }
 
     fn give_up(&mut self, appliance: ApplianceNo, slot: u32, changes: bool)
-        ensures moved { shown self.new ≡ record (shown self.old) { slots = slots_refused (shown self.old) appliance.0 slot changes } }
+        ensures moved { shown self.new ≡ record
+            (shown self.old) { slots = slots_refused (shown self.old) appliance.0 slot changes } }
         ensures seats { length self.new.seats.items ≡ length self.old.seats.items }
     {
         if !changes {

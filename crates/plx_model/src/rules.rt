@@ -79,7 +79,8 @@ impl Model {
     }
 
     fn is_report_of(&self, slot: u32, report: &Report) -> bool
-        ensures { IsTrue result ↔ ((slot < length self.now.slots.items) × IsReported ((shown self.now).slots slot) report.now) }
+        ensures { IsTrue result ↔ ((slot < length self.now.slots.items)
+            × IsReported ((shown self.now).slots slot) report.now) }
     {
         let index = slot as usize;
         if self.slots.len() <= index {
@@ -100,7 +101,8 @@ impl Model {
     }
 
     fn is_data_of(&self, slot: u32, vblock: u32, payload: &Payload) -> bool
-        ensures { IsTrue result ↔ ((slot < length self.now.slots.items) × (bytes_of payload.now ≡ ((shown self.now).slots slot).image.content vblock)) }
+        ensures { IsTrue result ↔ ((slot < length self.now.slots.items)
+            × (bytes_of payload.now ≡ ((shown self.now).slots slot).image.content vblock)) }
     {
         let index = slot as usize;
         if self.slots.len() <= index {
@@ -121,7 +123,8 @@ impl Model {
     }
 
     fn is_number_of(&self, slot: u32, number: u64) -> bool
-        ensures { IsTrue result ↔ ((slot < length self.now.slots.items) × (number ≡ ((shown self.now).slots slot).image.writes + 1)) }
+        ensures { IsTrue result ↔ ((slot < length self.now.slots.items)
+            × (number ≡ ((shown self.now).slots slot).image.writes + 1)) }
     {
         let index = slot as usize;
         if self.slots.len() <= index {
@@ -158,7 +161,8 @@ impl Model {
     }
 
     fn refusals_of(&self, session: bool, slot: u32, vblock: u32) -> Refusals
-        ensures { (appliance : ℕ) → session ≡ (shown self.now).sessions appliance slot → listed result ≡ of_access (shown self.now) appliance slot vblock }
+        ensures { (appliance : ℕ) → session ≡ (shown self.now).sessions appliance slot
+            → listed result ≡ of_access (shown self.now) appliance slot vblock }
     {
         let index = slot as usize;
         if self.slots.len() <= index {

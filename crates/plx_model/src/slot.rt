@@ -102,7 +102,9 @@ impl SlotState {
 
     // A command's change is under way.
     pub fn begin(&mut self, alloc: Global, command: &Command) -> Result<(), NoMemory>
-        ensures ok { OnOk result (slot_of self.new ≡ (if is_changing command.now then under_way (slot_of self.old) command.now else slot_of self.old)) }
+        ensures ok { OnOk result (slot_of self.new
+            ≡ (if is_changing command.now then under_way
+            (slot_of self.old) command.now else slot_of self.old)) }
         ensures err { OnErr result (slot_of self.new ≡ slot_of self.old) }
     {
         match command {
@@ -132,7 +134,8 @@ impl SlotState {
 
     // The change under way is made, as the image's write of this number.
     pub fn make(&mut self, number: u64) -> Result<(), NoMemory>
-        ensures ok { OnOk result (number ≡ self.old.writes + 1 → slot_of self.new ≡ made (slot_of self.old)) }
+        ensures ok { OnOk result (number ≡ self.old.writes + 1 → slot_of self.new
+            ≡ made (slot_of self.old)) }
         ensures err { OnErr result (slot_of self.new ≡ slot_of self.old) }
     {
         let Some(Change { vblock, block }) = self.change.take() else {
@@ -153,7 +156,8 @@ impl SlotState {
 
     // The report decides which image it is, and the appliance owns it.
     pub fn attach(&mut self, report: &Report, appliance: u32) -> Result<(), NoMemory>
-        ensures ok { OnOk result (IsReported (slot_of self.old) report.now → slot_of self.new ≡ attached (slot_of self.old) appliance report.now) }
+        ensures ok { OnOk result (IsReported (slot_of self.old) report.now → slot_of self.new
+            ≡ attached (slot_of self.old) appliance report.now) }
         ensures err { OnErr result (slot_of self.new ≡ slot_of self.old) }
     {
         self.decide(report)?;
@@ -162,7 +166,8 @@ impl SlotState {
     }
 
     fn decide(&mut self, report: &Report) -> Result<(), NoMemory>
-        ensures ok { OnOk result (IsReported (slot_of self.old) report.now → slot_of self.new ≡ decided (slot_of self.old) report.now) }
+        ensures ok { OnOk result (IsReported (slot_of self.old) report.now → slot_of self.new
+            ≡ decided (slot_of self.old) report.now) }
         ensures err { OnErr result (slot_of self.new ≡ slot_of self.old) }
     {
         if self.is_own(report) {

@@ -86,7 +86,8 @@ impl Source for MemSource {
         }) }
 
         // Otherwise it gives as much as the buffer, the piece and what is left allow.
-        ensures length { IfOk result (λ n. n ≡ min (length into.old) (min self.old.piece (length self.old.left))) }
+        ensures length { IfOk result (λ n. n
+            ≡ min (length into.old) (min self.old.piece (length self.old.left))) }
         ensures bytes { IfOk result (λ n. into.new ≡ take n self.old.left ++ drop n into.old) }
         ensures ok { IfOk result (λ n. self.new ≡ record self.old {
           left = drop n self.old.left;
@@ -96,7 +97,8 @@ impl Source for MemSource {
         // What each source ensures.
         ensures count { IfOk result (λ n. n ≤ length into.old) }
         ensures given { Gives (Some self.old.left) (Some self.new.left) result into.new }
-        ensures rest { MatchResult result (λ n. drop n into.new ≡ drop n into.old) (λ _. into.new ≡ into.old) }
+        ensures rest { MatchResult result (λ n. drop n into.new ≡ drop n into.old)
+            (λ _. into.new ≡ into.old) }
         ensures faults { self.old.faults ≤ self.new.faults }
         ensures failed { OnErr result (Rose self.old.faults self.new.faults) }
     {

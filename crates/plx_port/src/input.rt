@@ -1,5 +1,6 @@
 //! A source over a reader of the standard library, such as standard input.
 ghost use Rattle.std.specs.Prelude.{◌≡◌, ◌≤◌, MatchResult, IfOk, length, drop};
+ghost use Rattle.plx_port.specs.Adapters.{source_over};
 ghost use Rattle.plx_port.specs.Streams.{Gives};
 
 use crate::{Failed, Source};
@@ -16,7 +17,7 @@ pub struct ReadSource<B> {
 impl<B: BufRead> ReadSource<B> {
     /// A source over a reader, which has not failed.
     pub fn new(reader: B) -> ReadSource<B>
-        ensures { result ≡ record { reader = reader; faults = 0 } }
+        ensures { result ≡ source_over reader }
     {
         ReadSource { reader, faults: 0 }
     }
@@ -42,7 +43,8 @@ impl<B: BufRead> Source for ReadSource<B> {
 fn read_once<B: BufRead>(reader: &mut B, into: &mut [u8]) -> Result<usize, Failed>
     ensures count { IfOk result (λ n. n ≤ length into.old) }
     ensures given { Gives (B.remaining reader.old) (B.remaining reader.new) result into.new }
-    ensures rest { MatchResult result (λ n. drop n into.new ≡ drop n into.old) (λ _. into.new ≡ into.old) }
+    ensures rest { MatchResult result (λ n. drop n into.new ≡ drop n into.old)
+        (λ _. into.new ≡ into.old) }
 {
     for _ in 0..u64::MAX {
         match take_front(reader, into) {
@@ -61,7 +63,8 @@ fn read_once<B: BufRead>(reader: &mut B, into: &mut [u8]) -> Result<usize, Faile
 fn take_front<B: BufRead>(reader: &mut B, into: &mut [u8]) -> std::io::Result<usize>
     ensures count { IfOk result (λ n. n ≤ length into.old) }
     ensures given { Gives (B.remaining reader.old) (B.remaining reader.new) result into.new }
-    ensures rest { MatchResult result (λ n. drop n into.new ≡ drop n into.old) (λ _. into.new ≡ into.old) }
+    ensures rest { MatchResult result (λ n. drop n into.new ≡ drop n into.old)
+        (λ _. into.new ≡ into.old) }
 {
     let shown = reader.fill_buf()?;
     let count = into.len().min(shown.len());

@@ -1,6 +1,7 @@
 //! A sink over a writer of the standard library, such as standard output.
 ghost use Rattle.std.specs.Prelude.{◌≡◌, ◌≤◌, ◌<◌, IfOk, length};
 ghost use Rattle.std.specs.Io.KnownBytes.{WriteAppends};
+ghost use Rattle.plx_port.specs.Adapters.{sink_over};
 
 use crate::{Failed, Sink};
 use std::io::{ErrorKind, Write};
@@ -16,7 +17,7 @@ pub struct WriteSink<W> {
 impl<W: Write> WriteSink<W> {
     /// A sink over a writer, which has not failed.
     pub fn new(writer: W) -> WriteSink<W>
-        ensures { result ≡ record { writer = writer; faults = 0 } }
+        ensures { result ≡ sink_over writer }
     {
         WriteSink { writer, faults: 0 }
     }
@@ -45,7 +46,8 @@ impl<W: Write> Sink for WriteSink<W> {
 fn write_once<W: Write>(writer: &mut W, bytes: &[u8]) -> Result<usize, Failed>
     ensures count { IfOk result (λ n. n ≤ length bytes.now) }
     ensures some { IfOk result (λ n. 0 < n) }
-    ensures appended { WriteAppends (W.contents writer.old) (W.contents writer.new) result bytes.now }
+    ensures appended { WriteAppends (W.contents writer.old)
+        (W.contents writer.new) result bytes.now }
 {
     for _ in 0..u64::MAX {
         match writer.write(bytes) {

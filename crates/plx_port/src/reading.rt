@@ -46,16 +46,19 @@ pub fn read_all<S: Source>(
 ) -> Result<Vec<u8>, ReadError>
     requires { limit < 2 ^ 64 - 1 }
 
-    ensures ok { IfOk result (λ bytes. ReadsToEnd (S.left source.old) (S.left source.new) bytes.items) }
+    ensures ok { IfOk result (λ bytes. ReadsToEnd (S.left source.old)
+        (S.left source.new) bytes.items) }
     ensures short { IfOk result (λ bytes. length bytes.items ≤ limit) }
 
     // Too long is answered exactly where one byte more than the limit was taken.
-    ensures long { IsErrOf result ReadError.TooLong → TakesCount (S.left source.old) (S.left source.new) (limit + 1) }
+    ensures long { IsErrOf result ReadError.TooLong
+        → TakesCount (S.left source.old) (S.left source.new) (limit + 1) }
     ensures stopped { IfErr result (λ e. e ≢ ReadError.TooLong
         → (n : ℕ) × (n ≤ limit) × TakesCount (S.left source.old) (S.left source.new) n) }
 
     ensures faults { S.faults source.old ≤ S.faults source.new }
-    ensures failed { IsErrOf result ReadError.Failed → Rose (S.faults source.old) (S.faults source.new) }
+    ensures failed { IsErrOf result ReadError.Failed
+        → Rose (S.faults source.old) (S.faults source.new) }
 {
     let mut bytes = Vec::new(alloc);
     let mut filled = 0;
@@ -95,7 +98,8 @@ fn read_at<S: Source>(source: &mut S, buffer: &mut [u8], at: usize) -> Result<us
 
     ensures count { IfOk result (λ n. at + n ≤ length buffer.new) }
     ensures front { take at buffer.new ≡ take at buffer.old }
-    ensures given { IfOk result (λ n. Consumes (S.left source.old) (S.left source.new) (take n (drop at buffer.new))) }
+    ensures given { IfOk result (λ n. Consumes (S.left source.old) (S.left source.new)
+        (take n (drop at buffer.new))) }
     ensures end { IfOk result (λ n. n ≡ 0 → IsAtEnd (S.left source.old)) }
     ensures kept { OnErr result (Keeps (S.left source.old) (S.left source.new)) }
 

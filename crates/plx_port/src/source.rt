@@ -22,7 +22,8 @@ pub trait Source {
         ensures given { Gives (left self.old) (left self.new) result into.new }
 
         // Of the buffer only the bytes given change.
-        ensures rest { MatchResult result (λ n. drop n into.new ≡ drop n into.old) (λ _. into.new ≡ into.old) }
+        ensures rest { MatchResult result (λ n. drop n into.new ≡ drop n into.old)
+            (λ _. into.new ≡ into.old) }
 
         ensures faults { faults self.old ≤ faults self.new }
         ensures failed { OnErr result (Rose (faults self.old) (faults self.new)) };

@@ -24,7 +24,8 @@ impl World {
     fn answer(&mut self, answer: &Answer) -> Result<(), NoMemory>
         requires { IsRunning self.old.appliance }
         ensures ok { OnOk result (IsAnswered self.old self.new answer.now) }
-        ensures fewer { FitsAsk (asks (place self.old.appliance)) answer.now → OnOk result (asks_left self.new.appliance < asks_left self.old.appliance) }
+        ensures fewer { FitsAsk (asks (place self.old.appliance)) answer.now
+            → OnOk result (asks_left self.new.appliance < asks_left self.old.appliance) }
         ensures err { OnErr result (Stays self.old self.new) }
     {
         self.trace.push(Entry::Crash { appliance: FIRST })?;
@@ -37,7 +38,8 @@ impl World {
     // The read that is asked for is answered, by way of the buffer.
     pub(crate) fn read(&mut self, buffer: &mut Answer) -> Result<bool, NoMemory>
         ensures ok { IfOk result (Steps self.old self.new (event.Read the_first)) }
-        ensures fewer { IfOk result (λ made. IsTrue made → asks_left self.new.appliance < asks_left self.old.appliance) }
+        ensures fewer { IfOk result (λ made. IsTrue made
+            → asks_left self.new.appliance < asks_left self.old.appliance) }
         ensures err { OnErr result (Stays self.old self.new) }
     {
         match self.asked() {
@@ -56,7 +58,8 @@ impl World {
     // The write that is asked for is answered, if all of it has landed.
     pub(crate) fn done(&mut self) -> Result<bool, NoMemory>
         ensures ok { IfOk result (Steps self.old self.new (event.Done the_first)) }
-        ensures fewer { IfOk result (λ made. IsTrue made → asks_left self.new.appliance < asks_left self.old.appliance) }
+        ensures fewer { IfOk result (λ made. IsTrue made
+            → asks_left self.new.appliance < asks_left self.old.appliance) }
         ensures err { OnErr result (Stays self.old self.new) }
     {
         let Some(number) = self.pending else {
@@ -80,7 +83,8 @@ impl World {
     // The clock answers.
     pub(crate) fn reading(&mut self, reading: u64) -> Result<bool, NoMemory>
         ensures ok { IfOk result (Steps self.old self.new (event.Reading the_first reading)) }
-        ensures fewer { IfOk result (λ made. IsTrue made → asks_left self.new.appliance < asks_left self.old.appliance) }
+        ensures fewer { IfOk result (λ made. IsTrue made
+            → asks_left self.new.appliance < asks_left self.old.appliance) }
         ensures err { OnErr result (Stays self.old self.new) }
     {
         let time = self.disk.time();

@@ -1,24 +1,40 @@
-use Rattle.std.proofs.Common.{◌≡◌, Some, true, false, ◌∙◌, ap, refl, sym}
-use Rattle.plx_gate.specs.Descriptors.{is_descriptor, read_descriptor}
-use Rattle.plx_gate.proofs.Descriptors.{read-zeros, read-fields, read-past, read-unspelled}
-use Rattle.plx_gate.proofs.Spelling.{All-zeros, zeros-All}
+use Rattle.std.proofs.Common.{◌≡◌, [], ap, sym, subst, ◌∙◌, refl, true, false}
+use Rattle.plx_base.specs.Spelling.{spelled}
+use Rattle.plx_gate.specs.Descriptors.{IsDescriptorReading, descriptor_magic, read_descriptor}
+use Rattle.plx_gate.proofs.Descriptors.{All-zeros, descriptor-eq, descriptor-other, descriptor-past, descriptor-reading, descriptor-some, read-zeros, zeros-All}
 use Rattle.plx_gate.proofs.descriptor.read_descriptor.Goals as goal
 
-pub returns-then-are_zeros : goal.returns-then-are_zeros
-returns-then-are_zeros c =
-    sym (ap read_descriptor (zeros-All c.args.bytes.now c.requires (c.if-are_zeros.ensures.0 refl)) ∙ read-zeros)
+pub returns-then-are_zeros-clause-same : goal.returns-then-are_zeros-clause-same
+returns-then-are_zeros-clause-same c = sym (ap read_descriptor (zeros-All c.args.bytes.now c.requires (c.if-are_zeros.ensures.0 refl)) ∙ read-zeros)
 
-pub returns-then-not-is_spelled : goal.returns-then-not-is_spelled
-returns-then-not-is_spelled c =
-    sym (read-unspelled c.args.bytes.now (λ e. let told : false ≡ true = c.if-are_zeros.ensures.1 (All-zeros c.args.bytes.now e) in cc) (λ e. let told : false ≡ true = c.if-not-is_spelled.ensures.1 e in cc))
+pub returns-then-are_zeros-clause-grammar : goal.returns-then-are_zeros-clause-grammar
+returns-then-are_zeros-clause-grammar c = subst (IsDescriptorReading c.args.bytes.now) (sym (returns-then-are_zeros-clause-same c)) (descriptor-reading c.args.bytes.now)
 
-pub returns-then-not-is_within : goal.returns-then-not-is_within
-returns-then-not-is_within c =
-    sym (read-past c.args.bytes.now (λ e. let told : false ≡ true = c.if-are_zeros.ensures.1 (All-zeros c.args.bytes.now e) in cc)
-    (ap is_descriptor (sym c.fields-found.ensures) ∙ sym c.if-not-is_within.ensures))
+pub returns-then-not-is_within-clause-same : goal.returns-then-not-is_within-clause-same
+returns-then-not-is_within-clause-same c =
+    descriptor-past c.args.bytes.now c.found-descriptor.result
+    (λ e. let told : false ≡ true = c.if-are_zeros.ensures.1 (All-zeros c.args.bytes.now e) in cc)
+    c.found-descriptor.ensures (sym c.if-not-is_within.ensures)
 
-pub returns : goal.returns
-returns c =
-    sym (read-fields c.args.bytes.now (c.if-not-is_spelled.ensures.0 refl)
-    (ap is_descriptor (sym c.fields-found.ensures) ∙ sym c.if-not-is_within.ensures)
-    ∙ ap (λ d. Some (Some d)) (sym c.fields-found.ensures))
+pub returns-then-not-is_within-clause-grammar : goal.returns-then-not-is_within-clause-grammar
+returns-then-not-is_within-clause-grammar c = subst (IsDescriptorReading c.args.bytes.now) (sym (returns-then-not-is_within-clause-same c)) (descriptor-reading c.args.bytes.now)
+
+pub returns-then-not-is_record-clause-same : goal.returns-then-not-is_record-clause-same
+returns-then-not-is_record-clause-same c =
+    descriptor-other c.args.bytes.now c.found-descriptor.result
+    (λ e. let told : false ≡ true = c.if-are_zeros.ensures.1 (All-zeros c.args.bytes.now e) in cc)
+    c.found-descriptor.ensures
+    (λ same. let bad : false ≡ true = c.if-not-is_record.ensures.1 (same ∙ (descriptor-eq c.found-descriptor.result ∙ ap (λ f. spelled descriptor_magic f []) (sym c.fields.ensures))) in cc)
+
+pub returns-then-not-is_record-clause-grammar : goal.returns-then-not-is_record-clause-grammar
+returns-then-not-is_record-clause-grammar c = subst (IsDescriptorReading c.args.bytes.now) (sym (returns-then-not-is_record-clause-same c)) (descriptor-reading c.args.bytes.now)
+
+pub returns-clause-same : goal.returns-clause-same
+returns-clause-same c =
+    descriptor-some c.args.bytes.now c.found-descriptor.result
+    (λ e. let told : false ≡ true = c.if-are_zeros.ensures.1 (All-zeros c.args.bytes.now e) in cc)
+    c.found-descriptor.ensures (sym c.if-not-is_within.ensures)
+    (c.if-not-is_record.ensures.0 refl ∙ (ap (λ f. spelled descriptor_magic f []) c.fields.ensures ∙ sym (descriptor-eq c.found-descriptor.result)))
+
+pub returns-clause-grammar : goal.returns-clause-grammar
+returns-clause-grammar c = subst (IsDescriptorReading c.args.bytes.now) (sym (returns-clause-same c)) (descriptor-reading c.args.bytes.now)

@@ -1,17 +1,18 @@
-use Rattle.std.proofs.Common.{◌≡◌, ◌∙◌, ◌++◌, ap, drop, replicate}
-use Rattle.plx_base.specs.Blocks.{written}
-use Rattle.plx_base.specs.Fields.{little}
-use Rattle.plx_gate.specs.Descriptors.{magic}
-use Rattle.plx_gate.proofs.Spelling.{written-fields}
+use Rattle.std.proofs.Common.{[], ap, sym, ◌∙◌}
+use Rattle.plx_base.specs.Blocks.{zeros}
+use Rattle.plx_base.specs.Spelling.{spelled}
+use Rattle.plx_base.proofs.Spelling.{only-of}
+use Rattle.plx_gate.specs.Descriptors.{descriptor_bytes, descriptor_magic}
+use Rattle.plx_gate.proofs.Descriptors.{descriptor-eq, descriptor-sector, empty-sector}
 use Rattle.plx_gate.proofs.descriptor.write_descriptor.Goals as goal
 
-pub returns : goal.returns
-returns c =
-    let d = c.args.value.now in
-    let zeroed : c.fill.new.self ≡ replicate 4096 0 = c.fill.ensures.after (λ y e. e) ∙ ap (λ n. replicate n 0) c.requires.long in
-    let begun : c.copy_from_slice.new.self ++ drop 8 c.fill.new.self ≡ magic ++ drop 8 (replicate 4096 0) =
-    ap (λ xs. xs ++ drop 8 c.fill.new.self) c.copy_from_slice.ensures.after ∙ ap (λ xs. magic ++ drop 8 xs) zeroed in
-    c.put_u64.ensures
-    ∙ (ap (written 16 (little 8 d.number)) c.put_u32-2.ensures
-    ∙ (ap (λ xs. written 16 (little 8 d.number) (written 12 (little 4 d.vblock) xs)) c.put_u32.ensures
-    ∙ (ap (λ xs. written 16 (little 8 d.number) (written 12 (little 4 d.vblock) (written 8 (little 4 d.generation) xs))) begun ∙ written-fields d)))
+pub returns-clause-spelled : goal.returns-clause-spelled
+returns-clause-spelled c = c.put_record.ensures ∙ (ap (λ f. spelled descriptor_magic f []) c.fields.ensures ∙ sym (descriptor-eq c.args.value.now))
+
+pub returns-clause-sector : goal.returns-clause-sector
+returns-clause-sector c =
+    λ old is. only-of 0 c.put_record.new.bytes c.args.bytes.now (descriptor_bytes c.args.value.now) (descriptor_bytes old) (returns-clause-spelled c) is (descriptor-sector c.args.value.now old)
+
+pub returns-clause-empty : goal.returns-clause-empty
+returns-clause-empty c =
+    λ is. only-of 0 c.put_record.new.bytes c.args.bytes.now (descriptor_bytes c.args.value.now) zeros (returns-clause-spelled c) is (empty-sector c.args.value.now)

@@ -1,0 +1,116 @@
+-- What holds in every world that events lead to.
+use Rattle.std.proofs.Common.{◌≡◌, ℕ, ◌+◌, ◌≤◌, ◌<◌, ◌⊎◌, List, length, Bool, false, Option, Some, None}
+use Rattle.std.specs.Prelude.{slice_get}
+use Rattle.plx_base.specs.Sectors.{Device, put, mixed}
+use Rattle.plx_base.specs.declared.lease.Claim.{Claim}
+use Rattle.plx_base.specs.declared.numbers.ApplianceNo.{ApplianceNo}
+use Rattle.plx_base.specs.declared.write_kind.WriteKind.{WriteKind}
+use Rattle.plx_base.specs.declared.write_kind.WriteKind.TheVariants as kind
+use Rattle.plx_commands.specs.Images.{Image}
+use Rattle.plx_commands.specs.Judge.{Permitted}
+use Rattle.plx_commands.specs.Model.{Model, Slot}
+use Rattle.plx_commands.specs.declared.command.Command.{Command}
+use Rattle.plx_disk.specs.Writes.{Issued}
+use Rattle.plx_geom.specs.Geometry.{Geometry, image_lease, lease_at}
+use Rattle.plx_rules.specs.Part.{Part}
+use Rattle.plx_worlds.specs.Boot.{Place, Idle, Begins, In, Position, position}
+use Rattle.plx_worlds.specs.Commands.{IsBuilt, IsWellFormed}
+use Rattle.plx_worlds.specs.Ends.{End}
+use Rattle.plx_worlds.specs.Headline.{starts_and_crashes, events_told, model_before, model_in}
+use Rattle.plx_worlds.specs.Holds.{Held}
+use Rattle.plx_worlds.specs.Owners.{pending_write}
+use Rattle.plx_worlds.specs.Session.{Session, Known}
+use Rattle.plx_worlds.specs.World.{World, Seat, setting_at}
+use Rattle.law_lease.proofs.Leased.{IsOpen, grip_at, Leased}
+use Rattle.law_headline.proofs.Held.{SameSessions, Regime, With, IsRunning, Looks, HasImage, IsOf, IsOn, HeldPart, Backs, Fair}
+use Rattle.law_headline.proofs.HeldBegins.{IsBegunChange}
+use Rattle.law_headline.proofs.HeldFrames.{missing_of}
+use Rattle.law_headline.proofs.Journals.{IsJournal, IsShown, Keeps}
+use Rattle.law_headline.proofs.Replied.{Names}
+
+-- a write of an image's record or journal
+abbrev pub IsJournalled : WriteKind → Type 0
+IsJournalled kind.Record = Unit {0}
+IsJournalled kind.JData = Unit {0}
+IsJournalled kind.JCommit = Unit {0}
+IsJournalled other = ⊥
+
+-- the appliance with this number
+abbrev pub appliance_no : ℕ → ApplianceNo
+appliance_no a = record { 0 = a }
+
+-- where an appliance's present boot stands
+abbrev pub stands_at : Geometry → (appliance : ℕ) → Seat → Position
+stands_at g appliance seat = position (setting_at g appliance seat.boots) seat.log
+
+-- ---- whoever owns the images: what an appliance knows fits the model, and what is left of its command is fair
+
+abbrev pub PlaceFits : Geometry → ℕ → Model → Position → Place → Type 0
+PlaceFits g a m p (Idle known) = (m.running a ≡ None) × SameSessions a known m × Backs g p.holds known
+PlaceFits g a m p (Begins known command) = IsRunning g a command known m × Backs g p.holds known × IsWellFormed command × IsBuilt command
+PlaceFits g a m p (In known command part) = IsRunning g a command known m × Fair g a command known p.holds p.sample false part
+
+-- ---- an image's owner
+
+-- a command of it has begun
+pub record IsBegun (g : Geometry) (a i : ℕ) (command : Command) (known : Known) (session : Session) (device : Device) (m : Model) : Type 0 where
+  pub image : Image
+  pub change : Option Image
+  pub looks : Looks g a i command known (With image change) m
+  pub begun : IsBegunChange command image change
+  pub journal : IsJournal g device i session.image session.writes
+  pub left : IsShown session.image session.writes image
+
+-- a command of it runs: what is left of it is right, and so is what has landed of the write that it waits for
+pub record IsServing (g : Geometry) (a i : ℕ) (command : Command) (known : Known) (part : Part End) (device : Device) (writes : List Issued) (pending : Option ℕ) (m : Model) : Type 0 where
+  pub regime : Regime
+  pub looks : Looks g a i command known regime m
+  pub held : HeldPart g a i command known regime part device
+  pub on : IsOn g i device regime
+  pub fills : (n : ℕ) (x : Issued) → pending ≡ Some n → slice_get writes n ≡ Some x → IsJournalled x.kind → mixed (missing_of x.landed) x.bytes (device x.block) ≡ x.bytes
+
+abbrev pub Has : Geometry → ℕ → ℕ → Known → Device → Model → Type 0
+Has g a i known device m = (s : Session) → known.sessions i ≡ Some s → HasImage g i a s device (m.slots i)
+
+abbrev pub OwnedAt : Geometry → ℕ → ℕ → Device → List Issued → Option ℕ → Model → Place → Type 0
+OwnedAt g a i device writes pending m (Idle known) = Has g a i known device m
+OwnedAt g a i device writes pending m (Begins known command) =
+    (Names command i → (s : Session) → known.sessions i ≡ Some s → IsBegun g a i command known s device m) × ((Names command i → ⊥) → Has g a i known device m)
+OwnedAt g a i device writes pending m (In known command part) =
+    (Names command i → IsServing g a i command known part device writes pending m) × ((Names command i → ⊥) → Has g a i known device m)
+
+-- a boot holds an image's lease, in time
+abbrev pub Grips : Geometry → ℕ → List Issued → ℕ → Seat → ℕ → Claim → ℕ → Type 0
+Grips g time writes a seat i claim until =
+    (grip_at (stands_at g a seat).place (pending_write writes seat.pending) (lease_at (image_lease i)) ((stands_at g a seat).holds (lease_at (image_lease i))) ≡ Held claim until) × (time ≤ until + 50)
+
+-- a boot minds an image where it grips its lease, or where its appliance owns the image in the model
+abbrev pub Minds : Geometry → ℕ → List Issued → Model → ℕ → Seat → ℕ → Type 0
+Minds g time writes m a seat i = ((claim : Claim) × (until : ℕ) × Grips g time writes a seat i claim until) ⊎ ((m.slots i).owner ≡ Some a)
+
+abbrev pub SeatFits : Geometry → Model → ℕ → Seat → Type 0
+SeatFits g m a seat = PlaceFits g a m (stands_at g a seat) (stands_at g a seat).place
+
+abbrev pub SeatOwns : Geometry → ℕ → Device → List Issued → Model → ℕ → ℕ → Seat → Type 0
+SeatOwns g time device writes m i a seat =
+    Minds g time writes m a seat i → OwnedAt g a i device writes seat.pending m (stands_at g a seat).place
+
+-- whatever of an open write lands, the image is kept
+abbrev pub Opens : Geometry → ℕ → Device → List Issued → ℕ → Slot → Type 0
+Opens g time device writes i slot =
+    (n : ℕ) (x : Issued) → IsOpen g time writes (image_lease i) n x → IsOf g i x.block → (flags : List Bool) → length flags ≡ 8 → Keeps g (put device x.block (mixed flags x.bytes (device x.block))) i slot
+
+-- while an appliance owns the image in the model, an open write of the image is what it waits for
+abbrev pub Whose : Geometry → ℕ → List Issued → (ℕ → Seat) → ℕ → Slot → Type 0
+Whose g time writes seats i slot =
+    (n : ℕ) (x : Issued) → IsOpen g time writes (image_lease i) n x → IsOf g i x.block → (b : ℕ) → slot.owner ≡ Some b → (seats b).pending ≡ Some n
+
+pub record Content (w : World) : Type 0 where
+  pub leased : Leased w
+  pub told : starts_and_crashes w.trace ≡ events_told w.history
+  pub permitted : Permitted (model_before w) w.trace
+  pub stored : (i : ℕ) → i < w.geometry.images → Keeps w.geometry w.surface.device i ((model_in w).slots i)
+  pub opens : (i : ℕ) → i < w.geometry.images → Opens w.geometry w.surface.time w.surface.device w.surface.writes i ((model_in w).slots i)
+  pub whose : (i : ℕ) → i < w.geometry.images → Whose w.geometry w.surface.time w.surface.writes w.seats i ((model_in w).slots i)
+  pub seats : (a : ℕ) → a < w.appliances → SeatFits w.geometry (model_in w) a (w.seats a)
+  pub owned : (i : ℕ) → i < w.geometry.images → (a : ℕ) → a < w.appliances → SeatOwns w.geometry w.surface.time w.surface.device w.surface.writes (model_in w) i a (w.seats a)

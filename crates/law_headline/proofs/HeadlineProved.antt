@@ -1,0 +1,90 @@
+-- Every world that events lead to meets the headline.
+use Rattle.std.proofs.Common.{ℕ, ◌≤◌, ◌<◌, inl, inr, [], refl, ap, ◌∙◌, arith}
+use Rattle.plx_base.specs.Sectors.{Device}
+use Rattle.plx_commands.specs.Model.{first_slot}
+use Rattle.plx_commands.specs.declared.event.Event.{Event}
+use Rattle.plx_gate.specs.declared.image.ImageRecord.TheVariants.{Free}
+use Rattle.plx_gate.proofs.Descriptors.{read-zeros}
+use Rattle.plx_geom.specs.Geometry.{Geometry, IsGeometry}
+use Rattle.plx_geom.specs.declared.place.Place.TheVariants.{Record, JDesc}
+use Rattle.plx_worlds.specs.Formatted.{IsFormatted}
+use Rattle.plx_worlds.specs.Headline.{HeadlineOfAll, model_in}
+use Rattle.plx_worlds.specs.Journal.{finding, finding_of}
+use Rattle.plx_worlds.specs.World as world
+use Rattle.plx_worlds.specs.World.{World, Step, Reached, first_world}
+use Rattle.law_lease.proofs.LeaseSteps.{keeps-leases, first-leased}
+use Rattle.law_lease.proofs.Leased.{Leased}
+use Rattle.law_headline.proofs.Content.{Content}
+use Rattle.law_headline.proofs.ContentAnswers.{begin-content, clock-content, wait-content, read-content, fault-content, write-fault-content, miss-content, done-content}
+use Rattle.law_headline.proofs.ContentEvents.{tick-content, crash-content, start-content}
+use Rattle.law_headline.proofs.ContentWrites.{issue-content, land-content}
+use Rattle.law_headline.proofs.Journals.{Keeps}
+use Rattle.law_headline.proofs.StoredFacts.{stores-kept}
+
+keeps-step : {w v : World} {event : Event} → Step w event v → Leased v → Content w → Content v
+keeps-step (world.ticks {w = w} {by = by} room) leased content = tick-content w by content leased
+keeps-step (world.starts {w = w} {appliance = a} {command = command} known below here well built) leased content = start-content w a.0 command known below here well built content leased
+keeps-step (world.begins {w = w} {appliance = a} {reading = reading} known command below here is) leased content = begin-content w content a.0 below known command reading here is leased
+keeps-step (world.reads {w = w} {appliance = a} known command block rest fault below here) leased content = read-content w content a.0 below known command block rest fault here leased
+keeps-step (world.read_faults {w = w} {appliance = a} known command block rest fault below here) leased content = fault-content w content a.0 below known command block rest fault here leased
+keeps-step (world.issues {w = w} {appliance = a} known command what block bytes guard done fault missed below here free) leased content =
+    issue-content w content a.0 below known command what block bytes guard done fault missed here free leased
+keeps-step (world.lands {w = w} {appliance = a} {back = back} {sector = sector} number write below back' may) leased content =
+    land-content w content number sector write may a.0 back leased
+keeps-step (world.dones {w = w} {appliance = a} known command what block bytes guard done fault missed number below here waited landed) leased content =
+    done-content w content a.0 below known command what block bytes guard done fault missed here number waited landed leased
+keeps-step (world.write_faults {w = w} {appliance = a} known command what block bytes guard done fault missed below here) leased content =
+    write-fault-content w content a.0 below known command what block bytes guard done fault missed here leased
+keeps-step (world.misses {w = w} {appliance = a} {reading = reading} known command what block bytes guard done fault missed below here free past is) leased content =
+    miss-content w content a.0 below known command what block bytes guard done fault missed here reading leased
+keeps-step (world.clocks {w = w} {appliance = a} {reading = reading} known command rest below here is) leased content = clock-content w content a.0 below known command rest reading here is leased
+keeps-step (world.waits {w = w} {appliance = a} {reading = reading} known command from rest below here is past) leased content = wait-content w content a.0 below known command from rest reading here is past leased
+keeps-step (world.crashes {w = w} {appliance = a} below room) leased content = crash-content w a.0 below content leased
+
+-- ---- the first world
+
+keeps-first : (g : Geometry) (device : Device) → IsFormatted g device → (i : ℕ) → i < g.images → Keeps g device i first_slot
+keeps-first g device formatted i within = record {
+  kept = Free 0;
+  writes = [];
+  journal = record {
+    recorded = formatted.places (Record (record { 0 = i })) within;
+    limits = omega arith;
+    plain = refl;
+    unapplied = refl;
+    free = λ dead. refl;
+    fits = omega arith;
+    numbers = λ k write found. absurd (let P : ⊥ = cc in P);
+    within = λ k write found. absurd (let P : ⊥ = cc in P);
+    commits = λ k write found. absurd (let P : ⊥ = cc in P);
+    blocks = λ k write found. absurd (let P : ⊥ = cc in P);
+    rest = λ k past below. ap (finding (Free 0) g.slots k) (formatted.places (JDesc (record { 0 = i }) k) (within, below)) ∙ ap (finding_of (Free 0) g.slots k) read-zeros;
+    old = λ k below. inl (formatted.places (JDesc (record { 0 = i }) k) (within, below));
+  };
+  either = inl (record { live = refl; generation = refl; size = refl; label = refl; count = refl; blocks = λ vblock. refl; frozen = refl });
+}
+
+first-content : (g : Geometry) (appliances : ℕ) (device : Device) → IsGeometry g → appliances ≤ 8 → IsFormatted g device → Content (first_world g appliances device)
+first-content g appliances device geometry few formatted = record {
+  leased = first-leased g appliances device geometry few formatted;
+  told = refl;
+  permitted = tt;
+  stored = λ i within. keeps-first g device formatted i within;
+  opens = λ i within n x op of flags count. absurd (let e = op.found in let P : ⊥ = cc in P);
+  whose = λ i within n x op of b mine. absurd (let e = op.found in let P : ⊥ = cc in P);
+  seats = λ a below. (refl, (λ j. refl), (λ k s is. absurd (let P : ⊥ = cc in P)));
+  owned = λ i within a below minds. elim minds [ inl grips ↦ absurd (let e = grips.2.0 in let P : ⊥ = cc in P) | inr mine ↦ absurd (let P : ⊥ = cc in P) ];
+}
+
+pub reached-content : {w : World} → Reached w → Content w
+reached-content (world.first {g = g} {appliances = appliances} {device = device} geometry some few formatted) = first-content g appliances device geometry few formatted
+reached-content (world.later reached step) = let content = reached-content reached in keeps-step step (keeps-leases step content.leased) content
+
+pub headline-of-all : HeadlineOfAll
+headline-of-all w reached =
+    let content = reached-content reached in
+    record {
+      told = content.told;
+      permitted = content.permitted;
+      stored = λ i within. stores-kept w.geometry i w.surface.device ((model_in w).slots i) content.leased.geometry.slots_high (content.stored i within);
+    }

@@ -1,0 +1,243 @@
+-- What is right while a boot owns an image stays, while the device holds the same of it and the model looks the same.
+use Rattle.std.proofs.Common.{◌≡◌, ◌≢◌, ℕ, zero, suc, ◌*◌, ◌<◌, inl, inr, List, [], ◌∷◌, ◌++◌, take, drop, length, Bool, true, false, Some, None, refl, ap, sym, subst, ◌∙◌, arith, slice_set}
+use Rattle.std.specs.Prelude.{slice_get, if◌then◌else◌}
+use Rattle.std.proofs.lemmas.Bool.Decides.{eqb_tells}
+use Rattle.std.proofs.lemmas.List.{take_at, drop_at, length-take, length-drop, length-set}
+use Rattle.plx_base.specs.Sectors.{Device, put, mixed, landed}
+use Rattle.plx_base.proofs.Devices.{put-same, put-other}
+use Rattle.plx_base.specs.declared.write_kind.WriteKind.{WriteKind}
+use Rattle.plx_base.specs.declared.write_kind.WriteKind.TheVariants as kind
+use Rattle.plx_commands.specs.Images.{Image}
+use Rattle.plx_commands.specs.Model.{Model, Slot}
+use Rattle.plx_commands.specs.declared.command.Command.{Command}
+use Rattle.plx_gate.specs.declared.image.ImageRecord.{ImageRecord}
+use Rattle.plx_geom.specs.Geometry.{Geometry, lease_count, lease_at, map_at, record_at, descriptor_at, data_at}
+use Rattle.plx_geom.proofs.Places.{data-data, descriptor-descriptor, data-descriptor, lease-data, lease-descriptor, lease-record, record-record, record-data, record-descriptor, record-map, map-data, map-descriptor}
+use Rattle.plx_rules.specs.Part.{Part, Ends, ReadThen, WriteThen, ClockThen, UntilThen}
+use Rattle.plx_rules.specs.declared.journaled.Journaled.{Journaled}
+use Rattle.plx_worlds.specs.Ends.{End}
+use Rattle.plx_worlds.specs.Session.{Session, Known}
+use Rattle.law_headline.proofs.Foreign.{Foreign}
+use Rattle.law_headline.proofs.Held.{Regime, Without, With, LooksSlot, Looks, HasImage, IsOf, HeldPart}
+use Rattle.law_headline.proofs.JournalFacts.{IsJournal-same, Keeps-same}
+use Rattle.law_headline.proofs.Journals.{IsShown, ShowEither, Keeps, Same}
+use Rattle.law_headline.proofs.ModelFacts.{Differs}
+
+-- ---- what a journal shows of a slot that another appliance's entry left
+
+pub show-foreign : (a : ℕ) (s t : Slot) → Foreign a s t → {kept : ImageRecord} {writes : List Journaled} → ShowEither kept writes s → ShowEither kept writes t
+show-foreign a s t foreign {kept} {writes} (inl l) = inl (subst (λ (i : Image). IsShown kept writes i) (sym foreign.image) l)
+show-foreign a s t foreign {kept} {writes} (inr away) = elim foreign.change [
+  | inl same ↦ inr (away.0, same ∙ away.1, away.2)
+  | inr none ↦ absurd (let e : None ≡ Some away.0 = sym none ∙ away.1 in let P : ⊥ = cc in P)
+]
+
+-- ---- sectors
+
+-- all but a landed sector
+pub mixed-over : (flags : List Bool) (new old : List ℕ) (k : ℕ) → k < length flags → length new ≡ 512 * length flags → length old ≡ 512 * length flags →
+    mixed flags new (landed k new old) ≡ mixed (slice_set flags k true) new old
+mixed-over [] new old k below ln lo = absurd (omega arith)
+mixed-over (f ∷ flags) new old zero below ln lo =
+    let front : length (take 512 new) ≡ 512 = simp length-take (omega arith) in
+    let t : take 512 (landed 0 new old) ≡ take 512 new = take_at (take 512 new) (drop 512 old) 512 front in
+    let d : drop 512 (landed 0 new old) ≡ drop 512 old = drop_at (take 512 new) (drop 512 old) 512 front in
+    rw d (picked f t)
+  where
+    picked : (f : Bool) → take 512 (landed 0 new old) ≡ take 512 new →
+        take 512 (if f then new else landed 0 new old) ++ mixed flags (drop 512 new) (drop 512 old) ≡ take 512 new ++ mixed flags (drop 512 new) (drop 512 old)
+    picked true t = refl
+    picked false t = ap (λ x. x ++ mixed flags (drop 512 new) (drop 512 old)) t
+mixed-over (f ∷ flags) new old (suc k) below ln lo =
+    let front : length (take 512 old) ≡ 512 = simp length-take (omega arith) in
+    let t : take 512 (landed (suc k) new old) ≡ take 512 old = take_at (take 512 old) (landed k (drop 512 new) (drop 512 old)) 512 front in
+    let d : drop 512 (landed (suc k) new old) ≡ landed k (drop 512 new) (drop 512 old) = drop_at (take 512 old) (landed k (drop 512 new) (drop 512 old)) 512 front in
+    let ih = mixed-over flags (drop 512 new) (drop 512 old) k (omega arith) (simp length-drop (omega arith)) (simp length-drop (omega arith)) in
+    rw (d, ih) (picked f t)
+  where
+    picked : (f : Bool) → take 512 (landed (suc k) new old) ≡ take 512 old →
+        take 512 (if f then new else landed (suc k) new old) ++ mixed (slice_set flags k true) (drop 512 new) (drop 512 old)
+        ≡ take 512 (if f then new else old) ++ mixed (slice_set flags k true) (drop 512 new) (drop 512 old)
+    picked true t = refl
+    picked false t = ap (λ x. x ++ mixed (slice_set flags k true) (drop 512 new) (drop 512 old)) t
+
+-- the sectors that are missing
+abbrev pub missing_of : List Bool → List Bool
+missing_of [] = []
+missing_of (true ∷ flags) = false ∷ missing_of flags
+missing_of (false ∷ flags) = true ∷ missing_of flags
+
+pub length-missing : (flags : List Bool) → length (missing_of flags) ≡ length flags
+length-missing [] = refl
+length-missing (true ∷ flags) = ap suc (length-missing flags)
+length-missing (false ∷ flags) = ap suc (length-missing flags)
+
+-- what is missing makes the same of a block after a landing
+pub missing-landed : (flags : List Bool) (new old : List ℕ) (k : ℕ) → slice_get flags k ≡ Some false → length new ≡ 512 * length flags → length old ≡ 512 * length flags →
+    mixed (missing_of (slice_set flags k true)) new (landed k new old) ≡ mixed (missing_of flags) new old
+missing-landed [] new old k e ln lo = cc
+missing-landed (true ∷ flags) new old zero e ln lo = cc
+missing-landed (false ∷ flags) new old zero e ln lo =
+    let front : length (take 512 new) ≡ 512 = simp length-take (omega arith) in
+    let t : take 512 (landed 0 new old) ≡ take 512 new = take_at (take 512 new) (drop 512 old) 512 front in
+    let d : drop 512 (landed 0 new old) ≡ drop 512 old = drop_at (take 512 new) (drop 512 old) 512 front in
+    rw (d, t) refl
+missing-landed (f ∷ flags) new old (suc k) e ln lo =
+    let front : length (take 512 old) ≡ 512 = simp length-take (omega arith) in
+    let t : take 512 (landed (suc k) new old) ≡ take 512 old = take_at (take 512 old) (landed k (drop 512 new) (drop 512 old)) 512 front in
+    let d : drop 512 (landed (suc k) new old) ≡ landed k (drop 512 new) (drop 512 old) = drop_at (take 512 old) (landed k (drop 512 new) (drop 512 old)) 512 front in
+    let ih = missing-landed flags (drop 512 new) (drop 512 old) k e (simp length-drop (omega arith)) (simp length-drop (omega arith)) in
+    by_flag f t d ih
+  where
+    by_flag : (f : Bool) → take 512 (landed (suc k) new old) ≡ take 512 old → drop 512 (landed (suc k) new old) ≡ landed k (drop 512 new) (drop 512 old) →
+        mixed (missing_of (slice_set flags k true)) (drop 512 new) (landed k (drop 512 new) (drop 512 old)) ≡ mixed (missing_of flags) (drop 512 new) (drop 512 old) →
+        mixed (missing_of (f ∷ slice_set flags k true)) new (landed (suc k) new old) ≡ mixed (missing_of (f ∷ flags)) new old
+    by_flag true t d ih = rw (d, ih, t) refl
+    by_flag false t d ih = rw (d, ih) refl
+
+-- ---- the device
+
+pub same-refl : (g : Geometry) (i : ℕ) (d : Device) → Same g i d d
+same-refl g i d = record { recorded = refl; descriptors = λ s below. refl; blocks = λ s below. refl }
+
+pub same-at : (g : Geometry) (i block : ℕ) (d e : Device) → IsOf g i block → Same g i d e → e block ≡ d block
+same-at g i block d e (inl here) same = ap e here ∙ (same.recorded ∙ ap d (sym here))
+same-at g i block d e (inr (slot, below, inl here)) same = ap e here ∙ (same.descriptors slot below ∙ ap d (sym here))
+same-at g i block d e (inr (slot, below, inr here)) same = ap e here ∙ (same.blocks slot below ∙ ap d (sym here))
+
+-- a write of the same bytes on both
+pub same-put : (g : Geometry) (i block : ℕ) (bytes : List ℕ) (d e : Device) → Same g i d e → Same g i (put d block bytes) (put e block bytes)
+same-put g i block bytes d e same = record {
+  recorded = at (record_at g i) same.recorded;
+  descriptors = λ s below. at (descriptor_at g i s) (same.descriptors s below);
+  blocks = λ s below. at (data_at g i s) (same.blocks s below);
+}
+  where
+    at : (b : ℕ) → e b ≡ d b → put e block bytes b ≡ put d block bytes b
+    at b is = elim (eqb_tells b block) [ inl here ↦ rw here.0 refl | inr away ↦ rw away.0 is ]
+
+-- a write elsewhere
+pub same-elsewhere : (g : Geometry) (i block : ℕ) (bytes : List ℕ) (d : Device) → (IsOf g i block → ⊥) → Same g i d (put d block bytes)
+same-elsewhere g i block bytes d no' = record {
+  recorded = put-other d block bytes (record_at g i) (λ e. no' (inl (sym e)));
+  descriptors = λ s below. put-other d block bytes (descriptor_at g i s) (λ e. no' (inr (s, below, inl (sym e))));
+  blocks = λ s below. put-other d block bytes (data_at g i s) (λ e. no' (inr (s, below, inr (sym e))));
+}
+
+-- the same everywhere
+pub same-all : (g : Geometry) (i : ℕ) (d e : Device) → ((b : ℕ) → e b ≡ d b) → Same g i d e
+same-all g i d e same = record { recorded = same _; descriptors = λ s below. same _; blocks = λ s below. same _ }
+
+-- a write over another
+pub same-over : (g : Geometry) (i block : ℕ) (bytes x : List ℕ) (d : Device) → Same g i (put d block bytes) (put (put d block x) block bytes)
+same-over g i block bytes x d = same-all g i (put d block bytes) (put (put d block x) block bytes) at
+  where
+    at : (b : ℕ) → put (put d block x) block bytes b ≡ put d block bytes b
+    at b = elim (eqb_tells b block) [ inl here ↦ rw here.0 refl | inr away ↦ rw (away.0) refl ]
+
+pub of-apart : (g : Geometry) (i j block : ℕ) → i < g.images → j < g.images → i ≢ j → IsOf g i block → IsOf g j block → ⊥
+of-apart g i j block wi wj ne (inl a) (inl b) = ne (record-record g i j (sym a ∙ b))
+of-apart g i j block wi wj ne (inl a) (inr (t, two, inl b)) = record-descriptor g i j t wi (sym a ∙ b)
+of-apart g i j block wi wj ne (inl a) (inr (t, two, inr b)) = record-data g i j t wi (sym a ∙ b)
+of-apart g i j block wi wj ne (inr (s, one, inl a)) (inl b) = record-descriptor g j i s wj (sym b ∙ a)
+of-apart g i j block wi wj ne (inr (s, one, inr a)) (inl b) = record-data g j i s wj (sym b ∙ a)
+of-apart g i j block wi wj ne (inr (s, one, inl a)) (inr (t, two, inl b)) = ne (descriptor-descriptor g i j s t one two (sym a ∙ b))
+of-apart g i j block wi wj ne (inr (s, one, inl a)) (inr (t, two, inr b)) = data-descriptor g j i t s (sym b ∙ a)
+of-apart g i j block wi wj ne (inr (s, one, inr a)) (inr (t, two, inl b)) = data-descriptor g i j s t (sym a ∙ b)
+of-apart g i j block wi wj ne (inr (s, one, inr a)) (inr (t, two, inr b)) = ne (data-data g i j s t one two (sym a ∙ b))
+
+pub of-lease : (g : Geometry) (i j : ℕ) → j < lease_count g → IsOf g i (lease_at j) → ⊥
+of-lease g i j within (inl a) = lease-record g j i within a
+of-lease g i j within (inr (s, below, inl a)) = lease-descriptor g j i s within a
+of-lease g i j within (inr (s, below, inr a)) = lease-data g j i s within a
+
+pub of-map : (g : Geometry) (i e : ℕ) → i < g.images → IsOf g i (map_at g e) → ⊥
+of-map g i e within (inl a) = record-map g i e within (sym a)
+of-map g i e within (inr (s, below, inl a)) = map-descriptor g e i s within below a
+of-map g i e within (inr (s, below, inr a)) = map-data g e i s within below a
+
+pub has-same : (g : Geometry) (i a : ℕ) (s : Session) (d e : Device) (slot : Slot) → Same g i d e → HasImage g i a s d slot → HasImage g i a s e slot
+has-same g i a s d e slot same has = record {
+  owner = has.owner;
+  decided = has.decided;
+  journal = IsJournal-same g d e i s.image s.writes same has.journal;
+  left = has.left;
+}
+
+module _ (g : Geometry) (a i : ℕ) (command : Command) (known : Known) (regime : Regime) where
+  -- on a device that holds the same of the image
+  pub held-same : (part : Part End) (d e : Device) → Same g i d e → HeldPart g a i command known regime part d → HeldPart g a i command known regime part e
+  held-same (Ends end) d e same held = λ m looks. (let h = held m looks in
+      (h.0, Keeps-same g d e i _ same h.1, λ s is. has-same g i a s d e _ same (h.2 s is)))
+  held-same (ReadThen block rest fault) d e same held = (
+    held.0,
+    (let P : List ℕ → Type 0 = λ x. HeldPart g a i command known regime (rest x) e in subst P (sym (same-at g i block d e held.0 same)) (held-same (rest (d block)) d e same held.1)),
+    held-same fault d e same held.2,
+  )
+  held-same (WriteThen what block bytes guard done fault missed) d e same held =
+      by_kind what held (λ h. held-same done (put d block bytes) (put e block bytes) (same-put g i block bytes d e same) h) (λ h. held-same done d e same h)
+    where
+      by_kind : (k : WriteKind) → HeldPart g a i command known regime (WriteThen k block bytes guard done fault missed) d →
+          (HeldPart g a i command known regime done (put d block bytes) → HeldPart g a i command known regime done (put e block bytes)) →
+          (HeldPart g a i command known regime done d → HeldPart g a i command known regime done e) →
+          HeldPart g a i command known regime (WriteThen k block bytes guard done fault missed) e
+      by_kind kind.Release held next plain = ((λ m looks. Keeps-same g d e i (m.slots i) same (held.0 m looks)), plain held.1)
+      by_kind other held next plain = (
+        held.0,
+        (λ flags count m looks.
+            let old : e block ≡ d block = same-at g i block d e held.0 same in
+            let P : List ℕ → Type 0 = λ x. Keeps g (put e block (mixed flags bytes x)) i (m.slots i) in
+            subst P (sym old) (Keeps-same g (put d block (mixed flags bytes (d block))) (put e block (mixed flags bytes (d block))) i (m.slots i)
+            (same-put g i block (mixed flags bytes (d block)) d e same) (held.1 flags count m looks))),
+        next held.2,
+        held.3,
+      )
+  held-same (ClockThen rest) d e same held = λ reading. held-same (rest reading) d e same (held reading)
+  held-same (UntilThen from rest) d e same held = λ reading. held-same (rest reading) d e same (held reading)
+
+-- a landing of the write that is asked
+pub keeps-landed : (g : Geometry) (i block k : ℕ) (bytes : List ℕ) (d : Device) (slot : Slot) → k < 8 → length bytes ≡ 4096 → length (d block) ≡ 4096 →
+    ((flags : List Bool) → length flags ≡ 8 → Keeps g (put d block (mixed flags bytes (d block))) i slot) →
+    (flags : List Bool) → length flags ≡ 8 →
+    Keeps g (put (put d block (landed k bytes (d block))) block (mixed flags bytes (put d block (landed k bytes (d block)) block))) i slot
+keeps-landed g i block k bytes d slot below long old keeps flags count =
+    let x = landed k bytes (d block) in
+    let at : put d block x block ≡ x = put-same d block x in
+    let over : mixed flags bytes x ≡ mixed (slice_set flags k true) bytes (d block) = mixed-over flags bytes (d block) k (omega arith) (rw count long) (rw count old) in
+    let P : List ℕ → Type 0 = λ y. Keeps g (put (put d block x) block y) i slot in
+    subst P (sym (ap (mixed flags bytes) at ∙ over))
+    (Keeps-same g (put d block (mixed (slice_set flags k true) bytes (d block))) (put (put d block x) block (mixed (slice_set flags k true) bytes (d block))) i slot
+    (same-over g i block (mixed (slice_set flags k true) bytes (d block)) x d)
+    (keeps (slice_set flags k true) (length-set flags k true ∙ count)))
+
+-- ---- the model
+
+pub looks-foreign : (g : Geometry) (h i a : ℕ) (command : Command) (known : Known) (regime : Regime) (m n : Model) → h ≢ a → Foreign a (m.slots i) (n.slots i) → Differs (n.slots i) →
+    n.images ≡ m.images → n.appliances ≡ m.appliances → n.running h ≡ m.running h → ((j : ℕ) → n.sessions h j ≡ m.sessions h j) →
+    Looks g h i command known regime m → Looks g h i command known regime n
+looks-foreign g h i a command known regime m n ne foreign differs images appliances runs sessions looks = record {
+  running = record {
+    placed = (let p = looks.running.placed in omega (arith, p, appliances));
+    images = images ∙ looks.running.images;
+    runs = runs ∙ looks.running.runs;
+    sessions = λ j. sessions j ∙ looks.running.sessions j;
+  };
+  slot = by_regime regime looks.slot;
+  purpose = looks.purpose;
+}
+  where
+    by_regime : (r : Regime) → LooksSlot h r (m.slots i) → LooksSlot h r (n.slots i)
+    by_regime (Without kept writes) is = (show-foreign a (m.slots i) (n.slots i) foreign is.0, differs)
+    by_regime (With image change) is =
+        let same : n.slots i ≡ m.slots i = foreign.others (λ e. ne (let f : Some h ≡ Some a = sym is.0 ∙ e in cc)) in
+        let P : Slot → Type 0 = λ s. LooksSlot h (With image change) s in
+        subst P (sym same) is
+
+pub keeps-foreign : (g : Geometry) (i a : ℕ) (d : Device) (s t : Slot) → Foreign a s t → Keeps g d i s → Keeps g d i t
+keeps-foreign g i a d s t foreign k = record { kept = k.kept; writes = k.writes; journal = k.journal; either = show-foreign a s t foreign k.either }
+
+pub has-foreign : (g : Geometry) (i h a : ℕ) (session : Session) (d : Device) (s t : Slot) → h ≢ a → Foreign a s t → HasImage g i h session d s → HasImage g i h session d t
+has-foreign g i h a session d s t ne foreign has =
+    let same : t ≡ s = foreign.others (λ e. ne (let f : Some h ≡ Some a = sym has.owner ∙ e in cc)) in
+    let P : Slot → Type 0 = λ x. HasImage g i h session d x in
+    subst P (sym same) has

@@ -1,0 +1,13 @@
+//! The headline of worlds under leases: theorems on every world of appliances that events lead to.
+//!
+//! The functions of this crate are laws: they have no parameters and an empty body, and their contracts
+//! are the theorems. They say what replies and the device's images are, by the block-list model.
+#![tactic(auto)]
+
+ghost use Rattle.plx_worlds.specs.Headline.{HeadlineOfAll};
+
+/// Every world that events lead to meets the headline: its trace tells of its possible starts and
+/// crashes, the block-list model permits that trace, and the device stores the model's images.
+pub fn headline()
+    ensures { HeadlineOfAll }
+{}
