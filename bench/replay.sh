@@ -1,6 +1,6 @@
 #!/usr/bin/env bash
-# Plays two generated schedules of 300,000 lines with `plx replay`, and prints plain events a second, input bytes a second and peak
-# memory, beside the time that `cat` takes over the same bytes. Each word is a further program that is timed in turn with it, such as
+# Plays two generated schedules of 300,000 lines with `plx replay`, and prints plain events and input bytes a processor second and peak
+# memory, beside the processor time that `cat` takes over the same bytes. Each word is a further program that is timed in turn with it, such as
 # an older build. Not a part of the gate.
 set -eu
 cd "$(dirname "$0")/.."
@@ -51,19 +51,17 @@ for name, lines in ("attaches", attaches()), ("landings", landings()):
 PY
 
 python3 - "$work" "$plx" "$@" <<'PY'
-import os, subprocess, sys, time
+import os, subprocess, sys
 work, programs = sys.argv[1], sys.argv[2:]
 
 def timed(command, path):
-    """The seconds that a command takes over a file, and its peak memory in MiB."""
+    """The processor seconds that a command takes over a file, and its peak memory in MiB."""
     with open(path) as source, open(os.devnull, "w") as sink:
-        begun = time.monotonic()
         child = subprocess.Popen(command, stdin=source, stdout=sink)
         _, status, used = os.wait4(child.pid, 0)
-        taken = time.monotonic() - begun
     if status:
         sys.exit(f"replay.sh: {command[0]} ended with {status}")
-    return taken, used.ru_maxrss / 1024
+    return used.ru_utime + used.ru_stime, used.ru_maxrss / 1024
 
 for name in "attaches", "landings":
     path = f"{work}/{name}"

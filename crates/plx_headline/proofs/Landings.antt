@@ -21,7 +21,8 @@ use Rattle.plx_rules.specs.World.{World, stands, goes_on, with_surface, after_is
 use Rattle.plx_headline.proofs.Held.{Regime, Looks, Held, Begun}
 use Rattle.plx_headline.proofs.Journals.{Keeps}
 use Rattle.plx_headline.proofs.Goes.{fits-at, came-steady}
-use Rattle.plx_headline.proofs.Lists.{get-push, at_push, get-set_same, get-set_other, none-other, same-number, pending-is, landed-whole}
+use Rattle.plx_disk.proofs.Lists.{push-last, set-other, set-same}
+use Rattle.plx_headline.proofs.Lists.{at_push, none-other, same-number, pending-is, landed-whole}
 use Rattle.plx_headline.proofs.Steady.{first_appliance, IsAskOf, Landing, Waits, Fits, Steady}
 
 -- a write that was just issued lands on the device as it stands
@@ -35,7 +36,7 @@ fresh-landing w kind block bytes guard done fault missed begun steady =
     record {
       base = device;
       write = write;
-      found = get-push w.surface.writes write;
+      found = push-last w.surface.writes write;
       stands = refl;
       now = λ b. sym (ap (λ (x : List ℕ). put device block x b) (mixed-none 8 bytes (device block)) ∙ put-again device block b);
       flags = refl;
@@ -139,7 +140,7 @@ module _ (w : World) (back sector number : ℕ) (write : Issued) (may : MayLand 
       let landing' : Landing w.slots device' (slice_set w.surface.writes number write') (model_in w) part number = record {
         base = base;
         write = write';
-        found = get-set_same w.surface.writes number write write' may.found;
+        found = set-same w.surface.writes number write' write may.found;
         stands = may.open_yet;
         now = now';
         flags = count';
@@ -160,7 +161,7 @@ module _ (w : World) (back sector number : ℕ) (write : Issued) (may : MayLand 
         long = λ b. ap length (now' b) ∙ landed-long base write flags count' kept.0 landing.long b;
         others = λ i x there ne still. elim (eqb_tells i number) [
           | inl is ↦ absurd (ne (waited ∙ ap Some (sym is.1)))
-          | inr other ↦ steady.others i x (sym (get-set_other w.surface.writes number i write' other.1) ∙ there) ne still
+          | inr other ↦ steady.others i x (sym (set-other w.surface.writes number i write' other.1) ∙ there) ne still
         ];
         fits =
             let P : Option ℕ → Position → Type 0 = λ q p. Fits w.slots device' (slice_set w.surface.writes number write') q (model_in w) p in
@@ -169,7 +170,7 @@ module _ (w : World) (back sector number : ℕ) (write : Issued) (may : MayLand 
       }
 
 -- the write that is found is the only one in its place
-same-write : (writes : List Issued) (number : ℕ) (x y : Issued) → slice_get writes number ≡ Some x → slice_get writes number ≡ Some y → x ≡ y
+pub same-write : (writes : List Issued) (number : ℕ) (x y : Issued) → slice_get writes number ≡ Some x → slice_get writes number ≡ Some y → x ≡ y
 same-write writes number x y one other = cc
 
 -- a sector lands

@@ -1,15 +1,10 @@
 -- Places of lists that grew or changed, and the writes that an appliance waits for.
-use Rattle.std.proofs.Common.{◌≡◌, ◌≢◌, ℕ, List, [], ◌∷◌, ◌++◌, length, zero, suc, refl, ap, sym, subst, ◌∙◌, true, false, Option, Some, None, inl, inr, ◌⊎◌, slice_set}
+use Rattle.std.proofs.Common.{◌≡◌, ◌≢◌, ℕ, List, [], ◌∷◌, ◌++◌, length, zero, suc, refl, ap, sym, subst, ◌∙◌, true, false, Option, Some, None, inl, inr, ◌⊎◌}
 use Rattle.std.specs.Prelude.{slice_get}
 use Rattle.std.proofs.lemmas.Bool.Decides.{eqb_tells}
 use Rattle.plx_disk.specs.Writes.{Surface, Issued, all_sectors, cancelled_at}
 use Rattle.plx_rules.specs.World.{without_pending}
 use Rattle.plx_headline.proofs.Steady.{Others}
-
--- the newest element
-pub get-push : {X : Type 0} (xs : List X) (x : X) → slice_get (xs ++ x ∷ []) (length xs) ≡ Some x
-get-push [] x = refl
-get-push (y ∷ xs) x = get-push xs x
 
 -- what stands at a place of a list with one more element
 pub at_push : {X : Type 0} (xs : List X) (x y : X) (k : ℕ) → slice_get (xs ++ x ∷ []) k ≡ Some y →
@@ -18,19 +13,6 @@ at_push [] x y zero h = inr (refl, cc)
 at_push [] x y (suc k) h = cc
 at_push (z ∷ xs) x y zero h = inl h
 at_push (z ∷ xs) x y (suc k) h = elim (at_push xs x y k h) [ inl e ↦ inl e | inr e ↦ inr (ap suc e.0, e.1) ]
-
--- the changed place, and every other
-pub get-set_same : {X : Type 0} (xs : List X) (i : ℕ) (x y : X) → slice_get xs i ≡ Some x → slice_get (slice_set xs i y) i ≡ Some y
-get-set_same [] i x y found = cc
-get-set_same (z ∷ xs) zero x y found = refl
-get-set_same (z ∷ xs) (suc i) x y found = get-set_same xs i x y found
-
-pub get-set_other : {X : Type 0} (xs : List X) (i k : ℕ) (y : X) → k ≢ i → slice_get (slice_set xs i y) k ≡ slice_get xs k
-get-set_other [] i k y other = refl
-get-set_other (z ∷ xs) zero zero y other = absurd (other refl)
-get-set_other (z ∷ xs) zero (suc k) y other = refl
-get-set_other (z ∷ xs) (suc i) zero y other = refl
-get-set_other (z ∷ xs) (suc i) (suc k) y other = get-set_other xs i k y (λ e. other (ap suc e))
 
 -- whether this write is the one that is waited for
 pub none-other : (n : ℕ) → None ≢ Some n

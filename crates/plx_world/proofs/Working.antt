@@ -25,6 +25,7 @@ use Rattle.plx_world.specs.Owned.{IsOwn}
 use Rattle.plx_world.specs.Running.{AsksClock, GoesOn, IsOver, IsWriting, OneMore, events_left, sectors_left, work, write_left}
 use Rattle.plx_world.specs.Standing.{Stands, Steps, the_first}
 use Rattle.plx_world.specs.declared.world.World.{World}
+use Rattle.plx_headline.proofs.Landings.{same-write}
 use Rattle.plx_world.proofs.Asked.{asked-clock, asked-read, asked-until, asked-write, position-of}
 use Rattle.plx_world.proofs.Inverted.{Answers, clock, wait, step-done, step-land, step-read, step-reading}
 use Rattle.plx_world.proofs.Owned.{back-unique}
@@ -217,9 +218,6 @@ land-next w number sector write found own least =
     let back = issued_by 0 (drop (number + 1) w.surface.writes) in
     own-next back write (slice_get w.surface.writes number) found own ∙ ap (landing the_first back) least
 
-same-found : (writes : List Issued) (number : ℕ) (write other : Issued) → slice_get writes number ≡ Some write → slice_get writes number ≡ Some other → write ≡ other
-same-found writes number write other a b = cc
-
 land-less : (old new : World) (w : rules.World) (number sector : ℕ) (write : Issued) (one : Event) → new.appliance ≡ old.appliance → old.pending ≡ Some number → Stands old w →
     slice_get w.surface.writes number ≡ Some write → missing write.landed ≡ Some sector → sector < 8 →
     work new (with_surface w one (after_landing w.surface number write sector)) < work old w
@@ -248,10 +246,10 @@ goes-land old new number sector true same writing pending only own least below l
     let l = landed refl s h.surface in
     let lands-own : is_boot_of 0 l.0.owner ≡ true =
     let P : Issued → Type 0 = λ x. is_boot_of 0 x.owner ≡ true in
-    subst P (same-found s.writes number mine.0 l.0 mine.1 l.1.found) mine.2 in
+    subst P (same-write s.writes number mine.0 l.0 mine.1 l.1.found) mine.2 in
     let lands-least : missing l.0.landed ≡ Some sector =
     let P : Issued → Type 0 = λ x. missing x.landed ≡ Some sector in
-    subst P (same-found s.writes number next.write l.0 next.found l.1.found) (missing-least next.write.landed sector next.least) in (
+    subst P (same-write s.writes number next.write l.0 next.found l.1.found) (missing-least next.write.landed sector next.least) in (
       with_surface w one (after_landing s number l.0 sector),
       record {
         one = one;
@@ -268,7 +266,7 @@ goes-land old new number sector false same writing pending only own least below 
     let next = least s h.surface in
     let own-next : is_boot_of 0 next.write.owner ≡ true =
     let P : Issued → Type 0 = λ x. is_boot_of 0 x.owner ≡ true in
-    subst P (same-found s.writes number mine.0 next.write mine.1 next.found) mine.2 in (
+    subst P (same-write s.writes number mine.0 next.write mine.1 next.found) mine.2 in (
       inr (
         event.Land the_first back sector,
         next-of old w number same writing pending h
@@ -305,7 +303,7 @@ cancelled-lands w v number sector write found own none some step =
     let P : ℕ → Type 0 = λ n. MayLand s n sector l.1 in
     let may = subst P at l.3 in
     let Q : Issued → Type 0 = λ x. x.cancelled ≡ false in
-    let open_yet = subst Q (same-found s.writes number l.1 write may.found found) may.open_yet in
+    let open_yet = subst Q (same-write s.writes number l.1 write may.found found) may.open_yet in
     let both : None ≡ Some sector = sym (whole-misses write.landed (none write found open_yet)) ∙ some in
     cc
 
@@ -318,7 +316,7 @@ done-misses w v number write pending found step =
     let P : ℕ → Type 0 = λ n. HasLanded w.surface n in
     let landed = subst P same d.2 in
     let Q : Issued → Type 0 = λ x. x.landed ≡ all_sectors in
-    whole-misses write.landed (subst Q (same-found w.surface.writes number landed.0 write landed.1 found) landed.2)
+    whole-misses write.landed (subst Q (same-write w.surface.writes number landed.0 write landed.1 found) landed.2)
 
 done-next : (old new : World) (made : Bool) (w : rules.World) (back : ℕ) (m : Option ℕ) → next_event w the_first None ≡ landing the_first back m →
     MatchBool made ((v : rules.World) × Step w (event.Done the_first) v × Stands new v) (((v : rules.World) → ¬ Step w (event.Done the_first) v) × Stands new w) →
