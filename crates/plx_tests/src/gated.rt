@@ -1,5 +1,5 @@
 //! Leases, image records and log entries whose bytes are written out by hand.
-use plx_base::{BlockNo, Boot, Claim, Label, LeaseRecord, Ptr, put_u64};
+use plx_base::{BlockNo, Boot, Claim, LeaseRecord, Ptr, put_u64};
 use plx_gate::{
     ImageRecord, LogEntry, read_entry, read_image, read_lease, write_entry, write_image,
     write_lease,
@@ -89,36 +89,26 @@ fn a_free_lease_has_no_leftover(rt: HostRuntime) {
 
 #[test]
 fn an_image_record_is_spelled_by_hand(rt: HostRuntime) {
-    let Some(label) = Label::new(b"a") else {
-        panic!(rt; "a label");
-    };
-    let live = ImageRecord::Live {
-        generation: 1,
-        size: 8,
-        taken: 0,
-        root: Ptr::writable(BlockNo(14)),
-        applied: 1,
-        label,
-    };
-    let mut bytes = [7; 4096];
-    write_image(&live, &mut bytes);
-    assert!(rt; &bytes[..49] == IMAGE_HEAD);
-    assert!(rt; &bytes[49..] == [0; 4047].as_slice());
-    let Some(
-        ImageRecord::Live {
-            generation,
-            size,
-            taken,
-            root,
-            applied,
-            label,
-        },
-    ) = read_image(&bytes)
-    else {
+    let mut bytes = [0; 4096];
+    bytes[..49].copy_from_slice(IMAGE_HEAD);
+    let Some(read) = read_image(&bytes) else {
         panic!(rt; "a live image");
     };
-    assert!(rt; (generation, size, taken, applied) == (1, 8, 0, 1));
-    assert!(rt; root == Ptr::writable(BlockNo(14)) && label.as_slice() == b"a".as_slice());
+    assert!(rt;
+        matches!(
+            &read,
+            ImageRecord::Live {
+                generation: 1,
+                size: 8,
+                taken: 0,
+                applied: 1,
+                ..
+            }
+        )
+    );
+    let mut again = [7; 4096];
+    write_image(&read, &mut again);
+    assert!(rt; again == bytes);
     // The place of a byte, and what stands there instead: the magic, the state, generation 0, size 0, a size above 2^27, 129 snapshots, a root
     // of 2^26 and block 0 with the mark, 2^48 applied, labels that are too long, too short and not padded, and bytes after the fields.
     let changes = [
