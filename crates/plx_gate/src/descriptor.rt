@@ -4,7 +4,7 @@ ghost use Rattle.std.specs.List.{All};
 ghost use Rattle.plx_gate.specs.Descriptors.{IsDescriptor, descriptor_bytes, fields_of, is_descriptor};
 ghost use Rattle.plx_gate.specs.Descriptors.{read_descriptor as descriptor_in};
 
-use plx_base::{get_u32, get_u64, put_u32, put_u64};
+use plx_base::{are_all, get_u32, get_u64, put_u32, put_u64};
 
 /// The bytes that begin every descriptor.
 const MAGIC: &[u8] = b"PLXJRNL1";
@@ -92,5 +92,5 @@ fn is_spelled(bytes: &[u8]) -> bool
 fn are_zeros(bytes: &[u8]) -> bool
     ensures { IsTrue result ↔ All (λ b. b ≡ 0) bytes.now }
 {
-    bytes.iter().all(|b| *b == 0)
+    are_all(bytes, 0)
 }
