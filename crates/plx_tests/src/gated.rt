@@ -22,12 +22,31 @@ const LEASE: LeaseRecord = LeaseRecord::Claimed {
 const IMAGE_HEAD: &[u8] =
     b"PLXIMAG1\x01\0\0\0\x01\0\0\0\x08\0\0\0\0\0\0\0\x0e\0\0\0\0\0\0\x80\x01\0\0\0\0\0\0\0\x01\0\0\0\0\0\0\0a";
 
+/// Whether a block begins so.
+fn starts(block: &[u8; 4096], front: &[u8]) -> bool {
+    block.starts_with(front)
+}
+
+/// What stands from a place of a block on.
+fn rest(block: &[u8; 4096], start: usize) -> &[u8] {
+    block.get(start..).unwrap_or(&[])
+}
+
+/// The block with one byte changed.
+fn changed(block: &[u8; 4096], place: usize, byte: u8) -> [u8; 4096] {
+    let mut other = *block;
+    if let Some(old) = other.get_mut(place) {
+        *old = byte;
+    }
+    other
+}
+
 #[test]
 fn a_lease_is_spelled_by_hand(rt: HostRuntime) {
     let mut bytes = [7; 4096];
     write_lease(&LEASE, &mut bytes);
-    assert!(rt; &bytes[..56] == LEASE_HEAD);
-    assert!(rt; &bytes[56..] == [0; 4040].as_slice());
+    assert!(rt; starts(&bytes, LEASE_HEAD));
+    assert!(rt; rest(&bytes, 56) == [0; 4040].as_slice());
     assert!(rt; read_lease(&bytes) == Some(LEASE));
     // The place of a byte, and what stands there instead: the magic, the state, the unnamed bytes, a number of 2^40, a sample of 2^48, an
     // `until` of 2^49, one less than the sample and 10,000, and bytes after the fields.
@@ -45,9 +64,10 @@ fn a_lease_is_spelled_by_hand(rt: HostRuntime) {
         (4095, 1),
     ];
     for (place, byte) in changes {
-        let mut other = bytes;
-        other[place] = byte;
-        assert!(rt; read_lease(&other) == None, "{byte} at {place}");
+        assert!(rt;
+            read_lease(&changed(&bytes, place, byte)) == None,
+            "{byte} at {place}"
+        );
     }
 }
 
@@ -76,13 +96,11 @@ fn a_lease_at_its_limits_is_read(rt: HostRuntime) {
 fn a_free_lease_has_no_leftover(rt: HostRuntime) {
     let mut bytes = [7; 4096];
     write_lease(&LeaseRecord::Free, &mut bytes);
-    assert!(rt; &bytes[..8] == b"PLXLEAS1".as_slice());
-    assert!(rt; &bytes[8..] == [0; 4088].as_slice());
+    assert!(rt; starts(&bytes, b"PLXLEAS1".as_slice()));
+    assert!(rt; rest(&bytes, 8) == [0; 4088].as_slice());
     assert!(rt; read_lease(&bytes) == Some(LeaseRecord::Free));
     for place in [12, 16, 31, 32, 40, 48, 55, 56] {
-        let mut other = bytes;
-        other[place] = 1;
-        assert!(rt; read_lease(&other) == None, "{place}");
+        assert!(rt; read_lease(&changed(&bytes, place, 1)) == None, "{place}");
     }
     assert!(rt; read_lease(&[0; 4096]) == None);
 }
@@ -134,9 +152,10 @@ fn an_image_record_is_spelled_by_hand(rt: HostRuntime) {
         (4095, 1),
     ];
     for (place, byte) in changes {
-        let mut other = bytes;
-        other[place] = byte;
-        assert!(rt; read_image(&other).is_none(), "{byte} at {place}");
+        assert!(rt;
+            read_image(&changed(&bytes, place, byte)).is_none(),
+            "{byte} at {place}"
+        );
     }
 }
 
@@ -144,8 +163,8 @@ fn an_image_record_is_spelled_by_hand(rt: HostRuntime) {
 fn a_free_image_record_keeps_its_generation_alone(rt: HostRuntime) {
     let mut bytes = [7; 4096];
     write_image(&ImageRecord::Free { generation: 5 }, &mut bytes);
-    assert!(rt; &bytes[..16] == b"PLXIMAG1\0\0\0\0\x05\0\0\0".as_slice());
-    assert!(rt; &bytes[16..] == [0; 4080].as_slice());
+    assert!(rt; starts(&bytes, b"PLXIMAG1\0\0\0\0\x05\0\0\0".as_slice()));
+    assert!(rt; rest(&bytes, 16) == [0; 4080].as_slice());
     assert!(rt;
         matches!(
             read_image(&bytes),
@@ -153,9 +172,7 @@ fn a_free_image_record_keeps_its_generation_alone(rt: HostRuntime) {
         )
     );
     for place in [16, 20, 24, 32, 40, 44, 48, 79, 80] {
-        let mut other = bytes;
-        other[place] = 1;
-        assert!(rt; read_image(&other).is_none(), "{place}");
+        assert!(rt; read_image(&changed(&bytes, place, 1)).is_none(), "{place}");
     }
 }
 
@@ -168,9 +185,9 @@ fn a_log_entry_is_spelled_by_hand(rt: HostRuntime) {
     };
     let mut bytes = [7; 4096];
     write_entry(&entry, 127, &mut bytes);
-    assert!(rt; &bytes[..4064] == [7; 4064].as_slice());
+    assert!(rt; starts(&bytes, [7; 4064].as_slice()));
     assert!(rt;
-        &bytes[4064..]
+        rest(&bytes, 4064)
             == b"\x0e\0\0\0\0\0\0\0\x01\0\0\0\0\0\0\0\x02\x01\0\0\0\0\0\0\0\0\0\0\0\0\0\0".as_slice()
     );
     assert!(rt; read_entry(&bytes, 127) == Some(entry));
@@ -194,8 +211,9 @@ fn a_log_entry_is_spelled_by_hand(rt: HostRuntime) {
         (24, 1),
         (31, 1),
     ] {
-        let mut other = bytes;
-        other[4064 + place] = byte;
-        assert!(rt; read_entry(&other, 127) == None, "{byte} at {place}");
+        assert!(rt;
+            read_entry(&changed(&bytes, 4064 + place, byte), 127) == None,
+            "{byte} at {place}"
+        );
     }
 }
