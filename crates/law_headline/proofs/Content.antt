@@ -16,7 +16,7 @@ use Rattle.plx_rules.specs.Part.{Part}
 use Rattle.plx_worlds.specs.Boot.{Place, Idle, Begins, In, Position, position}
 use Rattle.plx_worlds.specs.Commands.{IsBuilt, IsWellFormed}
 use Rattle.plx_worlds.specs.Ends.{End}
-use Rattle.plx_worlds.specs.Headline.{starts_and_crashes, events_told, model_before, model_in}
+use Rattle.plx_worlds.specs.Headline.{starts_and_crashes, events_told, AreUndamaged, model_before, model_in}
 use Rattle.plx_worlds.specs.Holds.{Held}
 use Rattle.plx_worlds.specs.Owners.{pending_write}
 use Rattle.plx_worlds.specs.Session.{Session, Known}
@@ -109,6 +109,7 @@ pub record Content (w : World) : Type 0 where
   pub leased : Leased w
   pub told : starts_and_crashes w.trace ≡ events_told w.history
   pub permitted : Permitted (model_before w) w.trace
+  pub undamaged : AreUndamaged w.trace
   pub stored : (i : ℕ) → i < w.geometry.images → Keeps w.geometry w.surface.device i ((model_in w).slots i)
   pub opens : (i : ℕ) → i < w.geometry.images → Opens w.geometry w.surface.time w.surface.device w.surface.writes i ((model_in w).slots i)
   pub whose : (i : ℕ) → i < w.geometry.images → Whose w.geometry w.surface.time w.surface.writes w.seats i ((model_in w).slots i)

@@ -217,6 +217,7 @@ module _ (w : World) (content : Content w) where
       leased = leased;
       told = content.told;
       permitted = content.permitted;
+      undamaged = content.undamaged;
       stored = content.stored;
       opens = λ i within n x op of flags count. elim (at_push writes fresh x n op.found) [
         | inl old ↦ content.opens i within n x (record { found = old; needs = op.needs; missing = op.missing; live = op.live }) of flags count
@@ -618,6 +619,7 @@ module _ (w : World) (content : Content w) where
       leased = leased;
       told = content.told;
       permitted = content.permitted;
+      undamaged = content.undamaged;
       stored = stored-after;
       opens = opens-after;
       whose = whose-after;

@@ -71,6 +71,7 @@ module _ (s : Setting) (a i : ℕ) (command : Command) (known : Known) (regime :
     other-answers m a command _ (lost-listed command) refl refl,
     record { kept = kept.kept; writes = kept.writes; journal = kept.journal; either = kept.either },
     λ s' is. absurd (let P : ⊥ = cc in P),
+    tt,
   ))
 
   -- a reading that has reached no lease in use
@@ -245,6 +246,7 @@ module _ (s : Setting) (a i : ℕ) (within : i < s.geometry.images) (few : s.geo
               let same : session ≡ t = (let f : Some session ≡ Some t = sym (at-same k.sessions i (Some session)) ∙ known' in cc) in
               let P : Session → Type 0 = λ x. HasImage s.geometry i a x device (at m.slots i slot i) in
               subst P same (subst H (sym is) (record { owner = refl; decided = refl; journal = journal; left = left })),
+          tt,
         ))
 
     -- a failed read
@@ -253,6 +255,7 @@ module _ (s : Setting) (a i : ℕ) (within : i < s.geometry.images) (few : s.geo
       other-answers m a (Attach (slot_no i)) _ refl refl refl,
       keeps-without m looks,
       λ t is. absurd (let e : None ≡ Some t = sym none' ∙ is in let P : ⊥ = cc in P),
+      tt,
     )
 
     -- the journal, slot by slot
