@@ -12,6 +12,7 @@ use Rattle.plx_worlds.specs.Boot.{Place, Idle, Begins, In}
 use Rattle.plx_worlds.specs.Holds.{Hold, Nothing, Seen, Wrote, Waited, Held}
 use Rattle.plx_geom.specs.Geometry.{Geometry}
 use Rattle.plx_worlds.specs.Owners.{first_landed}
+use Rattle.plx_worlds.specs.Times.{window}
 use Rattle.law_lease.proofs.Leased.{IsOpen, NoneOpen, OpenOnly, Clear, Waits, Mine, IsWritten, Good, grip_while, grip_at}
 
 -- every write that is open later was open before
@@ -73,7 +74,7 @@ module _ (g : Geometry) (time : ℕ) (writes now : List Issued) (lease : ℕ) (s
   }
 
 -- a claim that may land meets no lease that still stands
-pub claim-alone : (time : ℕ) (standing : LeaseRecord) (sample : ℕ) → time ≤ (sample + 200) + 50 → Waits time standing sample → (claim : Claim) (until : ℕ) →
+pub claim-alone : (time : ℕ) (standing : LeaseRecord) (sample : ℕ) → time ≤ (sample + window) + 50 → Waits time standing sample → (claim : Claim) (until : ℕ) →
     claim.sample + 551 ≤ time → time ≤ until + 50 → standing ≡ Claimed claim until → ⊥
 claim-alone time standing sample early waits claim until waited live there = no (subst (λ (r : LeaseRecord). Clear r sample) there waits.clear)
   where
@@ -82,7 +83,7 @@ claim-alone time standing sample early waits claim until waited live there = no 
     no (inr near) = omega (arith, near, waited, early)
 
 -- after it, every other claim that may land has a sample near it
-pub claim-clears : (time sample other : ℕ) (standing : LeaseRecord) (claim : Claim) (until : ℕ) → claim.sample ≡ sample → time ≤ (sample + 200) + 50 → other ≤ time + 50 →
+pub claim-clears : (time sample other : ℕ) (standing : LeaseRecord) (claim : Claim) (until : ℕ) → claim.sample ≡ sample → time ≤ (sample + window) + 50 → other ≤ time + 50 →
     Clear standing other → Clear (Claimed claim until) other
 claim-clears time sample other standing claim until is early sampled clear = inr (omega (arith, is, early, sampled))
 

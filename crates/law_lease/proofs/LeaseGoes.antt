@@ -22,7 +22,7 @@ use Rattle.plx_worlds.specs.Holds.{Hold, Nothing, Seen, Wrote, Waited, Held}
 use Rattle.plx_geom.specs.Geometry.{Geometry, lease_at}
 use Rattle.plx_worlds.specs.Holds.{after_write, after_reply, first_hold, timed, shown, seen_for, seen_by, reread, renewed, wrote}
 use Rattle.plx_gate.specs.Leases.{lease_bytes, read_lease, IsLease, IsClaimed}
-use Rattle.plx_worlds.specs.Times.{is_expired}
+use Rattle.plx_worlds.specs.Times.{wait, term, is_expired}
 use Rattle.plx_commands.specs.declared.reply.Reply.{Reply}
 use Rattle.plx_commands.specs.declared.reply.Reply.TheVariants as reply
 use Rattle.plx_worlds.specs.Owners.{first_landed, pending_write}
@@ -55,13 +55,13 @@ module _ (g : Geometry) (time : ℕ) (writes : List Issued) (lease : ℕ) (stand
   good-timed reading (Seen sample) early good = good
   good-timed reading (Waited claim until) early good = good
   good-timed reading (Held claim until) early good = good
-  good-timed reading (Wrote claim until) early good = by_tests (nat_le (claim.sample + 601) reading) (nat_lt reading until) refl
+  good-timed reading (Wrote claim until) early good = by_tests (nat_le (claim.sample + wait) reading) (nat_lt reading until) refl
     where
-      by_tests : (a b : Bool) → nat_le (claim.sample + 601) reading ≡ a →
+      by_tests : (a b : Bool) → nat_le (claim.sample + wait) reading ≡ a →
           Good g time writes lease standing boot None (if a && b then Waited claim until else Wrote claim until)
       by_tests false b is = good
       by_tests true false is = good
-      by_tests true true is = elim (leb_tells (claim.sample + 601) reading) [
+      by_tests true true is = elim (leb_tells (claim.sample + wait) reading) [
         | inl past ↦ (good, omega (arith, past.1, early))
         | inr not ↦ absurd (let e : true ≡ false = sym is ∙ not.0 in let P : ⊥ = cc in P)
       ]
@@ -240,8 +240,8 @@ module _ (g : Geometry) (appliances time : ℕ) (device : Device) (writes : List
           let few = may.few in
           let early = may.early in
           let small : boot < 2 ^ 128 = omega (arith, below, most, boots) in
-          let limits : IsClaimed claim (may.sample + 10000) = record { boot = small; number = omega arith; sample = early; low = omega arith; high = omega arith } in
-          let back : read_lease write.bytes ≡ Some (Claimed claim (may.sample + 10000)) = ap read_lease may.spells ∙ lease-back (Claimed claim (may.sample + 10000)) limits in
+          let limits : IsClaimed claim (may.sample + term) = record { boot = small; number = omega arith; sample = early; low = omega arith; high = omega arith } in
+          let back : read_lease write.bytes ≡ Some (Claimed claim (may.sample + term)) = ap read_lease may.spells ∙ lease-back (Claimed claim (may.sample + term)) limits in
           let R : Option LeaseRecord → Type 0 = λ r. P (wrote r) in
           let new : P (wrote (read_lease write.bytes)) = subst R (sym back) (record { own = refl; ends = refl; limits = limits; mine = is-seen.mine }) in
           let B : ℕ → Type 0 = λ b. P (at p.holds b (wrote (read_lease write.bytes)) (lease_at lease)) in

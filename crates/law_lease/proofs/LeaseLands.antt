@@ -11,6 +11,7 @@ use Rattle.plx_base.specs.declared.write_kind.WriteKind.TheVariants as kind
 use Rattle.plx_disk.specs.Writes.{Issued, with_sector, all_sectors}
 use Rattle.plx_rules.specs.Part.{Ends, ReadThen, WriteThen, ClockThen, UntilThen}
 use Rattle.plx_disk.proofs.Lists.{set-same, set-other}
+use Rattle.plx_worlds.specs.Times.{window, term}
 use Rattle.law_lease.proofs.Lists.{pending-is, whole-none}
 use Rattle.plx_worlds.specs.Boot.{Place, Idle, Begins, In, position}
 use Rattle.plx_worlds.specs.Holds.{Hold, Held}
@@ -270,7 +271,7 @@ module _ (g : Geometry) (appliances time : ℕ) (device : Device) (writes : List
       let claiming = on.claims number write found is (sym here) in
       let claim = claiming.claim in
       let s = claim.sample in
-      let live : time ≤ (s + 200) + 50 = omega (arith, early, claiming.guarded) in
+      let live : time ≤ (s + window) + 50 = omega (arith, early, claiming.guarded) in
       let waits = claiming.waits (ap (slice_get write.landed) (sym first) ∙ missing) early in
       let none : NoneOpen g time writes lease = λ m x op.
       (let b = on.backed m x op in
@@ -278,9 +279,9 @@ module _ (g : Geometry) (appliances time : ℕ) (device : Device) (writes : List
       let h = b.guarded in
       claim-alone time on.standing s live waits b.claim b.until b.waited (omega (arith, e, h)) b.there) in
       let none' : NoneOpen g time now lease = λ m x op. (let w = shrinks m x op in none m w.0 w.1) in
-      let changed = Claimed claim (s + 10000) in
+      let changed = Claimed claim (s + term) in
       let clears : (sample : ℕ) → sample ≤ time + 50 → Clear on.standing sample → Clear changed sample =
-      λ sample sampled clear. claim-clears time s sample on.standing claim (s + 10000) refl live sampled clear in
+      λ sample sampled clear. claim-clears time s sample on.standing claim (s + term) refl live sampled clear in
       land-changed changed claiming.limits (first-lands here first changed claiming.spells) none' clears
       (λ a below. seat-landed changed a below
       (λ ne hold good. good-changed g time writes now lease on.standing changed (boot_number a (seats a).boots) (seats a).pending none' clears

@@ -35,6 +35,7 @@ use Rattle.plx_worlds.specs.Session.{Known}
 use Rattle.plx_worlds.specs.Settings.{Setting, boot_number}
 use Rattle.plx_worlds.specs.World as world
 use Rattle.plx_worlds.specs.World.{World, Seat, Step, Reached, IsReading, first_world, setting_at}
+use Rattle.plx_worlds.specs.Times.{term}
 use Rattle.law_lease.proofs.LawfulCommands.{lawful-command}
 use Rattle.law_lease.proofs.LeaseFrames.{Shrinks, good-shrinks}
 use Rattle.law_lease.proofs.LeaseGoes.{good-part, good-timed, good-first, lease-log, good-free, good-read, good-written}
@@ -264,7 +265,7 @@ module _ (w : World) (leased : Leased w) (a : ℕ) (below : a < w.appliances) (t
 
 placed-may : (g : Geometry) (b : ℕ) (holds : ℕ → Hold) (k : WriteKind) (block : ℕ) (bytes : List ℕ) (guard : ℕ) → MayAsk g b holds k block bytes guard → IsPlaced g k block bytes
 placed-may g b holds kind.Claim block bytes guard may =
-    (may.lease, may.within, may.at_lease, (Claimed (claim_of b may.number may.sample) (may.sample + 10000), may.spells))
+    (may.lease, may.within, may.at_lease, (Claimed (claim_of b may.number may.sample) (may.sample + term), may.spells))
 placed-may g b holds kind.Renew block bytes guard may = (may.lease, may.within, may.at_lease, (Claimed may.claim may.next, may.spells))
 placed-may g b holds kind.Release block bytes guard may = (may.lease, may.within, may.at_lease, (Free, may.spells))
 placed-may g b holds kind.Take block bytes guard may = may.placed
@@ -310,6 +311,7 @@ long-landed device block sector bytes long whole below =
     (length-landed sector bytes (device block) (omega (arith, whole, below)) (omega (arith, long block, below)) ∙ long block)
     (λ b ne. long b)
 
+-- each step keeps it
 pub keeps-leases : {w v : World} {event : Event} → Step w event v → Leased w → Leased v
 keeps-leases (world.ticks {w = w} {by = by} room) leased = record {
   geometry = leased.geometry;
@@ -427,6 +429,7 @@ lease-formatted g device formatted (suc lease) within = elim (leb_tells (suc lea
       ap device e ∙ formatted.places (place.ExtentLease extent) (omega (arith, above.1, within))
 ]
 
+-- the first world has it
 pub first-leased : (g : Geometry) (appliances : ℕ) (device : Device) → IsGeometry g → appliances ≤ 8 → IsFormatted g device → Leased (first_world g appliances device)
 first-leased g appliances device geometry few formatted = record {
   geometry = geometry;
@@ -446,6 +449,7 @@ first-leased g appliances device geometry few formatted = record {
   };
 }
 
+-- and so has every world that events lead to
 pub reached-leased : {w : World} → Reached w → Leased w
 reached-leased (world.first {g = g} {appliances = appliances} {device = device} geometry some few formatted) = first-leased g appliances device geometry few formatted
 reached-leased (world.later reached step) = keeps-leases step (reached-leased reached)

@@ -19,6 +19,7 @@ use Rattle.plx_worlds.specs.Holds.{Hold, Nothing, Seen, Wrote, Waited, Held, no_
 use Rattle.plx_gate.specs.Leases.{lease_bytes, read_lease, IsLease, IsClaimed}
 use Rattle.plx_worlds.specs.Owners.{Needs, first_landed, pending_write}
 use Rattle.plx_worlds.specs.Settings.{boot_number}
+use Rattle.plx_worlds.specs.Times.{window, term}
 use Rattle.plx_worlds.specs.World.{World, Seat, setting_at}
 
 -- a write is where its kind may be
@@ -44,10 +45,10 @@ pub record MayClaim (g : Geometry) (boot : ℕ) (holds : ℕ → Hold) (block : 
   pub within : lease < lease_count g
   pub at_lease : block ≡ lease_at lease
   pub hold : holds (lease_at lease) ≡ Seen sample
-  pub spells : bytes ≡ lease_bytes (Claimed (claim_of boot number sample) (sample + 10000))
+  pub spells : bytes ≡ lease_bytes (Claimed (claim_of boot number sample) (sample + term))
   pub few : number < 2 ^ 40
   pub early : sample < 2 ^ 48
-  pub guarded : guard ≡ sample + 200
+  pub guarded : guard ≡ sample + window
 
 -- a renewal of a lease that is held
 pub record MayRenew (g : Geometry) (holds : ℕ → Hold) (block : ℕ) (bytes : List ℕ) (guard : ℕ) : Type 0 where
@@ -63,6 +64,7 @@ pub record MayRenew (g : Geometry) (holds : ℕ → Hold) (block : ℕ) (bytes :
   pub early : until < 2 ^ 49 → next < 2 ^ 49
   pub guarded : guard ≡ until
 
+-- a release of a lease that is held
 pub record MayRelease (g : Geometry) (holds : ℕ → Hold) (block : ℕ) (bytes : List ℕ) (guard : ℕ) : Type 0 where
   pub lease : ℕ
   pub claim : Claim
@@ -80,10 +82,12 @@ pub record IsGranted (holds : ℕ → Hold) (lease guard : ℕ) : Type 0 where
   pub hold : holds (lease_at lease) ≡ Held claim until
   pub guarded : guard ≤ until
 
+-- such a write is where its kind may be
 pub record MayUse (g : Geometry) (holds : ℕ → Hold) (kind : WriteKind) (block : ℕ) (bytes : List ℕ) (guard : ℕ) : Type 0 where
   pub placed : IsPlaced g kind block bytes
   pub grants : (lease : ℕ) → lease < lease_count g → Needs g kind block lease → IsGranted holds lease guard
 
+-- a write is allowed, by its kind
 abbrev pub MayAsk : Geometry → ℕ → (ℕ → Hold) → WriteKind → ℕ → List ℕ → ℕ → Type 0
 MayAsk g boot holds kind.Claim block bytes guard = MayClaim g boot holds block bytes guard
 MayAsk g boot holds kind.Renew block bytes guard = MayRenew g holds block bytes guard
@@ -114,6 +118,7 @@ Lawful At g boot holds sample (UntilThen from rest) =
 abbrev pub LawfulRest : {E : Type 0} → Geometry → ℕ → (ℕ → Hold) → Option ℕ → Part E → Type 0
 LawfulRest g boot holds sample part = Lawful (λ end held last. Unit {0}) g boot holds sample part
 
+-- the place of a boot
 abbrev pub LawfulAt : Geometry → ℕ → (ℕ → Hold) → Option ℕ → Place → Type 0
 LawfulAt g boot holds sample (Idle known) = Unit {0}
 LawfulAt g boot holds sample (Begins known command) = IsWellFormed command
@@ -121,20 +126,24 @@ LawfulAt g boot holds sample (In known command part) = LawfulRest g boot holds s
 
 -- ---- the writes that may still change something under a lease
 
+-- the write may still change something: of a renewal and a release the first sector alone does
 abbrev pub Unlanded : WriteKind → List Bool → Type 0
 Unlanded kind.Renew landed = slice_get landed 0 ≡ Some false
 Unlanded kind.Release landed = slice_get landed 0 ≡ Some false
 Unlanded other landed = landed ≢ all_sectors
 
+-- an open write: it needs the lease, may still change something, and isn't too late to land
 pub record IsOpen (g : Geometry) (time : ℕ) (writes : List Issued) (lease number : ℕ) (write : Issued) : Type 0 where
   pub found : slice_get writes number ≡ Some write
   pub needs : Needs g write.kind write.block lease
   pub missing : Unlanded write.kind write.landed
   pub live : time ≤ write.guard + 50
 
+-- no write is open
 abbrev pub NoneOpen : Geometry → ℕ → List Issued → ℕ → Type 0
 NoneOpen g time writes lease = (number : ℕ) (write : Issued) → IsOpen g time writes lease number write → ⊥
 
+-- only the write that a boot waits for is open
 abbrev pub OpenOnly : Geometry → ℕ → List Issued → ℕ → Option ℕ → Type 0
 OpenOnly g time writes lease pending = (number : ℕ) (write : Issued) → IsOpen g time writes lease number write → pending ≡ Some number
 
@@ -144,6 +153,7 @@ IsOfKind kind.Renew claim until guard bytes = (guard ≡ until) × ((next : ℕ)
 IsOfKind kind.Release claim until guard bytes = (guard ≡ until) × (bytes ≡ lease_bytes Free)
 IsOfKind other claim until guard bytes = Unit {0}
 
+-- the record on the device is a claim of the write's owner, which has waited and doesn't end before the guard
 pub record IsBacked (time : ℕ) (standing : LeaseRecord) (write : Issued) : Type 0 where
   pub claim : Claim
   pub until : ℕ
@@ -160,16 +170,18 @@ abbrev pub Clear : LeaseRecord → ℕ → Type 0
 Clear Free sample = Unit {0}
 Clear (Claimed claim until) sample = (until + 100 < sample) ⊎ (sample ≤ claim.sample + 300)
 
+-- a claim with this sample may still be written, or land
 pub record Waits (time : ℕ) (standing : LeaseRecord) (sample : ℕ) : Type 0 where
   pub sampled : sample ≤ time + 50
   pub clear : Clear standing sample
 
+-- a write that is a claim
 pub record IsClaiming (time : ℕ) (standing : LeaseRecord) (write : Issued) : Type 0 where
   pub claim : Claim
-  pub spells : write.bytes ≡ lease_bytes (Claimed claim (claim.sample + 10000))
-  pub limits : IsClaimed claim (claim.sample + 10000)
+  pub spells : write.bytes ≡ lease_bytes (Claimed claim (claim.sample + term))
+  pub limits : IsClaimed claim (claim.sample + term)
   pub owner : claim.boot.0 ≡ write.owner
-  pub guarded : write.guard ≡ claim.sample + 200
+  pub guarded : write.guard ≡ claim.sample + window
   pub waits : slice_get write.landed 0 ≡ Some false → time ≤ write.guard + 50 → Waits time standing claim.sample
 
 -- ---- what a boot holds
@@ -179,13 +191,15 @@ abbrev pub Mine : Geometry → ℕ → List Issued → ℕ → LeaseRecord → �
 Mine g time writes lease standing boot sample =
     (claim : Claim) (until : ℕ) → standing ≡ Claimed claim until → claim.boot.0 ≡ boot → claim.sample ≡ sample → NoneOpen g time writes lease
 
+-- a lease was seen to be free or expired
 pub record IsSeen (g : Geometry) (time : ℕ) (writes : List Issued) (lease : ℕ) (standing : LeaseRecord) (boot sample : ℕ) : Type 0 where
   pub waits : Waits time standing sample
   pub mine : Mine g time writes lease standing boot sample
 
+-- a claim was written
 pub record IsWritten (g : Geometry) (time : ℕ) (writes : List Issued) (lease : ℕ) (standing : LeaseRecord) (boot : ℕ) (claim : Claim) (until : ℕ) : Type 0 where
   pub own : claim.boot.0 ≡ boot
-  pub ends : until ≡ claim.sample + 10000
+  pub ends : until ≡ claim.sample + term
   pub limits : IsClaimed claim until
   pub mine : Mine g time writes lease standing boot claim.sample
 
@@ -197,6 +211,7 @@ pub record IsHeld (g : Geometry) (time : ℕ) (writes : List Issued) (lease : �
   pub there : time ≤ until + 50 → standing ≡ Claimed claim until
   pub only : time ≤ until + 50 → OpenOnly g time writes lease pending
 
+-- what a boot holds is right
 abbrev pub Good : Geometry → ℕ → List Issued → ℕ → LeaseRecord → ℕ → Option ℕ → Hold → Type 0
 Good g time writes lease standing boot pending Nothing = Unit {0}
 Good g time writes lease standing boot pending (Seen sample) = IsSeen g time writes lease standing boot sample
@@ -210,6 +225,7 @@ grip_while kind.Release true true bytes hold = Nothing
 grip_while kind.Renew true true bytes hold = renewed (read_lease bytes)
 grip_while kind same landed bytes hold = hold
 
+-- the same, at its place
 abbrev pub grip_at : Place → Option Issued → ℕ → Hold → Hold
 grip_at (In known command (WriteThen kind block bytes guard done fault missed)) pending lease hold =
     grip_while kind (lease == block) (first_landed pending) bytes hold
@@ -220,10 +236,12 @@ abbrev pub GoodAt : Geometry → ℕ → List Issued → ℕ → LeaseRecord →
 GoodAt g time writes lease standing boot pending p =
     Good g time writes lease standing boot pending (grip_at p.place (pending_write writes pending) (lease_at lease) (p.holds (lease_at lease)))
 
+-- the same, of an appliance
 abbrev pub GoodSeat : Geometry → ℕ → List Issued → ℕ → LeaseRecord → ℕ → Seat → Type 0
 GoodSeat g time writes lease standing appliance seat =
     GoodAt g time writes lease standing (boot_number appliance seat.boots) seat.pending (position (setting_at g appliance seat.boots) seat.log)
 
+-- all that holds of one lease
 pub record LeaseOn (g : Geometry) (appliances time : ℕ) (device : Device) (writes : List Issued) (seats : ℕ → Seat) (lease : ℕ) : Type 0 where
   pub standing : LeaseRecord
   pub limits : IsLease standing
@@ -235,6 +253,7 @@ pub record LeaseOn (g : Geometry) (appliances time : ℕ) (device : Device) (wri
 
 -- ---- what holds of each write and each boot
 
+-- an issued write
 pub record IsRight (g : Geometry) (write : Issued) : Type 0 where
   pub placed : IsPlaced g write.kind write.block write.bytes
   pub flags : length write.landed ≡ 8
@@ -247,6 +266,7 @@ IsAskedAt (In known command (WriteThen kind block bytes guard done fault missed)
     (write.kind ≡ kind) × (write.block ≡ block) × (write.bytes ≡ bytes) × (write.guard ≡ guard) × (write.owner ≡ boot)
 IsAskedAt other boot write = ⊥
 
+-- an appliance
 pub record IsSeat (g : Geometry) (time : ℕ) (writes : List Issued) (appliance : ℕ) (seat : Seat) : Type 0 where
   pub boots : seat.boots < 2 ^ 32
   pub lawful : LawfulAt g (boot_number appliance seat.boots) (position (setting_at g appliance seat.boots) seat.log).holds
@@ -255,6 +275,7 @@ pub record IsSeat (g : Geometry) (time : ℕ) (writes : List Issued) (appliance 
   pub asked : (number : ℕ) → seat.pending ≡ Some number →
       (write : Issued) × (slice_get writes number ≡ Some write) × IsAskedAt (position (setting_at g appliance seat.boots) seat.log).place (boot_number appliance seat.boots) write
 
+-- all that holds of a world
 pub record Leased (w : World) : Type 0 where
   pub geometry : IsGeometry w.geometry
   pub few : w.appliances ≤ 8

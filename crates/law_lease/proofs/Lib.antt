@@ -10,3 +10,5 @@ pub mod Lists
 pub mod Owners
 pub mod Runs
 pub mod Stages
+pub mod FirstDevice
+pub mod Witness

@@ -52,6 +52,7 @@ owner-held w leased a lease within below owns =
     subst P (grip-held (stands w a).place (pending_write w.surface.writes (w.seats a).pending) (lease_at lease) ((stands w a).holds (lease_at lease))
     owns.claim owns.until owns.held) ((leased.on lease within).each a below)
 
+-- two owners are one
 pub exclusion : Exclusion
 exclusion w reached a b lease one other owns owns' =
     let leased = reached-leased reached in
@@ -69,6 +70,7 @@ exclusion w reached a b lease one other owns owns' =
 put-nothing : (device : Device) (block : ℕ) (bytes : List ℕ) → bytes ≡ device block → (b : ℕ) → put device block bytes b ≡ device b
 put-nothing device block bytes same b = ap (λ (x : List ℕ). put device block x b) same ∙ put-again device block b
 
+-- a write that needs a lease changes nothing under another owner
 pub guarding : Guarding
 guarding w reached number sector write lease b within needs may below owns apart block =
     by_kind write.kind refl sector refl

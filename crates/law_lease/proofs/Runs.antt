@@ -69,6 +69,7 @@ runs-reached : {w : World} → Reached w → (b : ℕ) → b < w.appliances → 
 runs-reached (world.first geometry some few formatted) = λ b below. boot.empty
 runs-reached (world.later reached step) = runs-step step (reached-leased reached) (runs-reached reached)
 
+-- in every world that events lead to
 pub boots-run : BootsRun
 boots-run w reached = runs-reached reached
 
@@ -210,6 +211,7 @@ module _ (w : World) (leased : Leased w) (appliance : ApplianceNo) (below : appl
       same-possible one (event.Reading appliance w.surface.time) next (_, world.begins {reading = w.surface.time} known command below here now)
   place-possible (In known command part) here one next = part-possible known command part here one next
 
+-- a run is never stuck
 pub runs-go_on : RunsGoOn
 runs-go_on w reached appliance stop one next below =
     by_stop (stops w.geometry stop (w.seats appliance.0).pending (stands w appliance.0).place) next
@@ -247,5 +249,6 @@ plays-partly play.over reached = reached
 plays-partly (play.within makes) reached = makes-partly makes reached
 plays-partly (play.next played rest) reached = plays-partly rest (played-to played reached)
 
+-- and what is played is reached
 pub played-reached : PlayedIsReached
 played-reached w v events reached plays = plays-partly plays reached

@@ -1,43 +1,123 @@
 -- Worlds on the way to an example: what is known of one is enough to make the next step.
-use Rattle.std.proofs.Common.{◌≡◌, ◌≢◌, ℕ, zero, suc, ◌+◌, ◌*◌, ◌^◌, ◌≤◌, ◌<◌, List, [], ◌∷◌, ◌++◌, length, Bool, true, false, Option, Some, None, refl, ap, sym, subst, ◌∙◌, arith, slice_set}
+use Rattle.std.proofs.Common.{◌≡◌, ◌≢◌, ℕ, zero, suc, ◌+◌, ◌^◌, ◌≤◌, ◌<◌, List, [], ◌∷◌, ◌++◌, length, Bool, true, false, Option, Some, None, refl, ap, sym, subst, ◌∙◌, arith, slice_set, inl, inr}
 use Rattle.std.specs.Prelude.{slice_get, drop}
+use Rattle.std.proofs.lemmas.Bool.Decides.{eqb_tells}
 use Rattle.plx_base.proofs.Devices.{put-same, put-other, put-all}
 use Rattle.plx_base.proofs.Mixed.{mixed-landed, mixed-none, mixed-all}
 use Rattle.plx_base.specs.Sectors.{Device, put, landed, mixed}
 use Rattle.plx_base.specs.declared.numbers.ApplianceNo.{ApplianceNo}
 use Rattle.plx_base.specs.declared.write_kind.WriteKind.{WriteKind}
+use Rattle.plx_base.specs.declared.write_kind.WriteKind.TheVariants as kind
 use Rattle.plx_commands.proofs.Places.{at-all, at-same, at-other}
 use Rattle.plx_commands.specs.Places.{at}
 use Rattle.plx_commands.specs.declared.command.Command.{Command}
+use Rattle.plx_commands.specs.declared.reply.Reply.{Reply}
+use Rattle.plx_commands.specs.declared.reply.Reply.TheVariants as reply
 use Rattle.plx_commands.specs.declared.entry.Entry.{Entry}
 use Rattle.plx_commands.specs.declared.entry.Entry.TheVariants as entry
 use Rattle.plx_commands.specs.declared.event.Event.{Event}
 use Rattle.plx_commands.specs.declared.event.Event.TheVariants as event
 use Rattle.plx_disk.proofs.Lists.{set-same, push-last}
-use Rattle.plx_disk.specs.Writes.{Issued, fresh_write, all_sectors, no_sectors, after_landing, passed, with_sector}
+use Rattle.plx_disk.specs.Writes.{Issued, all_sectors, no_sectors}
 use Rattle.plx_disk.specs.declared.ask.Ask.{Ask}
 use Rattle.plx_disk.specs.declared.ask.Ask.TheVariants as ask
 use Rattle.plx_disk.specs.declared.ask.Answer.{Answer}
 use Rattle.plx_disk.specs.declared.ask.Answer.TheVariants as answer
 use Rattle.plx_geom.specs.Geometry.{Geometry, block_count}
-use Rattle.plx_rules.specs.Part.{Part, Ends, ReadThen, WriteThen, ClockThen, UntilThen}
-use Rattle.plx_worlds.specs.Boot.{Happening, Began, Asked, Place, Idle, Begins, In, Position, position, begun, went_on}
+use Rattle.plx_rules.specs.Part.{Part, Ends, ReadThen, WriteThen, ClockThen, UntilThen, answered}
+use Rattle.plx_worlds.specs.Boot.{Happening, Began, Asked, Place, Idle, Begins, In, Position, position, begun, went_on, goes_to, after_part, place_of}
 use Rattle.plx_worlds.specs.Commands.{IsBuilt, IsWellFormed, command_part}
 use Rattle.plx_worlds.specs.Ends.{End}
-use Rattle.plx_worlds.specs.Holds.{after_first}
+use Rattle.plx_worlds.specs.Holds.{Hold, shown, after_answer, after_write, after_reply, after_first, first_hold, session_at, sample_of}
 use Rattle.plx_worlds.specs.Session.{Known}
-use Rattle.plx_worlds.specs.Settings.{Setting, boot_number}
+use Rattle.plx_worlds.specs.Settings.{boot_number}
 use Rattle.plx_worlds.specs.World as world
 use Rattle.plx_worlds.specs.World.{World, Seat, Step, Reached, IsReading, IsBack, setting_at, setting_of, stands, told, with_happening, goes_on, with_surface, after_start, after_issue, issued_by, is_boot_of}
 use Rattle.law_lease.proofs.LeaseSteps.{reached-leased}
 use Rattle.law_lease.proofs.Runs.{own-boot}
+
+-- of what a boot holds: what it holds of one lease, its last reading, and where it stands
+pub record Spot : Type 0 where
+  pub hold : Hold
+  pub sample : Option ℕ
+  pub place : Place
+
+-- a position of which this is known, of the lease in that block
+pub record IsSpot (lease : ℕ) (q : Position) (r : Spot) : Type 0 where
+  pub hold : q.holds lease ≡ r.hold
+  pub sample : q.sample ≡ r.sample
+  pub place : q.place ≡ r.place
+
+-- an answer moves what is held of a lease by that alone
+answer-alone : (lease : ℕ) (sample : Option ℕ) (asked : Ask) (bytes : List ℕ) (ans : Answer) (holds : ℕ → Hold) →
+    after_answer sample asked bytes ans holds lease ≡ after_answer sample asked bytes ans (λ b. holds lease) lease
+answer-alone lease sample (ask.Read block) bytes (answer.Bytes found) holds = elim (eqb_tells lease block.0) [
+  | inl same ↦
+      let P : ℕ → Type 0 = λ n. at holds n (shown sample found (holds n)) lease ≡ at (λ b. holds lease) n (shown sample found (holds lease)) lease in
+      subst P same.1 (at-same holds lease (shown sample found (holds lease)) ∙ sym (at-same (λ b. holds lease) lease (shown sample found (holds lease))))
+  | inr away ↦ at-other holds block.0 lease (shown sample found (holds block.0)) away.1 ∙ sym (at-other (λ b. holds lease) block.0 lease (shown sample found (holds lease)) away.1)
+]
+answer-alone lease sample (ask.Write what block guard) bytes answer.Done holds = write-alone what block.0
+  where
+    at-alone : (block : ℕ) (h : Hold) → at holds block h lease ≡ at (λ b. holds lease) block h lease
+    at-alone block h = elim (eqb_tells lease block) [
+      | inl same ↦ subst (λ (n : ℕ). at holds n h lease ≡ at (λ b. holds lease) n h lease) same.1 (at-same holds lease h ∙ sym (at-same (λ b. holds lease) lease h))
+      | inr away ↦ at-other holds block lease h away.1 ∙ sym (at-other (λ b. holds lease) block lease h away.1)
+    ]
+
+    write-alone : (what : WriteKind) (block : ℕ) → after_write what block bytes holds lease ≡ after_write what block bytes (λ b. holds lease) lease
+    write-alone kind.Claim block = at-alone block _
+    write-alone kind.Renew block = at-alone block _
+    write-alone kind.Release block = at-alone block _
+    write-alone other block = refl
+answer-alone lease sample (ask.Read block) bytes answer.Done holds = refl
+answer-alone lease sample (ask.Read block) bytes (answer.Reading reading) holds = refl
+answer-alone lease sample (ask.Read block) bytes (answer.Missed reading) holds = refl
+answer-alone lease sample (ask.Read block) bytes answer.Fault holds = refl
+answer-alone lease sample (ask.Write what block guard) bytes (answer.Bytes found) holds = refl
+answer-alone lease sample (ask.Write what block guard) bytes (answer.Reading reading) holds = refl
+answer-alone lease sample (ask.Write what block guard) bytes (answer.Missed reading) holds = refl
+answer-alone lease sample (ask.Write what block guard) bytes answer.Fault holds = refl
+answer-alone lease sample ask.Clock bytes (answer.Bytes found) holds = refl
+answer-alone lease sample ask.Clock bytes answer.Done holds = refl
+answer-alone lease sample ask.Clock bytes (answer.Reading reading) holds = refl
+answer-alone lease sample ask.Clock bytes (answer.Missed reading) holds = refl
+answer-alone lease sample ask.Clock bytes answer.Fault holds = refl
+answer-alone lease sample (ask.Until from) bytes (answer.Bytes found) holds = refl
+answer-alone lease sample (ask.Until from) bytes answer.Done holds = refl
+answer-alone lease sample (ask.Until from) bytes (answer.Reading reading) holds = refl
+answer-alone lease sample (ask.Until from) bytes (answer.Missed reading) holds = refl
+answer-alone lease sample (ask.Until from) bytes answer.Fault holds = refl
+
+-- and so does a reply
+part-alone : (lease : ℕ) (part : Part End) (holds : ℕ → Hold) → after_part part holds lease ≡ after_part part (λ b. holds lease) lease
+part-alone lease (Ends end) holds = reply-alone end.reply
+  where
+    reply-alone : (r : Reply) → after_reply r holds lease ≡ after_reply r (λ b. holds lease) lease
+    reply-alone (reply.Lost name until reading) = refl
+    reply-alone other = refl
+part-alone lease (ReadThen block rest fault) holds = refl
+part-alone lease (WriteThen what block bytes guard done fault missed) holds = refl
+part-alone lease (ClockThen rest) holds = refl
+part-alone lease (UntilThen from rest) holds = refl
+
+-- what is held of the lease after an answer that leads to this rest
+abbrev pub hold_next : (lease : ℕ) → Spot → Ask → List ℕ → Answer → Part End → Hold
+hold_next lease r asked bytes ans rest = after_part rest (λ b. after_answer r.sample asked bytes ans (λ c. r.hold) lease) lease
+
+next-holds : (lease : ℕ) (q : Position) (r : Spot) → IsSpot lease q r → (asked : Ask) (bytes : List ℕ) (ans : Answer) (rest : Part End) →
+    after_part rest (after_answer q.sample asked bytes ans q.holds) lease ≡ hold_next lease r asked bytes ans rest
+next-holds lease q r is asked bytes ans rest =
+    part-alone lease rest (after_answer q.sample asked bytes ans q.holds)
+    ∙ ((λ i. after_part rest (λ b. answer-alone lease q.sample asked bytes ans q.holds i) lease)
+    ∙ (λ i. after_part rest (λ b. after_answer (is.sample i) asked bytes ans (λ c. is.hold i) lease) lease))
 
 -- eight flags, of which the first ones are set
 abbrev first_flags : ℕ → List Bool
 first_flags zero = no_sectors
 first_flags (suc k) = slice_set (first_flags k) k true
 
-module _ (g : Geometry) (appliances : ℕ) (few : appliances ≤ 8) where
+module _ (g : Geometry) (appliances : ℕ) (few : appliances ≤ 8) (lease : ℕ) where
   -- a world of this geometry
   abbrev pub world_at : (time : ℕ) → Device → List Issued → (ℕ → Seat) → List Entry → List Event → World
   world_at time device writes seats trace history = record {
@@ -49,38 +129,24 @@ module _ (g : Geometry) (appliances : ℕ) (few : appliances ≤ 8) where
     history = history;
   }
 
+  -- where an appliance stands in its boot
+  abbrev place_in : ℕ → Seat → Position
+  place_in b seat = position (setting_at g b seat.boots) seat.log
+
   -- a world that is reached at this time, with this device and this trace, in which each appliance stands so in its first boot and waits for no write
-  pub record Stage (t : ℕ) (d : Device) (p : ℕ → Position) (tr : List Entry) : Type 0 where
+  pub record Stage (t : ℕ) (d : Device) (p : ℕ → Spot) (tr : List Entry) : Type 0 where
     pub device : Device
     pub writes : List Issued
     pub seats : ℕ → Seat
     pub history : List Event
     pub reached : Reached (world_at t device writes seats tr history)
     pub same : (b : ℕ) → device b ≡ d b
-    pub places : (b : ℕ) → position (setting_at g b (seats b).boots) (seats b).log ≡ p b
+    pub places : (b : ℕ) → IsSpot lease (place_in b (seats b)) (p b)
     pub free : (b : ℕ) → (seats b).pending ≡ None
     pub boots : (b : ℕ) → (seats b).boots ≡ 0
 
-  -- the first boot of an appliance
-  abbrev pub first_setting : ApplianceNo → Setting
-  first_setting a = setting_at g a.0 0
-
-  -- the device is the same in other words
-  pub with-device : {t : ℕ} {d : Device} {p : ℕ → Position} {tr : List Entry} → Stage t d p tr → (e : Device) → ((b : ℕ) → d b ≡ e b) → Stage t e p tr
-  with-device st e same = record {
-    device = st.device;
-    writes = st.writes;
-    seats = st.seats;
-    history = st.history;
-    reached = st.reached;
-    same = λ b. st.same b ∙ same b;
-    places = st.places;
-    free = st.free;
-    boots = st.boots;
-  }
-
   -- time passes
-  pub ticked : {t : ℕ} {d : Device} {p : ℕ → Position} {tr : List Entry} → Stage t d p tr → (by : ℕ) → t + by < 2 ^ 47 → Stage (t + by) d p tr
+  pub ticked : {t : ℕ} {d : Device} {p : ℕ → Spot} {tr : List Entry} → Stage t d p tr → (by : ℕ) → t + by < 2 ^ 47 → Stage (t + by) d p tr
   ticked st by soon = record {
     device = st.device;
     writes = st.writes;
@@ -93,84 +159,121 @@ module _ (g : Geometry) (appliances : ℕ) (few : appliances ≤ 8) where
     boots = st.boots;
   }
 
-  module _ {t : ℕ} {d : Device} {p : ℕ → Position} {tr : List Entry} (st : Stage t d p tr) (a : ApplianceNo) (below : a.0 < appliances) where
+  module _ {t : ℕ} {d : Device} {p : ℕ → Spot} {tr : List Entry} (st : Stage t d p tr) (a : ApplianceNo) (below : a.0 < appliances) where
     abbrev w : World
     w = world_at t st.device st.writes st.seats tr st.history
+
+    abbrev r : Spot
+    r = p a.0
 
     now : IsReading t t
     now = record { early = omega arith; late = omega arith }
 
-    stands-at : (place : Place) → (p a.0).place ≡ place → (stands w a.0).place ≡ place
-    stands-at place here = ap (λ (q : Position). q.place) (st.places a.0) ∙ here
+    stands-at : (place : Place) → r.place ≡ place → (stands w a.0).place ≡ place
+    stands-at place here = (st.places a.0).place ∙ here
 
-    -- an ask is answered
-    go : (one : Event) (asked : Ask) (bytes : List ℕ) (ans : Answer) (rest : Part End) (q : Position) → Step w one (goes_on w one a asked bytes ans rest) →
-        went_on (first_setting a) asked bytes ans (p a.0) (p a.0).place ≡ q → Stage t d (at p a.0 q) (told a rest tr)
-    go one asked bytes ans rest q step leads = record {
+    -- something happens to the appliance
+    go : (happening : Happening) (history : List Event) (trace : List Entry) (q : Spot) →
+        Reached (world_at t st.device st.writes (at st.seats a.0 (with_happening (st.seats a.0) happening)) trace history) →
+        IsSpot lease (place_in a.0 (with_happening (st.seats a.0) happening)) q → Stage t d (at p a.0 q) trace
+    go happening history trace q reached is = record {
       device = st.device;
       writes = st.writes;
-      seats = at st.seats a.0 (with_happening (st.seats a.0) (Asked asked bytes ans));
-      history = one ∷ st.history;
-      reached = world.later st.reached step;
+      seats = at st.seats a.0 (with_happening (st.seats a.0) happening);
+      history = history;
+      reached = reached;
       same = st.same;
-      places = at-all (λ b s. position (setting_at g b s.boots) s.log ≡ at p a.0 q b) st.seats a.0 _
-          ((λ i. went_on (setting_at g a.0 (st.boots a.0 i)) asked bytes ans (st.places a.0 i) (st.places a.0 i).place) ∙ (leads ∙ sym (at-same p a.0 q)))
-          (λ b ne. st.places b ∙ sym (at-other p a.0 b q ne));
+      places = at-all (λ b s. IsSpot lease (place_in b s) (at p a.0 q b)) st.seats a.0 _
+          (subst (λ (x : Spot). IsSpot lease (place_in a.0 (with_happening (st.seats a.0) happening)) x) (sym (at-same p a.0 q)) is)
+          (λ b ne. subst (λ (x : Spot). IsSpot lease (place_in b (st.seats b)) x) (sym (at-other p a.0 b q ne)) (st.places b));
       free = at-all (λ b s. s.pending ≡ None) st.seats a.0 _ refl (λ b ne. st.free b);
       boots = at-all (λ b s. s.boots ≡ 0) st.seats a.0 _ (st.boots a.0) (λ b ne. st.boots b);
     }
+
+    -- where an answered ask leads
+    abbrev pub spot_next : Known → Command → Hold → Answer → Part End → Spot
+    spot_next known command hold ans rest = record { hold = hold; sample = sample_of ans; place = place_of known command rest }
+
+    spot-next : (known : Known) (command : Command) (part : Part End) → r.place ≡ In known command part → (asked : Ask) (bytes : List ℕ) (ans : Answer) (rest : Part End) → answered part ans ≡ rest →
+        (hold : Hold) → hold_next lease r asked bytes ans rest ≡ hold → (seat : Seat) → IsSpot lease (place_in a.0 seat) r →
+        IsSpot lease (place_in a.0 (with_happening seat (Asked asked bytes ans))) (spot_next known command hold ans rest)
+    spot-next known command part here asked bytes ans rest leads hold held seat is =
+        let q : Position = place_in a.0 seat in
+        let e : place_in a.0 (with_happening seat (Asked asked bytes ans)) ≡ goes_to known command (after_answer q.sample asked bytes ans q.holds) (sample_of ans) rest =
+        ap (went_on (setting_at g a.0 seat.boots) asked bytes ans q) (is.place ∙ here)
+        ∙ ap (goes_to known command (after_answer q.sample asked bytes ans q.holds) (sample_of ans)) leads in
+        subst (λ (x : Position). IsSpot lease x (spot_next known command hold ans rest)) (sym e) (record {
+          hold = next-holds lease q r is asked bytes ans rest ∙ held;
+          sample = refl;
+          place = refl;
+        })
+
+    -- an ask of a command is answered
+    go-in : (known : Known) (command : Command) (part : Part End) → r.place ≡ In known command part → (one : Event) (asked : Ask) (bytes : List ℕ) (ans : Answer) (rest : Part End) →
+        answered part ans ≡ rest → (hold : Hold) → hold_next lease r asked bytes ans rest ≡ hold → Step w one (goes_on w one a asked bytes ans (answered part ans)) →
+        Stage t d (at p a.0 (spot_next known command hold ans rest)) (told a rest tr)
+    go-in known command part here one asked bytes ans rest leads hold held step =
+        go (Asked asked bytes ans) (one ∷ st.history) (told a rest tr) _
+        (world.later st.reached (subst (λ (x : Part End). Step w one (goes_on w one a asked bytes ans x)) leads step))
+        (spot-next known command part here asked bytes ans rest leads hold held (st.seats a.0) (st.places a.0))
 
     -- the clock answers
-    pub clocked : (known : Known) (command : Command) (rest : ℕ → Part End) → (p a.0).place ≡ In known command (ClockThen rest) → (q : Position) →
-        went_on (first_setting a) ask.Clock [] (answer.Reading t) (p a.0) (p a.0).place ≡ q → Stage t d (at p a.0 q) (told a (rest t) tr)
-    clocked known command rest here q leads =
-        go (event.Reading a t) ask.Clock [] (answer.Reading t) (rest t) q (world.clocks {reading = t} known command rest below (stands-at _ here) now) leads
+    pub clocked : (known : Known) (command : Command) (next : ℕ → Part End) → r.place ≡ In known command (ClockThen next) → (rest : Part End) → next t ≡ rest →
+        (hold : Hold) → hold_next lease r ask.Clock [] (answer.Reading t) rest ≡ hold → Stage t d (at p a.0 (spot_next known command hold (answer.Reading t) rest)) (told a rest tr)
+    clocked known command next here rest is hold held =
+        go-in known command (ClockThen next) here (event.Reading a t) ask.Clock [] (answer.Reading t) rest is hold held
+        (world.clocks {reading = t} known command next below (stands-at _ here) now)
 
     -- a wait is over
-    pub waited : (known : Known) (command : Command) (from : ℕ) (rest : ℕ → Part End) → (p a.0).place ≡ In known command (UntilThen from rest) → from ≤ t → (q : Position) →
-        went_on (first_setting a) (ask.Until from) [] (answer.Reading t) (p a.0) (p a.0).place ≡ q → Stage t d (at p a.0 q) (told a (rest t) tr)
-    waited known command from rest here past q leads =
-        go (event.Reading a t) (ask.Until from) [] (answer.Reading t) (rest t) q (world.waits {reading = t} known command from rest below (stands-at _ here) now past) leads
+    pub waited : (known : Known) (command : Command) (from : ℕ) (next : ℕ → Part End) → r.place ≡ In known command (UntilThen from next) → from ≤ t → (rest : Part End) → next t ≡ rest →
+        (hold : Hold) → hold_next lease r (ask.Until from) [] (answer.Reading t) rest ≡ hold → Stage t d (at p a.0 (spot_next known command hold (answer.Reading t) rest)) (told a rest tr)
+    waited known command from next here past rest is hold held =
+        go-in known command (UntilThen from next) here (event.Reading a t) (ask.Until from) [] (answer.Reading t) rest is hold held
+        (world.waits {reading = t} known command from next below (stands-at _ here) now past)
 
     -- a read is answered
-    pub read : (known : Known) (command : Command) (block : ℕ) (rest : List ℕ → Part End) (fault : Part End) → (p a.0).place ≡ In known command (ReadThen block rest fault) →
-        (found : List ℕ) → d block ≡ found → (q : Position) →
-        went_on (first_setting a) (ask.Read (record { 0 = block })) [] (answer.Bytes found) (p a.0) (p a.0).place ≡ q → Stage t d (at p a.0 q) (told a (rest found) tr)
-    read known command block rest fault here found is q leads =
-        let P : List ℕ → Type 0 = λ bytes. Step w (event.Read a) (goes_on w (event.Read a) a (ask.Read (record { 0 = block })) [] (answer.Bytes bytes) (rest bytes)) in
-        go (event.Read a) (ask.Read (record { 0 = block })) [] (answer.Bytes found) (rest found) q
-        (subst P (st.same block ∙ is) (world.reads known command block rest fault below (stands-at _ here))) leads
+    pub read : (known : Known) (command : Command) (block : ℕ) (next : List ℕ → Part End) (fault : Part End) → r.place ≡ In known command (ReadThen block next fault) →
+        (found : List ℕ) → d block ≡ found → (rest : Part End) → next found ≡ rest →
+        (hold : Hold) → hold_next lease r (ask.Read (record { 0 = block })) [] (answer.Bytes found) rest ≡ hold →
+        Stage t d (at p a.0 (spot_next known command hold (answer.Bytes found) rest)) (told a rest tr)
+    read known command block next fault here found there rest is hold held =
+        let P : List ℕ → Type 0 = λ bytes. Step w (event.Read a) (goes_on w (event.Read a) a (ask.Read (record { 0 = block })) [] (answer.Bytes bytes) (next bytes)) in
+        go-in known command (ReadThen block next fault) here (event.Read a) (ask.Read (record { 0 = block })) [] (answer.Bytes found) rest is hold held
+        (subst P (st.same block ∙ there) (world.reads known command block next fault below (stands-at _ here)))
 
-    -- a command begins, and its first reading comes
-    pub begun-at : (known : Known) (command : Command) → (p a.0).place ≡ Idle known → IsWellFormed command → IsBuilt command → (q : Position) →
-        record { holds = (p a.0).holds; sample = None; place = begun command (p a.0).place } ≡ q → Stage t d (at p a.0 q) (entry.Start a command ∷ tr)
-    begun-at known command here whole built q leads = record {
-      device = st.device;
-      writes = st.writes;
-      seats = at st.seats a.0 (with_happening (st.seats a.0) (Began command));
-      history = event.Start a command ∷ st.history;
-      reached = world.later st.reached (world.starts known below (stands-at _ here) whole built);
-      same = st.same;
-      places = at-all (λ b s. position (setting_at g b s.boots) s.log ≡ at p a.0 q b) st.seats a.0 _
-          ((λ i. record { holds = (st.places a.0 i).holds; sample = None; place = begun command (st.places a.0 i).place }) ∙ (leads ∙ sym (at-same p a.0 q)))
-          (λ b ne. st.places b ∙ sym (at-other p a.0 b q ne));
-      free = at-all (λ b s. s.pending ≡ None) st.seats a.0 _ refl (λ b ne. st.free b);
-      boots = at-all (λ b s. s.boots ≡ 0) st.seats a.0 _ (st.boots a.0) (λ b ne. st.boots b);
-    }
+    -- a command begins
+    pub starts-now : (known : Known) (command : Command) → r.place ≡ Idle known → IsWellFormed command → IsBuilt command →
+        Stage t d (at p a.0 (record { hold = r.hold; sample = None; place = Begins known command })) (entry.Start a command ∷ tr)
+    starts-now known command here whole built =
+        go (Began command) (event.Start a command ∷ st.history) (entry.Start a command ∷ tr) _
+        (world.later st.reached (world.starts known below (stands-at _ here) whole built))
+        (record { hold = (st.places a.0).hold; sample = refl; place = ap (begun command) (stands-at _ here) })
 
-    pub first-reading : (known : Known) (command : Command) → (p a.0).place ≡ Begins known command → (q : Position) →
-        went_on (first_setting a) ask.Clock [] (answer.Reading t) (p a.0) (p a.0).place ≡ q →
-        Stage t d (at p a.0 q) (told a (command_part (first_setting a) known (after_first g known t (p a.0).holds) t command) tr)
-    first-reading known command here q leads =
-        let rest : (boots : ℕ) → Position → Part End = λ boots r. command_part (setting_at g a.0 boots) known (after_first g known t r.holds) t command in
-        let is : rest (st.seats a.0).boots (stands w a.0) ≡ rest 0 (p a.0) = λ i. rest (st.boots a.0 i) (st.places a.0 i) in
-        let P : Part End → Type 0 = λ part. Step w (event.Reading a t) (goes_on w (event.Reading a t) a ask.Clock [] (answer.Reading t) part) in
-        go (event.Reading a t) ask.Clock [] (answer.Reading t) (rest 0 (p a.0)) q
-        (subst P is (world.begins {reading = t} known command below (stands-at _ here) now)) leads
+    -- and its first reading comes: what it asks goes by what is held of the lease
+    pub first-reading : (known : Known) (command : Command) → r.place ≡ Begins known command → (rest : Part End) →
+        ((holds : ℕ → Hold) → holds lease ≡ r.hold → command_part (setting_at g a.0 0) known (after_first g known t holds) t command ≡ rest) →
+        (hold : Hold) → after_part rest (λ b. after_first g known t (λ c. r.hold) lease) lease ≡ hold →
+        Stage t d (at p a.0 (spot_next known command hold (answer.Reading t) rest)) (told a rest tr)
+    first-reading known command here rest is hold held =
+        let q : Position = stands w a.0 in
+        let held-q : q.holds lease ≡ r.hold = (st.places a.0).hold in
+        let part : (boots : ℕ) → Part End = λ boots. command_part (setting_at g a.0 boots) known (after_first g known t q.holds) t command in
+        let all : part (st.seats a.0).boots ≡ rest = ap part (st.boots a.0) ∙ is q.holds held-q in
+        let P : Part End → Type 0 = λ x. Step w (event.Reading a t) (goes_on w (event.Reading a t) a ask.Clock [] (answer.Reading t) x) in
+        let e : place_in a.0 (with_happening (st.seats a.0) (Asked ask.Clock [] (answer.Reading t))) ≡ goes_to known command (after_first g known t q.holds) (Some t) rest =
+        ap (went_on (setting_at g a.0 (st.seats a.0).boots) ask.Clock [] (answer.Reading t) q) (stands-at _ here)
+        ∙ ap (goes_to known command (after_first g known t q.holds) (Some t)) all in
+        go (Asked ask.Clock [] (answer.Reading t)) (event.Reading a t ∷ st.history) (told a rest tr) _
+        (world.later st.reached (subst P all (world.begins {reading = t} known command below (stands-at _ here) now)))
+        (subst (λ (x : Position). IsSpot lease x (spot_next known command hold (answer.Reading t) rest)) (sym e) (record {
+          hold = part-alone lease rest (after_first g known t q.holds) ∙ ((λ i. after_part rest (λ b. first_hold (session_at g known lease) t (held-q i)) lease) ∙ held);
+          sample = refl;
+          place = refl;
+        }))
 
     -- a write is issued, lands sector after sector, and is done
-    module _ (known : Known) (command : Command) (kind : WriteKind) (block : ℕ) (bytes : List ℕ) (guard : ℕ) (done fault : Part End) (missed : ℕ → Part End)
-        (here : (p a.0).place ≡ In known command (WriteThen kind block bytes guard done fault missed)) (early : t ≤ guard + 50) (long : length bytes ≡ 4096) where
+    module _ (known : Known) (command : Command) (what : WriteKind) (block : ℕ) (bytes : List ℕ) (guard : ℕ) (done fault : Part End) (missed : ℕ → Part End)
+        (here : r.place ≡ In known command (WriteThen what block bytes guard done fault missed)) (early : t ≤ guard + 50) (long : length bytes ≡ 4096) where
       abbrev number : ℕ
       number = length st.writes
 
@@ -178,7 +281,7 @@ module _ (g : Geometry) (appliances : ℕ) (few : appliances ≤ 8) where
       owner = boot_number a.0 (st.seats a.0).boots
 
       abbrev write_of : List Bool → Issued
-      write_of flags = record { owner = owner; kind = kind; block = block; bytes = bytes; guard = guard; landed = flags; cancelled = false }
+      write_of flags = record { owner = owner; kind = what; block = block; bytes = bytes; guard = guard; landed = flags; cancelled = false }
 
       abbrev waiting : ℕ → Seat
       waiting = at st.seats a.0 (record (st.seats a.0) { pending = Some number })
@@ -201,7 +304,7 @@ module _ (g : Geometry) (appliances : ℕ) (few : appliances ≤ 8) where
         device = st.device;
         writes = st.writes ++ write_of no_sectors ∷ [];
         history = event.Issue a ∷ st.history;
-        reached = world.later st.reached (world.issues known command kind block bytes guard done fault missed below (stands-at _ here) (st.free a.0));
+        reached = world.later st.reached (world.issues known command what block bytes guard done fault missed below (stands-at _ here) (st.free a.0));
         found = push-last st.writes (write_of no_sectors);
         there = sym (mixed-none 8 bytes (st.device block));
         others = λ b ne. refl;
@@ -226,8 +329,8 @@ module _ (g : Geometry) (appliances : ℕ) (few : appliances ≤ 8) where
           lands-next (first_flags 7) 7 refl refl (lands-next (first_flags 6) 6 refl refl (lands-next (first_flags 5) 5 refl refl (lands-next (first_flags 4) 4 refl refl
           (lands-next (first_flags 3) 3 refl refl (lands-next (first_flags 2) 2 refl refl (lands-next (first_flags 1) 1 refl refl (lands-next (first_flags 0) 0 refl refl issued-first)))))))
 
-      still-places : (b : ℕ) → position (setting_at g b (waiting b).boots) (waiting b).log ≡ p b
-      still-places = at-all (λ b s. position (setting_at g b s.boots) s.log ≡ p b) st.seats a.0 _ (st.places a.0) (λ b ne. st.places b)
+      still-places : (b : ℕ) → IsSpot lease (place_in b (waiting b)) (p b)
+      still-places = at-all (λ b s. IsSpot lease (place_in b s) (p b)) st.seats a.0 _ (st.places a.0) (λ b ne. st.places b)
 
       still-boots : (b : ℕ) → (waiting b).boots ≡ 0
       still-boots = at-all (λ b s. s.boots ≡ 0) st.seats a.0 _ (st.boots a.0) (λ b ne. st.boots b)
@@ -238,20 +341,26 @@ module _ (g : Geometry) (appliances : ℕ) (few : appliances ≤ 8) where
       abbrev last : World
       last = world_at t landed-whole.device landed-whole.writes waiting tr landed-whole.history
 
-      pub written : (q : Position) → went_on (first_setting a) (ask.Write kind (record { 0 = block }) guard) bytes answer.Done (p a.0) (p a.0).place ≡ q →
-          Stage t (put d block bytes) (at p a.0 q) (told a done tr)
-      written q leads = record {
+      pub written : (rest : Part End) → done ≡ rest → (hold : Hold) → hold_next lease r (ask.Write what (record { 0 = block }) guard) bytes answer.Done rest ≡ hold →
+          Stage t (put d block bytes) (at p a.0 (spot_next known command hold answer.Done rest)) (told a rest tr)
+      written rest is hold held = record {
         device = landed-whole.device;
         writes = landed-whole.writes;
-        seats = at waiting a.0 (with_happening (waiting a.0) (Asked (ask.Write kind (record { 0 = block }) guard) bytes answer.Done));
+        seats = at waiting a.0 (with_happening (waiting a.0) (Asked (ask.Write what (record { 0 = block }) guard) bytes answer.Done));
         history = event.Done a ∷ landed-whole.history;
-        reached = world.later landed-whole.reached (world.dones known command kind block bytes guard done fault missed number below
-            (ap (λ (r : Position). r.place) (still-places a.0) ∙ here) waits-for (write_of all_sectors, landed-whole.found, refl));
+        reached = world.later landed-whole.reached
+            (subst (λ (x : Part End). Step last (event.Done a) (goes_on last (event.Done a) a (ask.Write what (record { 0 = block }) guard) bytes answer.Done x)) is
+            (world.dones known command what block bytes guard done fault missed number below
+            ((still-places a.0).place ∙ here) waits-for (write_of all_sectors, landed-whole.found, refl)));
         same = λ b. sym (put-all (λ c x. x ≡ landed-whole.device c) d block bytes (sym (mixed-all 8 bytes (st.device block) long old-long) ∙ sym landed-whole.there)
             (λ c ne. sym (landed-whole.others c ne ∙ st.same c)) b);
-        places = at-all (λ b s. position (setting_at g b s.boots) s.log ≡ at p a.0 q b) waiting a.0 _
-            ((λ i. went_on (setting_at g a.0 (still-boots a.0 i)) (ask.Write kind (record { 0 = block }) guard) bytes answer.Done (still-places a.0 i) (still-places a.0 i).place) ∙ (leads ∙ sym (at-same p a.0 q)))
-            (λ b ne. still-places b ∙ sym (at-other p a.0 b q ne));
+        places = at-all (λ b s. IsSpot lease (place_in b s) (at p a.0 q b)) waiting a.0 _
+            (subst (λ (x : Spot). IsSpot lease (place_in a.0 (with_happening (waiting a.0) (Asked (ask.Write what (record { 0 = block }) guard) bytes answer.Done))) x) (sym (at-same p a.0 q))
+            (spot-next known command (WriteThen what block bytes guard done fault missed) here (ask.Write what (record { 0 = block }) guard) bytes answer.Done rest is hold held (waiting a.0) (still-places a.0)))
+            (λ b ne. subst (λ (x : Spot). IsSpot lease (place_in b (waiting b)) x) (sym (at-other p a.0 b q ne)) (still-places b));
         free = at-all (λ b s. s.pending ≡ None) waiting a.0 _ refl (λ b ne. at-all (λ c s. c ≢ a.0 → s.pending ≡ None) st.seats a.0 _ (λ away. absurd (away refl)) (λ c ne' away. st.free c) b ne);
         boots = at-all (λ b s. s.boots ≡ 0) waiting a.0 _ (still-boots a.0) (λ b ne. still-boots b);
       }
+        where
+          q : Spot
+          q = spot_next known command hold answer.Done rest

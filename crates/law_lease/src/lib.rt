@@ -4,6 +4,7 @@
 //! are the theorems. They speak of leases, writes and times, and of no image's content.
 #![tactic(auto)]
 
+ghost use Rattle.law_lease.specs.TakenOver.{TakenOver};
 ghost use Rattle.plx_worlds.specs.Owners.{Exclusion, Guarding};
 ghost use Rattle.plx_worlds.specs.Sequences.{PlayedIsReached, RunsGoOn};
 ghost use Rattle.plx_worlds.specs.World.{BootsRun};
@@ -31,4 +32,10 @@ pub fn runs_go_on()
 /// What a schedule plays from a world that events lead to is such a world, wherever it stops.
 pub fn played_is_reached()
     ensures { PlayedIsReached }
+{}
+
+/// The laws speak of something: a lease is owned, an image is made and written under it, and it is
+/// lost and taken over.
+pub fn a_lease_is_taken_over()
+    ensures { TakenOver }
 {}

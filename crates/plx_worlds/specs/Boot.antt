@@ -47,6 +47,7 @@ after_part other holds = holds
 abbrev pub goes_to : Known → Command → (ℕ → Hold) → Option ℕ → Part End → Position
 goes_to known command holds sample part = record { holds = after_part part holds; sample = sample; place = place_of known command part }
 
+-- the place once a command begins; it begins where none runs
 abbrev pub begun : Command → Place → Place
 begun command (Idle known) = Begins known command
 begun command other = other
@@ -58,6 +59,7 @@ first_read s known command (answer.Reading reading) p =
     (command_part s known (after_first s.geometry known reading p.holds) reading command)
 first_read s known command other p = p
 
+-- where an answer leads from a place
 abbrev pub went_on : Setting → Ask → List ℕ → Answer → Position → Place → Position
 went_on s ask bytes answer p (Idle known) = p
 went_on s ask bytes answer p (Begins known command) = first_read s known command answer p
@@ -71,12 +73,13 @@ position s (Began command ∷ older) =
     record { holds = (position s older).holds; sample = None; place = begun command (position s older).place }
 position s (Asked ask bytes answer ∷ older) = went_on s ask bytes answer (position s older) (position s older).place
 
--- the ask that stands at a place, and the bytes that it writes
+-- the ask that stands at a place
 abbrev pub asks : Place → Option Ask
 asks (Idle known) = None
 asks (Begins known command) = Some ask.Clock
 asks (In known command part) = standing part
 
+-- the bytes that the ask at a place writes
 abbrev pub writes_out : Place → List ℕ
 writes_out (Idle known) = []
 writes_out (Begins known command) = []
@@ -96,11 +99,13 @@ first_reply s known command (answer.Reading reading) p =
     reply_of (command_part s known (after_first s.geometry known reading p.holds) reading command)
 first_reply s known command other p = None
 
+-- the same, at any place
 abbrev pub replies_at : Setting → Answer → Position → Place → Option Reply
 replies_at s answer p (Idle known) = None
 replies_at s answer p (Begins known command) = first_reply s known command answer p
 replies_at s answer p (In known command part) = reply_of (answered part answer)
 
+-- the same, at a position
 abbrev pub replies : Setting → Answer → Position → Option Reply
 replies s answer p = replies_at s answer p p.place
 

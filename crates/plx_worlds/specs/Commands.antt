@@ -81,10 +81,11 @@ read_part s known image vblock session until =
     (unless (nat_le (size_of session.image) vblock) (reply.OutOfRange (size_of session.image)) known
     (ends_in_time s known (image_use image until) (reply.Data (payload_of (content session vblock))) known))
 
--- the write that comes next, and the descriptor that commits it
+-- the write that comes next
 abbrev pub next_write : Session → (vblock : ℕ) → List ℕ → Journaled
 next_write session vblock bytes = record { number = write_count session + 1; vblock = vblock; block = bytes }
 
+-- the descriptor that commits it
 abbrev pub next_descriptor : Session → (vblock : ℕ) → Descriptor
 next_descriptor session vblock = record { generation = generation_of session.image; vblock = vblock; number = write_count session + 1 }
 
@@ -134,6 +135,7 @@ abbrev pub session_use : Option Session → Hold → (image : ℕ) → List InUs
 session_use (Some session) (Held claim until) image others = record { lease = image_lease image; until = until } ∷ others
 session_use session hold image others = others
 
+-- all of them, in order
 abbrev pub attached_uses : Known → (holds : ℕ → Hold) → (left image : ℕ) → List InUse
 attached_uses known holds zero image = []
 attached_uses known holds (suc left) image =

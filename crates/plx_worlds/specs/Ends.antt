@@ -13,6 +13,7 @@ pub record End : Type 0 where
   pub reply : Reply
   pub known : Known
 
+-- a command that is over
 abbrev pub ends : Reply → Known → Part End
 ends reply known = Ends (record { reply = reply; known = known })
 

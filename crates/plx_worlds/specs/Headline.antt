@@ -30,10 +30,11 @@ abbrev pub events_told : List Event → List Entry
 events_told [] = []
 events_told (event ∷ others) = told_by event (events_told others)
 
--- the model before a world's trace, and after it
+-- the model before a world's trace
 abbrev pub model_before : World → Model
 model_before w = first_model w.geometry.images w.appliances
 
+-- the model after a world's trace
 abbrev pub model_in : World → Model
 model_in w = model_of (model_before w) w.trace
 

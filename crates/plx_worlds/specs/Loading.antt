@@ -19,6 +19,7 @@ abbrev pub gap_found : Geometry → (image : ℕ) → List Journaled → Option 
 gap_found g image writes None = Loaded writes
 gap_found g image writes (Some number) = LoadDamaged (descriptor_at g image (journal_slot g.slots number))
 
+-- a read that may fail
 abbrev pub load_read : (block : ℕ) → (List ℕ → Part LoadEnd) → Part LoadEnd
 load_read block rest = ReadThen block rest (Ends (LoadReadFault block))
 

@@ -19,11 +19,12 @@ use Rattle.plx_worlds.specs.World.{World, Step, Reached, stands, issued_by}
 
 -- ---- the next event of a run
 
--- the least sector that hasn't landed
+-- the next sector
 abbrev pub one_more : Option ℕ → Option ℕ
 one_more None = None
 one_more (Some sector) = Some (sector + 1)
 
+-- the least sector that hasn't landed, by the flags
 abbrev pub missing : List Bool → Option ℕ
 missing [] = None
 missing (false ∷ flags) = Some 0
@@ -44,6 +45,7 @@ abbrev pub next_landing : World → ApplianceNo → (back : ℕ) → Option Issu
 next_landing w appliance back None = None
 next_landing w appliance back (Some write) = Some (landing w appliance back write.guard (missing write.landed))
 
+-- what a run makes next of the write that is asked, issued or not
 abbrev pub next_of_write : World → ApplianceNo → (guard : ℕ) → Option ℕ → Option Event
 next_of_write w appliance guard None = Some (issuing w appliance guard)
 next_of_write w appliance guard (Some number) =
@@ -109,6 +111,7 @@ stops_in g (stop.Write k) pending (WriteThen kind block bytes guard done fault m
 stops_in g (stop.Read r) pending (ReadThen block rest fault) = is_in_region g r block
 stops_in g other pending part = false
 
+-- the same, at a place
 abbrev pub stops_at : Geometry → Stop → (pending : Option ℕ) → Place → Bool
 stops_at g stop pending (Idle known) = false
 stops_at g stop pending (Begins known command) = false

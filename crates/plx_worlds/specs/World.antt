@@ -60,6 +60,7 @@ first_world g appliances device = record {
 abbrev pub setting_at : Geometry → (appliance boots : ℕ) → Setting
 setting_at g appliance boots = record { geometry = g; appliance = appliance; boot = boot_number appliance boots }
 
+-- the same, of an appliance of a world
 abbrev pub setting_of : World → (appliance : ℕ) → Setting
 setting_of w appliance = setting_at w.geometry appliance (w.seats appliance).boots
 
