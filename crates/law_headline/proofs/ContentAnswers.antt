@@ -42,7 +42,7 @@ use Rattle.plx_worlds.specs.Session.{Session, Known}
 use Rattle.plx_worlds.specs.Settings.{Setting}
 use Rattle.plx_worlds.specs.Times.{is_expired}
 use Rattle.plx_worlds.specs.World.{World, IsReading, setting_at, goes_on, told}
-use Rattle.law_lease.proofs.LawfulCommands.{first-rests}
+use Rattle.law_lease.proofs.LawfulCommands.{first-rests, below-tested}
 use Rattle.law_lease.proofs.LeaseFrames.{grip-open}
 use Rattle.law_lease.proofs.LeaseGoes.{good-free}
 use Rattle.law_lease.proofs.LeaseLands.{first-set}
@@ -56,7 +56,7 @@ use Rattle.law_headline.proofs.Harmless.{Harmless, yields-stays}
 use Rattle.law_headline.proofs.Harmless as harmless
 use Rattle.law_headline.proofs.Held.{IsSpelled, attached_of, Regime, Without, With, IsRunning, Looks, IsOf, IsOn, HeldPart, IsBacking, Backs, IsDrop, is_below, are_below, is_some_slot, just_at, Fair}
 use Rattle.law_headline.proofs.HeldBegins.{begin-without, begin-with}
-use Rattle.law_headline.proofs.HeldCommands.{slot_no, less-tells}
+use Rattle.law_headline.proofs.HeldCommands.{slot_no}
 use Rattle.law_headline.proofs.HeldFrames.{missing_of, held-same, of-lease, of-map}
 use Rattle.law_headline.proofs.Journals.{Same}
 use Rattle.law_headline.proofs.ModelFacts.{Sound, sound-all}
@@ -234,7 +234,7 @@ module _ (w : World) (content : Content w) (a : ℕ) (below : a < w.appliances) 
   just-of holds reading is (j ∷ others) e =
       let x = both-true (nat_lt j g.images && is_below (holds (lease_at (image_lease j))) reading) (are_below g holds reading others) e in
       let y = both-true (nat_lt j g.images) (is_below (holds (lease_at (image_lease j))) reading) x.0 in
-      (j, less-tells j g.images y.0, inl refl, below-live (holds (lease_at (image_lease j))) reading y.1 is)
+      (j, below-tested j g.images y.0, inl refl, below-live (holds (lease_at (image_lease j))) reading y.1 is)
 
   just-holds : (command : Command) (holds : ℕ → Hold) (reading : ℕ) → just_at g command holds reading ≡ true → IsReading reading time →
       (i : ℕ) × (i < g.images) × Names command i × ((claim : Claim) × (until : ℕ) × (holds (lease_at (image_lease i)) ≡ Held claim until) × (time ≤ until + 50))

@@ -121,9 +121,11 @@ module _ (w : World) (content : Content w) (a : ℕ) (below : a < w.appliances) 
   NoSession (Ends end) i = Harmless g.images (attached_of known) command end.reply × (end.known.sessions i ≡ None) × IsUndamaged end.reply
   NoSession part i = ⊥
 
+  -- what is left of the command is right for the image's owner
   abbrev pub IsHeldBy : Part End → ℕ → Type 0
   IsHeldBy part i = (regime : Regime) × Looks g a i command known regime m × HeldPart g a i command known regime part device × IsOn g i device regime
 
+  -- the command serves the image, or ends for want of a session
   abbrev pub Serves : Part End → ℕ → Type 0
   Serves part i = IsHeldBy part i ⊎ NoSession part i
 

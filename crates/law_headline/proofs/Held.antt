@@ -58,16 +58,19 @@ abbrev pub IsFor : Regime → Command → ℕ → Type 0
 IsFor (Without kept writes) command i = command ≡ Attach (record { 0 = i })
 IsFor (With image change) command i = Unit {0}
 
+-- the model has the appliance in this command, with these sessions
 pub record IsRunning (g : Geometry) (a : ℕ) (command : Command) (known : Known) (m : Model) : Type 0 where
   pub placed : a < m.appliances
   pub images : m.images ≡ g.images
   pub runs : m.running a ≡ Some command
   pub sessions : SameSessions a known m
 
+-- how a slot looks to its owner
 abbrev pub LooksSlot : ℕ → Regime → Slot → Type 0
 LooksSlot a (Without kept writes) slot = ShowEither kept writes slot × Differs slot
 LooksSlot a (With image change) slot = (slot.owner ≡ Some a) × (slot.image ≡ image) × (slot.change ≡ change)
 
+-- how the model looks to the owner of an image while this command of it runs
 pub record Looks (g : Geometry) (a i : ℕ) (command : Command) (known : Known) (regime : Regime) (m : Model) : Type 0 where
   pub running : IsRunning g a command known m
   pub slot : LooksSlot a regime (m.slots i)
@@ -116,6 +119,7 @@ pub record IsBacking (g : Geometry) (holds : ℕ → Hold) (image : ℕ) : Type 
   pub held : holds (lease_at (image_lease image)) ≡ Held claim until
   pub limits : IsClaimed claim until
 
+-- each session's lease is held
 abbrev pub Backs : Geometry → (ℕ → Hold) → Known → Type 0
 Backs g holds known = (k : ℕ) (s : Session) → known.sessions k ≡ Some s → IsBacking g holds k
 
@@ -137,10 +141,12 @@ abbrev pub is_below : Hold → ℕ → Bool
 is_below (Held claim until) reading = nat_lt reading until
 is_below other reading = false
 
+-- the lease of each of these images is held at this reading
 abbrev pub are_below : Geometry → (ℕ → Hold) → ℕ → List ℕ → Bool
 are_below g holds reading [] = true
 are_below g holds reading (image ∷ others) = (nat_lt image g.images && is_below (holds (lease_at (image_lease image))) reading) && are_below g holds reading others
 
+-- there is a slot among them
 abbrev pub is_some_slot : List ℕ → Bool
 is_some_slot [] = false
 is_some_slot (slot ∷ others) = true
@@ -168,6 +174,7 @@ IsNamed g command other block = Unit {0}
 abbrev pub IsSpelled : Geometry → ℕ → List ℕ → Type 0
 IsSpelled g block bytes = (lease : ℕ) → lease < lease_count g → block ≡ lease_at lease → (r : LeaseRecord) × (bytes ≡ lease_bytes r) × IsLease r
 
+-- the rest of a command is right whoever owns the images: `just` says that a reading below the end of each named image's lease came directly before
 abbrev pub Fair : Geometry → ℕ → Command → Known → (ℕ → Hold) → Option ℕ → Bool → Part End → Type 0
 Fair g a command known holds sample just (Ends end) = IsFairEnd g command known holds just end
 Fair g a command known holds sample just (ReadThen block rest fault) =
