@@ -396,3 +396,8 @@ record-written magic fields last end short here =
     ∙ (ap (λ n. written n last (written 0 (magic ++ fields_bytes fields) zeros)) (sym b)
     ∙ (written-next 0 (magic ++ fields_bytes fields) last zeros (omega (arith, full, short, both, long))
     ∙ (written-zeros ((magic ++ fields_bytes fields) ++ last) ∙ ap padded (append_assoc magic (fields_bytes fields) last))))
+
+-- the same of equal blocks
+pub only-of : (sector : ℕ) (new old other other_old : List ℕ) → new ≡ other → old ≡ other_old → OnlySector sector other other_old → OnlySector sector new old
+only-of sector new old other other_old same same_old only =
+    subst (λ x. OnlySector sector x old) (sym same) (subst (λ x. OnlySector sector other x) (sym same_old) only)

@@ -10,7 +10,7 @@ use Rattle.plx_base.proofs.Pointers.{is_pointer-true, true-is_pointer}
 use Rattle.plx_base.proofs.Spelling.{AreFields, fields-back, length-fields, only-written, read-exact, read-past, read-some, read-unspelled}
 use Rattle.plx_base.proofs.Written.{part-after, part-before, part-written, length-written, written-whole}
 use Rattle.plx_base.specs.Pointers.{is_pointer}
-use Rattle.plx_gate.specs.Entries.{IsEntry, entry_bytes, entry_fields, entry_of, entry_part, entry_start, flag_of, found_entry, is_entry, read_entry, with_entry}
+use Rattle.plx_gate.specs.Entries.{IsEntry, entry_bytes, entry_fields, entry_of, entry_part, entry_sector, entry_start, flag_of, found_entry, is_entry, read_entry, with_entry}
 use Rattle.plx_gate.specs.declared.entry.LogEntry.{LogEntry}
 
 -- the entry of its fields
@@ -130,11 +130,7 @@ length-with_entry index e block full below =
     let long = length-entry e in
     length-written (entry_start index) (entry_bytes e) block (omega (arith, long, full, below)) ∙ full
 
--- the sector of an entry
-abbrev pub entry_sector : ℕ → ℕ
-entry_sector index = index / 16
-
--- that sector tells all
+-- the sector of an entry tells all
 pub entry-sector : (index : ℕ) (e : LogEntry) (block : List ℕ) → length block ≡ 4096 → index < 128 → OnlySector (entry_sector index) (with_entry index e block) block
 entry-sector index e block full below =
     let long = length-entry e in

@@ -1,5 +1,5 @@
 -- Entries of a snapshot log as bytes: each is 32 bytes of the log's block.
-use Rattle.std.specs.Prelude.{◌*◌, ◌<◌, ◌^◌, ◌==◌, ℕ, List, [], ◌∷◌, take, drop, Bool, true, false, not, ◌&&◌, nat_lt, Option}
+use Rattle.std.specs.Prelude.{◌*◌, ◌/◌, ◌<◌, ◌^◌, ◌==◌, ℕ, List, [], ◌∷◌, take, drop, Bool, true, false, not, ◌&&◌, nat_lt, Option}
 use Rattle.plx_base.specs.Blocks.{written}
 use Rattle.plx_base.specs.Fields.{number_at}
 use Rattle.plx_base.specs.Pointers.{IsPointer, is_pointer}
@@ -48,6 +48,10 @@ found_entry bytes = record { root = number_at 8 0 bytes; dropped = not (number_a
 -- the 32 bytes of an entry of a log block
 abbrev pub entry_part : ℕ → List ℕ → List ℕ
 entry_part index block = take 32 (drop (entry_start index) block)
+
+-- the sector in which an entry lies
+abbrev pub entry_sector : ℕ → ℕ
+entry_sector index = index / 16
 
 -- what the 32 bytes of an entry say: an entry within the limits, or nothing
 abbrev pub entry_of : List ℕ → Option LogEntry

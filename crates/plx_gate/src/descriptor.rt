@@ -1,6 +1,8 @@
 //! The descriptor that commits a journal slot.
 ghost use Rattle.std.specs.Prelude.{◌≡◌, ◌↔◌, length, IsTrue};
 ghost use Rattle.std.specs.List.{All};
+ghost use Rattle.plx_base.specs.Blocks.{zeros};
+ghost use Rattle.plx_base.specs.Spelling.{OnlySector};
 ghost use Rattle.plx_gate.specs.Descriptors.{IsDescriptor, IsDescriptorReading, descriptor_bytes, descriptor_fields, found_descriptor, is_descriptor};
 ghost use Rattle.plx_gate.specs.Descriptors.{read_descriptor as descriptor_in};
 
@@ -46,11 +48,14 @@ pub fn read_descriptor(bytes: &[u8]) -> Option<Option<Descriptor>>
     Some(Some(descriptor))
 }
 
-/// Makes a block of 4,096 bytes the spelling of a descriptor.
+/// Makes a block of 4,096 bytes the spelling of a descriptor. Over another descriptor and over an
+/// empty one the first sector tells all.
 pub fn write_descriptor(value: &Descriptor, bytes: &mut [u8])
     requires long { length bytes.old ≡ 4096 }
     requires limits { IsDescriptor value.now }
-    ensures { bytes.new ≡ descriptor_bytes value.now }
+    ensures spelled { bytes.new ≡ descriptor_bytes value.now }
+    ensures sector { (old : Descriptor) → bytes.old ≡ descriptor_bytes old → OnlySector 0 bytes.new bytes.old }
+    ensures empty { bytes.old ≡ zeros → OnlySector 0 bytes.new bytes.old }
 {
     put_record(bytes, MAGIC, &fields(value), &[]);
 }

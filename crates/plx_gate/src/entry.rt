@@ -1,7 +1,7 @@
 //! The entries of a snapshot log.
-ghost use Rattle.std.specs.Prelude.{◌≡◌, ◌≤◌, ◌<◌, length, IfSome, IfNone, false};
-ghost use Rattle.plx_base.specs.Spelling.{IsReading};
-ghost use Rattle.plx_gate.specs.Entries.{IsEntry, entry_bytes, entry_fields, entry_part, entry_of, found_entry, is_entry, with_entry};
+ghost use Rattle.std.specs.Prelude.{◌≡◌, ◌≢◌, ◌<◌, ℕ, length, Some, IfSome, IfNone, false};
+ghost use Rattle.plx_base.specs.Spelling.{IsReading, OnlySector};
+ghost use Rattle.plx_gate.specs.Entries.{IsEntry, entry_bytes, entry_fields, entry_part, entry_sector, entry_of, found_entry, is_entry, with_entry};
 ghost use Rattle.plx_gate.specs.Entries.{read_entry as entry_in};
 
 use plx_base::{Field, Ptr, get_u32, get_u64, put_fields};
@@ -32,12 +32,16 @@ pub fn read_entry(bytes: &[u8], index: u32) -> Option<LogEntry>
     read_part(&bytes[start..start + ENTRY_LEN])
 }
 
-/// Writes an entry at its place in a log block of 4,096 bytes. All other bytes stay.
+/// Writes an entry at its place in a log block of 4,096 bytes. All other bytes stay, and the entry's
+/// sector tells all.
 pub fn write_entry(value: &LogEntry, index: u32, bytes: &mut [u8])
     requires long { length bytes.old ≡ 4096 }
     requires index { index < 128 }
     requires limits { IsEntry value.now }
-    ensures { bytes.new ≡ with_entry index value.now bytes.old }
+    ensures written { bytes.new ≡ with_entry index value.now bytes.old }
+    ensures here { entry_in index bytes.new ≡ Some value.now }
+    ensures others { (other : ℕ) → other ≢ index → entry_in other bytes.new ≡ entry_in other bytes.old }
+    ensures sector { OnlySector (entry_sector index) bytes.new bytes.old }
 {
     put_fields(bytes, ENTRY_LEN * index as usize, &fields(value));
 }

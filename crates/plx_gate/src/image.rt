@@ -1,7 +1,7 @@
 //! The record of an image.
 ghost use Rattle.std.specs.Prelude.{◌≡◌, ◌≤◌, ◌↔◌, length, IsSome, IfSome, IfNone, false};
 ghost use Rattle.plx_base.specs.Labels.{IsLabel};
-ghost use Rattle.plx_base.specs.Spelling.{IsReading};
+ghost use Rattle.plx_base.specs.Spelling.{IsReading, OnlySector};
 ghost use Rattle.plx_gate.specs.Images.{IsImage, found_image, found_label, image_bytes, image_fields, is_image, label_of};
 ghost use Rattle.plx_gate.specs.Images.{read_image as image_in};
 ghost use Rattle.plx_gate.specs.Images.{fields_of as numbers_of};
@@ -66,11 +66,13 @@ pub fn read_image(bytes: &[u8]) -> Option<ImageRecord>
     Some(image)
 }
 
-/// Makes a block of 4,096 bytes the spelling of an image record.
+/// Makes a block of 4,096 bytes the spelling of an image record. Over another record the first sector
+/// tells all.
 pub fn write_image(value: &ImageRecord, bytes: &mut [u8])
     requires long { length bytes.old ≡ 4096 }
     requires limits { IsImage value.now }
-    ensures { bytes.new ≡ image_bytes value.now }
+    ensures spelled { bytes.new ≡ image_bytes value.now }
+    ensures sector { (old : ImageRecord) → IsImage old → bytes.old ≡ image_bytes old → OnlySector 0 bytes.new bytes.old }
 {
     put_record(bytes, MAGIC, &fields(value), label(value));
 }

@@ -1,6 +1,6 @@
 //! The leases.
 ghost use Rattle.std.specs.Prelude.{◌≡◌, ◌↔◌, length, IsTrue};
-ghost use Rattle.plx_base.specs.Spelling.{IsReading};
+ghost use Rattle.plx_base.specs.Spelling.{IsReading, OnlySector};
 ghost use Rattle.plx_gate.specs.Leases.{IsLease, found_lease, is_lease, lease_bytes, lease_fields};
 ghost use Rattle.plx_gate.specs.Leases.{read_lease as lease_in};
 ghost use Rattle.plx_gate.specs.Leases.{fields_of as numbers_of};
@@ -40,11 +40,12 @@ pub fn read_lease(bytes: &[u8]) -> Option<LeaseRecord>
     Some(lease)
 }
 
-/// Makes a block of 4,096 bytes the spelling of a lease.
+/// Makes a block of 4,096 bytes the spelling of a lease. Over another lease the first sector tells all.
 pub fn write_lease(value: &LeaseRecord, bytes: &mut [u8])
     requires long { length bytes.old ≡ 4096 }
     requires limits { IsLease value.now }
-    ensures { bytes.new ≡ lease_bytes value.now }
+    ensures spelled { bytes.new ≡ lease_bytes value.now }
+    ensures sector { (old : LeaseRecord) → bytes.old ≡ lease_bytes old → OnlySector 0 bytes.new bytes.old }
 {
     put_record(bytes, MAGIC, &fields(*value), &[]);
 }

@@ -6,6 +6,10 @@ mod asks;
 #[cfg(test)]
 mod device;
 #[cfg(test)]
+mod gated;
+#[cfg(test)]
+mod geometry;
+#[cfg(test)]
 mod judge;
 #[cfg(test)]
 mod large;

@@ -8,5 +8,5 @@ use Rattle.plx_appliance.proofs.write.spelling.Goals as goal
 pub returns : goal.returns
 returns c =
     c.copy_from.ensures
-    ∙ rw (c.write_descriptor.ensures, c.in_ok-block.ensures)
+    ∙ rw (c.write_descriptor.ensures.spelled, c.in_ok-block.ensures)
     (written-whole (descriptor_bytes c.args.descriptor.now) zeros (length-descriptor c.args.descriptor.now ∙ sym length-zeros))
