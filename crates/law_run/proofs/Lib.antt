@@ -5,3 +5,15 @@ pub mod Meets
 pub mod Then
 pub mod Right
 pub mod Runs
+pub mod Spelled
+pub mod Holding
+pub mod Passed
+pub mod Rests
+pub mod OnImage
+pub mod Asking
+pub mod Counted
+pub mod Slots
+pub mod Facts
+pub mod Grown
+pub mod Unwritten
+pub mod OneImage

@@ -64,7 +64,7 @@ unless_made g false given = given
 abbrev pub learnt : Geometry → (image : ℕ) → Command → List Exchange → Given → Given
 learnt g image command [] given = given
 learnt g image command (exchange ∷ older) given =
-    unless_made g (is_making command && is_record_done (record_at g image) exchange.ask exchange.answer)
+    unless_made g (is_record_done (record_at g image) exchange.ask exchange.answer && is_making command)
     (told_by exchange.ask exchange.bytes exchange.answer (learnt g image command older given))
 
 -- what was known of an image, where it is attached
