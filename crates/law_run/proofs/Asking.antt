@@ -16,7 +16,7 @@ use Rattle.plx_geom.specs.Geometry.{Geometry, lease_count, lease_number, image_l
 use Rattle.plx_rules.specs.Part.{Part, ReadThen}
 use Rattle.plx_worlds.specs.Attaching.{image_use}
 use Rattle.plx_worlds.specs.Ends.{End, ends, lost, read_failed, read_then, write_then, ends_in_time}
-use Rattle.plx_worlds.specs.Holds.{Hold, Held, Wrote, Waited}
+use Rattle.plx_worlds.specs.Holds.{Hold, Nothing, Held, Wrote, Waited}
 use Rattle.plx_worlds.specs.InUse.{InUse, lease_name}
 use Rattle.plx_worlds.specs.Owners.{Needs}
 use Rattle.plx_worlds.specs.Session.{Session, Known, nothing_known}
@@ -26,7 +26,7 @@ use Rattle.law_run.specs.CommandLogs.{Exchange, Finished, first_reading}
 use Rattle.law_run.specs.Holdings as holdings
 use Rattle.law_run.specs.Holdings.{hold_of, IsUntil, claims_in, claims_begun}
 use Rattle.law_run.specs.Refusals.{IsNamedFirst}
-use Rattle.law_run.specs.Replies.{IsConfirmed, IsInUse, of_clock, WasLost, RestsOn, of_need, Comes, IsReplied, worked}
+use Rattle.law_run.specs.Replies.{IsConfirmed, IsInUse, going, unread, of_clock, WasLost, RestsOn, of_need, Comes, IsReplied, worked}
 use Rattle.law_run.specs.Replies as replies
 use Rattle.law_run.specs.Sessions.{names}
 use Rattle.law_run.proofs.Holding.{Course, Going, going-clock}
@@ -86,41 +86,45 @@ asks-write s before known command reading fine done lease until k block bytes th
 -- a command of one image, along which its lease is held
 module _ (s : Setting) (before : List Finished) (known : Known) (command : Command) (slot : SlotNo) (c : Course) (one : NamesOne command slot.0) (within : slot.0 < s.geometry.images)
     (fine : IsFine s before command c.reading) (claims : known.claims ≡ c.begun + claims_begun s.geometry before) where
-
   -- the last reading is below the end of the lease
   pub confirmed : (done : List Exchange) (reading : ℕ) → Going s before done slot.0 c → reading < c.until → IsConfirmed s (log_on before command (clock reading ∷ done)) slot.0
-  confirmed done reading going below =
-      record { reading = reading; until = c.until; last = (done, refl); held = (c.claim, (going-clock s before done reading slot.0 c going).held); below = below }
+  confirmed done reading going' below =
+      record { reading = reading; until = c.until; last = (done, refl); held = (c.claim, (going-clock s before done reading slot.0 c going').held); below = below }
 
   -- a reading has reached it
   pub lost-late : (done : List Exchange) (reading n : ℕ) → Going s before done slot.0 c → c.until ≤ reading →
       Right s before command (clock reading ∷ done) (lost s known (record { lease = image_lease slot.0; until = c.until }) reading) n
-  lost-late done reading n going past =
-      let after = going-clock s before done reading slot.0 c going in
+  lost-late done reading n going' past =
+      let after = going-clock s before done reading slot.0 c going' in
       subst (λ (name : LeaseName). Right s before command (clock reading ∷ done) (ends (reply.Lost name c.until reading) (nothing_known known.claims)) n) (sym (lease-name s.geometry slot.0 within)) (
         replied-fine s before command c.reading fine (clock reading ∷ done) after.first (reply.Lost (lease.Image slot) c.until reading)
             (replies.reached slot (of_clock (done, refl))
-            (record { named = names-own command slot.0 one; until_is = holdings.held c.claim after.held }) past (λ other until' is le. alone other until' is)),
+            (going (names-own command slot.0 one) (holdings.held c.claim after.held)) past (λ other until' is le. alone other until' is)),
         rests-lost s before command (clock reading ∷ done) (lease.Image slot) c.until reading known.claims (let b = after.begun in omega arith),
       )
     where
       alone : (other until' : ℕ) → IsInUse s (log_on before command (clock reading ∷ done)) other until' → IsNamedFirst slot.0 c.until other until'
-      alone other until' is =
-          let same = names-only command slot.0 one other is.named in
-          let here = subst (λ o. IsUntil until' (hold_of s before (clock reading ∷ done) (image_lease o))) same is.until_is in
-          inr (one-until c.claim c.until until' _ (going-clock s before done reading slot.0 c going).held here, omega arith)
+      alone other until' (going named is) =
+          let same = names-only command slot.0 one other named in
+          let here = subst (λ o. IsUntil until' (hold_of s before (clock reading ∷ done) (image_lease o))) same is in
+          inr (one-until c.claim c.until until' _ (going-clock s before done reading slot.0 c going').held here, omega arith)
+      alone other until' (unread claim bytes r older named last waited none gone) =
+          let same = names-only command slot.0 one other named in
+          let e : Held c.claim c.until ≡ Nothing =
+          sym (going-clock s before done reading slot.0 c going').held ∙ subst (λ o. hold_of s before (clock reading ∷ done) (image_lease o) ≡ Nothing) same gone in
+          absurd (let P : ⊥ = cc in P)
 
   -- a reply after one more reading
   pub asks-confirm : (done : List Exchange) (r : Reply) (next : Known) (n : ℕ) → Going s before done slot.0 c →
       ((reading : ℕ) → reading < c.until → Going s before (clock reading ∷ done) slot.0 c → IsConfirmed s (log_on before command (clock reading ∷ done)) slot.0 →
       Comes s (log_on before command (clock reading ∷ done)) r × Rests s (finish command (clock reading ∷ done) r ∷ before) next) →
       Right s before command done (ends_in_time s known (image_use slot.0 c.until) r next) (suc n)
-  asks-confirm done r next n going right = (
+  asks-confirm done r next n going' right = (
     tt,
     λ reading small. by-time (λ part. Right s before command (clock reading ∷ done) part n) s known slot.0 c.until reading (ends r next)
-        (λ past. lost-late done reading n going past)
+        (λ past. lost-late done reading n going' past)
         (λ below.
-        let after = going-clock s before done reading slot.0 c going in
-        let both = right reading below after (confirmed done reading going below) in
+        let after = going-clock s before done reading slot.0 c going' in
+        let both = right reading below after (confirmed done reading going' below) in
         (replied-fine s before command c.reading fine (clock reading ∷ done) after.first r both.0, both.1)),
   )

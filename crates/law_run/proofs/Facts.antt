@@ -62,8 +62,12 @@ module _ (g : Geometry) (given : Given) (image : ℕ) (session : Session) (fits 
     least = omega arith;
     reached = elim (last-of session.writes) [
       | inl none ↦ inl (omega (arith, none))
-      | inr last ↦ inr (journal_slot g.slots last.1.number, descriptor_of session.image last.1, fits.counts last.0 last.1 last.2,
-          fits.numbers last.0 last.1 last.2 ∙ ap (λ n. applied_of session.image + n) last.3)
+      | inr last ↦ inr (
+        journal_slot g.slots last.1.number,
+        descriptor_of session.image last.1,
+        fits.counts last.0 last.1 last.2,
+        fits.numbers last.0 last.1 last.2 ∙ ap (λ n. applied_of session.image + n) last.3,
+      )
     ];
   }
 

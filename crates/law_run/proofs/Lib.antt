@@ -17,3 +17,12 @@ pub mod Facts
 pub mod Grown
 pub mod Unwritten
 pub mod OneImage
+pub mod Completeness
+pub mod Clear
+pub mod Reading
+pub mod Detaching
+pub mod Making
+pub mod Writing
+pub mod Limits
+pub mod Reached
+pub mod Renewing

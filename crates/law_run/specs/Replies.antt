@@ -1,5 +1,5 @@
 -- What the log of a command shows where its reply comes.
-use Rattle.std.specs.Prelude.{◌≡◌, ◌≢◌, ◌≤◌, ◌<◌, ◌+◌, ℕ, List, [], true, false, Some}
+use Rattle.std.specs.Prelude.{◌≡◌, ◌≢◌, ◌≤◌, ◌<◌, ◌+◌, ℕ, List, [], ◌∷◌, true, false, Some, None}
 use Rattle.plx_base.specs.Payload.{bytes_of}
 use Rattle.plx_base.specs.declared.label.Label.{Label}
 use Rattle.plx_base.specs.declared.lease.Claim.{Claim}
@@ -21,7 +21,7 @@ use Rattle.plx_disk.specs.declared.ask.Answer.TheVariants as answer
 use Rattle.plx_gate.specs.Leases.{lease_bytes, read_lease}
 use Rattle.plx_gate.specs.declared.image.ImageRecord.{ImageRecord}
 use Rattle.plx_geom.specs.Geometry.{Geometry, lease_count, lease_number, image_lease, lease_at, record_at, log_at, descriptor_at, data_at}
-use Rattle.plx_worlds.specs.Holds.{Waited}
+use Rattle.plx_worlds.specs.Holds.{Nothing, Waited}
 use Rattle.plx_worlds.specs.Owners.{Needs}
 use Rattle.plx_worlds.specs.Settings.{Setting}
 use Rattle.plx_worlds.specs.Stored.{Holds, StoredImage, record_on, IsContent, Stores}
@@ -51,10 +51,15 @@ pub data RestsOn (g : Geometry) : WriteKind → (block : ℕ) → LeaseName → 
   of_need : {kind : WriteKind} {block : ℕ} {name : LeaseName} → Needs g kind block (lease_number g name) → RestsOn g kind block name
   of_claim : {block : ℕ} {name : LeaseName} → block ≡ lease_at (lease_number g name) → RestsOn g kind.Claim block name
 
--- a lease is in use until that moment: it is that of an image which the command names, which is held, or whose claim was written and goes on
-pub record IsInUse (s : Setting) (log : CommandLog) (image until : ℕ) : Type 0 where
-  pub named : names log.command image ≡ true
-  pub until_is : IsUntil until (hold_of s log.before log.exchanges (image_lease image))
+-- a lease is in use until that moment: it is that of an image which the command names, and it is held, or its claim was written and goes on;
+-- or the claim has waited, and its reread showed bytes that are no lease, after which the clock was asked
+pub data IsInUse (s : Setting) (log : CommandLog) (image until : ℕ) : Type 0 where
+  going : names log.command image ≡ true → IsUntil until (hold_of s log.before log.exchanges (image_lease image)) → IsInUse s log image until
+  unread : (claim : Claim) (bytes : List ℕ) (reading : ℕ) (older : List Exchange) → names log.command image ≡ true →
+      log.exchanges ≡ (record { ask = ask.Clock; bytes = []; answer = answer.Reading reading })
+      ∷ (record { ask = ask.Read (record { 0 = lease_at (image_lease image) }); bytes = []; answer = answer.Bytes bytes }) ∷ older →
+      hold_of s log.before older (image_lease image) ≡ Waited claim until → read_lease bytes ≡ None →
+      hold_of s log.before log.exchanges (image_lease image) ≡ Nothing → IsInUse s log image until
 
 -- the last answer of a command was this reading
 pub data IsLastReading (log : CommandLog) (reading : ℕ) : Type 0 where
