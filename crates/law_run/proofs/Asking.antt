@@ -1,6 +1,5 @@
 -- The rest of a command of one image by its next ask.
-use Rattle.std.proofs.Common.{◌≡◌, ◌≢◌, ℕ, zero, suc, ◌+◌, ◌≤◌, ◌<◌, ◌^◌, List, [], ◌∷◌, length, Bool, true, false, Option, Some, None, refl, ap, sym, subst, ◌∙◌, arith, inl, inr}
-use Rattle.std.specs.Prelude.{if◌then◌else◌}
+use Rattle.std.proofs.Common.{◌≡◌, ℕ, zero, suc, ◌+◌, ◌≤◌, ◌<◌, List, ◌∷◌, Some, refl, sym, subst, ◌∙◌, arith, inl, inr}
 use Rattle.plx_base.specs.declared.lease.Claim.{Claim}
 use Rattle.plx_base.specs.declared.lease.LeaseName.{LeaseName}
 use Rattle.plx_base.specs.declared.lease.LeaseName.TheVariants as lease
@@ -9,17 +8,16 @@ use Rattle.plx_base.specs.declared.write_kind.WriteKind.{WriteKind}
 use Rattle.plx_commands.specs.declared.command.Command.{Command}
 use Rattle.plx_commands.specs.declared.reply.Reply.{Reply}
 use Rattle.plx_commands.specs.declared.reply.Reply.TheVariants as reply
-use Rattle.plx_disk.specs.declared.ask.Ask.{Ask}
 use Rattle.plx_disk.specs.declared.ask.Ask.TheVariants as ask
 use Rattle.plx_disk.specs.declared.ask.Answer.TheVariants as answer
-use Rattle.plx_geom.specs.Geometry.{Geometry, lease_count, lease_number, image_lease, lease_at}
-use Rattle.plx_rules.specs.Part.{Part, ReadThen}
+use Rattle.plx_geom.specs.Geometry.{Geometry, lease_count, lease_number, image_lease}
+use Rattle.plx_rules.specs.Part.{Part}
 use Rattle.plx_worlds.specs.Attaching.{image_use}
-use Rattle.plx_worlds.specs.Ends.{End, ends, lost, read_failed, read_then, write_then, ends_in_time}
-use Rattle.plx_worlds.specs.Holds.{Hold, Nothing, Held, Wrote, Waited}
-use Rattle.plx_worlds.specs.InUse.{InUse, lease_name}
+use Rattle.plx_worlds.specs.Ends.{End, ends, lost, write_then, ends_in_time}
+use Rattle.plx_worlds.specs.Holds.{Hold, Nothing, Held}
+use Rattle.plx_worlds.specs.InUse.{lease_name}
 use Rattle.plx_worlds.specs.Owners.{Needs}
-use Rattle.plx_worlds.specs.Session.{Session, Known, nothing_known}
+use Rattle.plx_worlds.specs.Session.{Known, nothing_known}
 use Rattle.plx_worlds.specs.Settings.{Setting}
 use Rattle.law_run.specs.AllowedAsks.{MayWrite}
 use Rattle.law_run.specs.CommandLogs.{Exchange, Finished, first_reading}
@@ -28,7 +26,6 @@ use Rattle.law_run.specs.Holdings.{hold_of, IsUntil, claims_in, claims_begun}
 use Rattle.law_run.specs.Refusals.{IsNamedFirst}
 use Rattle.law_run.specs.Replies.{IsConfirmed, IsInUse, going, unread, of_clock, WasLost, RestsOn, of_need, Comes, IsReplied, worked}
 use Rattle.law_run.specs.Replies as replies
-use Rattle.law_run.specs.Sessions.{names}
 use Rattle.law_run.proofs.Holding.{Course, Going, going-clock}
 use Rattle.law_run.proofs.Meets.{exchange}
 use Rattle.law_run.proofs.OnImage.{NamesOne, names-own, names-only, lease-name, by-time}

@@ -1,6 +1,6 @@
 -- Commands of one image that has a session: which refusals' facts hold, and what stays.
-use Rattle.std.proofs.Common.{◌≡◌, ◌≢◌, ℕ, ◌+◌, ◌≤◌, ◌<◌, List, [], ◌∷◌, length, Bool, true, false, Option, Some, None, refl, ap, sym, subst, ◌∙◌, arith, inl, inr}
-use Rattle.std.specs.Prelude.{if◌then◌else◌, ◌||◌, ◌==◌}
+use Rattle.std.proofs.Common.{◌≡◌, ℕ, ◌≤◌, ◌<◌, List, ◌∷◌, length, Bool, true, false, Some, refl, ap, sym, subst, ◌∙◌, arith}
+use Rattle.std.specs.Prelude.{◌||◌, ◌==◌}
 use Rattle.plx_base.specs.declared.label.Label.{Label}
 use Rattle.plx_base.specs.declared.lease.Claim.{Claim}
 use Rattle.plx_base.specs.declared.numbers.SlotNo.{SlotNo}
@@ -8,10 +8,9 @@ use Rattle.plx_base.specs.declared.payload.Payload.{Payload}
 use Rattle.plx_commands.specs.Facts.{is_size}
 use Rattle.plx_commands.specs.Limits.{last_generation, last_write}
 use Rattle.plx_commands.specs.declared.command.Command.{Command}
-use Rattle.plx_commands.specs.declared.command.Command.TheVariants.{Create, Delete, Read, Write}
+use Rattle.plx_commands.specs.declared.command.Command.TheVariants.{Create, Write}
 use Rattle.plx_commands.specs.declared.reply.Reply.{Reply}
 use Rattle.plx_gate.specs.declared.image.ImageRecord.{ImageRecord}
-use Rattle.plx_geom.specs.Geometry.{Geometry, image_lease}
 use Rattle.plx_rules.specs.Part.{Part}
 use Rattle.plx_worlds.specs.Commands.{unless}
 use Rattle.plx_worlds.specs.Ends.{End, ends}
@@ -19,17 +18,16 @@ use Rattle.plx_worlds.specs.Records.{is_live, generation_of, size_of, applied_of
 use Rattle.plx_worlds.specs.Session.{Session, Known, write_count}
 use Rattle.plx_worlds.specs.Settings.{Setting}
 use Rattle.plx_worlds.specs.Stored.{Given, record_on, IsWriteCount}
-use Rattle.law_run.specs.CommandLogs.{Exchange, Finished, CommandLog, first_reading}
-use Rattle.law_run.specs.Holdings.{hold_of, claims_in, claims_begun}
-use Rattle.law_run.specs.KnownBytes.{known_after, known_from, known_in, record_known}
+use Rattle.law_run.specs.CommandLogs.{Exchange, Finished, first_reading}
+use Rattle.law_run.specs.KnownBytes.{known_after, known_from, record_known}
 use Rattle.law_run.specs.Refusals.{NamesBlock, of_read, of_write, NeedsImage, of_delete, of_block}
-use Rattle.law_run.specs.Sessions.{names, attached_by, is_attached}
+use Rattle.law_run.specs.Sessions.{names, attached_by}
 use Rattle.law_run.proofs.Facts.{count-one, write-count}
 use Rattle.law_run.proofs.Holding.{Course, Going}
-use Rattle.law_run.proofs.OnImage.{OnImage, NamesOne, names-own, names-other, names-only, needs-attached, in-time, Ready}
+use Rattle.law_run.proofs.OnImage.{OnImage, names-other, names-only, needs-attached, in-time, Ready}
 use Rattle.law_run.proofs.Passed.{Passed}
 use Rattle.law_run.proofs.Rests.{KeepsHolds, known-attached, rests-by, own-still}
-use Rattle.law_run.proofs.Right.{clock, IsHeld, Fits, Rests, finish, log_on, Right}
+use Rattle.law_run.proofs.Right.{Rests, finish, log_on}
 use Rattle.law_run.proofs.Tests.{eqb-true}
 
 -- the rest by a test that refuses

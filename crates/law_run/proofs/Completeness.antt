@@ -1,5 +1,5 @@
 -- A reply that isn't the command's own Ok has a cause.
-use Rattle.std.proofs.Common.{◌≡◌, ℕ, ◌⊎◌, inl, inr, true, refl, sym, subst}
+use Rattle.std.proofs.Common.{◌≡◌, ◌⊎◌, inl, inr, true, refl, sym, subst}
 use Rattle.plx_commands.specs.Replies.{is_own}
 use Rattle.plx_commands.specs.declared.command.Command.{Command}
 use Rattle.plx_commands.specs.declared.reply.Reply.{Reply}

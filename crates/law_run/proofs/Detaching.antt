@@ -1,10 +1,9 @@
 -- Detaches.
-use Rattle.std.proofs.Common.{◌≡◌, ◌≢◌, ℕ, ◌+◌, ◌≤◌, ◌<◌, List, [], ◌∷◌, Bool, true, false, Option, Some, None, refl, ap, sym, subst, ◌∙◌, arith}
+use Rattle.std.proofs.Common.{◌≢◌, ℕ, List, [], ◌∷◌, None, refl, sym, subst, arith}
 use Rattle.plx_base.specs.declared.lease.Claim.{Claim}
 use Rattle.plx_base.specs.declared.lease.LeaseRecord.TheVariants as lease_is
 use Rattle.plx_base.specs.declared.numbers.SlotNo.{SlotNo}
 use Rattle.plx_base.specs.declared.write_kind.WriteKind.TheVariants as kind
-use Rattle.plx_commands.specs.declared.command.Command.{Command}
 use Rattle.plx_commands.specs.declared.command.Command.TheVariants.{Detach}
 use Rattle.plx_commands.specs.declared.reply.Reply.TheVariants as reply
 use Rattle.plx_disk.specs.declared.ask.Ask.TheVariants as ask
@@ -17,7 +16,7 @@ use Rattle.plx_worlds.specs.Ends.{ends}
 use Rattle.plx_worlds.specs.Session.{Session, Known, with_session}
 use Rattle.plx_worlds.specs.Settings.{Setting}
 use Rattle.law_run.specs.AllowedAsks.{release}
-use Rattle.law_run.specs.CommandLogs.{Exchange, Finished}
+use Rattle.law_run.specs.CommandLogs.{Finished}
 use Rattle.law_run.specs.Refusals.{NamesBlock, of_read, of_write, NeedsImage, of_delete, of_block}
 use Rattle.law_run.proofs.Asking.{IsFine, replied-fine, asks-write}
 use Rattle.law_run.proofs.Clear.{Clear, clear}
@@ -25,7 +24,7 @@ use Rattle.law_run.proofs.Holding.{at-same, at-other, spared-first, spared-more}
 use Rattle.law_run.proofs.Meets.{exchange}
 use Rattle.law_run.proofs.OnImage.{OnImage, names-own, names-other, on-image, Ready}
 use Rattle.law_run.proofs.Rests.{rests-by}
-use Rattle.law_run.proofs.Right.{clock, FitsAt, Rests, finish, log_on, Right}
+use Rattle.law_run.proofs.Right.{clock, FitsAt, Rests, finish, Right}
 use Rattle.law_run.proofs.Runs.{start}
 
 on-detach : (slot : SlotNo) → OnImage (Detach slot) slot.0

@@ -1,6 +1,6 @@
 -- What a session that fits the known bytes tells of the image that they store.
-use Rattle.std.proofs.Common.{◌≡◌, ◌≢◌, ℕ, ◌+◌, ◌≤◌, ◌<◌, List, length, refl, ap, sym, subst, ◌∙◌, Bool, true, false, Option, Some, None, arith, inl, inr}
-use Rattle.std.specs.Prelude.{slice_get, ◌&&◌, ◌==◌}
+use Rattle.std.proofs.Common.{◌≡◌, ◌≢◌, ℕ, ◌+◌, ◌≤◌, ◌<◌, List, length, refl, ap, sym, ◌∙◌, true, Option, Some, None, arith, inl, inr}
+use Rattle.std.specs.Prelude.{slice_get, ◌==◌}
 use Rattle.std.proofs.lemmas.Option.{slice_get_within}
 use Rattle.plx_base.specs.Blocks.{zeros}
 use Rattle.plx_gate.specs.Images.{label_of, read_image, IsImage}

@@ -1,5 +1,5 @@
 -- A session that fits the known bytes, while one more write is journalled.
-use Rattle.std.proofs.Common.{◌≡◌, ◌≢◌, ℕ, ◌+◌, ◌^◌, ◌≤◌, ◌<◌, List, length, drop, refl, ap, sym, subst, ◌∙◌, Option, Some, arith, inl, inr, length-append, Bool, true}
+use Rattle.std.proofs.Common.{◌≡◌, ◌≢◌, ℕ, ◌+◌, ◌≤◌, ◌<◌, List, [], length, drop, refl, ap, sym, subst, ◌∙◌, Some, None, arith, inl, inr, length-append, true}
 use Rattle.std.specs.Prelude.{slice_get}
 use Rattle.std.proofs.lemmas.Bool.Decides.{eqb_tells}
 use Rattle.plx_base.specs.Blocks.{zeros}
@@ -11,12 +11,12 @@ use Rattle.plx_geom.specs.Geometry.{Geometry, record_at, descriptor_at, data_at}
 use Rattle.plx_geom.proofs.Places.{record-descriptor, record-data, data-descriptor}
 use Rattle.plx_rules.specs.declared.journaled.Journaled.{Journaled}
 use Rattle.plx_worlds.specs.Journal.{journal_slot}
-use Rattle.plx_worlds.specs.Records.{is_live, applied_of}
+use Rattle.plx_worlds.specs.Records.{is_live, is_plain}
 use Rattle.plx_worlds.specs.Session.{Session, write_count, with_write}
 use Rattle.plx_worlds.specs.Stored.{Given, record_in, record_on, counted_in, IsCounted}
 use Rattle.law_run.specs.AllowedAsks.{last_known}
 use Rattle.law_run.specs.KnownBytes.{with_block}
-use Rattle.law_run.proofs.Counted.{counts-spelled}
+use Rattle.law_run.proofs.Counted.{counts-spelled, no-count}
 use Rattle.law_run.proofs.Facts.{place-apart}
 use Rattle.law_run.proofs.Latest.{at_push, get-push, get-old}
 use Rattle.law_run.proofs.Right.{descriptor_of, Fits}
@@ -50,6 +50,21 @@ fits-along g given more image session same descriptors blocks fits = record {
   blocks = λ k write found. blocks (journal_slot g.slots write.number) ∙ fits.blocks k write found;
   only = λ slot d counts. fits.only slot d (counts-same g more given image session.image slot d (sym (descriptors slot)) counts);
   whole = λ slot below. ap (λ o. drop 512 (last_known o)) (descriptors slot) ∙ fits.whole slot below;
+}
+
+-- an image whose journal isn't known, with no writes
+pub fits-empty : (g : Geometry) (given : Given) (image : ℕ) (kept : ImageRecord) → image < g.images → record_on g given image ≡ Some kept → is_plain kept ≡ true →
+    ((slot : ℕ) → given (descriptor_at g image slot) ≡ None) → Fits g given image (record { image = kept; writes = [] })
+fits-empty g given image kept within found plain unknown = record {
+  within = within;
+  found = found;
+  plain = plain;
+  room = omega arith;
+  numbers = λ k write has. absurd (let P : ⊥ = cc in P);
+  counts = λ k write has. absurd (let P : ⊥ = cc in P);
+  blocks = λ k write has. absurd (let P : ⊥ = cc in P);
+  only = λ slot d counts. absurd (no-count kept g.slots slot d (given (descriptor_at g image slot)) (unknown slot) counts.found);
+  whole = λ slot below. ap (λ o. drop 512 (last_known o)) (unknown slot);
 }
 
 -- two slots of an image whose data stands in one block are one

@@ -1,6 +1,5 @@
 -- What is held along the exchanges of a command.
-use Rattle.std.proofs.Common.{◌≡◌, ◌≢◌, ℕ, suc, ◌+◌, ◌-◌, ◌≤◌, ◌<◌, List, [], ◌∷◌, Bool, true, false, Option, Some, None, refl, ap, sym, subst, ◌∙◌, arith, inl, inr}
-use Rattle.std.specs.Prelude.{if◌then◌else◌, nat_le, nat_lt, ◌&&◌}
+use Rattle.std.proofs.Common.{◌≡◌, ◌≢◌, ℕ, ◌+◌, ◌-◌, ◌<◌, List, [], ◌∷◌, Bool, true, false, Option, Some, refl, ap, sym, ◌∙◌, arith, inl, inr}
 use Rattle.std.proofs.lemmas.Bool.Decides.{eqb_tells}
 use Rattle.plx_base.specs.declared.lease.Claim.{Claim}
 use Rattle.plx_base.specs.declared.write_kind.WriteKind.{WriteKind}
@@ -13,7 +12,7 @@ use Rattle.plx_geom.specs.Geometry.{Geometry, image_lease, lease_at}
 use Rattle.plx_commands.specs.Places.{at}
 use Rattle.plx_worlds.specs.Holds.{Hold, Held, after_answer, after_write, shown, timed}
 use Rattle.plx_worlds.specs.Settings.{Setting}
-use Rattle.law_run.specs.CommandLogs.{Exchange, Finished, first_reading, earliest}
+use Rattle.law_run.specs.CommandLogs.{Exchange, Finished, first_reading}
 use Rattle.law_run.specs.Holdings.{lease_attached, at_first, holds_along, holds_after, hold_of, is_lease_read, claims_in}
 use Rattle.law_run.specs.Sessions.{is_attached}
 use Rattle.law_run.proofs.Right.{clock, IsHeld}

@@ -26,3 +26,7 @@ pub mod Writing
 pub mod Limits
 pub mod Reached
 pub mod Renewing
+pub mod Loading
+pub mod Attaching
+pub mod Claiming
+pub mod Begun

@@ -1,7 +1,6 @@
 -- Creates and deletes.
-use Rattle.std.proofs.Common.{◌≡◌, ◌≢◌, ℕ, ◌+◌, ◌-◌, ◌≤◌, ◌<◌, ◌^◌, List, [], ◌∷◌, length, drop, Bool, true, false, Option, Some, None, refl, ap, sym, subst, ◌∙◌, arith, inl, inr}
-use Rattle.std.specs.Prelude.{slice_get, nat_lt, nat_le, ◌&&◌, ◌==◌, if◌then◌else◌}
-use Rattle.plx_base.specs.Blocks.{zeros}
+use Rattle.std.proofs.Common.{◌≡◌, ℕ, ◌+◌, ◌≤◌, ◌<◌, ◌^◌, List, [], ◌∷◌, drop, Bool, true, false, Some, None, refl, ap, sym, subst, ◌∙◌, arith, inl}
+use Rattle.std.specs.Prelude.{nat_lt, nat_le}
 use Rattle.plx_base.specs.Labels.{IsLabel}
 use Rattle.plx_base.specs.declared.label.Label.{Label}
 use Rattle.plx_base.specs.declared.lease.Claim.{Claim}
@@ -19,28 +18,27 @@ use Rattle.plx_gate.specs.Images.{image_bytes, IsImage}
 use Rattle.plx_gate.specs.declared.image.ImageRecord.{ImageRecord}
 use Rattle.plx_gate.specs.declared.image.ImageRecord.TheVariants as image_is
 use Rattle.plx_gate.proofs.Images.{image-back, image-only}
-use Rattle.plx_geom.specs.Geometry.{Geometry, image_lease, record_at, descriptor_at, data_at, journal_start}
+use Rattle.plx_geom.specs.Geometry.{Geometry, image_lease, record_at, descriptor_at, journal_start}
 use Rattle.plx_geom.proofs.Places.{image-below}
-use Rattle.plx_rules.specs.Part.{Part}
 use Rattle.plx_worlds.specs.Commands.{create_part, delete_part, record_part, command_part}
-use Rattle.plx_worlds.specs.Ends.{End, ends, ends_in_time}
+use Rattle.plx_worlds.specs.Ends.{ends_in_time}
 use Rattle.plx_worlds.specs.Records.{is_live, generation_of, is_plain, made_record}
 use Rattle.plx_worlds.specs.Session.{Session, Known, with_session, new_session}
 use Rattle.plx_worlds.specs.Settings.{Setting}
 use Rattle.plx_worlds.specs.Attaching.{image_use}
-use Rattle.plx_worlds.specs.Stored.{Given, StoredImage, record_in, record_on, counted_in, Stores}
+use Rattle.plx_worlds.specs.Stored.{Given, record_in, record_on, Stores}
 use Rattle.law_run.specs.AllowedAsks.{last_known, IsFirstSector, MayWrite, record_of_create, record_of_delete}
 use Rattle.law_run.specs.CommandLogs.{Exchange, Finished, first_reading}
-use Rattle.law_run.specs.KnownBytes.{with_block, without_journal, is_making, learnt, known_after, known_from, known_in, known_before}
+use Rattle.law_run.specs.KnownBytes.{with_block, without_journal, is_making, known_after, known_from, known_in, known_before}
 use Rattle.law_run.specs.Refusals.{NamesBlock, of_read, of_write, NeedsImage, of_delete, of_block, no_image, exists, out_of_limits, generations}
 use Rattle.law_run.specs.Replies.{IsConfirmed, refused, Comes}
 use Rattle.law_run.specs.Sessions.{names, attached_by}
 use Rattle.law_run.proofs.Asking.{IsFine, asks-write, asks-confirm}
 use Rattle.law_run.proofs.Clear.{by-unless, Clear, known-here, clear}
-use Rattle.law_run.proofs.Counted.{and-parts, lt-is, no-count}
+use Rattle.law_run.proofs.Counted.{and-parts, lt-is}
 use Rattle.law_run.proofs.Facts.{image_of, limits, record-spelled, stores-session}
-use Rattle.law_run.proofs.Grown.{with-same}
-use Rattle.law_run.proofs.Holding.{at-same, at-other, Course, Going, going-first, going-more}
+use Rattle.law_run.proofs.Grown.{with-same, fits-empty}
+use Rattle.law_run.proofs.Holding.{at-same, at-other, Course, going-first, going-more}
 use Rattle.law_run.proofs.Meets.{exchange}
 use Rattle.law_run.proofs.OnImage.{OnImage, names-own, names-other, still, on-image, Ready}
 use Rattle.law_run.proofs.Passed.{Passed, passed}
@@ -65,17 +63,9 @@ journal-gone g image slot made given = rw (nat_le-true (journal_start g) (descri
 -- the session of an image that was just made fits
 fits-made : (g : Geometry) (image : ℕ) (made : ImageRecord) (given : Given) → image < g.images → IsImage made → is_plain made ≡ true →
     Fits g (made_known g image made given) image (new_session made)
-fits-made g image made given within is plain = record {
-  within = within;
-  found = ap record_in (record-there g image made given within) ∙ image-back made is;
-  plain = plain;
-  room = omega arith;
-  numbers = λ k write found. absurd (let P : ⊥ = cc in P);
-  counts = λ k write found. absurd (let P : ⊥ = cc in P);
-  blocks = λ k write found. absurd (let P : ⊥ = cc in P);
-  only = λ slot d counts. absurd (no-count made g.slots slot d (made_known g image made given (descriptor_at g image slot)) (journal-gone g image slot made given) counts.found);
-  whole = λ slot below. ap (λ o. drop 512 (last_known o)) (journal-gone g image slot made given);
-}
+fits-made g image made given within is plain =
+    fits-empty g (made_known g image made given) image made within (ap record_in (record-there g image made given within) ∙ image-back made is) plain
+    (λ slot. journal-gone g image slot made given)
 
 -- the first sector alone of a record is written
 pub first-sector : (g : Geometry) (given : Given) (image : ℕ) (kept made : ImageRecord) → record_on g given image ≡ Some kept → IsImage kept → IsImage made →

@@ -1,6 +1,6 @@
 -- Commands of one image, whose session they need.
-use Rattle.std.proofs.Common.{◌≡◌, ◌≢◌, ℕ, zero, suc, ◌+◌, ◌≤◌, ◌<◌, ◌^◌, List, [], ◌∷◌, Bool, true, false, Option, Some, None, refl, ap, sym, subst, ◌∙◌, arith, inl, inr}
-use Rattle.std.specs.Prelude.{◌==◌, ◌||◌, nat_lt, if◌then◌else◌}
+use Rattle.std.proofs.Common.{◌≡◌, ◌≢◌, ℕ, suc, ◌≤◌, ◌<◌, List, [], ◌∷◌, Bool, true, false, Option, Some, None, refl, ap, sym, subst, ◌∙◌, arith, inl, inr}
+use Rattle.std.specs.Prelude.{◌==◌, ◌||◌, nat_lt}
 use Rattle.std.proofs.lemmas.Bool.Decides.{eqb_tells, leb_tells}
 use Rattle.plx_base.specs.declared.lease.Claim.{Claim}
 use Rattle.plx_base.specs.declared.lease.LeaseName.{LeaseName}
@@ -13,24 +13,24 @@ use Rattle.plx_commands.specs.declared.reply.Reply.TheVariants as reply
 use Rattle.plx_geom.specs.Geometry.{Geometry, image_lease, lease_at}
 use Rattle.plx_rules.specs.Part.{Part}
 use Rattle.plx_worlds.specs.Attaching.{image_use}
-use Rattle.plx_worlds.specs.Commands.{held_part, attached_part, of_attached}
+use Rattle.plx_worlds.specs.Commands.{attached_part, of_attached}
 use Rattle.plx_worlds.specs.Ends.{End, ends, lost, in_time}
-use Rattle.plx_worlds.specs.Holds.{Hold, Held}
-use Rattle.plx_worlds.specs.InUse.{InUse, lease_name}
+use Rattle.plx_worlds.specs.Holds.{Held}
+use Rattle.plx_worlds.specs.InUse.{lease_name}
 use Rattle.plx_worlds.specs.Session.{Session, Known, nothing_known}
 use Rattle.plx_worlds.specs.Settings.{Setting}
 use Rattle.law_run.specs.CommandLogs.{Exchange, Finished, CommandLog, first_reading}
-use Rattle.law_run.specs.Holdings.{holds_after, hold_of, claims_in, claims_begun}
-use Rattle.law_run.specs.KnownBytes.{known_after, known_from, learnt}
+use Rattle.law_run.specs.Holdings.{holds_after, hold_of}
+use Rattle.law_run.specs.KnownBytes.{known_after}
 use Rattle.law_run.specs.Refusals.{IsExpired, IsNamedFirst, not_attached, expired}
-use Rattle.law_run.specs.Replies.{IsReplied, refused}
+use Rattle.law_run.specs.Replies.{refused}
 use Rattle.law_run.specs.Sessions.{names, uses, needs, attached_by, is_attached}
-use Rattle.law_run.proofs.Holding.{Spared, spared-first, first-held}
+use Rattle.law_run.proofs.Holding.{spared-first, first-held}
 use Rattle.law_run.proofs.Passed.{Passed, passed}
 use Rattle.law_run.proofs.Rests.{clash, KeepsHolds, rests-by, own-still, rests-lost}
 use Rattle.law_run.proofs.Right.{clock, IsHeld, Fits, FitsAt, Rests, finish, log_on, Right}
 use Rattle.law_run.proofs.Runs.{start}
-use Rattle.law_run.proofs.Tests.{eqb-true, eqb-false, nat_lt-true, lt-cases}
+use Rattle.law_run.proofs.Tests.{eqb-true, eqb-false, nat_lt-true}
 
 -- a command names one image, and needs its session
 pub record OnImage (command : Command) (image : ℕ) : Type 0 where

@@ -1,5 +1,5 @@
 -- Given bytes store one image.
-use Rattle.std.proofs.Common.{◌≡◌, ℕ, ◌≤◌, Option, Some, ap, sym, subst, ◌∙◌, arith}
+use Rattle.std.proofs.Common.{◌≡◌, ℕ, ◌≤◌, Some, ap, sym, subst, ◌∙◌, arith}
 use Rattle.plx_gate.specs.Images.{label_of}
 use Rattle.plx_gate.specs.declared.image.ImageRecord.{ImageRecord}
 use Rattle.plx_geom.specs.Geometry.{Geometry, data_at}

@@ -1,5 +1,5 @@
 -- Reads.
-use Rattle.std.proofs.Common.{◌≡◌, ℕ, ◌+◌, ◌≤◌, ◌<◌, ◌^◌, List, [], ◌∷◌, Bool, true, false, Option, Some, None, refl, ap, sym, subst, ◌∙◌, arith, inl, inr}
+use Rattle.std.proofs.Common.{◌≡◌, ℕ, ◌≤◌, ◌<◌, List, [], ◌∷◌, Bool, true, false, Some, refl, ap, sym, subst, ◌∙◌, arith, inl, inr}
 use Rattle.std.specs.Prelude.{nat_le}
 use Rattle.std.proofs.lemmas.Bool.Decides.{leb_tells}
 use Rattle.plx_base.specs.Canonical.{payload_of}
@@ -8,12 +8,9 @@ use Rattle.plx_base.specs.declared.lease.Claim.{Claim}
 use Rattle.plx_base.specs.declared.numbers.SlotNo.{SlotNo}
 use Rattle.plx_base.proofs.Canonical.{bytes_of-payload_of}
 use Rattle.plx_commands.specs.Facts.{not}
-use Rattle.plx_commands.specs.declared.command.Command.{Command}
 use Rattle.plx_commands.specs.declared.command.Command.TheVariants.{Read}
 use Rattle.plx_commands.specs.declared.reply.Reply.TheVariants as reply
-use Rattle.plx_worlds.specs.Attaching.{image_use}
 use Rattle.plx_worlds.specs.Commands.{read_part, command_part}
-use Rattle.plx_worlds.specs.Ends.{ends, ends_in_time}
 use Rattle.plx_worlds.specs.Records.{is_live, size_of}
 use Rattle.plx_worlds.specs.Session.{Session, Known, content}
 use Rattle.plx_worlds.specs.Settings.{Setting}

@@ -8,18 +8,15 @@ use Rattle.plx_base.specs.declared.lease.LeaseName.TheVariants as lease
 use Rattle.plx_base.specs.declared.lease.LeaseRecord.TheVariants as lease_is
 use Rattle.plx_base.specs.declared.numbers.SlotNo.{SlotNo}
 use Rattle.plx_base.specs.declared.write_kind.WriteKind.TheVariants as kind
-use Rattle.plx_commands.specs.declared.command.Command.{Command}
 use Rattle.plx_commands.specs.declared.command.Command.TheVariants.{Renew}
 use Rattle.plx_commands.specs.declared.reply.Reply.TheVariants as reply
 use Rattle.plx_disk.specs.declared.ask.Ask.TheVariants as ask
 use Rattle.plx_disk.specs.declared.ask.Answer.TheVariants as answer
 use Rattle.plx_gate.specs.Leases.{lease_bytes, read_lease, IsClaimed}
 use Rattle.plx_gate.proofs.Leases.{lease-back}
-use Rattle.plx_geom.specs.Geometry.{Geometry, lease_count, image_lease, lease_at}
-use Rattle.plx_geom.proofs.Places.{image-below, image-image}
-use Rattle.plx_rules.specs.Part.{Part}
+use Rattle.plx_geom.specs.Geometry.{lease_count, image_lease, lease_at}
 use Rattle.plx_worlds.specs.Commands.{later_of, renewal, renew_part, attached_uses, command_part}
-use Rattle.plx_worlds.specs.Ends.{End, ends, lost}
+use Rattle.plx_worlds.specs.Ends.{ends, lost}
 use Rattle.plx_worlds.specs.Holds.{Hold, Nothing, Seen, Wrote, Waited, Held, renewed}
 use Rattle.plx_worlds.specs.InUse.{InUse, lease_name, first_reached, unless_reached}
 use Rattle.plx_worlds.specs.Session.{Session, Known, nothing_known}
@@ -28,19 +25,19 @@ use Rattle.plx_worlds.specs.Times.{term}
 use Rattle.law_run.specs.AllowedAsks.{renew}
 use Rattle.law_run.specs.Bounds.{one_held, count_held}
 use Rattle.law_run.specs.CommandLogs.{Exchange, Finished, IsIn, first_reading}
-use Rattle.law_run.specs.Holdings.{at_first, holds_along, holds_after, hold_of, is_lease_read, claims_in, claims_begun}
+use Rattle.law_run.specs.Holdings.{at_first, holds_along, holds_after, hold_of, claims_in}
 use Rattle.law_run.specs.Refusals.{IsExpired, IsNamedFirst, NamesBlock, of_read, of_write, NeedsImage, of_delete, of_block, expired}
 use Rattle.law_run.specs.Replies.{refused}
 use Rattle.law_run.specs.Sessions.{is_attached}
 use Rattle.law_run.proofs.Asking.{IsFine, replied-fine, asks-write}
-use Rattle.law_run.proofs.Holding.{at-same, at-other, first-held, first-hold, first-more, claims-more, Spared}
-use Rattle.law_run.proofs.Limits.{Limited, limited, limited-after, limited-along}
+use Rattle.law_run.proofs.Holding.{at-same, at-other, first-held, first-more, claims-more}
+use Rattle.law_run.proofs.Limits.{Limited, limited}
 use Rattle.law_run.proofs.Meets.{exchange}
 use Rattle.law_run.proofs.OnImage.{passed-sessions, lease-name}
 use Rattle.law_run.proofs.Passed.{Passed, passed}
 use Rattle.law_run.proofs.Reached.{IsUse, NotAfter, IsFirst, Tells, first-tells, OfSession, of-session, session-use}
 use Rattle.law_run.proofs.Rests.{clash, rests-by, rests-lost}
-use Rattle.law_run.proofs.Right.{clock, IsHeld, Fits, FitsAt, Rests, finish, log_on, Right}
+use Rattle.law_run.proofs.Right.{clock, IsHeld, FitsAt, Rests, finish, log_on, Right}
 use Rattle.law_run.proofs.Runs.{HasFirst, along-more, start}
 
 -- ---- no other refusal's fact holds of a renewal

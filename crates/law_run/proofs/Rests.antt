@@ -1,21 +1,19 @@
 -- What is known between commands fits them once one more has its reply.
-use Rattle.std.proofs.Common.{◌≡◌, ◌≢◌, ℕ, ◌+◌, ◌<◌, List, [], ◌∷◌, Bool, true, false, Option, Some, None, refl, ap, sym, subst, ◌∙◌, arith, inl, inr, ◌⊎◌}
-use Rattle.std.specs.Prelude.{if◌then◌else◌}
+use Rattle.std.proofs.Common.{◌≡◌, ◌≢◌, ℕ, ◌+◌, List, ◌∷◌, Bool, true, false, Option, Some, None, refl, ap, sym, subst, ◌∙◌, inl, inr}
 use Rattle.std.proofs.lemmas.Bool.Decides.{eqb_tells}
-use Rattle.plx_base.specs.declared.lease.Claim.{Claim}
 use Rattle.plx_base.specs.declared.lease.LeaseName.{LeaseName}
 use Rattle.plx_base.specs.declared.numbers.BlockNo.{BlockNo}
 use Rattle.plx_commands.specs.declared.command.Command.{Command}
 use Rattle.plx_commands.specs.declared.reply.Reply.{Reply}
 use Rattle.plx_commands.specs.declared.reply.Reply.TheVariants as reply
 use Rattle.plx_geom.specs.Geometry.{Geometry, image_lease, lease_at}
-use Rattle.plx_worlds.specs.Holds.{Hold, Held, after_reply}
+use Rattle.plx_worlds.specs.Holds.{Hold, after_reply}
 use Rattle.plx_worlds.specs.Session.{Session, Known, nothing_known}
 use Rattle.plx_worlds.specs.Settings.{Setting}
 use Rattle.plx_worlds.specs.Stored.{Given}
 use Rattle.law_run.specs.CommandLogs.{Exchange, Finished}
 use Rattle.law_run.specs.Holdings.{holds_along, holds_after, hold_of, claims_in, claims_begun}
-use Rattle.law_run.specs.KnownBytes.{nothing_given, where_attached, learnt, known_after, known_from, known_in}
+use Rattle.law_run.specs.KnownBytes.{nothing_given, learnt, known_after, known_from, known_in}
 use Rattle.law_run.specs.Sessions.{names, attached_by, is_attached}
 use Rattle.law_run.proofs.Holding.{Spared}
 use Rattle.law_run.proofs.Right.{IsHeld, Fits, FitsAt, Rests, finish, log_on}

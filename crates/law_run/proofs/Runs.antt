@@ -12,13 +12,13 @@ use Rattle.plx_worlds.specs.Boot as boot
 use Rattle.plx_worlds.specs.Boot.{Happening, Place, Idle, Begins, In, Position, position, place_of, after_part, goes_to, begun, first_read, went_on, asks, writes_out, reply_of, replies_at, Fits, IsRun}
 use Rattle.plx_worlds.specs.Commands.{IsBuilt, IsWellFormed, command_part}
 use Rattle.plx_worlds.specs.Ends.{End}
-use Rattle.plx_worlds.specs.Holds.{Hold, Nothing, Seen, Wrote, Waited, Held, no_holds, after_answer, sample_of, after_reply, first_hold, session_at, after_first}
-use Rattle.plx_worlds.specs.Session.{Session, Known, nothing_known}
+use Rattle.plx_worlds.specs.Holds.{Hold, Nothing, Seen, Wrote, Waited, Held, after_answer, sample_of, after_reply, first_hold, after_first}
+use Rattle.plx_worlds.specs.Session.{Session, Known}
 use Rattle.plx_worlds.specs.Settings.{Setting}
 use Rattle.law_run.specs.AllowedAsks.{MayAsk}
 use Rattle.law_run.specs.Bounds.{bound}
 use Rattle.law_run.specs.CommandLogs.{Exchange, Finished, CommandLog, Commands, Between, Within, starting, following, commands}
-use Rattle.law_run.specs.Holdings.{lease_attached, at_first, after_first_answer, holds_along, holds_after}
+use Rattle.law_run.specs.Holdings.{at_first, after_first_answer, holds_along, holds_after}
 use Rattle.law_run.specs.Rules.{AllAllowed, AllKept, KeepsRules, IsSetting, RunsKeepRules}
 use Rattle.law_run.specs.Sessions.{is_attached}
 use Rattle.law_run.proofs.Meets.{exchange, answers}

@@ -1,5 +1,5 @@
 -- What records and leases differ in as bytes: their first sector alone.
-use Rattle.std.proofs.Common.{◌≡◌, ℕ, ◌≤◌, List, [], ◌++◌, length, drop, Some, refl, sym, ◌∙◌, arith}
+use Rattle.std.proofs.Common.{◌≡◌, [], ◌++◌, drop, refl, sym, ◌∙◌, arith}
 use Rattle.std.proofs.lemmas.List.{drop-replicate}
 use Rattle.plx_base.specs.Blocks.{zeros}
 use Rattle.plx_base.specs.Spelling.{spelled, fields_bytes, fields_width}

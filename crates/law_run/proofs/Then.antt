@@ -1,10 +1,10 @@
 -- Work after work.
-use Rattle.std.proofs.Common.{◌≡◌, ℕ, zero, suc, ◌+◌, ◌≤◌, List, ◌∷◌, arith}
+use Rattle.std.proofs.Common.{◌≡◌, ℕ, zero, suc, ◌+◌, List, arith}
 use Rattle.plx_disk.specs.declared.ask.Ask.{Ask}
 use Rattle.plx_rules.specs.Part.{Part, Ends, ReadThen, WriteThen, ClockThen, UntilThen}
 use Rattle.plx_worlds.specs.Parts.{followed_by}
 use Rattle.law_run.specs.CommandLogs.{Exchange}
-use Rattle.law_run.proofs.Meets.{exchange, Meets, meets-more}
+use Rattle.law_run.proofs.Meets.{Meets, meets-more}
 
 -- so many answers and then so many
 abbrev pub both : ℕ → ℕ → ℕ

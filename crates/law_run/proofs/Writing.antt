@@ -1,5 +1,5 @@
 -- Writes.
-use Rattle.std.proofs.Common.{◌≡◌, ◌≢◌, ℕ, ◌+◌, ◌-◌, ◌≤◌, ◌<◌, ◌^◌, List, [], ◌∷◌, ◌++◌, length, drop, Bool, true, false, Option, Some, None, refl, ap, sym, subst, ◌∙◌, arith, inl, inr, length-append}
+use Rattle.std.proofs.Common.{◌≡◌, ℕ, ◌+◌, ◌≤◌, ◌<◌, ◌^◌, List, [], ◌∷◌, length, drop, Bool, true, false, Some, refl, ap, sym, subst, ◌∙◌, arith, inl, length-append}
 use Rattle.std.specs.Prelude.{if◌then◌else◌, ◌==◌, nat_le}
 use Rattle.plx_base.specs.Blocks.{zeros}
 use Rattle.plx_base.specs.Payload.{bytes_of}
@@ -9,7 +9,6 @@ use Rattle.plx_base.specs.declared.payload.Payload.{Payload}
 use Rattle.plx_base.specs.declared.write_kind.WriteKind.TheVariants as kind
 use Rattle.plx_commands.specs.Facts.{is_worn, not}
 use Rattle.plx_commands.specs.Limits.{last_write}
-use Rattle.plx_commands.specs.declared.command.Command.{Command}
 use Rattle.plx_commands.specs.declared.command.Command.TheVariants.{Write}
 use Rattle.plx_commands.specs.declared.reply.Reply.TheVariants as reply
 use Rattle.plx_disk.specs.declared.ask.Ask.TheVariants as ask
@@ -26,10 +25,9 @@ use Rattle.plx_rules.specs.declared.journaled.Journaled.{Journaled}
 use Rattle.plx_worlds.specs.Attaching.{image_use}
 use Rattle.plx_worlds.specs.Commands.{next_write, next_descriptor, write_part, journal_part, command_part}
 use Rattle.plx_worlds.specs.Ends.{End, ends_in_time, write_then}
-use Rattle.plx_worlds.specs.InUse.{InUse}
 use Rattle.plx_worlds.specs.Journal.{journal_slot}
 use Rattle.plx_worlds.specs.Records.{is_live, generation_of, size_of, applied_of}
-use Rattle.plx_worlds.specs.Session.{Session, Known, write_count, latest, content, with_write, with_session}
+use Rattle.plx_worlds.specs.Session.{Session, Known, write_count, latest, with_write, with_session}
 use Rattle.plx_worlds.specs.Settings.{Setting}
 use Rattle.plx_worlds.specs.Stored.{Given, Content, Holds, record_on, IsCounted, IsWriteCount, IsContent, Stores}
 use Rattle.law_run.specs.AllowedAsks.{IsNext, last_known, data_of_write, commit_of_write}
@@ -43,13 +41,13 @@ use Rattle.law_run.proofs.Clear.{by-unless, Clear, known-here, clear}
 use Rattle.law_run.proofs.Counted.{eqb-is, eqb-isn't}
 use Rattle.law_run.proofs.Facts.{image_of, limits, stores-session, next-free, write-count}
 use Rattle.law_run.proofs.Grown.{with-same, fits-data, fits-more}
-use Rattle.law_run.proofs.Holding.{at-same, at-other, Course, Going, going-first, going-more}
+use Rattle.law_run.proofs.Holding.{at-same, at-other, Course, going-first, going-more}
 use Rattle.law_run.proofs.Latest.{latest-push}
 use Rattle.law_run.proofs.Meets.{exchange}
 use Rattle.law_run.proofs.OnImage.{OnImage, names-own, names-other, still, on-image, Ready}
 use Rattle.law_run.proofs.Passed.{Passed, passed}
 use Rattle.law_run.proofs.Reading.{not-true, not-false, le-is, le-isn't}
-use Rattle.law_run.proofs.Rests.{held-after, rests-by}
+use Rattle.law_run.proofs.Rests.{rests-by}
 use Rattle.law_run.proofs.Right.{clock, descriptor_of, Fits, FitsAt, Rests, finish, log_on, Right}
 use Rattle.law_run.proofs.Runs.{start}
 use Rattle.law_run.proofs.Slots.{slot-below}
