@@ -5,12 +5,14 @@ use Rattle.plx_commands.specs.declared.command.Command.TheVariants.{Attach, Deta
 use Rattle.plx_worlds.specs.Settings.{Setting}
 use Rattle.law_run.specs.Bounds.{bound}
 use Rattle.law_run.specs.CommandLogs.{Finished}
+use Rattle.law_run.specs.Positions.{PositionsAgree}
 use Rattle.law_run.specs.Rules.{IsSetting, RunsKeepRules}
 use Rattle.law_run.proofs.Claiming.{attach-begins}
 use Rattle.law_run.proofs.Detaching.{detach-begins}
 use Rattle.law_run.proofs.Making.{create-begins, delete-begins}
 use Rattle.law_run.proofs.Reading.{read-begins}
 use Rattle.law_run.proofs.Renewing.{renew-begins}
+use Rattle.law_run.proofs.Runs as runs
 use Rattle.law_run.proofs.Runs.{BeginsRight, runs-keep}
 use Rattle.law_run.proofs.Writing.{write-begins}
 
@@ -45,3 +47,6 @@ some-bound s before Reclaim = omega arith
 
 pub runs-keep-rules : RunsKeepRules
 runs-keep-rules = runs-keep begins-right some-bound
+
+pub positions-agree : PositionsAgree
+positions-agree = runs.positions-agree begins-right

@@ -478,7 +478,7 @@ module _ (s : Setting) (boot_small : s.boot < 2 ^ 128) (before : List Finished) 
       0,
       omega arith,
       (
-        refused 9
+        refused 9 (reading, refl)
             (claims slot refl (reading, refl, λ claim until e. none claim until (sym is ∙ (first-hold s before reading slot.0 within ∙ e))) (let c = rests.claims in omega (arith, worn.1)))
             (λ p other refuses. passed s (log_on before (Attach slot) (clock reading ∷ [])) 9 p other
             (attach-passed s before slot (clock reading ∷ []) 9 (λ lt. missing) (λ lt. within) (λ lt. absurd (omega arith))) refuses),
@@ -516,7 +516,7 @@ module _ (s : Setting) (boot_small : s.boot < 2 ^ 128) (before : List Finished) 
     0,
     omega arith,
     (
-      refused 4 (no_slot slot refl (lt-isn't slot.0 s.geometry.images is))
+      refused 4 (reading, refl) (no_slot slot refl (lt-isn't slot.0 s.geometry.images is))
           (λ p other refuses. passed s (log_on before (Attach slot) (clock reading ∷ [])) 4 p other
           (attach-passed s before slot (clock reading ∷ []) 4 (λ lt. missing) (λ lt. absurd (omega arith)) (λ lt. absurd (omega arith))) refuses),
       unattached-by s before known known slot missing (λ image. refl) rests (clock reading ∷ []) reply.NoImage (λ other b. refl) (λ h. refl) (spared-first s before reading slot.0)
@@ -531,7 +531,7 @@ module _ (s : Setting) (boot_small : s.boot < 2 ^ 128) (before : List Finished) 
     0,
     omega arith,
     (
-      refused 2 (already_attached slot refl fits.0)
+      refused 2 (reading, refl) (already_attached slot refl fits.0)
           (λ p other refuses. passed s (log_on before (Attach slot) (clock reading ∷ [])) 2 p other
           (attach-passed s before slot (clock reading ∷ []) 2 (λ lt. absurd (omega arith)) (λ lt. absurd (omega arith)) (λ lt. absurd (omega arith))) refuses),
       rests-by s before (Attach slot) (clock reading ∷ []) reply.AlreadyAttached known known slot.0 (names-other (Attach slot) slot.0 (attach-one slot)) (λ other apart. refl) (λ other b apart. refl) (λ h. refl)

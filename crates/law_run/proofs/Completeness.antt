@@ -40,5 +40,5 @@ of-work s log (reply.Damaged b) comes = inl (outside comes.image b comes.bytes c
 of-work s log (reply.WornOut count) comes = absurd comes
 
 pub ok-without-cause : OkWithoutCause
-ok-without-cause s log r (refused place refuses first) = inl (fact place r refuses)
+ok-without-cause s log r (refused place once refuses first) = inl (fact place r refuses)
 ok-without-cause s log r (worked fine comes) = of-work s log r comes

@@ -30,3 +30,4 @@ pub mod Loading
 pub mod Attaching
 pub mod Claiming
 pub mod Begun
+pub mod Worlds

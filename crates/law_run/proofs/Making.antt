@@ -176,19 +176,19 @@ right-create s before known slot size label reading rests labelled session claim
     λ n free sized fresh done first. clear s before known command slot reading on rests session claim until ready done n first (create-clear s.geometry.slots slot size label session n free sized fresh) in
     by-unless (λ part. Right s before command (clock reading ∷ []) part 2) (is_live session.image) reply.Exists known _
     (λ live. (
-      refused 5 (exists slot size label session.image refl found live)
+      refused 5 (reading, refl) (exists slot size label session.image refl found live)
           (λ p other refuses. passed s log 5 p other (place 5 (λ lt. absurd (omega arith)) (λ lt. absurd (omega arith)) (λ lt. absurd (omega arith)) (clock reading ∷ []) refl) refuses),
       still s before known command slot reading on rests reply.Exists (λ other b. refl) (λ h. refl),
     ))
     (λ free. by-unless (λ part. Right s before command (clock reading ∷ []) part 2) (not (is_size size)) (reply.OutOfRange greatest_size) known _
     (λ wrong. (
-      refused 6 (out_of_limits slot size label refl ready.attached (not-true (is_size size) wrong))
+      refused 6 (reading, refl) (out_of_limits slot size label refl ready.attached (not-true (is_size size) wrong))
           (λ p other refuses. passed s log 6 p other (place 6 (λ lt. free) (λ lt. absurd (omega arith)) (λ lt. absurd (omega arith)) (clock reading ∷ []) refl) refuses),
       still s before known command slot reading on rests (reply.OutOfRange greatest_size) (λ other b. refl) (λ h. refl),
     ))
     (λ sized. by-unless (λ part. Right s before command (clock reading ∷ []) part 2) (is_worn last_generation generation) (reply.WornOut last_generation) known _
     (λ worn. (
-      refused 9 (generations slot size label session.image refl found (le-is last_generation generation worn))
+      refused 9 (reading, refl) (generations slot size label session.image refl found (le-is last_generation generation worn))
           (λ p other refuses. passed s log 9 p other (place 9 (λ lt. free) (λ lt. not-false (is_size size) sized) (λ lt. absurd (omega arith)) (clock reading ∷ []) refl) refuses),
       still s before known command slot reading on rests (reply.WornOut last_generation) (λ other b. refl) (λ h. refl),
     ))
@@ -269,7 +269,7 @@ right-delete s before known slot reading rests session claim until ready =
     λ n live done first. clear s before known command slot reading on rests session claim until ready done n first (delete-clear s.geometry.slots slot session n live) in
     by-unless (λ part. Right s before command (clock reading ∷ []) part 2) (not (is_live session.image)) reply.NoImage known _
     (λ dead. (
-      refused 4 (no_image slot.0 session.image (of_delete slot refl refl) found (not-true (is_live session.image) dead))
+      refused 4 (reading, refl) (no_image slot.0 session.image (of_delete slot refl refl) found (not-true (is_live session.image) dead))
           (λ p other refuses. passed s log 4 p other (place 4 (λ lt. absurd (omega arith)) (clock reading ∷ []) refl) refuses),
       still s before known command slot reading on rests reply.NoImage (λ other b. refl) (λ h. refl),
     ))

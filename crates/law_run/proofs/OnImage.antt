@@ -141,7 +141,7 @@ module _ (s : Setting) (before : List Finished) (known : Known) (command : Comma
 
   not-attached : is_attached before slot.0 ≡ false → (left : ℕ) → Right s before command (clock reading ∷ []) (ends reply.NotAttached known) left
   not-attached missing left = (
-    refused 1 (not_attached slot.0 (on.needed slot.0 ∙ names-own command slot.0 on.named) missing) (λ p other refuses. passed s (log_on before command (clock reading ∷ [])) 1 p other (passed-first s _) refuses),
+    refused 1 (reading, refl) (not_attached slot.0 (on.needed slot.0 ∙ names-own command slot.0 on.named) missing) (λ p other refuses. passed s (log_on before command (clock reading ∷ [])) 1 p other (passed-first s _) refuses),
     still reply.NotAttached (λ other b. refl) (λ h. refl),
   )
 
@@ -150,7 +150,7 @@ module _ (s : Setting) (before : List Finished) (known : Known) (command : Comma
       Right s before command (clock reading ∷ []) (lost s known (record { lease = image_lease slot.0; until = until }) reading) left
   late claim until within attached held past left =
       subst (λ (n : LeaseName). Right s before command (clock reading ∷ []) (ends (reply.Lost n until reading) (nothing_known known.claims)) left) (sym (lease-name s.geometry slot.0 within)) (
-        refused 3
+        refused 3 (reading, refl)
             (expired slot (record { used = on.used slot.0 ∙ names-own command slot.0 on.named; attached = attached; claim = claim; held = held; first = refl; reached = past })
             (λ other until' is. alone other until' is))
             (λ p other refuses. passed s (log_on before command (clock reading ∷ [])) 3 p other

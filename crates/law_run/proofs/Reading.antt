@@ -77,13 +77,13 @@ module _ (s : Setting) (before : List Finished) (known : Known) (slot : SlotNo) 
       let record' = ap (λ (g : Given). record_on s.geometry g slot.0) (here (clock reading ∷ [])) ∙ ready.fits.found in
       by-unless (λ part. Right s before command (clock reading ∷ []) part 1) (not (is_live session.image)) reply.NoImage known _
       (λ dead. (
-        refused 4 (no_image slot.0 session.image (of_block vblock (of_read slot refl refl)) record' (not-true (is_live session.image) dead))
+        refused 4 (reading, refl) (no_image slot.0 session.image (of_block vblock (of_read slot refl refl)) record' (not-true (is_live session.image) dead))
             (λ p other refuses. passed s log 4 p other (place 4 (λ lt. absurd (omega arith)) (λ lt. absurd (omega arith)) (clock reading ∷ []) refl) refuses),
         still s before known command slot reading on rests reply.NoImage (λ other b. refl) (λ h. refl),
       ))
       (λ live. by-unless (λ part. Right s before command (clock reading ∷ []) part 1) (nat_le (size_of session.image) vblock) (reply.OutOfRange (size_of session.image)) known _
       (λ past. (
-        refused 6 (out_of_range slot.0 vblock session.image (of_read slot refl refl) record' refl (le-is (size_of session.image) vblock past))
+        refused 6 (reading, refl) (out_of_range slot.0 vblock session.image (of_read slot refl refl) record' refl (le-is (size_of session.image) vblock past))
             (λ p other refuses. passed s log 6 p other (place 6 (λ lt. not-false (is_live session.image) live) (λ lt. absurd (omega arith)) (clock reading ∷ []) refl) refuses),
         still s before known command slot reading on rests (reply.OutOfRange (size_of session.image)) (λ other b. refl) (λ h. refl),
       ))

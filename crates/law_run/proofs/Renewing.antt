@@ -270,7 +270,7 @@ module _ (s : Setting) (before : List Finished) (known : Known) (reading : ℕ) 
           let name : lease_name s.geometry due.lease ≡ lease.Image (record { 0 = o.image }) = ap (lease_name s.geometry) o.is ∙ lease-name s.geometry o.image fits.1.within in
           let slot : SlotNo = record { 0 = o.image } in
           subst (λ (n : LeaseName). Right s before Renew (clock reading ∷ []) (ends (reply.Lost n due.until reading) (nothing_known known.claims)) left) (sym name) (
-            refused 3
+            refused 3 (reading, refl)
                 (expired slot (record { used = refl; attached = fits.0; claim = h.0; held = held; first = refl; reached = f.past })
                 (λ other until' is. order o.image o.is other until' (f.first (record { lease = image_lease other; until = until' }) (expired-use (clock reading ∷ []) other until' reading is) is.reached)))
                 (λ p other refuses. passed s (log_on before Renew (clock reading ∷ [])) 3 p other

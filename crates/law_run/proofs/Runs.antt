@@ -1,6 +1,6 @@
 -- Each run keeps the rules, where each command that begins does.
 use Rattle.std.proofs.Common.{◌≡◌, ℕ, suc, ◌+◌, ◌-◌, ◌^◌, ◌≤◌, ◌<◌, List, [], ◌∷◌, length, Bool, true, false, Option, Some, None, refl, ap, sym, subst, ◌∙◌, arith}
-use Rattle.std.specs.Prelude.{if◌then◌else◌, nat_le, nat_lt, ◌&&◌}
+use Rattle.std.specs.Prelude.{is_some, if◌then◌else◌, nat_le, nat_lt, ◌&&◌}
 use Rattle.plx_commands.specs.declared.command.Command.{Command}
 use Rattle.plx_disk.specs.declared.ask.Ask.{Ask}
 use Rattle.plx_disk.specs.declared.ask.Ask.TheVariants as ask
@@ -19,6 +19,7 @@ use Rattle.law_run.specs.AllowedAsks.{MayAsk}
 use Rattle.law_run.specs.Bounds.{bound}
 use Rattle.law_run.specs.CommandLogs.{Exchange, Finished, CommandLog, Commands, Between, Within, starting, following, commands}
 use Rattle.law_run.specs.Holdings.{at_first, after_first_answer, holds_along, holds_after}
+use Rattle.law_run.specs.Positions.{known_at, IsByCommands, PositionsAgree}
 use Rattle.law_run.specs.Rules.{AllAllowed, AllKept, KeepsRules, IsSetting, RunsKeepRules}
 use Rattle.law_run.specs.Sessions.{is_attached}
 use Rattle.law_run.proofs.Meets.{exchange, answers}
@@ -110,28 +111,28 @@ abbrev pub Agree : Setting → (ℕ → Hold) → Option ℕ → Place → Comma
 Agree s holds sample (Idle known) (Between before) = AllKept s before × Rests s before known × (holds ≡ holds_after s.geometry before)
 Agree s holds sample (Begins known command) (Within log) = Begun s known command log × (holds ≡ holds_after s.geometry log.before)
 Agree s holds sample (In known command part) (Within log) =
-    Runs s log part × (holds ≡ held_in s log) × (sample ≡ last_sample log.exchanges) × HasFirst log.exchanges
+    Runs s log part × (holds ≡ held_in s log) × (sample ≡ last_sample log.exchanges) × HasFirst log.exchanges × Rests s log.before known
 Agree s holds sample place commands = ⊥
 
 abbrev pub AgreeAt : Setting → Position → Commands → Type 0
 AgreeAt s p commands = Agree s p.holds p.sample p.place commands
 
 -- an answered ask is one more exchange
-along : (s : Setting) (log : CommandLog) (x : Exchange) (known : Known) (command : Command) (holds : ℕ → Hold) (part : Part End) (left : ℕ) → AllKept s log.before →
+along : (s : Setting) (log : CommandLog) (x : Exchange) (known : Known) (command : Command) (holds : ℕ → Hold) (part : Part End) (left : ℕ) → AllKept s log.before → Rests s log.before known →
     AllAllowed s log.before log.command log.exchanges → MayAsk s log x.ask x.bytes → Right s log.before log.command (x ∷ log.exchanges) part left →
     length log.exchanges + suc left ≤ bound s log.before log.command →
     holds ≡ holds_along s.geometry (is_attached log.before) (holds_after s.geometry log.before) (x ∷ log.exchanges) →
     AgreeAt s (goes_to known command holds (sample_of x.answer) part) (following x (reply_of part) (Within log))
-along s log x known command holds (Ends end) left older allowed may right bounded same =
+along s log x known command holds (Ends end) left older rests allowed may right bounded same =
     ((record { allowed = (may, allowed); replied = right.0; bounded = omega arith }, older), right.1, ap (after_reply end.reply) same)
-along s log x known command holds (ReadThen block rest fault) left older allowed may right bounded same =
-    (record { older = older; allowed = (may, allowed); left = left; right = right; bounded = omega arith }, same, refl, tt)
-along s log x known command holds (WriteThen kind block bytes guard done fault missed) left older allowed may right bounded same =
-    (record { older = older; allowed = (may, allowed); left = left; right = right; bounded = omega arith }, same, refl, tt)
-along s log x known command holds (ClockThen rest) left older allowed may right bounded same =
-    (record { older = older; allowed = (may, allowed); left = left; right = right; bounded = omega arith }, same, refl, tt)
-along s log x known command holds (UntilThen from rest) left older allowed may right bounded same =
-    (record { older = older; allowed = (may, allowed); left = left; right = right; bounded = omega arith }, same, refl, tt)
+along s log x known command holds (ReadThen block rest fault) left older rests allowed may right bounded same =
+    (record { older = older; allowed = (may, allowed); left = left; right = right; bounded = omega arith }, same, refl, tt, rests)
+along s log x known command holds (WriteThen kind block bytes guard done fault missed) left older rests allowed may right bounded same =
+    (record { older = older; allowed = (may, allowed); left = left; right = right; bounded = omega arith }, same, refl, tt, rests)
+along s log x known command holds (ClockThen rest) left older rests allowed may right bounded same =
+    (record { older = older; allowed = (may, allowed); left = left; right = right; bounded = omega arith }, same, refl, tt, rests)
+along s log x known command holds (UntilThen from rest) left older rests allowed may right bounded same =
+    (record { older = older; allowed = (may, allowed); left = left; right = right; bounded = omega arith }, same, refl, tt, rests)
 
 -- what follows the answer to the ask that stands
 follows : (s : Setting) (log : CommandLog) (known : Known) (command : Command) (holds : ℕ → Hold) (sample : Option ℕ) (part : Part End) (a : Ask) (x : Answer) →
@@ -141,7 +142,7 @@ follows : (s : Setting) (log : CommandLog) (known : Known) (command : Command) (
 follows s log known command holds sample part a x agree stands fits =
     let r = agree.0 in
     let next = answers (May s log.before log.command) (Shows s log.before log.command) part log.exchanges a r.left r.right stands in
-    along s log (exchange a (bytes_out part) x) known command (after_answer sample a (bytes_out part) x holds) (answered part x) next.left r.older r.allowed next.allowed
+    along s log (exchange a (bytes_out part) x) known command (after_answer sample a (bytes_out part) x holds) (answered part x) next.left r.older agree.4 r.allowed next.allowed
     (next.follows x fits) (let within = r.bounded in let fewer = next.fewer in omega arith)
     (ap (λ h. after_answer sample a (bytes_out part) x h) agree.1
     ∙ (ap (λ o. after_answer o a (bytes_out part) x (held_in s log)) agree.2
@@ -165,7 +166,7 @@ first s right log known command holds sample reading b same small =
     let size : length log.exchanges ≡ 0 = ap (λ (d : List Exchange). length d) b.none_yet in
     let limit : bound s log.before log.command ≡ bound s log.before command = ap (bound s log.before) b.is in
     subst P (sym here)
-    (along s log (clock reading) known command (start s log.before reading) (command_part s known (start s log.before reading) reading command) next.0 b.older
+    (along s log (clock reading) known command (start s log.before reading) (command_part s known (start s log.before reading) reading command) next.0 b.older b.rests
     (subst Q (sym b.none_yet) tt) tt moved (let n = next.1 in omega arith)
     (ap (λ done. holds_along s.geometry (is_attached log.before) H (clock reading ∷ done)) (sym b.none_yet)))
 
@@ -193,7 +194,7 @@ goes-on s right p holds sample (Begins known command) hs ss (Within log) a bytes
 goes-on s right p holds sample (In known command part) hs ss (Between before) a bytes x agree stands writes fits = absurd agree
 goes-on s right p holds sample (In known command part) hs ss (Within log) a bytes x agree stands writes fits =
     let P : List ℕ → Type 0 = λ out. AgreeAt s (went_on s a out x p (In known command part)) (following (exchange a out x) (reply_of (answered part x)) (Within log)) in
-    subst P writes (follows s log known command p.holds p.sample part a x (agree.0, hs ∙ agree.1, ss ∙ agree.2, agree.3) stands fits)
+    subst P writes (follows s log known command p.holds p.sample part a x (agree.0, hs ∙ agree.1, ss ∙ agree.2, agree.3, agree.4) stands fits)
 
 begins : (s : Setting) (holds : ℕ → Hold) (sample : Option ℕ) (known : Known) (so_far : Commands) (command : Command) → IsWellFormed command → IsBuilt command →
     Agree s holds sample (Idle known) so_far → Agree s holds None (Begins known command) (starting command so_far)
@@ -240,3 +241,33 @@ pub runs-keep : ((s : Setting) → IsSetting s → BeginsRight s) → ((s : Sett
 runs-keep right least s log setting run =
     let p = position s log in
     kept s p.holds p.sample p.place (commands s log) (λ l e. least s l.before l.command) (agrees s (right s setting) log run)
+
+-- ---- leases and sessions
+
+attached-same : (s : Setting) (before : List Finished) (image : ℕ) (found : Option Session) → FitsAt s before image found → is_some found ≡ is_attached before image
+attached-same s before image None fits = sym fits
+attached-same s before image (Some session) fits = sym fits.0
+
+by-commands : (s : Setting) (p : Position) (holds : ℕ → Hold) (sample : Option ℕ) (place : Place) (so_far : Commands) → p.holds ≡ holds → p.place ≡ place → Agree s holds sample place so_far →
+    IsByCommands s p so_far
+by-commands s p holds sample (Idle known) (Between before) hs ps agree = record {
+  holds = λ block i. (hs ∙ agree.2) i block;
+  attached = λ image. ap (λ (here : Place). is_some ((known_at here).sessions image)) ps ∙ attached-same s before image (known.sessions image) (agree.1.sessions image);
+}
+by-commands s p holds sample (Idle known) (Within log) hs ps agree = absurd agree
+by-commands s p holds sample (Begins known command) (Between before) hs ps agree = absurd agree
+by-commands s p holds sample (Begins known command) (Within log) hs ps agree =
+    let b = agree.0 in record {
+      holds = λ block i. (hs ∙ (agree.1 ∙ ap (holds_along s.geometry (is_attached log.before) (holds_after s.geometry log.before)) (sym b.none_yet))) i block;
+      attached = λ image. ap (λ (here : Place). is_some ((known_at here).sessions image)) ps ∙ attached-same s log.before image (known.sessions image) (b.rests.sessions image);
+    }
+by-commands s p holds sample (In known command part) (Between before) hs ps agree = absurd agree
+by-commands s p holds sample (In known command part) (Within log) hs ps agree = record {
+  holds = λ block i. (hs ∙ agree.1) i block;
+  attached = λ image. ap (λ (here : Place). is_some ((known_at here).sessions image)) ps ∙ attached-same s log.before image (known.sessions image) (agree.4.sessions image);
+}
+
+-- of each run, where each command that begins keeps the rules
+pub positions-agree : ((s : Setting) → IsSetting s → BeginsRight s) → PositionsAgree
+positions-agree right s log setting run =
+    let p = position s log in by-commands s p p.holds p.sample p.place (commands s log) refl refl (agrees s (right s setting) log run)

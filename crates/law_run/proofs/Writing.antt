@@ -211,7 +211,7 @@ module _ (s : Setting) (some : 1 ≤ s.geometry.slots) (before : List Finished) 
       let P : Part End → Type 0 = λ part. Right s before command (clock reading ∷ []) part 3 in
       by-unless P (not (is_live session.image)) reply.NoImage known _
       (λ dead. (
-        refused 4 (no_image slot.0 session.image (of_block vblock (of_write slot payload refl refl)) found (not-true (is_live session.image) dead))
+        refused 4 (reading, refl) (no_image slot.0 session.image (of_block vblock (of_write slot payload refl refl)) found (not-true (is_live session.image) dead))
             (λ p other refuses. passed s log 4 p other (place 4 (λ lt. absurd (omega arith)) (λ lt. absurd (omega arith)) (λ lt. absurd (omega arith)) (λ lt. absurd (omega arith)) done refl) refuses),
         still s before known command slot reading on rests reply.NoImage (λ other b. refl) (λ h. refl),
       ))
@@ -219,7 +219,7 @@ module _ (s : Setting) (some : 1 ≤ s.geometry.slots) (before : List Finished) 
       let live = not-false (is_live session.image) alive in
       by-unless P (nat_le (size_of session.image) vblock) (reply.OutOfRange (size_of session.image)) known _
       (λ past. (
-        refused 6 (out_of_range slot.0 vblock session.image (of_write slot payload refl refl) found refl (le-is (size_of session.image) vblock past))
+        refused 6 (reading, refl) (out_of_range slot.0 vblock session.image (of_write slot payload refl refl) found refl (le-is (size_of session.image) vblock past))
             (λ p other refuses. passed s log 6 p other (place 6 (λ lt. live) (λ lt. absurd (omega arith)) (λ lt. absurd (omega arith)) (λ lt. absurd (omega arith)) done refl) refuses),
         still s before known command slot reading on rests (reply.OutOfRange (size_of session.image)) (λ other b. refl) (λ h. refl),
       ))
@@ -227,7 +227,7 @@ module _ (s : Setting) (some : 1 ≤ s.geometry.slots) (before : List Finished) 
       let below = le-isn't (size_of session.image) vblock within in
       by-unless P (is_worn last_write (write_count session)) (reply.WornOut last_write) known _
       (λ worn. (
-        refused 9 (writes slot vblock payload session.image (write_count session) refl found counts (le-is last_write (write_count session) worn))
+        refused 9 (reading, refl) (writes slot vblock payload session.image (write_count session) refl found counts (le-is last_write (write_count session) worn))
             (λ p other refuses. passed s log 9 p other (place 9 (λ lt. live) (λ lt. below) (λ lt. absurd (omega arith)) (λ lt. absurd (omega arith)) done refl) refuses),
         still s before known command slot reading on rests (reply.WornOut last_write) (λ other b. refl) (λ h. refl),
       ))
@@ -235,7 +235,7 @@ module _ (s : Setting) (some : 1 ≤ s.geometry.slots) (before : List Finished) 
       let counted = le-isn't last_write (write_count session) fresh in
       by-unless P (length session.writes == s.geometry.slots) reply.Full known _
       (λ filled. (
-        refused 10 (full slot vblock payload session.image (write_count session) refl found counts (ap (λ n. applied_of session.image + n) (eqb-is (length session.writes) s.geometry.slots filled)))
+        refused 10 (reading, refl) (full slot vblock payload session.image (write_count session) refl found counts (ap (λ n. applied_of session.image + n) (eqb-is (length session.writes) s.geometry.slots filled)))
             (λ p other refuses. passed s log 10 p other (place 10 (λ lt. live) (λ lt. below) (λ lt. counted) (λ lt. absurd (omega arith)) done refl) refuses),
         still s before known command slot reading on rests reply.Full (λ other b. refl) (λ h. refl),
       ))

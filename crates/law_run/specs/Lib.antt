@@ -11,3 +11,5 @@ pub mod Replies
 pub mod Completeness
 pub mod OneImage
 pub mod Rules
+pub mod Positions
+pub mod Worlds

@@ -202,7 +202,12 @@ Comes s log reply.Full = ⊥
 Comes s log (reply.Damaged block) = WasDamaged s log block
 Comes s log (reply.WornOut count) = ⊥
 
--- a command has its reply: the first refusal whose fact holds, or, where no fact of a refusal holds, what comes of its work
+-- a command was asked for its first reading alone
+abbrev pub IsAtFirst : CommandLog → Type 0
+IsAtFirst log = (reading : ℕ) × EndsWith log.exchanges ask.Clock [] (answer.Reading reading) []
+
+-- a command has its reply: at its first reading the first refusal whose fact holds, or, where no fact of a refusal holds, what comes of its work
 pub data IsReplied (s : Setting) (log : CommandLog) : Reply → Type 0 where
-  refused : {reply : Reply} (place : ℕ) → Refuses s log place reply → ((later : ℕ) (other : Reply) → Refuses s log later other → place ≤ later) → IsReplied s log reply
+  refused : {reply : Reply} (place : ℕ) → IsAtFirst log → Refuses s log place reply → ((later : ℕ) (other : Reply) → Refuses s log later other → place ≤ later) →
+      IsReplied s log reply
   worked : {reply : Reply} → ((place : ℕ) (other : Reply) → ¬ Refuses s log place other) → Comes s log reply → IsReplied s log reply

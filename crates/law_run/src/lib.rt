@@ -7,7 +7,9 @@
 
 ghost use Rattle.law_run.specs.Completeness.{OkWithoutCause};
 ghost use Rattle.law_run.specs.OneImage.{StoresOneImage};
+ghost use Rattle.law_run.specs.Positions.{PositionsAgree};
 ghost use Rattle.law_run.specs.Rules.{RunsKeepRules};
+ghost use Rattle.law_run.specs.Worlds.{BootsKeepRules};
 
 /// Each run keeps the rules, whatever its answers were.
 pub fn runs_keep_rules()
@@ -19,7 +21,17 @@ pub fn ok_without_cause()
     ensures { OkWithoutCause }
 {}
 
-/// Given bytes store one image at most.
+/// Given bytes store one image at most, so "the image that the known bytes stored" is one.
 pub fn stores_one_image()
     ensures { StoresOneImage }
+{}
+
+/// What a boot holds, and which images have a session, is the same by its commands and by where it stands.
+pub fn positions_agree()
+    ensures { PositionsAgree }
+{}
+
+/// The log of each boot keeps the rules, in every world that events lead to.
+pub fn boots_keep_rules()
+    ensures { BootsKeepRules }
 {}
