@@ -19,7 +19,7 @@ use Rattle.plx_worlds.specs.InUse.{lease_name}
 use Rattle.plx_worlds.specs.Owners.{Needs}
 use Rattle.plx_worlds.specs.Session.{Known, nothing_known}
 use Rattle.plx_worlds.specs.Settings.{Setting}
-use Rattle.law_run.specs.AllowedAsks.{MayWrite}
+use Rattle.law_run.specs.AllowedAsks.{WentOn, MayWrite}
 use Rattle.law_run.specs.CommandLogs.{Exchange, Finished, first_reading}
 use Rattle.law_run.specs.Holdings as holdings
 use Rattle.law_run.specs.Holdings.{hold_of, IsUntil, claims_in, claims_begun}
@@ -62,11 +62,11 @@ pub asks-write : (s : Setting) (before : List Finished) (known : Known) (command
     (done : List Exchange) (lease until : ℕ) (k : WriteKind) (block : ℕ) (bytes : List ℕ) (then_done : Part End) (n : ℕ) →
     first_reading done ≡ Some reading → known.claims ≡ claims_in s.geometry done + claims_begun s.geometry before →
     ((x : Exchange) → x.ask ≡ ask.Write k (record { 0 = block }) until → claims_in s.geometry (x ∷ done) ≡ claims_in s.geometry done) →
-    lease < lease_count s.geometry → Needs s.geometry k block lease → MayWrite s (log_on before command done) k block bytes until →
+    lease < lease_count s.geometry → Needs s.geometry k block lease → WentOn done → MayWrite s (log_on before command done) k block bytes until →
     Right s before command (exchange (ask.Write k (record { 0 = block }) until) bytes answer.Done ∷ done) then_done n →
     Right s before command done (write_then s known (record { lease = lease; until = until }) k block bytes then_done) (suc n)
-asks-write s before known command reading fine done lease until k block bytes then_done n first claims more within needs may right = (
-  may,
+asks-write s before known command reading fine done lease until k block bytes then_done n first claims more within needs went may right = (
+  (went, may),
   right,
   (let x = exchange (ask.Write k (record { 0 = block }) until) bytes answer.Fault in (
     replied-fine s before command reading fine (x ∷ done) (rw first refl) (reply.WriteFault (record { 0 = block })) (k, until, bytes, (done, refl)),
@@ -117,7 +117,7 @@ module _ (s : Setting) (before : List Finished) (known : Known) (command : Comma
       Comes s (log_on before command (clock reading ∷ done)) r × Rests s (finish command (clock reading ∷ done) r ∷ before) next) →
       Right s before command done (ends_in_time s known (image_use slot.0 c.until) r next) (suc n)
   asks-confirm done r next n going' right = (
-    tt,
+    (going'.went, tt),
     λ reading small. by-time (λ part. Right s before command (clock reading ∷ done) part n) s known slot.0 c.until reading (ends r next)
         (λ past. lost-late done reading n going' past)
         (λ below.

@@ -35,7 +35,7 @@ use Rattle.law_run.proofs.Asking.{IsFine, replied-fine, asks-confirm}
 use Rattle.law_run.proofs.Counted.{eqb-isn't}
 use Rattle.law_run.proofs.Facts.{image_of, plain-parts, stores-session}
 use Rattle.law_run.proofs.Grown.{with-same, with-other, fits-empty}
-use Rattle.law_run.proofs.Holding.{at-same, at-other, Spared, Course, Going, going-more}
+use Rattle.law_run.proofs.Holding.{at-same, at-other, first-more, claims-more, Spared, spared-more, Course, Going, going-more}
 use Rattle.law_run.proofs.Inserted.{gap-is}
 use Rattle.law_run.proofs.Loading.{Says, says, Loading, loads-first, loads-none, loads-write, loaded-fits, whole-spelled}
 use Rattle.law_run.proofs.Meets.{exchange, meets-more}
@@ -125,7 +125,7 @@ module _ (s : Setting) (before : List Finished) (known next : Known) (slot : Slo
   going-bytes : (done : List Exchange) (block : ℕ) (bytes : List ℕ) → lease_count s.geometry < block → Going s before done slot.0 c →
       Going s before (exchange (ask.Read (record { 0 = block })) [] (answer.Bytes bytes) ∷ done) slot.0 c
   going-bytes done block bytes past going =
-      going-more s before done (exchange (ask.Read (record { 0 = block })) [] (answer.Bytes bytes)) slot.0 c tt (λ other apart. tt) (no-claim s.geometry block past) going
+      going-more s before done (exchange (ask.Read (record { 0 = block })) [] (answer.Bytes bytes)) slot.0 c tt (λ other apart. tt) (no-claim s.geometry block past) tt going
 
   -- a read past the leases, which may fail
   pub asks-read : (done : List Exchange) (block : ℕ) (rest : List ℕ → Part End) (n : ℕ) → lease_count s.geometry < block → Going s before done slot.0 c →
@@ -133,13 +133,14 @@ module _ (s : Setting) (before : List Finished) (known next : Known) (slot : Slo
       Right s before (Attach slot) (exchange (ask.Read (record { 0 = block })) [] (answer.Bytes bytes) ∷ done) (rest bytes) n) →
       Right s before (Attach slot) done (read_then block next rest) (suc n)
   asks-read done block rest n past going right = (
-    tt,
+    (going.went, tt),
     λ bytes long. right bytes (going-bytes done block bytes past going),
     (
-        let x = exchange (ask.Read (record { 0 = block })) [] answer.Fault in
-        let after = going-more s before done x slot.0 c tt (λ other apart. tt) (no-claim s.geometry block past) going in (
-          replied-fine s before (Attach slot) c.reading fine (x ∷ done) after.first (reply.ReadFault (record { 0 = block })) (done, refl),
-          unattached (x ∷ done) (reply.ReadFault (record { 0 = block })) (λ other b. refl) (λ h. refl) after,
+        let x = exchange (ask.Read (record { 0 = block })) [] answer.Fault in (
+          replied-fine s before (Attach slot) c.reading fine (x ∷ done) (first-more done x c.reading going.first) (reply.ReadFault (record { 0 = block })) (done, refl),
+          unattached-by s before known next slot missing same rests (x ∷ done) (reply.ReadFault (record { 0 = block })) (λ other b. refl) (λ h. refl)
+              (spared-more s before done x slot.0 going.has (λ other apart. tt) going.spared)
+              (let more = claims-more s.geometry done x going.has (no-claim s.geometry block past) in let b = going.begun in omega arith),
         )
         ),
   )

@@ -32,6 +32,7 @@ use Rattle.plx_worlds.specs.Session.{Session, Known, with_claim, nothing_known}
 use Rattle.plx_worlds.specs.Settings.{Setting}
 use Rattle.plx_worlds.specs.Times.{window, wait, term, is_expired}
 use Rattle.law_run.specs.AllowedAsks as allowed
+use Rattle.law_run.specs.AllowedAsks.{WentOn}
 use Rattle.law_run.specs.CommandLogs.{Exchange, Finished, first_reading}
 use Rattle.law_run.specs.Holdings as holdings
 use Rattle.law_run.specs.Holdings.{at_first, holds_along, holds_after, hold_of, IsUntil, is_lease_read, is_clock, claims_in, claims_begun}
@@ -188,6 +189,22 @@ module _ (s : Setting) (boot_small : s.boot < 2 ^ 128) (before : List Finished) 
   spared5 : (sample : ℕ) (bytes : List ℕ) (reading' : ℕ) (x : Answer) → Spared s before (read_lease_of x ∷ d4 sample bytes reading') slot.0
   spared5 sample bytes reading' x = others (d4 sample bytes reading') (read_lease_of x) tt (λ other apart. tt) (spared4 sample bytes reading')
 
+  -- none of them ends the command
+  went1 : (sample : ℕ) → WentOn (d1 sample)
+  went1 sample = (tt, (tt, tt))
+
+  went2 : (sample : ℕ) (bytes : List ℕ) → WentOn (d2 sample bytes)
+  went2 sample bytes = (tt, went1 sample)
+
+  went3 : (sample : ℕ) (bytes : List ℕ) → WentOn (d3 sample bytes)
+  went3 sample bytes = (tt, went2 sample bytes)
+
+  went4 : (sample : ℕ) (bytes : List ℕ) (reading' : ℕ) → WentOn (d4 sample bytes reading')
+  went4 sample bytes reading' = (tt, went3 sample bytes)
+
+  went5 : (sample : ℕ) (bytes : List ℕ) (reading' : ℕ) (again : List ℕ) → WentOn (d5 sample bytes reading' again)
+  went5 sample bytes reading' again = (tt, went4 sample bytes reading')
+
   -- how many claims began
   begun2 : (sample : ℕ) (x : Answer) → claims_in s.geometry (read_lease_of x ∷ d1 sample) ≡ 1
   begun2 sample x = one-claim s.geometry (image_lease slot.0) (read_lease_of x) sample d0 lease-within refl
@@ -279,7 +296,7 @@ module _ (s : Setting) (boot_small : s.boot < 2 ^ 128) (before : List Finished) 
   goes-held sample bytes reading' again held =
       let c : Course = record { reading = reading; claim = claim_of s.boot known.claims sample; until = sample + term; begun = 1 } in
       right-load s before known (with_claim known) slot c within missing fine (let k = rests.claims in omega arith) (λ image. refl) rests (d5 sample bytes reading' again)
-      (record { has = tt; first = refl; held = held; spared = spared5 sample bytes reading' (answer.Bytes again); begun = begun5 sample bytes reading' (answer.Bytes again) })
+      (record { has = tt; first = refl; held = held; spared = spared5 sample bytes reading' (answer.Bytes again); begun = begun5 sample bytes reading' (answer.Bytes again); went = went5 sample bytes reading' again })
       (λ place. unknown place)
     where
       unknown : (place : ℕ) → learnt s.geometry slot.0 (Attach slot) (d5 sample bytes reading' again) nothing_given (descriptor_at s.geometry slot.0 place) ≡ None
@@ -327,7 +344,7 @@ module _ (s : Setting) (boot_small : s.boot < 2 ^ 128) (before : List Finished) 
         unheld done (reply.Busy (lease.Image slot) seen) (λ other b. refl) (λ h. refl) (spared5 sample bytes reading' (answer.Bytes again)) (begun5 sample bytes reading' (answer.Bytes again)),
       )
   after-reread sample bytes reading' again small past early false is None sees = (
-    tt,
+    (went5 sample bytes reading' again, tt),
     λ last small'.
         let own' = claim_of s.boot known.claims sample in
         let until = sample + term in
@@ -381,7 +398,7 @@ module _ (s : Setting) (boot_small : s.boot < 2 ^ 128) (before : List Finished) 
         rests-lost s before (Attach slot) done (lease.Image slot) until reading' (known.claims + 1) (one-more done (begun4 sample bytes reading')),
       ))
       (λ early. (
-        tt,
+        (went4 sample bytes reading', tt),
         λ again long. after-reread sample bytes reading' again small past early (bytes_eq again (lease_bytes (own_record own'))) refl (read_lease again) refl,
         read-fails done (suc (suc (twice s.geometry.slots))) refl (spared5 sample bytes reading' answer.Fault) (begun5 sample bytes reading' answer.Fault),
       ))
@@ -404,7 +421,7 @@ module _ (s : Setting) (boot_small : s.boot < 2 ^ 128) (before : List Finished) 
       (followed_by (seen_part [] (image_lease slot.0) (claim_of s.boot known.claims sample) found) (after_claim s (with_claim known) slot.0))
       (suc (suc (suc (suc (suc (twice s.geometry.slots))))))
   after-seen sample bytes small None sees = (
-    tt,
+    (went2 sample bytes, tt),
     λ last small'. no-lease (d1 sample) bytes last (suc (suc (suc (suc (twice s.geometry.slots))))) refl sees (spared2 sample (answer.Bytes bytes))
         (claims-more s.geometry (d2 sample bytes) (clock last) tt refl ∙ begun2 sample (answer.Bytes bytes)),
   )
@@ -424,10 +441,13 @@ module _ (s : Setting) (boot_small : s.boot < 2 ^ 128) (before : List Finished) 
           let own' = claim_of s.boot known.claims sample in
           let block = lease_at (image_lease slot.0) in
           let n = suc (suc (suc (suc (twice s.geometry.slots)))) in (
-            allowed.claim (image_lease slot.0) own' seen bytes d0 lease-within refl refl sees is refl (let c = rests.claims in omega arith) refl
-                (lease-rest (own_record own') ∙ sym (ap (drop 512) (lease-only bytes seen sees).1 ∙ lease-rest seen)) refl,
             (
-              record { lease = image_lease slot.0; claim = own'; until = sample + term; wrote = held3 sample bytes small; after = refl },
+              went2 sample bytes,
+              allowed.claim (image_lease slot.0) own' seen bytes d0 lease-within refl refl sees is refl (let c = rests.claims in omega arith) refl
+                  (lease-rest (own_record own') ∙ sym (ap (drop 512) (lease-only bytes seen sees).1 ∙ lease-rest seen)) refl,
+            ),
+            (
+              (went3 sample bytes, record { lease = image_lease slot.0; claim = own'; until = sample + term; wrote = held3 sample bytes small; after = refl }),
               λ reading' past small'. after-wait sample bytes reading' small past,
             ),
             (
@@ -447,9 +467,9 @@ module _ (s : Setting) (boot_small : s.boot < 2 ^ 128) (before : List Finished) 
   -- the lease is claimed, and the image is loaded
   pub right-claim : Right s before (Attach slot) (clock reading ∷ []) (claim_image true s known slot.0) (suc (suc (suc (suc (suc (suc (suc (twice s.geometry.slots))))))))
   right-claim = (
-    tt,
+    ((tt, tt), tt),
     λ sample small. (
-      tt,
+      (went1 sample, tt),
       λ bytes long. after-seen sample bytes small (read_lease bytes) refl,
       read-fails (d1 sample) (suc (suc (suc (suc (suc (twice s.geometry.slots)))))) refl (spared2 sample answer.Fault) (begun2 sample answer.Fault),
     ),

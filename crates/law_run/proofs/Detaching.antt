@@ -65,7 +65,7 @@ right-detach s before known slot reading rests session claim until ready =
     let x = exchange (ask.Write kind.Release (record { 0 = lease_at lease }) until) (lease_bytes lease_is.Free) answer.Done in
     let next = with_session known slot.0 None in
     asks-write s before known command reading fine (clock reading ∷ []) lease until kind.Release (lease_at lease) (lease_bytes lease_is.Free) (ends reply.Detached next) 0
-    refl (let a = rests.claims in omega arith) (λ y is. rw is refl) within refl
+    refl (let a = rests.claims in omega arith) (λ y is. rw is refl) within refl (tt, tt)
     (release lease claim within refl ready.now refl) (
       replied-fine s before command reading fine (x ∷ clock reading ∷ []) refl reply.Detached (record { slot = slot; command = refl; guard = until; released = (clock reading ∷ [], refl) }),
       rests-by s before command (x ∷ clock reading ∷ []) reply.Detached known next slot.0 (names-other command slot.0 on.named)

@@ -12,6 +12,7 @@ use Rattle.plx_geom.specs.Geometry.{Geometry, image_lease, lease_at}
 use Rattle.plx_commands.specs.Places.{at}
 use Rattle.plx_worlds.specs.Holds.{Hold, Held, after_answer, after_write, shown, timed}
 use Rattle.plx_worlds.specs.Settings.{Setting}
+use Rattle.law_run.specs.AllowedAsks.{GoesOn, WentOn}
 use Rattle.law_run.specs.CommandLogs.{Exchange, Finished, first_reading}
 use Rattle.law_run.specs.Holdings.{lease_attached, at_first, holds_along, holds_after, hold_of, is_lease_read, claims_in}
 use Rattle.law_run.specs.Sessions.{is_attached}
@@ -129,10 +130,11 @@ pub record Going (s : Setting) (before : List Finished) (done : List Exchange) (
   pub held : hold_of s before done (image_lease image) ≡ Held c.claim c.until
   pub spared : Spared s before done image
   pub begun : claims_in s.geometry done ≡ c.begun
+  pub went : WentOn done
 
 pub going-first : (s : Setting) (before : List Finished) (image : ℕ) (claim : Claim) (until reading : ℕ) → hold_of s before (clock reading ∷ []) (image_lease image) ≡ Held claim until →
     Going s before (clock reading ∷ []) image (record { reading = reading; claim = claim; until = until; begun = 0 })
-going-first s before image claim until reading held = record { has = tt; first = refl; held = held; spared = spared-first s before reading image; begun = refl }
+going-first s before image claim until reading held = record { has = tt; first = refl; held = held; spared = spared-first s before reading image; begun = refl; went = (tt, tt) }
 
 pub first-more : (done : List Exchange) (x : Exchange) (reading : ℕ) → first_reading done ≡ Some reading → first_reading (x ∷ done) ≡ Some reading
 first-more done x reading first = rw first refl
@@ -143,17 +145,18 @@ claims-more g [] x has none = absurd has
 claims-more g (y ∷ older) x has none = rw none (omega arith)
 
 pub going-more : (s : Setting) (before : List Finished) (done : List Exchange) (x : Exchange) (image : ℕ) (c : Course) →
-    LeavesHeld (lease_at (image_lease image)) x.ask x.answer → LeavesOthers image x → is_lease_read s.geometry x.ask ≡ false → Going s before done image c →
+    LeavesHeld (lease_at (image_lease image)) x.ask x.answer → LeavesOthers image x → is_lease_read s.geometry x.ask ≡ false → GoesOn x.answer → Going s before done image c →
     Going s before (x ∷ done) image c
-going-more s before done x image c leave others none g = record {
+going-more s before done x image c leave others none on g = record {
   has = tt;
   first = first-more done x c.reading g.first;
   held = stays s before done x (image_lease image) c.claim c.until g.has leave g.held;
   spared = spared-more s before done x image g.has others g.spared;
   begun = claims-more s.geometry done x g.has none ∙ g.begun;
+  went = (on, g.went);
 }
 
 -- one more reading of the clock
 pub going-clock : (s : Setting) (before : List Finished) (done : List Exchange) (reading image : ℕ) (c : Course) → Going s before done image c →
     Going s before (clock reading ∷ done) image c
-going-clock s before done reading image c g = going-more s before done (clock reading) image c tt (λ other ne. tt) refl g
+going-clock s before done reading image c g = going-more s before done (clock reading) image c tt (λ other ne. tt) refl tt g

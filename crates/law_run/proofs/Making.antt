@@ -101,10 +101,10 @@ module _ (s : Setting) (before : List Finished) (known : Known) (command : Comma
       let x = exchange (ask.Write kind.Record (record { 0 = record_at s.geometry slot.0 }) until) (image_bytes made) answer.Done in
       let c : Course = record { reading = reading; claim = claim; until = until; begun = 0 } in
       let next = with_session known slot.0 (Some (new_session made)) in
-      let going1 = going-more s before (clock reading ∷ []) x slot.0 c tt (λ other apart. tt) refl (going-first s before slot.0 claim until reading ready.now) in
+      let going1 = going-more s before (clock reading ∷ []) x slot.0 c tt (λ other apart. tt) refl tt (going-first s before slot.0 claim until reading ready.now) in
       asks-write s before known command reading fine (clock reading ∷ []) (image_lease slot.0) until kind.Record (record_at s.geometry slot.0) (image_bytes made)
       (ends_in_time s known (image_use slot.0 until) r next) 1 refl (let a = rests.claims in omega arith) (λ y e. rw e refl) (image-below s.geometry slot.0 ready.fits.within)
-      (slot.0, ready.fits.within, refl, refl) may
+      (slot.0, ready.fits.within, refl, refl) (tt, tt) may
       (asks-confirm s before known command slot c on.named ready.fits.within fine (let a = rests.claims in omega arith) (x ∷ clock reading ∷ []) r next 0 going1
       (λ reading' early going confirmed.
       let done = clock reading' ∷ x ∷ clock reading ∷ [] in

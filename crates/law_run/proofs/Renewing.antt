@@ -22,7 +22,7 @@ use Rattle.plx_worlds.specs.InUse.{InUse, lease_name, first_reached, unless_reac
 use Rattle.plx_worlds.specs.Session.{Session, Known, nothing_known}
 use Rattle.plx_worlds.specs.Settings.{Setting}
 use Rattle.plx_worlds.specs.Times.{term}
-use Rattle.law_run.specs.AllowedAsks.{renew}
+use Rattle.law_run.specs.AllowedAsks.{renew, WentOn}
 use Rattle.law_run.specs.Bounds.{one_held, count_held}
 use Rattle.law_run.specs.CommandLogs.{Exchange, Finished, IsIn, first_reading}
 use Rattle.law_run.specs.Holdings.{at_first, holds_along, holds_after, hold_of, claims_in}
@@ -118,6 +118,7 @@ record Renewing (s : Setting) (before : List Finished) (done : List Exchange) (r
   has : HasFirst done
   first : first_reading done ≡ Some reading
   begun : claims_in s.geometry done ≡ 0
+  went : WentOn done
   later : (l : ℕ) → lease ≤ l → hold_of s before done l ≡ start s before reading (lease_at l)
   renewed : (l : ℕ) (claim : Claim) (until : ℕ) → l < lease → hold_of s before done l ≡ Held claim until →
       (guard : ℕ) × IsIn (exchange (ask.Write kind.Renew (record { 0 = lease_at l }) guard) (lease_bytes (lease_is.Claimed claim until)) answer.Done) done
@@ -181,6 +182,7 @@ module _ (s : Setting) (before : List Finished) (known : Known) (reading : ℕ) 
         has = tt;
         first = first-more done x reading r.first;
         begun = claims-more s.geometry done x r.has refl ∙ r.begun;
+        went = (tt, r.went);
         later = λ l le. apart l (λ e. (let P : ⊥ = omega arith in P)) ∙ r.later l (omega arith);
         renewed = λ l claim' until' lt h. elim (eqb_tells l lease) [
           | inl same ↦
@@ -206,6 +208,7 @@ module _ (s : Setting) (before : List Finished) (known : Known) (reading : ℕ) 
     has = r.has;
     first = r.first;
     begun = r.begun;
+    went = r.went;
     later = λ l le. r.later l (omega arith);
     renewed = λ l claim until lt h. elim (eqb_tells l lease) [
       | inl same ↦ absurd (none claim until (subst (λ n. hold_of s before done n ≡ Held claim until) same.1 h))
@@ -227,7 +230,7 @@ module _ (s : Setting) (before : List Finished) (known : Known) (reading : ℕ) 
       by-hold (Held claim until) held rest =
           asks-write s before known Renew reading fine done lease until kind.Renew (lease_at lease) (lease_bytes (lease_is.Claimed claim (later_of until (reading + term))))
           (renew_part s known (start s before reading) reading left (lease + 1)) (renewals (start s before reading) left (lease + 1)) r.first
-          (let c = rests.claims in let b = r.begun in omega arith) (λ y e. claims-more s.geometry done y r.has (rw e refl)) (omega arith) refl
+          (let c = rests.claims in let b = r.begun in omega arith) (λ y e. claims-more s.geometry done y r.has (rw e refl)) (omega arith) refl r.went
           (renew lease claim reading (omega arith) refl held r.first refl)
           (rest _ (one-renewal done lease claim until (omega arith) r held))
       by-hold Nothing held rest = rest done (none-held done lease r (λ claim until h. (let P : ⊥ = cc in P)))
@@ -301,6 +304,7 @@ module _ (s : Setting) (before : List Finished) (known : Known) (reading : ℕ) 
         has = tt;
         first = refl;
         begun = refl;
+        went = (tt, tt);
         later = λ l le. refl;
         renewed = λ l claim until lt h. absurd (omega arith);
         kept = λ l h. h;

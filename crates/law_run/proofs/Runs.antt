@@ -15,7 +15,7 @@ use Rattle.plx_worlds.specs.Ends.{End}
 use Rattle.plx_worlds.specs.Holds.{Hold, Nothing, Seen, Wrote, Waited, Held, after_answer, sample_of, after_reply, first_hold, after_first}
 use Rattle.plx_worlds.specs.Session.{Session, Known}
 use Rattle.plx_worlds.specs.Settings.{Setting}
-use Rattle.law_run.specs.AllowedAsks.{MayAsk}
+use Rattle.law_run.specs.AllowedAsks.{WentOn, MayAsk}
 use Rattle.law_run.specs.Bounds.{bound}
 use Rattle.law_run.specs.CommandLogs.{Exchange, Finished, CommandLog, Commands, Between, Within, starting, following, commands}
 use Rattle.law_run.specs.Holdings.{at_first, after_first_answer, holds_along, holds_after}
@@ -167,7 +167,7 @@ first s right log known command holds sample reading b same small =
     let limit : bound s log.before log.command ≡ bound s log.before command = ap (bound s log.before) b.is in
     subst P (sym here)
     (along s log (clock reading) known command (start s log.before reading) (command_part s known (start s log.before reading) reading command) next.0 b.older b.rests
-    (subst Q (sym b.none_yet) tt) tt moved (let n = next.1 in omega arith)
+    (subst Q (sym b.none_yet) tt) (subst (λ done. WentOn done × Unit {0}) (sym b.none_yet) (tt, tt)) moved (let n = next.1 in omega arith)
     (ap (λ done. holds_along s.geometry (is_attached log.before) H (clock reading ∷ done)) (sym b.none_yet)))
 
 -- a happening of a run keeps where the boot stands and its commands in step
@@ -222,7 +222,7 @@ kept s holds sample (Begins known command) (Within log) least agree =
     let b = agree.0 in record {
       older = b.older;
       allowed = subst (λ done. AllAllowed s log.before log.command done) (sym b.none_yet) tt;
-      stands = λ a stands. (let is : ask.Clock ≡ a = cc in subst (λ (c : Ask). MayAsk s log c []) is tt);
+      stands = λ a stands. (let is : ask.Clock ≡ a = cc in subst (λ (c : Ask). MayAsk s log c []) is (subst (λ done. WentOn done × Unit {0}) (sym b.none_yet) (tt, tt)));
       bounded = λ a stands. (let size : length log.exchanges ≡ 0 = ap (λ (d : List Exchange). length d) b.none_yet in let one = least log refl in omega arith);
     }
 kept s holds sample (In known command part) (Between before) least agree = absurd agree

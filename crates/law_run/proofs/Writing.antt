@@ -145,8 +145,8 @@ module _ (s : Setting) (some : 1 ≤ s.geometry.slots) (before : List Finished) 
       let done1 = x1 ∷ done0 in
       let done2 = x2 ∷ done1 in
       let going0 = going-first s before slot.0 claim until reading ready.now in
-      let going1 = going-more s before done0 x1 slot.0 c tt (λ other apart. tt) refl going0 in
-      let going2 = going-more s before done1 x2 slot.0 c tt (λ other apart. tt) refl going1 in
+      let going1 = going-more s before done0 x1 slot.0 c tt (λ other apart. tt) refl tt going0 in
+      let going2 = going-more s before done1 x2 slot.0 c tt (λ other apart. tt) refl tt going1 in
       let given1 = with_block given block bytes in
       let given2 = with_block given1 commit (descriptor_bytes d) in
       let known0 : known_in g (log_on before command done0) slot.0 ≡ given = rw (names-own command slot.0 on.named, ready.attached) refl in
@@ -166,10 +166,10 @@ module _ (s : Setting) (some : 1 ≤ s.geometry.slots) (before : List Finished) 
       let end_part = ends_in_time s known (image_use slot.0 until) (reply.Written (write_count session + 1)) next in
       let commit_part = write_then s known (record { lease = lease; until = until }) kind.JCommit commit (descriptor_bytes d) end_part in
       asks-write s before known command reading fine done0 lease until kind.JData block bytes commit_part 2 refl (let a = rests.claims in omega arith) (λ y e. rw e refl) held_lease
-      (slot.0, at, ready.fits.within, slot_below, refl, refl)
+      (slot.0, at, ready.fits.within, slot_below, refl, refl) going0.went
       (data_of_write slot vblock payload (write_count session + 1) refl (claim, going0.held) (is-next done0 given known0 ready.fits live room) refl refl long)
       (asks-write s before known command reading fine done1 lease until kind.JCommit commit (descriptor_bytes d) end_part 1 refl (let a = rests.claims in omega arith) (λ y e. rw e refl) held_lease
-      (slot.0, at, ready.fits.within, slot_below, refl, refl)
+      (slot.0, at, ready.fits.within, slot_below, refl, refl) going1.went
       (commit_of_write slot vblock payload d refl (claim, going1.held) (is-next done1 given1 known1 fits1 live room) refl refl refl refl (inl refl)
       (descriptor-back d ∙ sym (ap (λ (h : Given). drop 512 (last_known (h commit))) known1 ∙ fits1.whole at slot_below)))
       (asks-confirm s before known command slot c on.named ready.fits.within fine (let a = rests.claims in omega arith) done2 (reply.Written (write_count session + 1)) next 0 going2

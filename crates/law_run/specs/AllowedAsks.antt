@@ -13,6 +13,7 @@ use Rattle.plx_base.specs.declared.write_kind.WriteKind.TheVariants as kind
 use Rattle.plx_commands.specs.declared.command.Command.TheVariants.{Create, Delete, Write}
 use Rattle.plx_disk.specs.declared.ask.Ask.{Ask}
 use Rattle.plx_disk.specs.declared.ask.Ask.TheVariants as ask
+use Rattle.plx_disk.specs.declared.ask.Answer.{Answer}
 use Rattle.plx_disk.specs.declared.ask.Answer.TheVariants as answer
 use Rattle.plx_gate.specs.Descriptors.{descriptor_bytes}
 use Rattle.plx_gate.specs.Images.{image_bytes}
@@ -102,9 +103,26 @@ pub record MayWait (s : Setting) (log : CommandLog) (from : ℕ) : Type 0 where
   pub wrote : hold_of s log.before log.exchanges lease ≡ Wrote claim until
   pub after : from ≡ claim.sample + wait
 
--- an ask is allowed: reads and readings always are
+-- what an ask needs: a read and a reading nothing
+abbrev pub HasGrounds : Setting → CommandLog → Ask → (bytes : List ℕ) → Type 0
+HasGrounds s log (ask.Write kind block guard) bytes = MayWrite s log kind block.0 bytes guard
+HasGrounds s log (ask.Read block) bytes = Unit {0}
+HasGrounds s log ask.Clock bytes = Unit {0}
+HasGrounds s log (ask.Until from) bytes = MayWait s log from
+
+-- a command goes on after an answer: a fault and a missed write end it at once
+abbrev pub GoesOn : Answer → Type 0
+GoesOn (answer.Bytes bytes) = Unit {0}
+GoesOn answer.Done = Unit {0}
+GoesOn (answer.Reading reading) = Unit {0}
+GoesOn (answer.Missed reading) = ⊥
+GoesOn answer.Fault = ⊥
+
+-- it went on after each of these
+abbrev pub WentOn : List Exchange → Type 0
+WentOn [] = Unit {0}
+WentOn (exchange ∷ older) = GoesOn exchange.answer × WentOn older
+
+-- an ask is allowed: nothing before it ended the command, and it has what it needs
 abbrev pub MayAsk : Setting → CommandLog → Ask → (bytes : List ℕ) → Type 0
-MayAsk s log (ask.Write kind block guard) bytes = MayWrite s log kind block.0 bytes guard
-MayAsk s log (ask.Read block) bytes = Unit {0}
-MayAsk s log ask.Clock bytes = Unit {0}
-MayAsk s log (ask.Until from) bytes = MayWait s log from
+MayAsk s log ask bytes = WentOn log.exchanges × HasGrounds s log ask bytes
