@@ -8,7 +8,7 @@ work=$(mktemp -d)
 trap 'rm -rf "$work"' EXIT
 
 # Builds plx, and finds it.
-(cd crates/plx && rt run -- replay < ../../examples/first.plx > /dev/null)
+(cd crates/plx && rt run -- replay < ../../examples/first.plx > "$work/build" 2>&1) || { cat "$work/build" >&2; exit 1; }
 plx=crates/plx/out/plx
 [ -x "$plx" ] || { echo "replay.sh: $plx isn't there" >&2; exit 1; }
 

@@ -16,7 +16,7 @@ use Rattle.plx_rules.specs.Part.{Part}
 use Rattle.plx_worlds.specs.Boot.{Place, Idle, Begins, In, Position, position}
 use Rattle.plx_worlds.specs.Commands.{IsBuilt, IsWellFormed}
 use Rattle.plx_worlds.specs.Ends.{End}
-use Rattle.plx_worlds.specs.Headline.{starts_and_crashes, events_told, model_before, model_in}
+use Rattle.plx_worlds.specs.Headline.{starts_and_crashes, events_told, AreUndamaged, model_before, model_in}
 use Rattle.plx_worlds.specs.Holds.{Held}
 use Rattle.plx_worlds.specs.Owners.{pending_write}
 use Rattle.plx_worlds.specs.Session.{Session, Known}
@@ -45,6 +45,7 @@ stands_at g appliance seat = position (setting_at g appliance seat.boots) seat.l
 
 -- ---- whoever owns the images: what an appliance knows fits the model, and what is left of its command is fair
 
+-- by where it stands: it is in no command, has begun one, or is in one of which this is left
 abbrev pub PlaceFits : Geometry → ℕ → Model → Position → Place → Type 0
 PlaceFits g a m p (Idle known) = (m.running a ≡ None) × SameSessions a known m × Backs g p.holds known
 PlaceFits g a m p (Begins known command) = IsRunning g a command known m × Backs g p.holds known × IsWellFormed command × IsBuilt command
@@ -69,9 +70,11 @@ pub record IsServing (g : Geometry) (a i : ℕ) (command : Command) (known : Kno
   pub on : IsOn g i device regime
   pub fills : (n : ℕ) (x : Issued) → pending ≡ Some n → slice_get writes n ≡ Some x → IsJournalled x.kind → mixed (missing_of x.landed) x.bytes (device x.block) ≡ x.bytes
 
+-- its session of the image, if it has one, is what the device and the model have
 abbrev pub Has : Geometry → ℕ → ℕ → Known → Device → Model → Type 0
 Has g a i known device m = (s : Session) → known.sessions i ≡ Some s → HasImage g i a s device (m.slots i)
 
+-- what an appliance that minds an image has of it, by where it stands
 abbrev pub OwnedAt : Geometry → ℕ → ℕ → Device → List Issued → Option ℕ → Model → Place → Type 0
 OwnedAt g a i device writes pending m (Idle known) = Has g a i known device m
 OwnedAt g a i device writes pending m (Begins known command) =
@@ -88,9 +91,11 @@ Grips g time writes a seat i claim until =
 abbrev pub Minds : Geometry → ℕ → List Issued → Model → ℕ → Seat → ℕ → Type 0
 Minds g time writes m a seat i = ((claim : Claim) × (until : ℕ) × Grips g time writes a seat i claim until) ⊎ ((m.slots i).owner ≡ Some a)
 
+-- what an appliance knows fits the model
 abbrev pub SeatFits : Geometry → Model → ℕ → Seat → Type 0
 SeatFits g m a seat = PlaceFits g a m (stands_at g a seat) (stands_at g a seat).place
 
+-- what an appliance minds is right
 abbrev pub SeatOwns : Geometry → ℕ → Device → List Issued → Model → ℕ → ℕ → Seat → Type 0
 SeatOwns g time device writes m i a seat =
     Minds g time writes m a seat i → OwnedAt g a i device writes seat.pending m (stands_at g a seat).place
@@ -105,10 +110,12 @@ abbrev pub Whose : Geometry → ℕ → List Issued → (ℕ → Seat) → ℕ �
 Whose g time writes seats i slot =
     (n : ℕ) (x : Issued) → IsOpen g time writes (image_lease i) n x → IsOf g i x.block → (b : ℕ) → slot.owner ≡ Some b → (seats b).pending ≡ Some n
 
+-- the invariant of the headline
 pub record Content (w : World) : Type 0 where
   pub leased : Leased w
   pub told : starts_and_crashes w.trace ≡ events_told w.history
   pub permitted : Permitted (model_before w) w.trace
+  pub undamaged : AreUndamaged w.trace
   pub stored : (i : ℕ) → i < w.geometry.images → Keeps w.geometry w.surface.device i ((model_in w).slots i)
   pub opens : (i : ℕ) → i < w.geometry.images → Opens w.geometry w.surface.time w.surface.device w.surface.writes i ((model_in w).slots i)
   pub whose : (i : ℕ) → i < w.geometry.images → Whose w.geometry w.surface.time w.surface.writes w.seats i ((model_in w).slots i)

@@ -35,14 +35,14 @@ use Rattle.plx_rules.specs.Part.{Part, Ends, ReadThen, WriteThen, ClockThen, Unt
 use Rattle.plx_worlds.specs.Boot.{Happening, Asked, Place, Begins, In, Position, position, place_of, after_part, goes_to, went_on}
 use Rattle.plx_worlds.specs.Commands.{IsBuilt, IsWellFormed, attached_part, of_attached, detach_part, create_part, delete_part, read_part, write_part, command_part}
 use Rattle.plx_worlds.specs.Ends.{End}
-use Rattle.plx_worlds.specs.Headline.{starts_and_crashes, events_told, model_in}
+use Rattle.plx_worlds.specs.Headline.{IsUndamaged, starts_and_crashes, events_told, model_in}
 use Rattle.plx_worlds.specs.Holds.{Hold, Nothing, Seen, Wrote, Waited, Held, no_holds, after_write, after_reply, after_first, first_hold, session_at, timed, shown, reread, seen_for, seen_by, renewed, wrote}
 use Rattle.plx_worlds.specs.Owners.{first_landed, pending_write}
 use Rattle.plx_worlds.specs.Session.{Session, Known}
 use Rattle.plx_worlds.specs.Settings.{Setting}
 use Rattle.plx_worlds.specs.Times.{is_expired}
 use Rattle.plx_worlds.specs.World.{World, IsReading, setting_at, goes_on, told}
-use Rattle.law_lease.proofs.LawfulCommands.{first-rests}
+use Rattle.law_lease.proofs.LawfulCommands.{first-rests, below-tested}
 use Rattle.law_lease.proofs.LeaseFrames.{grip-open}
 use Rattle.law_lease.proofs.LeaseGoes.{good-free}
 use Rattle.law_lease.proofs.LeaseLands.{first-set}
@@ -54,14 +54,14 @@ use Rattle.law_headline.proofs.FairCommands.{fair-command}
 use Rattle.law_headline.proofs.FairParts.{backs-first}
 use Rattle.law_headline.proofs.Harmless.{Harmless, yields-stays}
 use Rattle.law_headline.proofs.Harmless as harmless
-use Rattle.law_headline.proofs.Held.{attached_of, Regime, Without, With, IsRunning, Looks, IsOf, IsOn, HeldPart, IsBacking, Backs, IsDrop, is_below, are_below, is_some_slot, just_at, Fair}
+use Rattle.law_headline.proofs.Held.{IsSpelled, attached_of, Regime, Without, With, IsRunning, Looks, IsOf, IsOn, HeldPart, IsBacking, Backs, IsDrop, is_below, are_below, is_some_slot, just_at, Fair}
 use Rattle.law_headline.proofs.HeldBegins.{begin-without, begin-with}
-use Rattle.law_headline.proofs.HeldCommands.{slot_no, less-tells}
+use Rattle.law_headline.proofs.HeldCommands.{slot_no}
 use Rattle.law_headline.proofs.HeldFrames.{missing_of, held-same, of-lease, of-map}
 use Rattle.law_headline.proofs.Journals.{Same}
 use Rattle.law_headline.proofs.ModelFacts.{Sound, sound-all}
 use Rattle.law_headline.proofs.Owners.{both-true}
-use Rattle.law_headline.proofs.Replied.{IsAmongSlots, Names}
+use Rattle.law_headline.proofs.Replied.{IsDropping, IsAmongSlots, Names}
 
 -- ---- how a lease comes to be held
 
@@ -132,6 +132,11 @@ shown-held sample bytes (Waited c u) claim until e = by_test (bytes_eq bytes (le
         let fu : u ≡ until = cc in
         inr ((λ j. Waited (fc j) (fu j)), tells refl ∙ (λ j. lease_bytes (Claimed (fc j) (fu j))))
 
+-- a reply that drops all doesn't tell of bytes outside the format
+undamaged-drop : (r : Reply) → IsDropping r → IsUndamaged r
+undamaged-drop (reply.Damaged block) drops = absurd (let P : ⊥ = cc in P)
+undamaged-drop other drops = tt
+
 module _ (w : World) (content : Content w) (a : ℕ) (below : a < w.appliances) where
   abbrev g : Geometry
   g = w.geometry
@@ -159,6 +164,10 @@ module _ (w : World) (content : Content w) (a : ℕ) (below : a < w.appliances) 
 
   free-at : (place : Place) → p.place ≡ place → ((b : ℕ) (x : Issued) → IsAskedAt place b x → ⊥) → (w.seats a).pending ≡ None
   free-at place here no-ask = not-waiting g time writes a (w.seats a) place (content.leased.seated a below) here no-ask
+
+  -- what stands in a lease's block is a lease
+  spelled-now : (block : ℕ) → IsSpelled g block (device block)
+  spelled-now block lease within here = let on = content.leased.on lease within in (on.standing, ap device here ∙ on.spells, on.limits)
 
   -- what is held is gripped, while no write is waited for
   grips-now : (w.seats a).pending ≡ None → (i : ℕ) (claim : Claim) (until : ℕ) → p.holds (lease_at (image_lease i)) ≡ Held claim until → time ≤ until + 50 → Grips g time writes a (w.seats a) i claim until
@@ -225,7 +234,7 @@ module _ (w : World) (content : Content w) (a : ℕ) (below : a < w.appliances) 
   just-of holds reading is (j ∷ others) e =
       let x = both-true (nat_lt j g.images && is_below (holds (lease_at (image_lease j))) reading) (are_below g holds reading others) e in
       let y = both-true (nat_lt j g.images) (is_below (holds (lease_at (image_lease j))) reading) x.0 in
-      (j, less-tells j g.images y.0, inl refl, below-live (holds (lease_at (image_lease j))) reading y.1 is)
+      (j, below-tested j g.images y.0, inl refl, below-live (holds (lease_at (image_lease j))) reading y.1 is)
 
   just-holds : (command : Command) (holds : ℕ → Hold) (reading : ℕ) → just_at g command holds reading ≡ true → IsReading reading time →
       (i : ℕ) × (i < g.images) × Names command i × ((claim : Claim) × (until : ℕ) × (holds (lease_at (image_lease i)) ≡ Held claim until) × (time ≤ until + 50))
@@ -305,7 +314,7 @@ module _ (w : World) (content : Content w) (a : ℕ) (below : a < w.appliances) 
           let log = Asked (ask.Read (record { 0 = block })) [] (answer.Bytes bytes) ∷ (w.seats a).log in
           let leads = ap (went_on s (ask.Read (record { 0 = block })) [] (answer.Bytes bytes) p) here in
           content-went w content a below (event.Read (appliance_no a)) log known command h None false content.told fits.0 (rest bytes)
-          leased leads (fits.1.0 bytes)
+          leased leads (fits.1.0 bytes (spelled-now block))
           (λ i within minds. elim minds [
             | inl gripped ↦ (
                 let claim = gripped.0 in
@@ -378,6 +387,7 @@ module _ (w : World) (content : Content w) (a : ℕ) (below : a < w.appliances) 
       dropped event log h (Ends end) drops fair i = (
         elim fair.allowed [ inl fine ↦ fine | inr rest ↦ elim rest [ inl e ↦ unjust e | inr y ↦ unjust (sym (yields-stays y) ∙ drops) ] ],
         is-none (end.known.sessions i) (fair.kept i ∙ dropping-false end.reply command (attached_of known) i drops),
+        undamaged-drop end.reply drops,
       )
       dropped event log h (ReadThen b r f) drops fair i = absurd drops
       dropped event log h (WriteThen k b x u d f r) drops fair i = absurd drops
@@ -561,7 +571,7 @@ module _ (w : World) (content : Content w) (a : ℕ) (below : a < w.appliances) 
       let none : known.sessions j ≡ None = ap known.sessions names ∙ is in
       let P : Option Session → Type 0 = λ o. Serving known command (attached_part s known j o (nat_lt j g.images) (h (lease_at (image_lease j))) reading rest) i in
       let H : List ℕ → Type 0 = λ l. has_all (attached_of known) l ≡ false in
-      subst P (sym none) (inr (harmless.without listed (subst H (sym one) (ap (λ (o : Option Session). is_some o && true) none)), is))
+      subst P (sym none) (inr (harmless.without listed (subst H (sym one) (ap (λ (o : Option Session). is_some o && true) none)), is, tt))
 
   -- a command of an image whose lease is held serves it, or ends for want of a session
   module _ (known : Known) (reading : ℕ) (i : ℕ) (within : i < g.images) (claim : Claim) (until : ℕ) (held : after_first g known reading p.holds (lease_at (image_lease i)) ≡ Held claim until) where

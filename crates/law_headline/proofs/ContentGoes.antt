@@ -25,7 +25,7 @@ use Rattle.plx_headline.proofs.Lists.{none-other}
 use Rattle.plx_rules.specs.Part.{Part, Ends, ReadThen, WriteThen, ClockThen, UntilThen}
 use Rattle.plx_worlds.specs.Boot.{Happening, In, Position, position, goes_to}
 use Rattle.plx_worlds.specs.Ends.{End}
-use Rattle.plx_worlds.specs.Headline.{starts_and_crashes, events_told, model_before, model_in}
+use Rattle.plx_worlds.specs.Headline.{starts_and_crashes, events_told, IsUndamaged, model_before, model_in}
 use Rattle.plx_worlds.specs.Holds.{Hold}
 use Rattle.plx_worlds.specs.Session.{Session, Known}
 use Rattle.plx_worlds.specs.World.{World, Seat, setting_at, told}
@@ -118,12 +118,14 @@ module _ (w : World) (content : Content w) (a : ℕ) (below : a < w.appliances) 
 
   -- the command's reply is harmless, and leaves no session of the image
   abbrev pub NoSession : Part End → ℕ → Type 0
-  NoSession (Ends end) i = Harmless g.images (attached_of known) command end.reply × (end.known.sessions i ≡ None)
+  NoSession (Ends end) i = Harmless g.images (attached_of known) command end.reply × (end.known.sessions i ≡ None) × IsUndamaged end.reply
   NoSession part i = ⊥
 
+  -- what is left of the command is right for the image's owner
   abbrev pub IsHeldBy : Part End → ℕ → Type 0
   IsHeldBy part i = (regime : Regime) × Looks g a i command known regime m × HeldPart g a i command known regime part device × IsOn g i device regime
 
+  -- the command serves the image, or ends for want of a session
   abbrev pub Serves : Part End → ℕ → Type 0
   Serves part i = IsHeldBy part i ⊎ NoSession part i
 
@@ -158,6 +160,7 @@ module _ (w : World) (content : Content w) (a : ℕ) (below : a < w.appliances) 
       leased = leased;
       told = said;
       permitted = content.permitted;
+      undamaged = content.undamaged;
       stored = content.stored;
       opens = content.opens;
       whose = λ i within k x op of b owns'. elim (eqb_tells b a) [
@@ -209,6 +212,12 @@ module _ (w : World) (content : Content w) (a : ℕ) (below : a < w.appliances) 
       answers = elim replies-how [
         | inl fine ↦ harmless-answers g.images (attached_of known) m a fine (fun_ext running.sessions) running.images
         | inr rest ↦ elim rest [ inl owner ↦ (owner.3.2 m owner.3.1).0 | inr yields ↦ yields-answers m a yields ]
+      ]
+
+      undamaged' : IsUndamaged end.reply
+      undamaged' = elim fair.clean [
+        | inl fine ↦ fine
+        | inr is ↦ (let j = now is in elim j.serves [ inl held ↦ (held.2 m held.1).3 | inr none ↦ none.2 ])
       ]
 
       permitted' : Permitted (model_before w) (entry.Reply (appliance_no a) end.reply ∷ w.trace)
@@ -331,6 +340,7 @@ module _ (w : World) (content : Content w) (a : ℕ) (below : a < w.appliances) 
             leased = leased;
             told = said;
             permitted = permitted';
+            undamaged = (undamaged', content.undamaged);
             stored = λ i within.
                 let P : Model → Type 0 = λ x. Keeps g device i (x.slots i) in
                 subst P (sym is-model) (elim (foreign-or i within) [

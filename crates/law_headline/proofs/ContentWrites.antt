@@ -96,6 +96,10 @@ named-of g a i command known holds sample (ReadThen block rest fault) boot x fai
 named-of g a i command known holds sample (ClockThen rest) boot x fair asked journalled = absurd asked
 named-of g a i command known holds sample (UntilThen from rest) boot x fair asked journalled = absurd asked
 
+-- a block of a named image is one of the image that the command names
+of-named : (g : Geometry) (command : Command) (i block : ℕ) → (j : ℕ) × (j < g.images) × (IsOf g j block) × Names command j → Names command i → IsOf g i block
+of-named g command i block named names = let P : ℕ → Type 0 = λ j. IsOf g j block in subst P (names-one command named.0 i named.3 names) named.2
+
 module _ (w : World) (content : Content w) where
   abbrev g : Geometry
   g = w.geometry
@@ -125,9 +129,8 @@ module _ (w : World) (content : Content w) where
       let R : Place → Type 0 = λ q. IsAskedAt q (boot_number b (w.seats b).boots) x in
       let F : Place → Type 0 = λ q. PlaceFits g b m (p b) q in
       let fits : PlaceFits g b m (p b) (In known command part) = subst F here (content.seats b below) in
-      let named = named-of g b i command known (p b).holds (p b).sample part (boot_number b (w.seats b).boots) x fits.1 (subst R here (subst Q same asked.2)) journalled in
-      let P : ℕ → Type 0 = λ j. IsOf g j x.block in
-      subst P (names-one command named.0 i named.3 names) named.2
+      of-named g command i x.block
+      (named-of g b i command known (p b).holds (p b).sample part (boot_number b (w.seats b).boots) x fits.1 (subst R here (subst Q same asked.2)) journalled) names
 
   -- ---- a write is issued
 
@@ -217,6 +220,7 @@ module _ (w : World) (content : Content w) where
       leased = leased;
       told = content.told;
       permitted = content.permitted;
+      undamaged = content.undamaged;
       stored = content.stored;
       opens = λ i within n x op of flags count. elim (at_push writes fresh x n op.found) [
         | inl old ↦ content.opens i within n x (record { found = old; needs = op.needs; missing = op.missing; live = op.live }) of flags count
@@ -618,6 +622,7 @@ module _ (w : World) (content : Content w) where
       leased = leased;
       told = content.told;
       permitted = content.permitted;
+      undamaged = content.undamaged;
       stored = stored-after;
       opens = opens-after;
       whose = whose-after;

@@ -22,8 +22,9 @@ use Rattle.plx_headline.proofs.Tests.{nat_lt-true, nat_le-true}
 use Rattle.plx_rules.specs.Part.{Part, Ends, UntilThen}
 use Rattle.plx_rules.specs.declared.journaled.Journaled.{Journaled}
 use Rattle.plx_worlds.specs.Attaching.{image_use, attach_ends, after_load, load_journal, after_record, load_image, after_claim, claim_image, attach_held}
-use Rattle.plx_worlds.specs.Claims.{ClaimEnd, ClaimBusy, ClaimLost, ClaimDamaged, claim_of, end_of_term, own_record, own_use, claim_in_time, claim_damaged, reread_by, reread_part, written_part, if_expired, seen_part}
+use Rattle.plx_worlds.specs.Claims.{ClaimEnd, ClaimBusy, ClaimLost, claim_of, end_of_term, own_record, own_use, claim_in_time, reread_by, reread_part, written_part, if_expired, seen_part}
 use Rattle.plx_worlds.specs.Ends.{End, ends, read_failed, damaged}
+use Rattle.plx_worlds.specs.Headline.{IsUndamaged}
 use Rattle.plx_worlds.specs.Holds.{Hold, Nothing, Seen, Wrote, Waited, Held, no_holds, shown, reread, timed, wrote, after_reply}
 use Rattle.plx_worlds.specs.InUse.{InUse, lease_name, first_reached, unless_reached}
 use Rattle.plx_worlds.specs.Journal.{Finding, Outside, Unused, Counts, finding}
@@ -34,10 +35,10 @@ use Rattle.plx_worlds.specs.Session.{Session, Known, with_session, inserted, fir
 use Rattle.plx_worlds.specs.Settings.{Setting}
 use Rattle.plx_worlds.specs.Times.{wait, is_expired}
 use Rattle.law_lease.proofs.LawfulCommands.{IsRest}
-use Rattle.law_headline.proofs.FairParts.{read-held, lease-image, backs-read, backs-timed, backs-at, backs-with, unreached-tells, IsFair, fair-lost, fair-write_failed, fair-in-time, fair-ends}
+use Rattle.law_headline.proofs.FairParts.{read-held, lease-image, backs-read, backs-timed, backs-at, backs-with, unreached-tells, IsFair, fair-lost, fair-write_failed, fair-ends}
 use Rattle.law_headline.proofs.Harmless.{Harmless}
 use Rattle.law_headline.proofs.Harmless as harmless
-use Rattle.law_headline.proofs.Held.{Without, attached_of, HeldPart, Backs, just_at}
+use Rattle.law_headline.proofs.Held.{IsSpelled, Without, attached_of, HeldPart, Backs, just_at}
 use Rattle.law_headline.proofs.HeldCommands.{slot_no, held-image}
 use Rattle.plx_gate.proofs.Leases.{lease-back, length-lease}
 use Rattle.law_headline.proofs.Journals.{IsJournal}
@@ -59,18 +60,18 @@ module _ (s : Setting) (geometry : IsGeometry s.geometry) (a : ℕ) (small : s.b
 
   -- an end that leaves the sessions
   fair-still : (holds : ℕ → Hold) (sample : Option ℕ) (just : Bool) (n : ℕ) (done : Reply) → ((j : ℕ) → sessions_after attaches done (attached_of known) j ≡ attached_of known j) →
-      Backs s.geometry (after_reply done holds) known → Harmless s.geometry.images (attached_of known) attaches done → Fairly holds sample just (ends done (knowing n))
-  fair-still holds sample just n done same backs fine = record { kept = λ j. sym (same j); backs = backs; away = λ j no'. inl refl; allowed = inl fine }
+      Backs s.geometry (after_reply done holds) known → IsUndamaged done → Harmless s.geometry.images (attached_of known) attaches done → Fairly holds sample just (ends done (knowing n))
+  fair-still holds sample just n done same backs clean fine = record { kept = λ j. sym (same j); backs = backs; away = λ j no'. inl refl; clean = inl clean; allowed = inl fine }
 
   fair-read_failed : (holds : ℕ → Hold) (sample : Option ℕ) (just : Bool) (n b : ℕ) → Backs s.geometry holds known → Fairly holds sample just (read_failed b (knowing n))
-  fair-read_failed holds sample just n b backs = fair-still holds sample just n (reply.ReadFault (record { 0 = b })) (λ j. refl) backs (harmless.still (harmless.free refl refl refl refl) refl)
+  fair-read_failed holds sample just n b backs = fair-still holds sample just n (reply.ReadFault (record { 0 = b })) (λ j. refl) backs tt (harmless.still (harmless.free refl refl refl refl) refl)
 
-  fair-damaged : (holds : ℕ → Hold) (sample : Option ℕ) (just : Bool) (n b : ℕ) (uses : List InUse) → Backs s.geometry holds known → Fairly holds sample just (damaged s (knowing n) uses b)
-  fair-damaged holds sample just n b uses backs = λ reading early.
-      let h : ℕ → Hold = λ k. timed reading (holds k) in
-      fair-in-time s a attaches known h (Some reading) (just_at s.geometry attaches h reading) (knowing n) uses reading (ends (reply.Damaged (record { 0 = b })) (knowing n))
-      (λ e. fair-still h (Some reading) (just_at s.geometry attaches h reading) n (reply.Damaged (record { 0 = b })) (λ j. refl) (backs-timed s.geometry known holds reading backs)
-      (harmless.still (harmless.free refl refl refl refl) refl))
+  -- bytes outside the format, read under the image's lease
+  fair-damaged : (holds : ℕ → Hold) (sample : Option ℕ) (just : Bool) (n b : ℕ) (claim : Claim) (until : ℕ) → Backs s.geometry holds known → holds block ≡ Held claim until →
+      Fairly holds sample just (damaged s (knowing n) (image_use i until) b)
+  fair-damaged holds sample just n b claim until backs held =
+      fair-ends s a attaches known i holds sample just (knowing n) (knowing n) claim until (reply.Damaged (record { 0 = b })) refl within held (λ j. refl)
+      (λ r. backs-timed s.geometry known holds r backs) (λ j no'. inl refl)
 
   attached-sessions : (t : Session) (j : ℕ) → is_some (at known.sessions i (Some t) j) ≡ at (attached_of known) i true j
   attached-sessions t j = elim (eqb_tells j i) [ inl same ↦ rw same.0 refl | inr away ↦ rw away.0 refl ]
@@ -88,29 +89,29 @@ module _ (s : Setting) (geometry : IsGeometry s.geometry) (a : ℕ) (small : s.b
     abbrev Loads : (ℕ → Hold) → Option ℕ → Bool → Part LoadEnd → Type 0
     Loads holds sample just part = Fairly holds sample just (followed_by part (after_load s (knowing n) i until kept))
 
-    fair-found : (b : ℕ) (found : Finding) (holds : ℕ → Hold) (unused : Part LoadEnd) (counts : ℕ → ℕ → Part LoadEnd) → Backs s.geometry holds known → Loads holds None false unused →
+    fair-found : (b : ℕ) (found : Finding) (holds : ℕ → Hold) (unused : Part LoadEnd) (counts : ℕ → ℕ → Part LoadEnd) → Backs s.geometry holds known → holds block ≡ Held claim until → Loads holds None false unused →
         ((number vblock : ℕ) → Loads holds None false (counts number vblock)) → Loads holds None false (load_found b found unused counts)
-    fair-found b Outside holds unused counts backs l r = fair-damaged holds None false n b (image_use i until) backs
-    fair-found b Unused holds unused counts backs l r = l
-    fair-found b (Counts d) holds unused counts backs l r = r d.number d.vblock
+    fair-found b Outside holds unused counts backs held l r = fair-damaged holds None false n b claim until backs held
+    fair-found b Unused holds unused counts backs held l r = l
+    fair-found b (Counts d) holds unused counts backs held l r = r d.number d.vblock
 
     fair-gap : (writes : List Journaled) (gap : Option ℕ) (holds : ℕ → Hold) (sample : Option ℕ) (just : Bool) → Backs s.geometry holds known → holds block ≡ Held claim until →
         Fairly holds sample just (after_load s (knowing n) i until kept (gap_found s.geometry i writes gap))
     fair-gap writes None holds sample just backs held = fair-attached n claim until (record { image = kept; writes = writes }) holds sample just backs held limits
-    fair-gap writes (Some number) holds sample just backs held = fair-damaged holds sample just n _ (image_use i until) backs
+    fair-gap writes (Some number) holds sample just backs held = fair-damaged holds sample just n _ claim until backs held
 
     fair-load : (left slot : ℕ) (writes : List Journaled) (holds : ℕ → Hold) (sample : Option ℕ) (just : Bool) → Backs s.geometry holds known →
         holds block ≡ Held claim until → Loads holds sample just (load_part s.geometry i kept left slot writes)
     fair-load zero slot writes holds sample just backs held = fair-gap writes (first_gap (applied_of kept) writes) holds sample just backs held
     fair-load (suc left) slot writes holds sample just backs held = (
-      λ bytes.
+      λ bytes spelled.
           let h = at holds (descriptor_at s.geometry i slot) (shown sample bytes (holds (descriptor_at s.geometry i slot))) in
           let backs' = backs-read s.geometry known holds (descriptor_at s.geometry i slot) sample bytes backs in
           let held' = read-held holds (descriptor_at s.geometry i slot) block sample bytes claim until held in
-          fair-found (descriptor_at s.geometry i slot) (finding kept s.geometry.slots slot bytes) h _ _ backs'
+          fair-found (descriptor_at s.geometry i slot) (finding kept s.geometry.slots slot bytes) h _ _ backs' held'
           (fair-load left (slot + 1) writes h None false backs' held')
           (λ number vblock. (
-            λ data'. fair-load left (slot + 1) (inserted (record { number = number; vblock = vblock; block = data' }) writes) _ None false
+            λ data' spelled'. fair-load left (slot + 1) (inserted (record { number = number; vblock = vblock; block = data' }) writes) _ None false
                 (backs-read s.geometry known h (data_at s.geometry i slot) None data' backs') (read-held h (data_at s.geometry i slot) block None data' claim until held'),
             fair-read_failed h None false n (data_at s.geometry i slot) backs',
             λ k c u below e w. absurd (lease-data s.geometry (image_lease k) i slot (image-below s.geometry k below) (sym e)),
@@ -126,19 +127,25 @@ module _ (s : Setting) (geometry : IsGeometry s.geometry) (a : ℕ) (small : s.b
 
   fair-record_read : (n : ℕ) (claim : Claim) (until : ℕ) (found : Option ImageRecord) (holds : ℕ → Hold) (sample : Option ℕ) (just : Bool) → Backs s.geometry holds known →
       holds block ≡ Held claim until → IsClaimed claim until → Fairly holds sample just (after_record s (knowing n) i until found)
-  fair-record_read n claim until None holds sample just backs held limits = fair-damaged holds sample just n (record_at s.geometry i) (image_use i until) backs
+  fair-record_read n claim until None holds sample just backs held limits = fair-damaged holds sample just n (record_at s.geometry i) claim until backs held
   fair-record_read n claim until (Some kept) holds sample just backs held limits = fair-journal n claim until limits kept (is_live kept) holds sample just backs held
 
   pub fair-image : (n : ℕ) (claim : Claim) (until : ℕ) (holds : ℕ → Hold) (sample : Option ℕ) (just : Bool) → Backs s.geometry holds known →
       holds block ≡ Held claim until → IsClaimed claim until → Fairly holds sample just (load_image s (knowing n) i until)
   fair-image n claim until holds sample just backs held limits = (
-    λ bytes. fair-record_read n claim until (attached_record bytes) _ None false (backs-read s.geometry known holds (record_at s.geometry i) sample bytes backs)
+    λ bytes spelled. fair-record_read n claim until (attached_record bytes) _ None false (backs-read s.geometry known holds (record_at s.geometry i) sample bytes backs)
         (read-held holds (record_at s.geometry i) block sample bytes claim until held) limits,
     fair-read_failed holds None false n (record_at s.geometry i) backs,
     λ k c u below e w. absurd (lease-record s.geometry (image_lease k) i (image-below s.geometry k below) (sym e)),
   )
 
   -- ---- the claim
+
+  -- the lease's block is read back
+  lease-read : (bytes : List ℕ) → IsSpelled s.geometry block bytes → (r : LeaseRecord) × (read_lease bytes ≡ Some r)
+  lease-read bytes spelled =
+      let r = spelled (image_lease i) (image-below s.geometry i within) refl in
+      (r.0, ap read_lease r.1 ∙ lease-back r.0 r.2)
 
   module _ (n : ℕ) where
     abbrev Claims : (ℕ → Hold) → Option ℕ → Bool → Part ClaimEnd → Type 0
@@ -153,16 +160,9 @@ module _ (s : Setting) (geometry : IsGeometry s.geometry) (a : ℕ) (small : s.b
         by_reached None e = fair e
         by_reached (Some due) e = fair-lost s a attaches known holds sample just (knowing n) due reading
 
-    fair-claim_damaged : (uses : List InUse) (holds : ℕ → Hold) (sample : Option ℕ) (just : Bool) → Backs s.geometry holds known → Claims holds sample just (claim_damaged uses)
-    fair-claim_damaged uses holds sample just backs = λ reading early.
-        let h : ℕ → Hold = λ k. timed reading (holds k) in
-        fair-claim_in_time uses reading h (Some reading) (just_at s.geometry attaches h reading) (Ends ClaimDamaged)
-        (λ e. fair-still h (Some reading) (just_at s.geometry attaches h reading) n (reply.Damaged (record { 0 = block })) (λ j. refl) (backs-timed s.geometry known holds reading backs)
-        (harmless.still (harmless.free refl refl refl refl) refl))
-
     fair-busy : (holds : ℕ → Hold) (sample : Option ℕ) (just : Bool) (seen : LeaseRecord) → Backs s.geometry holds known → Claims holds sample just (Ends (ClaimBusy seen))
     fair-busy holds sample just seen backs =
-        fair-still holds sample just n (reply.Busy (lease_name s.geometry (image_lease i)) seen) (λ j. refl) backs (harmless.still (harmless.free refl refl refl refl) refl)
+        fair-still holds sample just n (reply.Busy (lease_name s.geometry (image_lease i)) seen) (λ j. refl) backs tt (harmless.still (harmless.free refl refl refl refl) refl)
 
     module _ (number sample : ℕ) (few : number < 2 ^ 40) (early : sample < 2 ^ 48) where
       abbrev claim : Claim
@@ -181,9 +181,10 @@ module _ (s : Setting) (geometry : IsGeometry s.geometry) (a : ℕ) (small : s.b
       fair-reread : (holds : ℕ → Hold) (before : Option ℕ) (just : Bool) → Backs s.geometry holds known → holds block ≡ Waited claim (end_of_term claim) →
           Claims holds before just (reread_part uses (image_lease i) claim)
       fair-reread holds before just backs waited = (
-        λ bytes.
+        λ bytes spelled.
             let h = at holds block (shown before bytes (holds block)) in
-            by_test bytes h (bytes_eq bytes own) (read_lease bytes) (at-same holds block (shown before bytes (holds block)) ∙ ap (shown before bytes) waited)
+            let r = lease-read bytes spelled in
+            by_test bytes h (bytes_eq bytes own) (read_lease bytes) r.0 r.1 (at-same holds block (shown before bytes (holds block)) ∙ ap (shown before bytes) waited)
             (backs-read s.geometry known holds block before bytes backs),
         fair-read_failed holds None false n block backs,
         λ k c u below e w.
@@ -205,11 +206,11 @@ module _ (s : Setting) (geometry : IsGeometry s.geometry) (a : ℕ) (small : s.b
             ),
       )
         where
-          by_test : (bytes : List ℕ) (h : ℕ → Hold) (b : Bool) (found : Option LeaseRecord) → h block ≡ reread b (Held claim (end_of_term claim)) → Backs s.geometry h known →
+          by_test : (bytes : List ℕ) (h : ℕ → Hold) (b : Bool) (found : Option LeaseRecord) (r : LeaseRecord) → found ≡ Some r → h block ≡ reread b (Held claim (end_of_term claim)) → Backs s.geometry h known →
               Claims h None false (reread_by b uses claim found)
-          by_test bytes h true found is backs' = fair-image n claim (end_of_term claim) h None false backs' is limits
-          by_test bytes h false None is backs' = fair-claim_damaged uses h None false backs'
-          by_test bytes h false (Some seen) is backs' = fair-busy h None false seen backs'
+          by_test bytes h true found r e is backs' = fair-image n claim (end_of_term claim) h None false backs' is limits
+          by_test bytes h false None r e is backs' = absurd (let P : ⊥ = cc in P)
+          by_test bytes h false (Some seen) r e is backs' = fair-busy h None false seen backs'
 
       -- the wait of a claim that was written
       fair-wait : (holds : ℕ → Hold) (before : Option ℕ) (just : Bool) → Backs s.geometry holds known → holds block ≡ Wrote claim (end_of_term claim) →
@@ -225,9 +226,9 @@ module _ (s : Setting) (geometry : IsGeometry s.geometry) (a : ℕ) (small : s.b
           both : (x y : Bool) → x ≡ true → y ≡ true → (x && y) ≡ true
           both x y ex ey = rw (ex, ey) refl
 
-      fair-seen : (found : Option LeaseRecord) (holds : ℕ → Hold) (just : Bool) → Backs s.geometry holds known → Claims holds None just (seen_part [] (image_lease i) claim found)
-      fair-seen None holds just backs = fair-claim_damaged [] holds None just backs
-      fair-seen (Some seen) holds just backs = by_test (is_expired seen sample)
+      fair-seen : (found : Option LeaseRecord) (r : LeaseRecord) (holds : ℕ → Hold) (just : Bool) → found ≡ Some r → Backs s.geometry holds known → Claims holds None just (seen_part [] (image_lease i) claim found)
+      fair-seen None r holds just e backs = absurd (let P : ⊥ = cc in P)
+      fair-seen (Some seen) r holds just e backs = by_test (is_expired seen sample)
         where
           by_test : (b : Bool) → Claims holds None just (if_expired b seen (written_part [] (image_lease i) claim))
           by_test false = fair-busy holds None just seen backs
@@ -243,13 +244,13 @@ module _ (s : Setting) (geometry : IsGeometry s.geometry) (a : ℕ) (small : s.b
 
   fair-claim : (enough : Bool) (holds : ℕ → Hold) (sample : Option ℕ) (just : Bool) → nat_lt known.claims last_claim ≡ enough → Backs s.geometry holds known → holds block ≡ Nothing →
       Fairly holds sample just (claim_image enough s known i)
-  fair-claim false holds sample just e backs is = fair-still holds sample just known.claims (reply.WornOut last_claim) (λ j. refl) backs (harmless.still (harmless.worn refl refl) refl)
+  fair-claim false holds sample just e backs is = fair-still holds sample just known.claims (reply.WornOut last_claim) (λ j. refl) backs tt (harmless.still (harmless.worn refl refl) refl)
   fair-claim true holds sample just e backs is = λ reading early.
       let h : ℕ → Hold = λ k. timed reading (holds k) in
       let backs' = backs-timed s.geometry known holds reading backs in (
-        λ bytes. fair-seen (known.claims + 1) known.claims reading
+        λ bytes spelled. let r = lease-read bytes spelled in fair-seen (known.claims + 1) known.claims reading
             (elim (leb_tells (suc known.claims) last_claim) [ inl below ↦ omega (arith, below.1) | inr not' ↦ absurd (let f : true ≡ false = sym e ∙ not'.0 in let P : ⊥ = cc in P) ])
-            early (read_lease bytes) _ false (backs-read s.geometry known h block (Some reading) bytes backs'),
+            early (read_lease bytes) r.0 _ false r.1 (backs-read s.geometry known h block (Some reading) bytes backs'),
         fair-read_failed h None false (known.claims + 1) block backs',
         λ k c u below e' w.
             let at-i : h block ≡ Waited c u = ap h e' ∙ w in

@@ -66,6 +66,7 @@ module _ (s : Setting) (geometry : IsGeometry s.geometry) (a : ℕ) (known : Kno
         kept = λ j. refl;
         backs = backs;
         away = λ j no'. inl refl;
+        clean = inl tt;
         allowed = inl (harmless.without listed (let P : List ℕ → Type 0 = λ l. has_all (attached_of known) l ≡ false in
             subst P (sym one) (ap (λ (o : Option Session). is_some o && true) is)));
       }
@@ -84,6 +85,7 @@ module _ (s : Setting) (geometry : IsGeometry s.geometry) (a : ℕ) (known : Kno
     kept = λ j. sym (same j);
     backs = (let P : (ℕ → Hold) → Type 0 = λ h. Backs s.geometry h known in subst P (sym (keeps holds)) backs);
     away = λ j no'. inl refl;
+    clean = inr just;
     allowed = inr (inl just);
   }
 
@@ -169,6 +171,7 @@ module _ (s : Setting) (geometry : IsGeometry s.geometry) (a : ℕ) (known : Kno
                 }
           ];
           away = λ j no'. inl (at-other known.sessions i j None (λ e. no' (inl (sym e))));
+          clean = inl tt;
           allowed = inl (harmless.detached (ap (λ (o : Option Session). is_some o) is));
         },
         fair-write_failed s a (Detach (slot_no i)) known no_holds None false known _ refl,
@@ -243,6 +246,7 @@ module _ (s : Setting) (geometry : IsGeometry s.geometry) (a : ℕ) (known : Kno
         kept = λ j. refl;
         backs = backs;
         away = λ j no'. inl refl;
+        clean = inl tt;
         allowed = inl (harmless.no_image {slot = slot_no i} (elim (leb_tells (suc i) s.geometry.images) [
           | inl below ↦ absurd (let f : true ≡ false = sym below.0 ∙ e in let P : ⊥ = cc in P)
           | inr past ↦ omega (arith, past.1)
@@ -256,7 +260,7 @@ module _ (s : Setting) (geometry : IsGeometry s.geometry) (a : ℕ) (known : Kno
           fair-unattached s geometry a small known i within none (holds (lease_at (image_lease i))) holds (Some reading) (just_at s.geometry (Attach (slot_no i)) holds reading) refl rest (limits within) backs
 
       by_session : (o : Option Session) → known.sessions i ≡ o → Starts (Attach (slot_no i)) (attach_part s known i o (nat_lt i s.geometry.images) (holds (lease_at (image_lease i))))
-      by_session (Some t) is = record { kept = λ j. refl; backs = backs; away = λ j no'. inl refl; allowed = inl (harmless.with_session (ap (λ (o : Option Session). is_some o) is)) }
+      by_session (Some t) is = record { kept = λ j. refl; backs = backs; away = λ j no'. inl refl; clean = inl tt; allowed = inl (harmless.with_session (ap (λ (o : Option Session). is_some o) is)) }
       by_session None is = by_within (nat_lt i s.geometry.images) refl is
 
 -- ---- the renewals
@@ -313,7 +317,7 @@ module _ (s : Setting) (a : ℕ) (known : Known) (holds0 : ℕ → Hold) (readin
 
   fair-renew : (left lease : ℕ) (holds : ℕ → Hold) (sample : Option ℕ) → left + lease ≡ lease_count s.geometry → Backs s.geometry holds known →
       ((j : ℕ) → lease ≤ j → holds (lease_at j) ≡ holds0 (lease_at j)) → Renews holds sample (renew_part s known holds0 reading left lease)
-  fair-renew zero lease holds sample all backs same = record { kept = λ j. refl; backs = backs; away = λ j no'. inl refl; allowed = inl (harmless.unnamed refl refl) }
+  fair-renew zero lease holds sample all backs same = record { kept = λ j. refl; backs = backs; away = λ j no'. inl refl; clean = inl tt; allowed = inl (harmless.unnamed refl refl) }
   fair-renew (suc left) lease holds sample all backs same =
       by_hold (λ h t b same'. fair-renew left (lease + 1) h t (omega (arith, all)) b same') (holds0 (lease_at lease)) (same lease (omega arith))
     where

@@ -131,6 +131,7 @@ module _ (s : Setting) (a : ℕ) (command : Command) (known : Known) where
     kept = λ j. refl;
     backs = backs-none s.geometry known no_holds k.claims;
     away = λ j no'. inr refl;
+    clean = inl tt;
     allowed = inl (harmless.ending (lost-listed command) refl);
   }
 
@@ -139,6 +140,7 @@ module _ (s : Setting) (a : ℕ) (command : Command) (known : Known) where
     kept = λ j. refl;
     backs = backs-none s.geometry known holds k.claims;
     away = λ j no'. inr refl;
+    clean = inl tt;
     allowed = inl (harmless.ending listed refl);
   }
 
@@ -163,6 +165,11 @@ module _ (s : Setting) (a : ℕ) (command : Command) (known : Known) where
         kept = kept;
         backs = backs reading;
         away = away;
-        allowed = inr (inl (just-one s.geometry command i one within (λ block. timed reading (holds block)) reading
-            ∙ (ap (λ (h : Hold). is_below (timed reading h) reading) held ∙ nat_lt-true reading until (unreached-tells i until reading e))));
+        clean = inr (is-just reading e);
+        allowed = inr (inl (is-just reading e));
       })
+    where
+      is-just : (reading : ℕ) → first_reached (image_use i until) reading ≡ None → just_at s.geometry command (λ block. timed reading (holds block)) reading ≡ true
+      is-just reading e =
+          just-one s.geometry command i one within (λ block. timed reading (holds block)) reading
+          ∙ (ap (λ (h : Hold). is_below (timed reading h) reading) held ∙ nat_lt-true reading until (unreached-tells i until reading e))

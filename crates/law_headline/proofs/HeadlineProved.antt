@@ -8,7 +8,7 @@ use Rattle.plx_gate.proofs.Descriptors.{read-zeros}
 use Rattle.plx_geom.specs.Geometry.{Geometry, IsGeometry}
 use Rattle.plx_geom.specs.declared.place.Place.TheVariants.{Record, JDesc}
 use Rattle.plx_worlds.specs.Formatted.{IsFormatted}
-use Rattle.plx_worlds.specs.Headline.{HeadlineOfAll, model_in}
+use Rattle.plx_worlds.specs.Headline.{HeadlineOfAll, NeverDamaged, model_in}
 use Rattle.plx_worlds.specs.Journal.{finding, finding_of}
 use Rattle.plx_worlds.specs.World as world
 use Rattle.plx_worlds.specs.World.{World, Step, Reached, first_world}
@@ -69,6 +69,7 @@ first-content g appliances device geometry few formatted = record {
   leased = first-leased g appliances device geometry few formatted;
   told = refl;
   permitted = tt;
+  undamaged = tt;
   stored = λ i within. keeps-first g device formatted i within;
   opens = λ i within n x op of flags count. absurd (let e = op.found in let P : ⊥ = cc in P);
   whose = λ i within n x op of b mine. absurd (let e = op.found in let P : ⊥ = cc in P);
@@ -88,3 +89,6 @@ headline-of-all w reached =
       permitted = content.permitted;
       stored = λ i within. stores-kept w.geometry i w.surface.device ((model_in w).slots i) content.leased.geometry.slots_high (content.stored i within);
     }
+
+pub never-damaged : NeverDamaged
+never-damaged w reached = (reached-content reached).undamaged

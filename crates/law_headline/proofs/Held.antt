@@ -3,6 +3,7 @@ use Rattle.std.proofs.Common.{◌≡◌, ℕ, ◌^◌, ◌≤◌, ◌<◌, ◌�
 use Rattle.std.specs.Prelude.{is_some, nat_lt, ◌&&◌}
 use Rattle.plx_base.specs.Sectors.{Device, put, mixed}
 use Rattle.plx_base.specs.declared.lease.Claim.{Claim}
+use Rattle.plx_base.specs.declared.lease.LeaseRecord.{LeaseRecord}
 use Rattle.plx_base.specs.declared.lease.LeaseRecord.TheVariants.{Claimed}
 use Rattle.plx_base.specs.declared.write_kind.WriteKind.{WriteKind}
 use Rattle.plx_base.specs.declared.write_kind.WriteKind.TheVariants as kind
@@ -15,12 +16,13 @@ use Rattle.plx_commands.specs.declared.command.Command.TheVariants.{Attach}
 use Rattle.plx_commands.proofs.Accepted.{Answers}
 use Rattle.plx_disk.specs.declared.ask.Ask.TheVariants as ask
 use Rattle.plx_disk.specs.declared.ask.Answer.TheVariants as answer
-use Rattle.plx_gate.specs.Leases.{lease_bytes, IsClaimed}
+use Rattle.plx_gate.specs.Leases.{lease_bytes, IsLease, IsClaimed}
 use Rattle.plx_gate.specs.declared.image.ImageRecord.{ImageRecord}
-use Rattle.plx_geom.specs.Geometry.{Geometry, image_lease, lease_at, record_at, descriptor_at, data_at}
+use Rattle.plx_geom.specs.Geometry.{Geometry, lease_count, image_lease, lease_at, record_at, descriptor_at, data_at}
 use Rattle.plx_rules.specs.Part.{Part, Ends, ReadThen, WriteThen, ClockThen, UntilThen}
 use Rattle.plx_rules.specs.declared.journaled.Journaled.{Journaled}
 use Rattle.plx_worlds.specs.Ends.{End}
+use Rattle.plx_worlds.specs.Headline.{IsUndamaged}
 use Rattle.plx_worlds.specs.Holds.{Hold, Waited, Held, no_holds, after_answer, after_write, after_reply, timed}
 use Rattle.plx_worlds.specs.Session.{Session, Known}
 use Rattle.law_headline.proofs.Harmless.{Harmless, Yields}
@@ -56,16 +58,19 @@ abbrev pub IsFor : Regime → Command → ℕ → Type 0
 IsFor (Without kept writes) command i = command ≡ Attach (record { 0 = i })
 IsFor (With image change) command i = Unit {0}
 
+-- the model has the appliance in this command, with these sessions
 pub record IsRunning (g : Geometry) (a : ℕ) (command : Command) (known : Known) (m : Model) : Type 0 where
   pub placed : a < m.appliances
   pub images : m.images ≡ g.images
   pub runs : m.running a ≡ Some command
   pub sessions : SameSessions a known m
 
+-- how a slot looks to its owner
 abbrev pub LooksSlot : ℕ → Regime → Slot → Type 0
 LooksSlot a (Without kept writes) slot = ShowEither kept writes slot × Differs slot
 LooksSlot a (With image change) slot = (slot.owner ≡ Some a) × (slot.image ≡ image) × (slot.change ≡ change)
 
+-- how the model looks to the owner of an image while this command of it runs
 pub record Looks (g : Geometry) (a i : ℕ) (command : Command) (known : Known) (regime : Regime) (m : Model) : Type 0 where
   pub running : IsRunning g a command known m
   pub slot : LooksSlot a regime (m.slots i)
@@ -82,12 +87,12 @@ pub record HasImage (g : Geometry) (i a : ℕ) (session : Session) (device : Dev
 abbrev pub IsOf : Geometry → ℕ → ℕ → Type 0
 IsOf g i block = (block ≡ record_at g i) ⊎ ((slot : ℕ) × (slot < g.slots) × ((block ≡ descriptor_at g i slot) ⊎ (block ≡ data_at g i slot)))
 
--- the reply is permitted by every model that looks so, and leaves the image kept, and known where a session is left
+-- the reply is permitted by every model that looks so, leaves the image kept, and known where a session is left, and tells of no bytes outside the format
 abbrev pub HeldEnd : Geometry → ℕ → ℕ → Command → Known → Regime → End → Device → Type 0
 HeldEnd g a i command known regime end device =
     (m : Model) → Looks g a i command known regime m →
     Answers m a command end.reply × Keeps g device i ((replied m a command end.reply).slots i)
-    × ((s : Session) → end.known.sessions i ≡ Some s → HasImage g i a s device ((replied m a command end.reply).slots i))
+    × ((s : Session) → end.known.sessions i ≡ Some s → HasImage g i a s device ((replied m a command end.reply).slots i)) × IsUndamaged end.reply
 
 -- the rest of a command is right while its boot owns the image: after a failed write, or once the release is asked, it doesn't
 abbrev pub HeldPart : Geometry → ℕ → ℕ → Command → Known → Regime → Part End → Device → Type 0
@@ -114,6 +119,7 @@ pub record IsBacking (g : Geometry) (holds : ℕ → Hold) (image : ℕ) : Type 
   pub held : holds (lease_at (image_lease image)) ≡ Held claim until
   pub limits : IsClaimed claim until
 
+-- each session's lease is held
 abbrev pub Backs : Geometry → (ℕ → Hold) → Known → Type 0
 Backs g holds known = (k : ℕ) (s : Session) → known.sessions k ≡ Some s → IsBacking g holds k
 
@@ -127,6 +133,7 @@ pub record IsFairEnd (g : Geometry) (command : Command) (known : Known) (holds :
   pub kept : (k : ℕ) → attached_of end.known k ≡ sessions_after command end.reply (attached_of known) k
   pub backs : Backs g (after_reply end.reply holds) end.known
   pub away : (k : ℕ) → (Names command k → ⊥) → (end.known.sessions k ≡ known.sessions k) ⊎ IsDropping end.reply
+  pub clean : IsUndamaged end.reply ⊎ (just ≡ true)
   pub allowed : Harmless g.images (attached_of known) command end.reply ⊎ ((just ≡ true) ⊎ Yields command end.reply)
 
 -- the lease is held at this reading
@@ -134,10 +141,12 @@ abbrev pub is_below : Hold → ℕ → Bool
 is_below (Held claim until) reading = nat_lt reading until
 is_below other reading = false
 
+-- the lease of each of these images is held at this reading
 abbrev pub are_below : Geometry → (ℕ → Hold) → ℕ → List ℕ → Bool
 are_below g holds reading [] = true
 are_below g holds reading (image ∷ others) = (nat_lt image g.images && is_below (holds (lease_at (image_lease image))) reading) && are_below g holds reading others
 
+-- there is a slot among them
 abbrev pub is_some_slot : List ℕ → Bool
 is_some_slot [] = false
 is_some_slot (slot ∷ others) = true
@@ -161,10 +170,15 @@ IsNamed g command kind.JCommit block = (i : ℕ) × (i < g.images) × IsOf g i b
 IsNamed g command kind.Release block = (i : ℕ) × (i < g.images) × (block ≡ lease_at (image_lease i)) × Names command i
 IsNamed g command other block = Unit {0}
 
+-- what stands in a lease's block is a lease
+abbrev pub IsSpelled : Geometry → ℕ → List ℕ → Type 0
+IsSpelled g block bytes = (lease : ℕ) → lease < lease_count g → block ≡ lease_at lease → (r : LeaseRecord) × (bytes ≡ lease_bytes r) × IsLease r
+
+-- the rest of a command is right whoever owns the images: `just` says that a reading below the end of each named image's lease came directly before
 abbrev pub Fair : Geometry → ℕ → Command → Known → (ℕ → Hold) → Option ℕ → Bool → Part End → Type 0
 Fair g a command known holds sample just (Ends end) = IsFairEnd g command known holds just end
 Fair g a command known holds sample just (ReadThen block rest fault) =
-    ((bytes : List ℕ) → Fair g a command known (after_answer sample (ask.Read (record { 0 = block })) [] (answer.Bytes bytes) holds) None false (rest bytes))
+    ((bytes : List ℕ) → IsSpelled g block bytes → Fair g a command known (after_answer sample (ask.Read (record { 0 = block })) [] (answer.Bytes bytes) holds) None false (rest bytes))
     × Fair g a command known holds None false fault × Confirms g a command known holds block rest
 Fair g a command known holds sample just (WriteThen what block bytes guard done fault missed) =
     IsNamed g command what block × (length bytes ≡ 4096) × Fair g a command known (after_write what block bytes holds) None false done

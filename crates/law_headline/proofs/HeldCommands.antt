@@ -25,7 +25,7 @@ use Rattle.plx_gate.specs.Images.{read_image}
 use Rattle.plx_gate.specs.declared.descriptor.Descriptor.{Descriptor}
 use Rattle.plx_gate.specs.declared.image.ImageRecord.{ImageRecord}
 use Rattle.plx_geom.specs.Geometry.{record_at, descriptor_at, data_at}
-use Rattle.plx_headline.proofs.Tests.{eqb-true, nat_lt-false, nat_le-false, lt-cases}
+use Rattle.plx_headline.proofs.Tests.{eqb-true, nat_lt-false, nat_le-false}
 use Rattle.plx_rules.specs.Part.{Part}
 use Rattle.plx_rules.specs.declared.journaled.Journaled.{Journaled}
 use Rattle.plx_worlds.specs.Attaching.{image_use, attach_ends, after_load, load_journal, after_record, load_image}
@@ -37,6 +37,7 @@ use Rattle.plx_worlds.specs.Parts.{followed_by}
 use Rattle.plx_worlds.specs.Records.{is_live, is_plain, taken_of, applied_of, plain_record, attached_record}
 use Rattle.plx_worlds.specs.Session.{Session, Known, with_session, inserted, first_gap, session_report, latest}
 use Rattle.plx_worlds.specs.Settings.{Setting}
+use Rattle.law_lease.proofs.LawfulCommands.{below-tested}
 use Rattle.law_headline.proofs.Held.{Regime, Without, Looks, HasImage, HeldPart}
 use Rattle.plx_gate.proofs.Images.{image-back}
 use Rattle.law_headline.proofs.JournalFacts.{finding-commit}
@@ -71,6 +72,7 @@ module _ (s : Setting) (a i : ℕ) (command : Command) (known : Known) (regime :
     other-answers m a command _ (lost-listed command) refl refl,
     record { kept = kept.kept; writes = kept.writes; journal = kept.journal; either = kept.either },
     λ s' is. absurd (let P : ⊥ = cc in P),
+    tt,
   ))
 
   -- a reading that has reached no lease in use
@@ -187,9 +189,6 @@ take-below (suc n) (y ∷ xs) zero x e = omega arith
 take-below (suc n) (y ∷ xs) (suc k) x e = let b = take-below n xs k x e in omega (arith, b)
 
 -- what tests tell
-pub less-tells : (x y : ℕ) → nat_lt x y ≡ true → x < y
-less-tells x y e = elim (lt-cases x y) [ inl less ↦ less.1 | inr more ↦ absurd (let f : true ≡ false = sym e ∙ more.0 in let P : ⊥ = cc in P) ]
-
 pub not-le-tells : (x y : ℕ) → nat_le x y ≡ false → y < x
 not-le-tells x y e = elim (leb_tells x y) [ inl less ↦ absurd (let f : true ≡ false = sym less.0 ∙ e in let P : ⊥ = cc in P) | inr more ↦ omega (arith, more.1) ]
 
@@ -197,7 +196,7 @@ pub le-tells : (x y : ℕ) → nat_le x y ≡ true → x ≤ y
 le-tells x y e = elim (leb_tells x y) [ inl less ↦ less.1 | inr more ↦ absurd (let f : true ≡ false = sym e ∙ more.0 in let P : ⊥ = cc in P) ]
 
 pub size-tells : (size : ℕ) → not (is_size size) ≡ false → (0 < size) × (size ≤ 2 ^ 27)
-size-tells size e = let b = both-true (nat_lt 0 size) (nat_le size (2 ^ 27)) (positive (is_size size) e) in (less-tells 0 size b.0, le-tells size (2 ^ 27) b.1)
+size-tells size e = let b = both-true (nat_lt 0 size) (nat_le size (2 ^ 27)) (positive (is_size size) e) in (below-tested 0 size b.0, le-tells size (2 ^ 27) b.1)
   where
     positive : (x : Bool) → not x ≡ false → x ≡ true
     positive true e' = refl
@@ -245,6 +244,7 @@ module _ (s : Setting) (a i : ℕ) (within : i < s.geometry.images) (few : s.geo
               let same : session ≡ t = (let f : Some session ≡ Some t = sym (at-same k.sessions i (Some session)) ∙ known' in cc) in
               let P : Session → Type 0 = λ x. HasImage s.geometry i a x device (at m.slots i slot i) in
               subst P same (subst H (sym is) (record { owner = refl; decided = refl; journal = journal; left = left })),
+          tt,
         ))
 
     -- a failed read
@@ -253,6 +253,7 @@ module _ (s : Setting) (a i : ℕ) (within : i < s.geometry.images) (few : s.geo
       other-answers m a (Attach (slot_no i)) _ refl refl refl,
       keeps-without m looks,
       λ t is. absurd (let e : None ≡ Some t = sym none' ∙ is in let P : ⊥ = cc in P),
+      tt,
     )
 
     -- the journal, slot by slot

@@ -168,7 +168,7 @@ module _ (g : Geometry) (a i : ℕ) (command : Command) (known : Known) (regime 
   -- on a device that holds the same of the image
   pub held-same : (part : Part End) (d e : Device) → Same g i d e → HeldPart g a i command known regime part d → HeldPart g a i command known regime part e
   held-same (Ends end) d e same held = λ m looks. (let h = held m looks in
-      (h.0, Keeps-same g d e i _ same h.1, λ s is. has-same g i a s d e _ same (h.2 s is)))
+      (h.0, Keeps-same g d e i _ same h.1, λ s is. has-same g i a s d e _ same (h.2 s is), h.3))
   held-same (ReadThen block rest fault) d e same held = (
     held.0,
     (let P : List ℕ → Type 0 = λ x. HeldPart g a i command known regime (rest x) e in subst P (sym (same-at g i block d e held.0 same)) (held-same (rest (d block)) d e same held.1)),

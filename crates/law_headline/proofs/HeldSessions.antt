@@ -38,6 +38,7 @@ use Rattle.plx_rules.specs.declared.journaled.Journaled.{Journaled}
 use Rattle.plx_worlds.specs.Attaching.{image_use}
 use Rattle.plx_worlds.specs.Commands.{unless, record_part, create_part, delete_part, read_part, journal_part, write_part}
 use Rattle.plx_worlds.specs.Ends.{End, ends, write_then, ends_in_time}
+use Rattle.plx_worlds.specs.Headline.{IsUndamaged}
 use Rattle.plx_worlds.specs.Journal.{journal_slot}
 use Rattle.plx_worlds.specs.Records.{is_live, is_plain, generation_of, size_of, applied_of, made_record}
 use Rattle.plx_worlds.specs.Session.{Session, Known, with_session, new_session, write_count, content, with_write}
@@ -111,19 +112,19 @@ module _ (s : Setting) (a i : ℕ) (within : i < s.geometry.images) (few : s.geo
       subst P (sym none.0) (still command change m looks (m.slots i) looks.slot.0 (looks.slot.2 ∙ none.1) refl)
 
   -- a refusal that ends no session
-  pub held-refused : (command : Command) (change : Option Image) (reply : Reply) → (number_of reply == 0) ≡ false → ends_sessions (number_of reply) ≡ false → IsChangeOf command change i →
+  pub held-refused : (command : Command) (change : Option Image) (reply : Reply) → (number_of reply == 0) ≡ false → ends_sessions (number_of reply) ≡ false → IsChangeOf command change i → IsUndamaged reply →
       ((m : Model) → Sees command change m → Answers m a command reply) → Sits command change (ends reply known)
-  held-refused command change reply refusal stays gone answers = λ m looks.
+  held-refused command change reply refusal stays gone fine answers = λ m looks.
       let is : (replied m a command reply).slots i ≡ refused_at m a (changed command) i = ap (λ (n : Model). n.slots i) (refused-given m a command reply refusal stays) in
       let Q : Slot → Type 0 = λ t. Stays t in
       let st = subst Q (sym is) (stays-refused command change m looks gone) in
-      (answers m looks, st.0, st.1)
+      (answers m looks, st.0, st.1, fine)
 
   -- a refusal whose fact holds
   held-founded : (command : Command) (change : Option Image) (reply : Reply) → is_in (number_of reply) (row command) ≡ true → (number_of reply == 0) ≡ false → ends_sessions (number_of reply) ≡ false →
-      IsChangeOf command change i → ((m : Model) → Sees command change m → IsAmong reply (refusals m a command)) → Sits command change (ends reply known)
-  held-founded command change reply listed refusal stays gone among =
-      held-refused command change reply refusal stays gone (λ m looks. founded-answers m a command reply listed refusal (among-more reply (refusals m a command) (of_claims command) (among m looks)))
+      IsChangeOf command change i → IsUndamaged reply → ((m : Model) → Sees command change m → IsAmong reply (refusals m a command)) → Sits command change (ends reply known)
+  held-founded command change reply listed refusal stays gone fine among =
+      held-refused command change reply refusal stays gone fine (λ m looks. founded-answers m a command reply listed refusal (among-more reply (refusals m a command) (of_claims command) (among m looks)))
 
   pub held-detach : (change : Option Image) → Sits (Detach (slot_no i)) change (ends Detached (with_session known i None))
   held-detach change = λ m looks.
@@ -132,10 +133,11 @@ module _ (s : Setting) (a i : ℕ) (within : i < s.geometry.images) (few : s.geo
         ok-answers m a (Detach (slot_no i)) Detached refl refl refl tt (rw (attached-in (Detach (slot_no i)) change m looks) refl),
         subst K (sym (at-same m.slots i (given_back (m.slots i) a))) (record { kept = k.kept; writes = k.writes; journal = k.journal; either = k.either }),
         λ x is. absurd (let e : None ≡ Some x = sym (at-same known.sessions i None) ∙ is in let P : ⊥ = cc in P),
+        tt,
       )
 
   pub held-attach : Sits (Attach (slot_no i)) None (ends AlreadyAttached known)
-  held-attach = held-founded (Attach (slot_no i)) None AlreadyAttached refl refl refl (inr (refl, refl)) (λ m looks. rw (attached-in (Attach (slot_no i)) None m looks) (inl refl))
+  held-attach = held-founded (Attach (slot_no i)) None AlreadyAttached refl refl refl (inr (refl, refl)) tt (λ m looks. rw (attached-in (Attach (slot_no i)) None m looks) (inl refl))
 
   -- ---- a read
 
@@ -159,10 +161,10 @@ module _ (s : Setting) (a i : ℕ) (within : i < s.geometry.images) (few : s.geo
       by_tests : (x y : Bool) → not (is_live kept) ≡ x → nat_le (size_of kept) vblock ≡ y →
           Sits (Read (slot_no i) vblock) None (unless x NoImage known (unless y (OutOfRange (size_of kept)) known (ends_in_time s known (image_use i until) (Data (payload_of (content session vblock))) known)))
       by_tests true y ex ey =
-          held-founded (Read (slot_no i) vblock) None NoImage refl refl refl (inr (refl, refl))
+          held-founded (Read (slot_no i) vblock) None NoImage refl refl refl (inr (refl, refl)) tt
           (λ m looks. let P : List Reply → Type 0 = λ l. IsAmong NoImage l in subst P (sym (facts m looks true y ex ey)) (inl refl))
       by_tests false true ex ey =
-          held-founded (Read (slot_no i) vblock) None (OutOfRange (size_of kept)) refl refl refl (inr (refl, refl))
+          held-founded (Read (slot_no i) vblock) None (OutOfRange (size_of kept)) refl refl refl (inr (refl, refl)) tt
           (λ m looks. let P : List Reply → Type 0 = λ l. IsAmong (OutOfRange (size_of kept)) l in subst P (sym (facts m looks false true ex ey)) (inl refl))
       by_tests false false ex ey =
           held-ends s a i (Read (slot_no i) vblock) known (With image None) device (keeps-with (Read (slot_no i) vblock) None) known known (image_use i until) (Data (payload_of (content session vblock)))
@@ -172,6 +174,7 @@ module _ (s : Setting) (a i : ℕ) (within : i < s.geometry.images) (few : s.geo
                 (facts m looks false false ex ey),
             st.0,
             st.1,
+            tt,
           ))
 
   -- ---- a write
@@ -263,6 +266,7 @@ module _ (s : Setting) (a i : ℕ) (within : i < s.geometry.images) (few : s.geo
                       let same : session' ≡ t = (let f : Some session' ≡ Some t = sym (at-same known.sessions i (Some session')) ∙ known' in cc) in
                       let P : Session → Type 0 = λ x. HasImage s.geometry i a x committed (at m.slots i slot i) in
                       subst P same (subst H (sym is) (record { owner = looks.slot.0; decided = refl; journal = commit; left = l })),
+                  tt,
                 )),
             tt,
           ),
@@ -292,23 +296,23 @@ module _ (s : Setting) (a i : ℕ) (within : i < s.geometry.images) (few : s.geo
         by_tests : (x y z f : Bool) → not (is_live kept) ≡ x → nat_le (size_of kept) vblock ≡ y → is_worn last_write (write_count session) ≡ z → (length writes == s.geometry.slots) ≡ f →
             Sits writes_block change (unless x NoImage known (unless y (OutOfRange (size_of kept)) known (unless z (WornOut last_write) known (unless f Full known
             (journal_part s known i vblock (bytes_of payload) session until)))))
-        by_tests true y z f ex ey ez ef = held-founded writes_block change NoImage refl refl refl (inl refl)
+        by_tests true y z f ex ey ez ef = held-founded writes_block change NoImage refl refl refl (inl refl) tt
             (λ m looks. let P : List Reply → Type 0 = λ l. IsAmong NoImage l in subst P (sym (write-facts m looks true y z ex ey ez)) (inl refl))
-        by_tests false true z f ex ey ez ef = held-founded writes_block change (OutOfRange (size_of kept)) refl refl refl (inl refl)
+        by_tests false true z f ex ey ez ef = held-founded writes_block change (OutOfRange (size_of kept)) refl refl refl (inl refl) tt
             (λ m looks. let P : List Reply → Type 0 = λ l. IsAmong (OutOfRange (size_of kept)) l in subst P (sym (write-facts m looks false true z ex ey ez)) (inl refl))
-        by_tests false false true f ex ey ez ef = held-founded writes_block change (WornOut last_write) refl refl refl (inl refl)
+        by_tests false false true f ex ey ez ef = held-founded writes_block change (WornOut last_write) refl refl refl (inl refl) tt
             (λ m looks. let P : List Reply → Type 0 = λ l. IsAmong (WornOut last_write) l in subst P (sym (write-facts m looks false false true ex ey ez)) (inl refl))
-        by_tests false false false true ex ey ez ef = held-refused writes_block change Full refl refl (inl refl) (λ m looks. other-answers m a writes_block Full refl refl refl)
+        by_tests false false false true ex ey ez ef = held-refused writes_block change Full refl refl (inl refl) tt (λ m looks. other-answers m a writes_block Full refl refl refl)
         by_tests false false false false ex ey ez ef = writing ex ey ez ef
 
   -- ---- a record: an image is made, or deleted
 
-  held-record : (command : Command) (change : Option Image) (new : ImageRecord) (image' : Image) (until : ℕ) (done' : Reply) → change ≡ Some image' → IsShown new [] image' →
+  held-record : (command : Command) (change : Option Image) (new : ImageRecord) (image' : Image) (until : ℕ) (done' : Reply) → IsUndamaged done' → change ≡ Some image' → IsShown new [] image' →
       IsImage new → is_plain new ≡ true → applied_of new ≡ 0 → generation_of kept ≤ generation_of new → (is_live new ≡ true → generation_of kept < generation_of new) →
       ((m : Model) → Sees command change m → Answers m a command done') →
       ((m : Model) → (replied m a command done').slots i ≡ at m.slots i (made (m.slots i)) i) →
       Sits command change (record_part s known i until new done')
-  held-record command change new image' until done' is-change shown limits plain unapplied later fresh answers slots =
+  held-record command change new image' until done' fine is-change shown limits plain unapplied later fresh answers slots =
       let block = record_at s.geometry i in
       let session' = new_session new in
       let written' : Device = put device block (image_bytes new) in
@@ -343,6 +347,7 @@ module _ (s : Setting) (a i : ℕ) (within : i < s.geometry.images) (few : s.geo
                   let same : session' ≡ t = (let e : Some session' ≡ Some t = sym (at-same known.sessions i (Some session')) ∙ known' in cc) in
                   subst (λ (x : Session). H x ((replied m a command done').slots i)) same
                   (subst (H session') (sym is) (record { owner = looks.slot.0; decided = refl; journal = journal'; left = l })),
+              fine,
             )),
         tt,
       )
@@ -358,10 +363,10 @@ module _ (s : Setting) (a i : ℕ) (within : i < s.geometry.images) (few : s.geo
       facts m looks x ex = facts-of (Delete (slot_no i)) change m looks of_none ∙ (rw left.live refl ∙ ap (λ (b : Bool). where_holds b NoImage) ex)
 
       by_test : (x : Bool) → not (is_live kept) ≡ x → Sits (Delete (slot_no i)) change (unless x NoImage known (record_part s known i until (image_is.Free (generation_of kept)) Deleted))
-      by_test true ex = held-founded (Delete (slot_no i)) change NoImage refl refl refl (inl refl)
+      by_test true ex = held-founded (Delete (slot_no i)) change NoImage refl refl refl (inl refl) tt
           (λ m looks. let P : List Reply → Type 0 = λ l. IsAmong NoImage l in subst P (sym (facts m looks true ex)) (inl refl))
       by_test false ex =
-          held-record (Delete (slot_no i)) change (image_is.Free (generation_of kept)) (free_image image.generation) until Deleted (is-change (not-false (is_live kept) ex))
+          held-record (Delete (slot_no i)) change (image_is.Free (generation_of kept)) (free_image image.generation) until Deleted tt (is-change (not-false (is_live kept) ex))
           (record { live = refl; generation = left.generation; size = refl; label = refl; count = refl; blocks = λ v. refl; frozen = refl })
           (kept-limits kept journal.limits).generation refl refl (omega arith) (λ dead. absurd (let P : ⊥ = cc in P))
           (λ m looks. ok-answers m a (Delete (slot_no i)) Deleted refl refl (owned-one m looks.slot.0) (let e = looks.running.images in omega (arith, e, within)) (facts m looks false ex))
@@ -387,16 +392,16 @@ module _ (s : Setting) (a i : ℕ) (within : i < s.geometry.images) (few : s.geo
       by_tests : (x y z : Bool) → is_live kept ≡ x → not (is_size size) ≡ y → is_worn last_generation (generation_of kept) ≡ z →
           Sits (Create (slot_no i) size label) change (unless x Exists known (unless y (OutOfRange greatest_size) known (unless z (WornOut last_generation) known
           (record_part s known i until (made_record (generation_of kept + 1) size label) Created))))
-      by_tests true y z ex ey ez = held-founded (Create (slot_no i) size label) change Exists refl refl refl (inl refl)
+      by_tests true y z ex ey ez = held-founded (Create (slot_no i) size label) change Exists refl refl refl (inl refl) tt
           (λ m looks. let P : List Reply → Type 0 = λ l. IsAmong Exists l in subst P (sym (facts m looks true y z ex ey ez)) (inl refl))
-      by_tests false true z ex ey ez = held-founded (Create (slot_no i) size label) change (OutOfRange greatest_size) refl refl refl (inl refl)
+      by_tests false true z ex ey ez = held-founded (Create (slot_no i) size label) change (OutOfRange greatest_size) refl refl refl (inl refl) tt
           (λ m looks. let P : List Reply → Type 0 = λ l. IsAmong (OutOfRange greatest_size) l in subst P (sym (facts m looks false true z ex ey ez)) (inl refl))
-      by_tests false false true ex ey ez = held-founded (Create (slot_no i) size label) change (WornOut last_generation) refl refl refl (inl refl)
+      by_tests false false true ex ey ez = held-founded (Create (slot_no i) size label) change (WornOut last_generation) refl refl refl (inl refl) tt
           (λ m looks. let P : List Reply → Type 0 = λ l. IsAmong (WornOut last_generation) l in subst P (sym (facts m looks false false true ex ey ez)) (inl refl))
       by_tests false false false ex ey ez =
           let sizes = size-tells size ey in
           let young = not-le-tells last_generation (generation_of kept) ez in
-          held-record (Create (slot_no i) size label) change (made_record (generation_of kept + 1) size label) (new_image (image.generation + 1) size label) until Created (is-change ex ey ez)
+          held-record (Create (slot_no i) size label) change (made_record (generation_of kept + 1) size label) (new_image (image.generation + 1) size label) until Created tt (is-change ex ey ez)
           (record { live = refl; generation = ap (λ n. n + 1) left.generation; size = refl; label = refl; count = refl; blocks = λ v. refl; frozen = refl })
           (record { generation_low = omega arith; generation_high = omega (arith, young); size_low = omega (arith, sizes.0); size_high = sizes.1; taken_high = omega arith; root_pointer = inl refl; applied_high = omega arith; label_is = is-label })
           refl refl (omega arith) (λ x. omega arith)

@@ -4,6 +4,7 @@ pub mod ContentEvents
 pub mod ContentFrames
 pub mod ContentGoes
 pub mod ContentWrites
+pub mod CrashesProved
 pub mod FairAttach
 pub mod FairCommands
 pub mod FairParts

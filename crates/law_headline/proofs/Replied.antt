@@ -103,11 +103,13 @@ sessions_own (Attach slot) sessions = at sessions slot.0 true
 sessions_own (Detach slot) sessions = at sessions slot.0 false
 sessions_own command sessions = sessions
 
+-- the sessions after an own Ok, after a reply that ends them all, or after another
 abbrev pub sessions_sorted : (own ends : Bool) → Command → (ℕ → Bool) → ℕ → Bool
 sessions_sorted true ends command sessions = sessions_own command sessions
 sessions_sorted false true command sessions = λ k. false
 sessions_sorted false false command sessions = sessions
 
+-- the sessions after a reply
 abbrev pub sessions_after : Command → Reply → (ℕ → Bool) → ℕ → Bool
 sessions_after command reply sessions = sessions_sorted (is_own command reply) (ends_sessions (number_of reply)) command sessions
 
@@ -143,6 +145,7 @@ running-replied m a command reply =
 
 -- ---- what it leaves of the other appliances
 
+-- the other appliances' parts of the model stay
 pub record Unmoved (a : ℕ) (m n : Model) : Type 0 where
   pub images : n.images ≡ m.images
   pub appliances : n.appliances ≡ m.appliances
@@ -175,6 +178,7 @@ unmoved-started m a command = record { images = refl; appliances = refl; running
 
 -- ---- the slots that a command doesn't name
 
+-- the slot is among these
 abbrev pub IsAmongSlots : ℕ → List ℕ → Type 0
 IsAmongSlots slot [] = ⊥
 IsAmongSlots slot (other ∷ others) = (other ≡ slot) ⊎ IsAmongSlots slot others

@@ -4,10 +4,22 @@
 //! are the theorems. They say what replies and the device's images are, by the block-list model.
 #![tactic(auto)]
 
-ghost use Rattle.plx_worlds.specs.Headline.{HeadlineOfAll};
+ghost use Rattle.law_headline.specs.Crashes.{CrashesLeaveFreshBoots};
+ghost use Rattle.plx_worlds.specs.Headline.{HeadlineOfAll, NeverDamaged};
 
 /// Every world that events lead to meets the headline: its trace tells of its possible starts and
 /// crashes, the block-list model permits that trace, and the device stores the model's images.
 pub fn headline()
     ensures { HeadlineOfAll }
+{}
+
+/// No reply tells of bytes outside the format, since each world starts with a formatted device.
+pub fn never_damaged()
+    ensures { NeverDamaged }
+{}
+
+/// A crash leaves exactly the fresh appliance of the next boot, and changes no other appliance and no
+/// write.
+pub fn crash_leaves_a_fresh_boot()
+    ensures { CrashesLeaveFreshBoots }
 {}

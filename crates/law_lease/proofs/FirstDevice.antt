@@ -1,8 +1,9 @@
--- A formatted device of one image, one extent and two journal slots.
-use Rattle.std.proofs.Common.{◌≡◌, ◌≢◌, ℕ, zero, suc, ◌+◌, ◌≤◌, ◌<◌, List, length, Bool, true, false, refl, ap, arith, inl, inr}
-use Rattle.std.specs.Prelude.{◌==◌, nat_lt}
+-- A formatted device, of any geometry.
+use Rattle.std.proofs.Common.{◌≡◌, ◌≢◌, ℕ, suc, ◌+◌, ◌-◌, ◌*◌, ◌%◌, ◌≤◌, ◌<◌, List, length, Bool, true, false, refl, ap, ◌∙◌, arith, inl, inr}
+use Rattle.std.specs.Prelude.{◌==◌, ◌&&◌, nat_lt, nat_le}
 use Rattle.std.proofs.lemmas.Bool.Decides.{eqb_tells, leb_tells}
 use Rattle.std.proofs.lemmas.List.{length-replicate}
+use Rattle.std.proofs.lemmas.Nat.{mod-mul-add}
 use Rattle.plx_base.proofs.Spelling.{length-zeros}
 use Rattle.plx_base.specs.Blocks.{zeros}
 use Rattle.plx_base.specs.Sectors.{Device}
@@ -12,85 +13,106 @@ use Rattle.plx_gate.proofs.Leases.{length-lease}
 use Rattle.plx_gate.specs.Images.{image_bytes}
 use Rattle.plx_gate.specs.Leases.{lease_bytes}
 use Rattle.plx_gate.specs.declared.image.ImageRecord.TheVariants as image_is
+use Rattle.plx_geom.proofs.Places.{data-below, descriptor-below}
 use Rattle.plx_geom.proofs.Superblocks.{length-superblock}
-use Rattle.plx_geom.specs.Geometry.{Geometry, IsGeometry, lease_at, image_lease, extent_lease, record_at, log_at, descriptor_at, data_at, map_at, pool_at}
+use Rattle.plx_geom.specs.Geometry.{Geometry, IsGeometry, lease_at, image_lease, extent_lease, record_at, log_at, descriptor_at, data_at, extents_start, map_at, pool_at}
 use Rattle.plx_geom.specs.Places.{IsPlace, block_of}
 use Rattle.plx_geom.specs.Superblock.{superblock_bytes}
 use Rattle.plx_geom.specs.declared.place.Place.{Place}
 use Rattle.plx_geom.specs.declared.place.Place.TheVariants.{Super, RootLease, ImageLease, ExtentLease, Record, Log, JDesc, JData, Map, Pool}
 use Rattle.plx_worlds.specs.Formatted.{empty_map, formatted_block, IsFormatted}
-
-abbrev pub small : Geometry
-small = record { images = 1; extents = 1; extent_blocks = 16; slots = 2 }
-
-pub small-is : IsGeometry small
-small-is = record {
-  images_low = omega arith;
-  images_high = omega arith;
-  extents_low = omega arith;
-  extents_high = omega arith;
-  blocks_low = omega arith;
-  blocks_high = omega arith;
-  slots_low = omega arith;
-  slots_high = omega arith;
-}
+use Rattle.law_lease.specs.FirstDevice.{HasFormatted}
 
 -- the map of an extent fills its block
 length-map : length empty_map ≡ 4096
 unfolding empty_map
 length-map = ap suc (length-replicate {A = ℕ} 4095 0)
 
--- what stands where, by tests: the superblock, three leases, the record at block 4, and the map at block 10
-abbrev by_tests : (super lease record' map : Bool) → List ℕ
-by_tests true lease record' map = superblock_bytes small
-by_tests false true record' map = lease_bytes lease_is.Free
-by_tests false false true map = image_bytes (image_is.Free 0)
-by_tests false false false true = empty_map
-by_tests false false false false = zeros
+-- what stands where, by tests: the superblock, the leases, the records and the maps, in this order
+abbrev by_tests : Geometry → (super lease image map : Bool) → List ℕ
+by_tests g true lease image map = superblock_bytes g
+by_tests g false true image map = lease_bytes lease_is.Free
+by_tests g false false true map = image_bytes (image_is.Free 0)
+by_tests g false false false true = empty_map
+by_tests g false false false false = zeros
 
-abbrev pub first_device : Device
-first_device = λ block. by_tests (block == 0) (nat_lt block 4) (block == 4) (block == 10)
+-- whether a block is the map of an extent
+abbrev is_map : Geometry → (block : ℕ) → Bool
+is_map g block = nat_le (extents_start g) block && ((block - extents_start g) % g.extent_blocks == 0)
 
-length-tests : (super lease record' map : Bool) → length (by_tests super lease record' map) ≡ 4096
-length-tests true lease record' map = length-superblock small
-length-tests false true record' map = length-lease lease_is.Free
-length-tests false false true map = length-image (image_is.Free 0) (omega arith)
-length-tests false false false true = length-map
-length-tests false false false false = length-zeros
+-- the formatted device of a geometry
+abbrev pub formatted : Geometry → Device
+formatted g = λ block. by_tests g (block == 0) (nat_lt block (record_at g 0)) (nat_lt block (log_at g 0)) (is_map g block)
 
--- past the map there are zeros
+length-tests : (g : Geometry) (super lease image map : Bool) → length (by_tests g super lease image map) ≡ 4096
+length-tests g true lease image map = length-superblock g
+length-tests g false true image map = length-lease lease_is.Free
+length-tests g false false true map = length-image (image_is.Free 0) (omega arith)
+length-tests g false false false true = length-map
+length-tests g false false false false = length-zeros
+
+-- what the tests tell
+eqb-on : (a b : ℕ) → a ≡ b → (a == b) ≡ true
+eqb-on a b e = elim (eqb_tells a b) [ inl same ↦ same.0 | inr off ↦ absurd (off.1 e) ]
+
 eqb-off : (a b : ℕ) → a ≢ b → (a == b) ≡ false
 eqb-off a b ne = elim (eqb_tells a b) [ inl same ↦ absurd (ne same.1) | inr off ↦ off.0 ]
 
-below-off : (a b : ℕ) → b ≤ a → nat_lt a b ≡ false
-below-off a b past = elim (leb_tells (suc a) b) [ inl under ↦ absurd (omega (arith, under.1, past)) | inr off ↦ off.0 ]
+least-on : (a b : ℕ) → a ≤ b → nat_le a b ≡ true
+least-on a b under = elim (leb_tells a b) [ inl on ↦ on.0 | inr off ↦ absurd (omega (arith, off.1, under)) ]
 
-pool-zeros : (bit : ℕ) → 1 ≤ bit → first_device (10 + bit) ≡ zeros
-pool-zeros bit some =
-    λ i. by_tests (eqb-off (10 + bit) 0 (λ e. omega (arith, e)) i) (below-off (10 + bit) 4 (omega arith) i) (eqb-off (10 + bit) 4 (λ e. omega (arith, e)) i)
-    (eqb-off (10 + bit) 10 (λ e. omega (arith, e, some)) i)
+least-off : (a b : ℕ) → b < a → nat_le a b ≡ false
+least-off a b past = elim (leb_tells a b) [ inl on ↦ absurd (omega (arith, on.1, past)) | inr off ↦ off.0 ]
 
--- what holds of the only number below one, and of the two below two
-at-first : (P : ℕ → Type 0) → P 0 → (n : ℕ) → n < 1 → P n
-at-first P here zero below = here
-at-first P here (suc n) below = absurd (omega (arith, below))
+module _ (g : Geometry) (geometry : IsGeometry g) where
+  at-lease : (b : ℕ) → 1 ≤ b → b < record_at g 0 → formatted g b ≡ lease_bytes lease_is.Free
+  at-lease b some under = λ i. by_tests g (eqb-off b 0 (λ e. omega (arith, e, some)) i) (least-on (suc b) (record_at g 0) under i) (nat_lt b (log_at g 0)) (is_map g b)
 
-at-two : (P : ℕ → Type 0) → P 0 → P 1 → (n : ℕ) → n < 2 → P n
-at-two P here next zero below = here
-at-two P here next (suc zero) below = next
-at-two P here next (suc (suc n)) below = absurd (omega (arith, below))
+  at-record : (b : ℕ) → record_at g 0 ≤ b → b < log_at g 0 → formatted g b ≡ image_bytes (image_is.Free 0)
+  at-record b past under =
+      λ i. by_tests g (eqb-off b 0 (λ e. omega (arith, e, past)) i) (least-off (suc b) (record_at g 0) (omega (arith, past)) i) (least-on (suc b) (log_at g 0) under i) (is_map g b)
 
-pub first-formatted : IsFormatted small first_device
-first-formatted = record { whole = λ block. length-tests (block == 0) (nat_lt block 4) (block == 4) (block == 10); places = at-place }
-  where
-    at-place : (place : Place) → IsPlace small place → first_device (block_of small place) ≡ formatted_block small place
-    at-place Super is = refl
-    at-place RootLease is = refl
-    at-place (ImageLease image) is = at-first (λ n. first_device (lease_at (image_lease n)) ≡ lease_bytes lease_is.Free) refl image.0 is
-    at-place (ExtentLease extent) is = at-first (λ n. first_device (lease_at (extent_lease small n)) ≡ lease_bytes lease_is.Free) refl extent.0 is
-    at-place (Record image) is = at-first (λ n. first_device (record_at small n) ≡ image_bytes (image_is.Free 0)) refl image.0 is
-    at-place (Log image) is = at-first (λ n. first_device (log_at small n) ≡ zeros) refl image.0 is
-    at-place (JDesc image slot) is = at-first (λ n. first_device (descriptor_at small n slot) ≡ zeros) (at-two (λ n. first_device (descriptor_at small 0 n) ≡ zeros) refl refl slot is.1) image.0 is.0
-    at-place (JData image slot) is = at-first (λ n. first_device (data_at small n slot) ≡ zeros) (at-two (λ n. first_device (data_at small 0 n) ≡ zeros) refl refl slot is.1) image.0 is.0
-    at-place (Map extent) is = at-first (λ n. first_device (map_at small n) ≡ empty_map) refl extent.0 is
-    at-place (Pool extent bit) is = at-first (λ n. first_device (pool_at small n bit) ≡ zeros) (pool-zeros bit is.1) extent.0 is.0
+  -- past the records the map's test decides
+  at-rest : (b : ℕ) → log_at g 0 ≤ b → formatted g b ≡ by_tests g false false false (is_map g b)
+  at-rest b past =
+      λ i. by_tests g (eqb-off b 0 (λ e. omega (arith, e, past)) i) (least-off (suc b) (record_at g 0) (omega (arith, past)) i) (least-off (suc b) (log_at g 0) (omega (arith, past)) i) (is_map g b)
+
+  -- below the extents there are zeros
+  at-zeros : (b : ℕ) → log_at g 0 ≤ b → b < extents_start g → formatted g b ≡ zeros
+  at-zeros b past under =
+      at-rest b past ∙ ap (λ (low : Bool). by_tests g false false false (low && ((b - extents_start g) % g.extent_blocks == 0))) (least-off (extents_start g) b under)
+
+  -- a block of an extent
+  in-extent : (d bit : ℕ) → bit < g.extent_blocks → is_map g (pool_at g d bit) ≡ (bit == 0)
+  in-extent d bit below =
+      let back : pool_at g d bit - extents_start g ≡ d * g.extent_blocks + bit = omega arith in
+      let rest : (pool_at g d bit - extents_start g) % g.extent_blocks ≡ bit = ap (λ n. n % g.extent_blocks) back ∙ mod-mul-add d g.extent_blocks bit below in
+      λ i. least-on (extents_start g) (pool_at g d bit) (omega arith) i && (rest i == 0)
+
+  at-extent : (d bit : ℕ) → bit < g.extent_blocks → formatted g (pool_at g d bit) ≡ by_tests g false false false (bit == 0)
+  at-extent d bit below = at-rest (pool_at g d bit) (omega arith) ∙ ap (by_tests g false false false) (in-extent d bit below)
+
+  at-place : (place : Place) → IsPlace g place → formatted g (block_of g place) ≡ formatted_block g place
+  at-place Super is = refl
+  at-place RootLease is = at-lease 1 (omega arith) (omega arith)
+  at-place (ImageLease image) is = at-lease (lease_at (image_lease image.0)) (omega arith) (omega (arith, is))
+  at-place (ExtentLease extent) is = at-lease (lease_at (extent_lease g extent.0)) (omega arith) (omega (arith, is))
+  at-place (Record image) is = at-record (record_at g image.0) (omega arith) (omega (arith, is))
+  at-place (Log image) is = at-zeros (log_at g image.0) (omega arith) (omega (arith, is))
+  at-place (JDesc image slot) is = at-zeros (descriptor_at g image.0 slot) (omega arith) (omega (arith, descriptor-below g image.0 slot is.0 is.1))
+  at-place (JData image slot) is = at-zeros (data_at g image.0 slot) (omega arith) (data-below g image.0 slot is.0 is.1)
+  at-place (Map extent) is =
+      let some : 0 < g.extent_blocks = (let low = geometry.blocks_low in omega arith) in
+      let e : map_at g extent.0 ≡ pool_at g extent.0 0 = omega arith in
+      ap (formatted g) e ∙ at-extent extent.0 0 some
+  at-place (Pool extent bit) is = at-extent extent.0 bit is.2 ∙ ap (by_tests g false false false) (eqb-off bit 0 (λ e. let some = is.1 in omega (arith, e, some)))
+
+  -- it is formatted
+  pub formatted-is : IsFormatted g (formatted g)
+  formatted-is = record {
+    whole = λ block. length-tests g (block == 0) (nat_lt block (record_at g 0)) (nat_lt block (log_at g 0)) (is_map g block);
+    places = at-place;
+  }
+
+pub has-formatted : HasFormatted
+has-formatted g geometry = (formatted g, formatted-is g geometry)

@@ -83,6 +83,13 @@ eqb-self a b e = elim (eqb_tells a b) [ inl same ↦ same.0 | inr other ↦ absu
 eqb-other : (a b : ℕ) → a ≢ b → (a == b) ≡ false
 eqb-other a b e = elim (eqb_tells a b) [ inl same ↦ absurd (e same.1) | inr other ↦ other.0 ]
 
+-- one lease's hold, and two spellings of the same bytes
+same-hold : (holds : ℕ → Hold) (lease other : ℕ) (hold held : Hold) → holds (lease_at lease) ≡ hold → lease ≡ other → holds (lease_at other) ≡ held → hold ≡ held
+same-hold holds lease other hold held same is there = sym same ∙ (ap (λ (n : ℕ). holds (lease_at n)) is ∙ there)
+
+two-spellings : (bytes one other : List ℕ) → bytes ≡ one → bytes ≡ other → one ≡ other
+two-spellings bytes one other e f = sym e ∙ f
+
 -- ---- a landing
 
 module _ (g : Geometry) (appliances time : ℕ) (device : Device) (writes : List Issued) (seats : ℕ → Seat) (lease : ℕ) (within : lease < lease_count g)
@@ -366,8 +373,8 @@ module _ (g : Geometry) (appliances time : ℕ) (device : Device) (writes : List
       let holds = (position (setting_at g a (seats a).boots) (seats a).log).holds in
       let M : WriteKind → Type 0 = λ k. MayAsk g boot holds k write.block write.bytes write.guard in
       let renew = subst M is may in
-      let image-is : lease ≡ renew.lease = lease-lease lease renew.lease (here ∙ renew.at_lease) in
-      let held : hold ≡ Held renew.claim renew.until = sym same ∙ (ap (λ (i : ℕ). holds (lease_at i)) image-is ∙ renew.hold) in
+      let lease-is : lease ≡ renew.lease = lease-lease lease renew.lease (here ∙ renew.at_lease) in
+      let held : hold ≡ Held renew.claim renew.until = same-hold holds lease renew.lease hold (Held renew.claim renew.until) same lease-is renew.hold in
       let P : Hold → Type 0 = λ h. Good g time writes lease on.standing boot (seats a).pending h in
       let old = subst P held good in
       let l = old.limits in
@@ -376,7 +383,7 @@ module _ (g : Geometry) (appliances time : ℕ) (device : Device) (writes : List
       record { boot = l.boot; number = l.number; sample = l.sample; low = omega arith; high = renew.early l.high }) in
       let back : read_lease write.bytes ≡ Some (Claimed renew.claim renew.next) = ap read_lease renew.spells ∙ lease-back (Claimed renew.claim renew.next) renewed-limits in
       let alike : changed ≡ Claimed renew.claim renew.next =
-      lease-same changed (Claimed renew.claim renew.next) limits renewed-limits (sym spells ∙ renew.spells) in
+      lease-same changed (Claimed renew.claim renew.next) limits renewed-limits (two-spellings write.bytes (lease_bytes changed) (lease_bytes (Claimed renew.claim renew.next)) spells renew.spells) in
       let Q : WriteKind → Hold → Type 0 = λ k h. Good g time now lease changed boot (seats a).pending (grip_while k true true write.bytes h) in
       let R : Option LeaseRecord → Type 0 = λ r. Good g time now lease changed boot (seats a).pending (renewed r) in
       let done : R (Some (Claimed renew.claim renew.next)) = record {

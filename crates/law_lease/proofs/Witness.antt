@@ -27,7 +27,7 @@ use Rattle.plx_gate.specs.Leases.{lease_bytes, read_lease}
 use Rattle.plx_gate.specs.declared.descriptor.Descriptor.{Descriptor}
 use Rattle.plx_gate.specs.declared.image.ImageRecord.{ImageRecord}
 use Rattle.plx_gate.specs.declared.image.ImageRecord.TheVariants as image_is
-use Rattle.plx_geom.specs.Geometry.{image_lease, lease_at}
+use Rattle.plx_geom.specs.Geometry.{Geometry, IsGeometry, image_lease, lease_at}
 use Rattle.plx_rules.specs.Part.{Part, Ends, ReadThen, UntilThen}
 use Rattle.plx_rules.specs.declared.journaled.Journaled.{Journaled}
 use Rattle.plx_worlds.specs.Attaching.{image_use, attach_ends, after_load, after_record, load_image, after_claim}
@@ -47,8 +47,27 @@ use Rattle.plx_worlds.specs.Settings.{Setting}
 use Rattle.plx_worlds.specs.World as world
 use Rattle.plx_worlds.specs.World.{setting_at}
 use Rattle.law_lease.specs.TakenOver.{one, other, slot, free_report, written_report, trace_before, trace_after, TakenOver}
-use Rattle.law_lease.proofs.FirstDevice.{small, small-is, first_device, first-formatted}
+use Rattle.law_lease.proofs.FirstDevice.{formatted, formatted-is}
 use Rattle.law_lease.proofs.Stages.{Spot, Stage, world_at, starts-now, first-reading, clocked, waited, read, written, ticked}
+
+-- one image, one extent and two journal slots, and its formatted device
+abbrev small : Geometry
+small = record { images = 1; extents = 1; extent_blocks = 16; slots = 2 }
+
+small-is : IsGeometry small
+small-is = record {
+  images_low = omega arith;
+  images_high = omega arith;
+  extents_low = omega arith;
+  extents_high = omega arith;
+  blocks_low = omega arith;
+  blocks_high = omega arith;
+  slots_low = omega arith;
+  slots_high = omega arith;
+}
+
+abbrev first_device : Device
+first_device = formatted small
 
 -- the claims of the two boots, and the image that is made
 abbrev mine : Claim
@@ -148,7 +167,7 @@ t0 = record {
   writes = [];
   seats = λ b. world.first_seat;
   history = [];
-  reached = world.first small-is (omega arith) (omega arith) first-formatted;
+  reached = world.first small-is (omega arith) (omega arith) (formatted-is small small-is);
   same = λ b. refl;
   places = λ b. record { hold = refl; sample = refl; place = refl };
   free = λ b. refl;

@@ -1,1 +1,2 @@
+pub mod FirstDevice
 pub mod TakenOver

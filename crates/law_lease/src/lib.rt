@@ -4,6 +4,7 @@
 //! are the theorems. They speak of leases, writes and times, and of no image's content.
 #![tactic(auto)]
 
+ghost use Rattle.law_lease.specs.FirstDevice.{HasFormatted};
 ghost use Rattle.law_lease.specs.TakenOver.{TakenOver};
 ghost use Rattle.plx_worlds.specs.Owners.{Exclusion, Guarding};
 ghost use Rattle.plx_worlds.specs.Sequences.{PlayedIsReached, RunsGoOn};
@@ -32,6 +33,11 @@ pub fn runs_go_on()
 /// What a schedule plays from a world that events lead to is such a world, wherever it stops.
 pub fn played_is_reached()
     ensures { PlayedIsReached }
+{}
+
+/// Each geometry has a formatted device, with which a world can begin.
+pub fn formatted_devices_exist()
+    ensures { HasFormatted }
 {}
 
 /// The laws speak of something: a lease is owned, an image is made and written under it, and it is

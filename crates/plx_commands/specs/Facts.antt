@@ -23,22 +23,27 @@ is_size size = nat_lt 0 size && nat_le size greatest_size
 abbrev pub is_worn : ℕ → ℕ → Bool
 is_worn last count = nat_le last count
 
--- refusals of an image: there is none; there is one; a block isn't below its size; a count is at its end
+-- there is no image
 abbrev pub of_none : Image → List Reply
 of_none image = where_holds (not image.live) NoImage
 
+-- there is one already
 abbrev pub of_some : Image → List Reply
 of_some image = where_holds image.live Exists
 
+-- the block isn't below the image's size
 abbrev pub of_block : Image → ℕ → List Reply
 of_block image vblock = where_holds (nat_le image.size vblock) (OutOfRange image.size)
 
+-- an image of such a size can't be made
 abbrev pub of_size : ℕ → List Reply
 of_size size = where_holds (not (is_size size)) (OutOfRange greatest_size)
 
+-- no further image can be made in the slot
 abbrev pub of_generation : Image → List Reply
 of_generation image = where_holds (is_worn last_generation image.generation) (WornOut last_generation)
 
+-- the image can't be written again
 abbrev pub of_writes : Image → List Reply
 of_writes image = where_holds (is_worn last_write image.writes) (WornOut last_write)
 
@@ -52,6 +57,7 @@ abbrev pub where_is : Bool → List Reply → List Reply
 where_is true refusals = refusals
 where_is false refusals = []
 
+-- the refusals of the image in a slot
 abbrev pub of_slot : Model → ℕ → (Image → List Reply) → List Reply
 of_slot m slot refusals = where_is (nat_lt slot m.images) (refusals (m.slots slot).image)
 
@@ -82,6 +88,7 @@ abbrev pub IsAmong : Reply → List Reply → Type 0
 IsAmong reply [] = ⊥
 IsAmong reply (other ∷ others) = (reply ≡ other) ⊎ IsAmong reply others
 
+-- no refusal's fact holds
 abbrev pub is_none : List Reply → Bool
 is_none [] = true
 is_none (refusal ∷ others) = false

@@ -15,13 +15,15 @@ use Rattle.plx_commands.specs.declared.reply.Reply.TheVariants.{Attached}
 use Rattle.plx_commands.specs.declared.entry.Entry.{Entry}
 use Rattle.plx_commands.specs.declared.entry.Entry.TheVariants as entry
 
--- the slot once a change of its image is under way, once it is made, and once it is given up
+-- the slot once a change of its image is under way
 abbrev pub under_way : Slot → Image → Slot
 under_way slot image = record slot { change = Some image }
 
+-- the slot once its change is made
 abbrev pub made : Slot → Slot
 made slot = record slot { image = unwrap_or slot.change slot.image; change = None }
 
+-- the slot once its change is given up
 abbrev pub given_up : Slot → Slot
 given_up slot = record slot { change = None }
 
@@ -77,10 +79,11 @@ abbrev pub left : Model → ℕ → ℕ → Model
 left m appliance slot =
     rested m appliance (at m.slots slot (given_back (m.slots slot) appliance)) (at (m.sessions appliance) slot false)
 
--- the model once a command's change is given up, and once it is made
+-- the model once a command's change is given up
 abbrev pub given : Model → ℕ → Command → Model
 given m appliance command = rested m appliance (refused_at m appliance (changed command)) (m.sessions appliance)
 
+-- the model once a command's change is made
 abbrev pub done : Model → ℕ → Command → Model
 done m appliance command = rested m appliance (done_at m (changed command)) (m.sessions appliance)
 
@@ -90,15 +93,17 @@ succeeded m appliance (Attach slot) (Attached report) = entered m appliance slot
 succeeded m appliance (Detach slot) reply = left m appliance slot.0
 succeeded m appliance command reply = done m appliance command
 
--- the model after a reply: the command's own Ok, one that ends all sessions, or another
+-- the model after a command's own Ok, after a reply that ends all sessions, or after another
 abbrev pub sorted : (own ends : Bool) → Model → ℕ → Command → Reply → Model
 sorted true ends m appliance command reply = succeeded m appliance command reply
 sorted false true m appliance command reply = forgotten m appliance
 sorted false false m appliance command reply = given m appliance command
 
+-- the model after a reply to a command
 abbrev pub replied : Model → ℕ → Command → Reply → Model
 replied m appliance command reply = sorted (is_own command reply) (ends_sessions (number_of reply)) m appliance command reply
 
+-- the model after a reply to the command that an appliance is in, if it is in one
 abbrev pub replied_in : Model → ℕ → Option Command → Reply → Model
 replied_in m appliance None reply = m
 replied_in m appliance (Some command) reply = replied m appliance command reply

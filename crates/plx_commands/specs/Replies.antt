@@ -90,6 +90,7 @@ abbrev pub is_in : ℕ → List ℕ → Bool
 is_in number [] = false
 is_in number (other ∷ others) = (number == other) || is_in number others
 
+-- an Ok is the one of the command
 abbrev pub is_own_ok : Option ℕ → ℕ → Bool
 is_own_ok None own = false
 is_own_ok (Some ok) own = ok == own

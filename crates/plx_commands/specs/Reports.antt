@@ -3,11 +3,13 @@ use Rattle.std.specs.Prelude.{◌≡◌, ℕ, List, [], ◌∷◌, Bool, true, f
 use Rattle.plx_commands.specs.Images.{Image, report_of}
 use Rattle.plx_commands.specs.declared.reply.Report.{Report}
 
+-- two flags are equal
 abbrev pub same_flag : Bool → Bool → Bool
 same_flag true b = b
 same_flag false true = false
 same_flag false false = true
 
+-- two lists of bytes are equal
 abbrev pub same_bytes : List ℕ → List ℕ → Bool
 same_bytes [] [] = true
 same_bytes [] (y ∷ ys) = false

@@ -6,7 +6,7 @@ ghost use Rattle.plx_base.specs.Spelling.{OnlySector};
 ghost use Rattle.plx_gate.specs.Descriptors.{IsDescriptor, IsDescriptorReading, descriptor_bytes, descriptor_fields, found_descriptor, is_descriptor};
 ghost use Rattle.plx_gate.specs.Descriptors.{read_descriptor as descriptor_in};
 
-use plx_base::{Field, get_u32, get_u64, is_record, put_record};
+use plx_base::{Field, are_all, get_u32, get_u64, is_record, put_record};
 
 /// The bytes that begin every descriptor.
 const MAGIC: &[u8] = b"PLXJRNL1";
@@ -97,5 +97,5 @@ fn fields(value: &Descriptor) -> [Field; 3]
 fn are_zeros(bytes: &[u8]) -> bool
     ensures { IsTrue result ↔ All (λ b. b ≡ 0) bytes.now }
 {
-    bytes.iter().all(|b| *b == 0)
+    are_all(bytes, 0)
 }

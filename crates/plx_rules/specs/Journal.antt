@@ -2,26 +2,32 @@
 use Rattle.std.specs.Prelude.{◌+◌, ◌-◌, ◌*◌, ◌%◌, ℕ, List, [], Bool, ◌&&◌, nat_lt, ◌==◌, if◌then◌else◌, Option, Some, None}
 use Rattle.plx_gate.specs.Descriptors.{read_descriptor}
 use Rattle.plx_gate.specs.declared.descriptor.Descriptor.{Descriptor}
+use Rattle.plx_geom.specs.Geometry.{Geometry}
+use Rattle.plx_geom.specs.Geometry as geometry
 
--- the device has one image and one extent: blocks 0 to 5 are the superblock, the leases, the record and the log, and the journal begins at block 6
+-- the images of these worlds
 abbrev pub image_count : ℕ
 image_count = 1
 
--- the block in which the journal begins
+-- how their device is laid out: one extent of 16 blocks, and so many journal slots
+abbrev pub layout : ℕ → Geometry
+layout slots = record { images = image_count; extents = 1; extent_blocks = 16; slots = slots }
+
+-- the block in which the journal begins, however many slots it has
 abbrev pub first_journal_block : ℕ
-first_journal_block = 6
+first_journal_block = geometry.journal_start (layout 0)
 
--- the blocks of the device: 6 before the journal, 2 a journal slot, and an extent of 16
+-- the blocks of the device
 abbrev pub block_count : ℕ → ℕ
-block_count slots = first_journal_block + 2 * slots + 16
+block_count slots = geometry.block_count (layout slots)
 
--- the descriptor and the data of a journal slot of an image, where an image has so many slots
+-- the block of a journal slot's descriptor
 abbrev pub descriptor_at : ℕ → ℕ → ℕ → ℕ
-descriptor_at slots image slot = first_journal_block + 2 * (image * slots + slot)
+descriptor_at slots image slot = geometry.descriptor_at (layout slots) image slot
 
 -- the block of a journal slot's data
 abbrev pub data_at : ℕ → ℕ → ℕ → ℕ
-data_at slots image slot = first_journal_block + 2 * (image * slots + slot) + 1
+data_at slots image slot = geometry.data_at (layout slots) image slot
 
 -- the journal slot of the write with this number
 abbrev pub journal_slot : ℕ → ℕ → ℕ

@@ -43,7 +43,8 @@ held_part s known image (Held claim until) reading rest = in_time s known (image
 held_part s known image other reading rest = ends reply.NotAttached known
 
 -- the image has a session, by whether there is such a slot and what is held of its lease; a session's lease is always held
-abbrev pub attached_part : Setting → Known → (image : ℕ) → Option Session → (within : Bool) → Hold → (reading : ℕ) → (Session → (until : ℕ) → Part End) → Part End
+abbrev pub attached_part : Setting → Known → (image : ℕ) → Option Session → (within : Bool) → Hold → (reading : ℕ) →
+    (Session → (until : ℕ) → Part End) → Part End
 attached_part s known image None within hold reading rest = ends reply.NotAttached known
 attached_part s known image (Some session) false hold reading rest = ends reply.NotAttached known
 attached_part s known image (Some session) true hold reading rest = held_part s known image hold reading (rest session)

@@ -137,7 +137,8 @@ pub data Runs (appliance : ApplianceNo) (stop : Option Stop) : World → World �
 -- some of the events of a run
 pub data RunsPartly (appliance : ApplianceNo) (stop : Option Stop) : World → World → Type 0 where
   none_yet : {w : World} → RunsPartly appliance stop w w
-  more : {w u v : World} (event : Event) → next_event w appliance stop ≡ Some event → Step w event u → RunsPartly appliance stop u v → RunsPartly appliance stop w v
+  more : {w u v : World} (event : Event) → next_event w appliance stop ≡ Some event → Step w event u → RunsPartly appliance stop u v →
+      RunsPartly appliance stop w v
 
 -- what an event makes of a world: one step, or the steps of a run, of which there is at least one
 pub data Makes : World → Event → World → Type 0 where

@@ -151,11 +151,13 @@ pub data Step : World → Event → World → Type 0 where
       Step w (event.Reading appliance reading)
       (goes_on w (event.Reading appliance reading) appliance ask.Clock [] (answer.Reading reading)
       (command_part (setting_of w appliance.0) known (after_first w.geometry known reading (stands w appliance.0).holds) reading command))
-  reads : {w : World} {appliance : ApplianceNo} (known : Known) (command : Command) (block : ℕ) (rest : List ℕ → Part End) (fault : Part End) → appliance.0 < w.appliances →
+  reads : {w : World} {appliance : ApplianceNo} (known : Known) (command : Command) (block : ℕ) (rest : List ℕ → Part End) (fault : Part End) →
+      appliance.0 < w.appliances →
       (stands w appliance.0).place ≡ In known command (ReadThen block rest fault) →
       Step w (event.Read appliance)
       (goes_on w (event.Read appliance) appliance (ask.Read (record { 0 = block })) [] (answer.Bytes (w.surface.device block)) (rest (w.surface.device block)))
-  read_faults : {w : World} {appliance : ApplianceNo} (known : Known) (command : Command) (block : ℕ) (rest : List ℕ → Part End) (fault : Part End) → appliance.0 < w.appliances →
+  read_faults : {w : World} {appliance : ApplianceNo} (known : Known) (command : Command) (block : ℕ) (rest : List ℕ → Part End) (fault : Part End) →
+      appliance.0 < w.appliances →
       (stands w appliance.0).place ≡ In known command (ReadThen block rest fault) →
       Step w (event.Fault appliance) (goes_on w (event.Fault appliance) appliance (ask.Read (record { 0 = block })) [] answer.Fault fault)
   issues : {w : World} {appliance : ApplianceNo} (known : Known) (command : Command) (kind : WriteKind) (block : ℕ) (bytes : List ℕ) (guard : ℕ)
@@ -183,7 +185,8 @@ pub data Step : World → Event → World → Type 0 where
   clocks : {w : World} {appliance : ApplianceNo} {reading : ℕ} (known : Known) (command : Command) (rest : ℕ → Part End) → appliance.0 < w.appliances →
       (stands w appliance.0).place ≡ In known command (ClockThen rest) → IsReading reading w.surface.time →
       Step w (event.Reading appliance reading) (goes_on w (event.Reading appliance reading) appliance ask.Clock [] (answer.Reading reading) (rest reading))
-  waits : {w : World} {appliance : ApplianceNo} {reading : ℕ} (known : Known) (command : Command) (from : ℕ) (rest : ℕ → Part End) → appliance.0 < w.appliances →
+  waits : {w : World} {appliance : ApplianceNo} {reading : ℕ} (known : Known) (command : Command) (from : ℕ) (rest : ℕ → Part End) →
+      appliance.0 < w.appliances →
       (stands w appliance.0).place ≡ In known command (UntilThen from rest) → IsReading reading w.surface.time → from ≤ reading →
       Step w (event.Reading appliance reading) (goes_on w (event.Reading appliance reading) appliance (ask.Until from) [] (answer.Reading reading) (rest reading))
   crashes : {w : World} {appliance : ApplianceNo} → appliance.0 < w.appliances → (w.seats appliance.0).boots + 1 < 2 ^ 32 →
