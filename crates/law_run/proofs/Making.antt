@@ -1,12 +1,12 @@
 -- Creates and deletes.
 use Rattle.std.proofs.Common.{◌≡◌, ℕ, ◌+◌, ◌≤◌, ◌<◌, ◌^◌, List, [], ◌∷◌, drop, Bool, true, false, Some, None, refl, ap, sym, subst, ◌∙◌, arith, inl}
-use Rattle.std.specs.Prelude.{nat_lt, nat_le}
+use Rattle.std.specs.Prelude.{not, nat_lt, nat_le}
 use Rattle.plx_base.specs.Labels.{IsLabel}
 use Rattle.plx_base.specs.declared.label.Label.{Label}
 use Rattle.plx_base.specs.declared.lease.Claim.{Claim}
 use Rattle.plx_base.specs.declared.numbers.SlotNo.{SlotNo}
 use Rattle.plx_base.specs.declared.write_kind.WriteKind.TheVariants as kind
-use Rattle.plx_commands.specs.Facts.{is_size, is_worn, not}
+use Rattle.plx_commands.specs.Facts.{is_size, is_worn}
 use Rattle.plx_commands.specs.Limits.{last_generation, greatest_size}
 use Rattle.plx_commands.specs.declared.command.Command.{Command}
 use Rattle.plx_commands.specs.declared.command.Command.TheVariants.{Create, Delete}

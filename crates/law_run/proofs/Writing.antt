@@ -1,13 +1,13 @@
 -- Writes.
 use Rattle.std.proofs.Common.{◌≡◌, ℕ, ◌+◌, ◌≤◌, ◌<◌, ◌^◌, List, [], ◌∷◌, length, drop, Bool, true, false, Some, refl, ap, sym, subst, ◌∙◌, arith, inl, length-append}
-use Rattle.std.specs.Prelude.{if◌then◌else◌, ◌==◌, nat_le}
+use Rattle.std.specs.Prelude.{not, if◌then◌else◌, ◌==◌, nat_le}
 use Rattle.plx_base.specs.Blocks.{zeros}
 use Rattle.plx_base.specs.Payload.{bytes_of}
 use Rattle.plx_base.specs.declared.lease.Claim.{Claim}
 use Rattle.plx_base.specs.declared.numbers.SlotNo.{SlotNo}
 use Rattle.plx_base.specs.declared.payload.Payload.{Payload}
 use Rattle.plx_base.specs.declared.write_kind.WriteKind.TheVariants as kind
-use Rattle.plx_commands.specs.Facts.{is_worn, not}
+use Rattle.plx_commands.specs.Facts.{is_worn}
 use Rattle.plx_commands.specs.Limits.{last_write}
 use Rattle.plx_commands.specs.declared.command.Command.TheVariants.{Write}
 use Rattle.plx_commands.specs.declared.reply.Reply.TheVariants as reply
