@@ -1,0 +1,26 @@
+-- Machines: what one still asks, and how one runs within another.
+use Rattle.std.specs.Prelude.{◌^◌, ◌<◌, Option, Some, None}
+use Rattle.plx_disk.specs.declared.ask.Answer.{Answer}
+use Rattle.plx_disk.specs.declared.ask.Answer.TheVariants as answer
+use Rattle.plx_rules.specs.Part.{Part, Ends, ReadThen, WriteThen, ClockThen, UntilThen}
+
+-- what is left to ask once an answer led to this end, or to none yet
+abbrev pub after : {E F : Type 0} → (E → F) → Part F → Option E → Part F
+after view part None = part
+after view part (Some end) = Ends (view end)
+
+-- an ask stands
+abbrev pub Asks : {E : Type 0} → Part E → Type 0
+Asks (Ends end) = ⊥
+Asks (ReadThen block rest fault) = Unit {0}
+Asks (WriteThen kind block bytes guard done fault missed) = Unit {0}
+Asks (ClockThen rest) = Unit {0}
+Asks (UntilThen from rest) = Unit {0}
+
+-- a reading is within the limit of readings
+abbrev pub IsTimely : Answer → Type 0
+IsTimely (answer.Reading reading) = reading < 2 ^ 48
+IsTimely (answer.Missed reading) = reading < 2 ^ 48
+IsTimely (answer.Bytes bytes) = Unit {0}
+IsTimely answer.Done = Unit {0}
+IsTimely answer.Fault = Unit {0}
