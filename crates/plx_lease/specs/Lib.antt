@@ -6,4 +6,5 @@ pub mod Releasing
 pub mod Renewals
 pub mod Renewing
 pub mod Shells
+pub mod Tables
 pub mod Uses
