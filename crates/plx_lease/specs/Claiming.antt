@@ -1,5 +1,5 @@
 -- What a claim still asks, by where it stands.
-use Rattle.std.specs.Prelude.{◌+◌, ℕ, List, ◌∷◌}
+use Rattle.std.specs.Prelude.{◌≡◌, ◌+◌, ℕ, List, ◌∷◌, Option, Some, None}
 use Rattle.plx_base.specs.declared.lease.Claim.{Claim}
 use Rattle.plx_gate.specs.Leases.{read_lease}
 use Rattle.plx_geom.specs.Geometry.{lease_at}
@@ -11,6 +11,8 @@ use Rattle.plx_lease.specs.Uses.{uses_of}
 use Rattle.plx_lease.specs.declared.claim.ClaimAt.{ClaimAt}
 use Rattle.plx_lease.specs.declared.claim.ClaimAt.TheVariants as at
 use Rattle.plx_lease.specs.declared.claim.LeaseClaim.{LeaseClaim}
+use Rattle.plx_lease.specs.declared.claim_end.ClaimEnd.{ClaimEnd as End}
+use Rattle.plx_lease.specs.declared.claim_end.ClaimEnd.TheVariants as end
 
 -- the first read of the lease
 abbrev pub read_part : List InUse → (lease : ℕ) → Claim → Part ClaimEnd
@@ -37,3 +39,19 @@ claim_at at.DamagedLate c = claim_damaged (written_uses c)
 -- what a claim has left to ask
 abbrev pub claim_rest : {K : Type 0} → LeaseClaim K → Part ClaimEnd
 claim_rest c = claim_at c.at c
+
+-- the lease that is held at the end of a claim is the one that was claimed
+abbrev pub EndsWith : {K : Type 0} → K → Option (End K) → Type 0
+EndsWith lease None = Unit {0}
+EndsWith lease (Some (end.Held held)) = held.lease ≡ lease
+EndsWith lease (Some (end.Busy seen)) = Unit {0}
+EndsWith lease (Some (end.Lost due reading)) = Unit {0}
+EndsWith lease (Some end.ReadFault) = Unit {0}
+EndsWith lease (Some end.WriteFault) = Unit {0}
+EndsWith lease (Some end.Damaged) = Unit {0}
+
+-- a claim stays one of the same lease
+pub record KeepsLease {K : Type 0} (old new : LeaseClaim K) (result : Option (End K)) : Type 0 where
+  pub lease : new.lease ≡ old.lease
+  pub number : new.number ≡ old.number
+  pub held : EndsWith old.lease result

@@ -90,7 +90,20 @@ HoldsAtEnd ClaimReadFault hold = IsNotHeld hold
 HoldsAtEnd ClaimWriteFault hold = IsNotHeld hold
 HoldsAtEnd ClaimDamaged hold = IsNotHeld hold
 
--- what is held once a claim was answered: it fits where the claim stands, or its end
-abbrev pub LeavesClaim : {K : Type 0} → Hold → LeaseClaim K → Option (End K) → Type 0
-LeavesClaim hold c None = hold ≡ claim_hold c
-LeavesClaim hold c (Some end) = HoldsAtEnd (claim_end end) hold
+-- the last answer was the sample, where the lease is read by it
+abbrev pub IsSampledAt : ClaimAt → Claim → Option ℕ → Type 0
+IsSampledAt at.Sample claim last = Unit {0}
+IsSampledAt at.Read claim last = last ≡ Some claim.sample
+IsSampledAt at.Damaged claim last = Unit {0}
+IsSampledAt at.Write claim last = Unit {0}
+IsSampledAt at.Wait claim last = Unit {0}
+IsSampledAt at.Reread claim last = Unit {0}
+IsSampledAt at.DamagedLate claim last = Unit {0}
+
+abbrev pub IsSampled : {K : Type 0} → LeaseClaim K → Option ℕ → Type 0
+IsSampled c last = IsSampledAt c.at c.claim last
+
+-- what is held, and what the last reading was, once a claim was answered: they fit where the claim stands, or its end
+abbrev pub LeavesClaim : {K : Type 0} → Hold → Option ℕ → LeaseClaim K → Option (End K) → Type 0
+LeavesClaim hold last c None = (hold ≡ claim_hold c) × IsSampled c last
+LeavesClaim hold last c (Some end) = HoldsAtEnd (claim_end end) hold

@@ -1,5 +1,5 @@
 //! A claim of a lease.
-ghost use Rattle.std.specs.Prelude.{◌≡◌, ◌≤◌, ◌<◌, ◌+◌, ◌^◌, ◌∷◌, ℕ, Some};
+ghost use Rattle.std.specs.Prelude.{◌≡◌, ◌≤◌, ◌<◌, ◌+◌, ◌^◌, ◌∷◌, ℕ, Option, Some, None};
 ghost use Rattle.plx_gate.specs.Leases.{lease_bytes};
 ghost use Rattle.plx_rules.specs.Part.{Ends};
 ghost use Rattle.plx_worlds.specs.Claims.{ClaimLost, ClaimDamaged, own_record as own};
@@ -71,13 +71,13 @@ impl<K: LeaseKind> LeaseClaim<K> {
     ghost use Rattle.plx_rules.specs.Part.{answered, standing, bytes_out};
     ghost use Rattle.plx_worlds.specs.Boot.{Fits};
     ghost use Rattle.plx_worlds.specs.Claims.{claim_in_time, claim_of, claim_part, end_of_term, own_use, reread_by, reread_part, seen_part};
-    ghost use Rattle.plx_worlds.specs.Holds.{Hold, Nothing, Wrote, Held, seen_by, timed, wrote, reread as confirmed};
-    ghost use Rattle.plx_worlds.specs.Machines.{IsTimely, after};
+    ghost use Rattle.plx_worlds.specs.Holds.{Hold, Nothing, Wrote, Held, sample_of, seen_by, timed, wrote, reread as confirmed};
+    ghost use Rattle.plx_worlds.specs.Machines.{AreWhole, AsksOnly, IsTimely, after};
     ghost use Rattle.plx_worlds.specs.Times.{wait};
     ghost use Rattle.plx_lease.specs.Uses.{use_of, uses_of};
     ghost use Rattle.plx_lease.specs.ClaimEnds.{claim_end};
-    ghost use Rattle.plx_lease.specs.Claiming.{claim_rest, read_part, wait_part};
-    ghost use Rattle.plx_lease.specs.Holding.{LeavesClaim, claim_ask, claim_hold, claim_sample, lease_after};
+    ghost use Rattle.plx_lease.specs.Claiming.{KeepsLease, claim_rest, read_part, wait_part};
+    ghost use Rattle.plx_lease.specs.Holding.{IsSampled, LeavesClaim, claim_ask, claim_hold, claim_sample, lease_after};
 
     /// The claim of a lease in this block by a boot that began so many claims before; another lease
     /// may be in use beside it.
@@ -93,6 +93,9 @@ impl<K: LeaseKind> LeaseClaim<K> {
         requires number { number < 2 ^ 40 }
         ensures rest { (place : ℕ) → block.0 ≡ lease_at place → claim_rest result ≡ claim_part boot.0 (uses_of others) place number }
         ensures hold { claim_hold result ≡ Nothing }
+        ensures sampled { (last : Option ℕ) → IsSampled result last }
+        ensures lease { result.lease ≡ lease }
+        ensures number { (place : ℕ) → block.0 ≡ lease_at place → result.number ≡ place }
     {
         let claim = Claim {
             boot,
@@ -114,7 +117,8 @@ impl<K: LeaseKind> LeaseClaim<K> {
 
     /// The ask that stands.
     pub fn ask(&self) -> Ask
-        ensures { Some result ≡ standing (claim_rest self.now) }
+        ensures ask { Some result ≡ standing (claim_rest self.now) }
+        ensures own { AsksOnly (lease_at self.now.number) result }
     {
         match self.at {
             ClaimAt::Sample | ClaimAt::Damaged | ClaimAt::DamagedLate => Ask::Clock,
@@ -134,7 +138,8 @@ impl<K: LeaseKind> LeaseClaim<K> {
 
     /// The bytes of the write that is asked for.
     pub fn out(&self) -> &[u8]
-        ensures { result.now ≡ bytes_out (claim_rest self.now) }
+        ensures bytes { result.now ≡ bytes_out (claim_rest self.now) }
+        ensures whole { AreWhole (standing (claim_rest self.now)) result.now }
     {
         match self.at {
             ClaimAt::Write => &self.out,
@@ -151,7 +156,8 @@ impl<K: LeaseKind> LeaseClaim<K> {
     pub fn answer(&mut self, answer: &Answer) -> Option<ClaimEnd<K>>
         requires { IsTimely answer.now }
         ensures rest { after claim_end (claim_rest self.new) result ≡ answered (claim_rest self.old) answer.now }
-        ensures hold { Fits (claim_ask self.old) answer.now → LeavesClaim (lease_after (claim_sample self.old) (claim_ask self.old) self.old.out answer.now (claim_hold self.old)) self.new result }
+        ensures hold { Fits (claim_ask self.old) answer.now → LeavesClaim (lease_after (claim_sample self.old) (claim_ask self.old) self.old.out answer.now (claim_hold self.old)) (sample_of answer.now) self.new result }
+        ensures kept { KeepsLease self.old self.new result }
     {
         match (self.at, answer) {
             (ClaimAt::Sample, Answer::Reading(reading)) => self.sampled(*reading),
@@ -182,7 +188,8 @@ impl<K: LeaseKind> LeaseClaim<K> {
     fn sampled(&mut self, reading: u64) -> Option<ClaimEnd<K>>
         requires { reading < 2 ^ 48 }
         ensures rest { after claim_end (claim_rest self.new) result ≡ claim_in_time (uses_of self.old.others) reading (read_part (uses_of self.old.others) self.old.number (claim_of self.old.claim.boot.0 self.old.claim.number reading)) }
-        ensures hold { LeavesClaim Nothing self.new result }
+        ensures hold { LeavesClaim Nothing (Some reading) self.new result }
+        ensures kept { KeepsLease self.old self.new result }
     {
         if let Some(due) = first_reached(self.others, reading) {
             return Some(ClaimEnd::Lost { due, reading });
@@ -197,7 +204,8 @@ impl<K: LeaseKind> LeaseClaim<K> {
     // The lease was read: the claim is written where it is expired.
     fn seen(&mut self, bytes: &Block) -> Option<ClaimEnd<K>>
         ensures rest { after claim_end (claim_rest self.new) result ≡ seen_part (uses_of self.old.others) self.old.number self.old.claim (lease_in bytes.now) }
-        ensures hold { LeavesClaim (seen_by (lease_in bytes.now) self.old.claim.sample) self.new result }
+        ensures hold { LeavesClaim (seen_by (lease_in bytes.now) self.old.claim.sample) None self.new result }
+        ensures kept { KeepsLease self.old self.new result }
     {
         match read_lease(bytes.as_slice()) {
             None => {
@@ -217,7 +225,8 @@ impl<K: LeaseKind> LeaseClaim<K> {
     // The claim is written: it waits.
     fn written(&mut self) -> Option<ClaimEnd<K>>
         ensures rest { after claim_end (claim_rest self.new) result ≡ wait_part self.old }
-        ensures hold { LeavesClaim (wrote (lease_in self.old.out)) self.new result }
+        ensures hold { LeavesClaim (wrote (lease_in self.old.out)) None self.new result }
+        ensures kept { KeepsLease self.old self.new result }
     {
         self.at = ClaimAt::Wait;
         None
@@ -226,7 +235,8 @@ impl<K: LeaseKind> LeaseClaim<K> {
     // The wait is over: the lease is read again, unless the reading has reached a lease in use.
     fn waited(&mut self, reading: u64) -> Option<ClaimEnd<K>>
         ensures rest { after claim_end (claim_rest self.new) result ≡ claim_in_time (own_use self.old.number self.old.claim ∷ uses_of self.old.others) reading (reread_part (own_use self.old.number self.old.claim ∷ uses_of self.old.others) self.old.number self.old.claim) }
-        ensures hold { self.old.claim.sample + wait ≤ reading → LeavesClaim (timed reading (Wrote self.old.claim (end_of_term self.old.claim))) self.new result }
+        ensures hold { self.old.claim.sample + wait ≤ reading → LeavesClaim (timed reading (Wrote self.old.claim (end_of_term self.old.claim))) (Some reading) self.new result }
+        ensures kept { KeepsLease self.old self.new result }
     {
         if let Some(due) = self.reached(reading) {
             return Some(ClaimEnd::Lost { due, reading });
@@ -239,7 +249,8 @@ impl<K: LeaseKind> LeaseClaim<K> {
     // The lease was read again: it is held where its record is the claim's own.
     fn reread(&mut self, bytes: &Block) -> Option<ClaimEnd<K>>
         ensures rest { after claim_end (claim_rest self.new) result ≡ reread_by (bytes_eq bytes.now (lease_bytes (own self.old.claim))) (own_use self.old.number self.old.claim ∷ uses_of self.old.others) self.old.claim (lease_in bytes.now) }
-        ensures hold { LeavesClaim (confirmed (bytes_eq bytes.now (lease_bytes (own self.old.claim))) (Held self.old.claim (end_of_term self.old.claim))) self.new result }
+        ensures hold { LeavesClaim (confirmed (bytes_eq bytes.now (lease_bytes (own self.old.claim))) (Held self.old.claim (end_of_term self.old.claim))) None self.new result }
+        ensures kept { KeepsLease self.old self.new result }
     {
         match read_lease(bytes.as_slice()) {
             None => {

@@ -1,5 +1,5 @@
 //! The release of a lease.
-ghost use Rattle.std.specs.Prelude.{◌≡◌, ◌≤◌, ◌^◌, ℕ, Some, None};
+ghost use Rattle.std.specs.Prelude.{◌≡◌, ◌≤◌, ◌<◌, ◌^◌, ℕ, Some, None};
 ghost use Rattle.plx_base.specs.declared.lease.LeaseRecord.TheVariants.{Free};
 ghost use Rattle.plx_gate.specs.Leases.{lease_bytes};
 
@@ -26,6 +26,7 @@ pub struct LeaseRelease {
     number: u32,
     until: u64,
     out: [u8; BLOCK_LEN],
+    ghost high: { until < 2 ^ 49 },
     ghost spelled: { out ≡ lease_bytes Free },
 }
 
@@ -35,7 +36,7 @@ impl LeaseRelease {
     ghost use Rattle.plx_rules.specs.Part.{answered, standing, bytes_out};
     ghost use Rattle.plx_worlds.specs.Boot.{Fits};
     ghost use Rattle.plx_worlds.specs.Holds.{Hold, Nothing};
-    ghost use Rattle.plx_worlds.specs.Machines.{after};
+    ghost use Rattle.plx_worlds.specs.Machines.{AreWhole, AsksOnly, after};
     ghost use Rattle.plx_lease.specs.Releases.{release_part};
     ghost use Rattle.plx_lease.specs.Releasing.{release_ask, release_end, release_rest};
     ghost use Rattle.plx_lease.specs.Holding.{lease_after};
@@ -44,7 +45,8 @@ impl LeaseRelease {
     pub fn begin<K: LeaseKind>(held: Held<K>, block: BlockNo) -> LeaseRelease
         requires low { 1 ≤ block.0 }
         requires high { block.0 ≤ 2 ^ 32 }
-        ensures { (place : ℕ) → block.0 ≡ lease_at place → release_rest result ≡ release_part place held.until }
+        ensures number { (place : ℕ) → block.0 ≡ lease_at place → result.number ≡ place }
+        ensures rest { (place : ℕ) → block.0 ≡ lease_at place → release_rest result ≡ release_part place held.until }
     {
         let until = held.until();
         held.released();
@@ -59,7 +61,8 @@ impl LeaseRelease {
 
     /// The ask that stands.
     pub fn ask(&self) -> Ask
-        ensures { Some result ≡ standing (release_rest self.now) }
+        ensures ask { Some result ≡ standing (release_rest self.now) }
+        ensures own { AsksOnly (lease_at self.now.number) result }
     {
         Ask::Write {
             kind: WriteKind::Release,
@@ -70,7 +73,8 @@ impl LeaseRelease {
 
     /// The bytes of the write that is asked for.
     pub fn out(&self) -> &[u8]
-        ensures { result.now ≡ bytes_out (release_rest self.now) }
+        ensures bytes { result.now ≡ bytes_out (release_rest self.now) }
+        ensures whole { AreWhole (standing (release_rest self.now)) result.now }
     {
         &self.out
     }

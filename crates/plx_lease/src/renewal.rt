@@ -35,6 +35,7 @@ pub struct LeaseRenewal {
     ghost limits: { IsClaimed claim later },
     ghost spelled: { out ≡ lease_bytes (Claimed claim later) },
     ghost after: { until ≤ later },
+    ghost high: { later < 2 ^ 49 },
 }
 
 impl LeaseRenewal {
@@ -43,7 +44,7 @@ impl LeaseRenewal {
     ghost use Rattle.plx_rules.specs.Part.{answered, standing, bytes_out};
     ghost use Rattle.plx_worlds.specs.Boot.{Fits};
     ghost use Rattle.plx_worlds.specs.Commands.{later_of};
-    ghost use Rattle.plx_worlds.specs.Machines.{after};
+    ghost use Rattle.plx_worlds.specs.Machines.{AreWhole, AsksOnly, after};
     ghost use Rattle.plx_worlds.specs.Times.{term};
     ghost use Rattle.plx_lease.specs.Renewals.{renewal_part};
     ghost use Rattle.plx_lease.specs.Renewing.{LeavesRenewal, renewal_ask, renewal_end, renewal_hold, renewal_rest};
@@ -55,6 +56,7 @@ impl LeaseRenewal {
         requires high { block.0 ≤ 2 ^ 32 }
         requires reading { reading < 2 ^ 48 }
         ensures rest { (place : ℕ) → block.0 ≡ lease_at place → renewal_rest result ≡ renewal_part place held.now.claim held.now.until (later_of held.now.until (reading + term)) }
+        ensures number { (place : ℕ) → block.0 ≡ lease_at place → result.number ≡ place }
         ensures claim { result.claim ≡ held.now.claim }
         ensures until { result.until ≡ held.now.until }
         ensures later { result.later ≡ later_of held.now.until (reading + term) }
@@ -88,7 +90,8 @@ impl LeaseRenewal {
 
     /// The ask that stands.
     pub fn ask(&self) -> Ask
-        ensures { Some result ≡ standing (renewal_rest self.now) }
+        ensures ask { Some result ≡ standing (renewal_rest self.now) }
+        ensures own { AsksOnly (lease_at self.now.number) result }
     {
         Ask::Write {
             kind: WriteKind::Renew,
@@ -99,7 +102,8 @@ impl LeaseRenewal {
 
     /// The bytes of the write that is asked for.
     pub fn out(&self) -> &[u8]
-        ensures { result.now ≡ bytes_out (renewal_rest self.now) }
+        ensures bytes { result.now ≡ bytes_out (renewal_rest self.now) }
+        ensures whole { AreWhole (standing (renewal_rest self.now)) result.now }
     {
         &self.out
     }

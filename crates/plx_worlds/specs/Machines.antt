@@ -1,5 +1,7 @@
 -- Machines: what one still asks, and how one runs within another.
-use Rattle.std.specs.Prelude.{◌^◌, ◌<◌, Option, Some, None}
+use Rattle.std.specs.Prelude.{◌≡◌, ◌^◌, ◌<◌, ℕ, List, length, Option, Some, None}
+use Rattle.plx_disk.specs.declared.ask.Ask.{Ask}
+use Rattle.plx_disk.specs.declared.ask.Ask.TheVariants as ask
 use Rattle.plx_disk.specs.declared.ask.Answer.{Answer}
 use Rattle.plx_disk.specs.declared.ask.Answer.TheVariants as answer
 use Rattle.plx_disk.specs.declared.turn.Turn.{Turn}
@@ -34,3 +36,15 @@ IsTimely (answer.Missed reading) = reading < 2 ^ 48
 IsTimely (answer.Bytes bytes) = Unit {0}
 IsTimely answer.Done = Unit {0}
 IsTimely answer.Fault = Unit {0}
+
+-- the bytes of a write fill a block
+abbrev pub AreWhole : Option Ask → List ℕ → Type 0
+AreWhole (Some (ask.Write kind block guard)) bytes = length bytes ≡ 4096
+AreWhole other bytes = Unit {0}
+
+-- what is read or written is this block, and no guard is too late for the clock
+abbrev pub AsksOnly : (block : ℕ) → Ask → Type 0
+AsksOnly block (ask.Read read) = read.0 ≡ block
+AsksOnly block (ask.Write kind written guard) = (written.0 ≡ block) × (guard < 2 ^ 49)
+AsksOnly block ask.Clock = Unit {0}
+AsksOnly block (ask.Until from) = Unit {0}
