@@ -1,3 +1,5 @@
+pub mod Asking
 pub mod Commands
+pub mod Holding
 pub mod Own
 pub mod Rereads

@@ -34,6 +34,13 @@ lease_after sample (ask.Write kind block guard) bytes (answer.Missed reading) ho
 lease_after sample ask bytes (answer.Reading reading) hold = timed reading hold
 lease_after sample ask bytes other hold = hold
 
+-- what is held of any other lease then: a write that failed or was missed drops all
+abbrev pub other_after : Ask → Answer → Hold → Hold
+other_after (ask.Write kind block guard) answer.Fault hold = Nothing
+other_after (ask.Write kind block guard) (answer.Missed reading) hold = Nothing
+other_after ask (answer.Reading reading) hold = timed reading hold
+other_after ask other hold = hold
+
 -- the lease isn't held
 abbrev pub IsNotHeld : Hold → Type 0
 IsNotHeld Nothing = Unit {0}
