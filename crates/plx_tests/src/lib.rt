@@ -10,6 +10,8 @@ mod judge;
 #[cfg(test)]
 mod large;
 #[cfg(test)]
+mod leases;
+#[cfg(test)]
 mod program;
 #[cfg(test)]
 mod records;
