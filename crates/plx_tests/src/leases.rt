@@ -4,7 +4,7 @@ use plx_disk::{Answer, Ask, Turn};
 use plx_lease::{
     ClaimEnd, Claiming, InUse, LeaseClaim, LeaseRelease, ReleaseEnd, Renewing, RenewingEnd, Tokens,
 };
-use plx_token::{Claimed, Held, Image, Root, Unconfirmed};
+use plx_token::{Claimed, Grant, Held, Image, Root, Unconfirmed};
 use std::alloc::Global;
 
 /// The block of the lease that is claimed: that of image 2.
@@ -333,14 +333,22 @@ fn a_claim_is_confirmed_by_its_own_record_before_its_end(rt: HostRuntime) {
 #[test]
 fn held_leases_are_kept_by_slot(rt: HostRuntime) -> Result<(), NoMemory> {
     let alloc = rt.alloc();
-    let mut tokens = Tokens::new(alloc, 3)?;
-    assert!(rt; tokens.image(SlotNo(2)).is_none() && tokens.image(SlotNo(3)).is_none());
     let Some(lease) = held(alloc)? else {
         return Ok(assert!(rt; false));
     };
+    assert!(rt; lease.lease() == LEASE);
+    let mut tokens = Tokens::new(alloc, 3)?;
+    assert!(rt; tokens.image(SlotNo(2)).is_none() && tokens.image(SlotNo(3)).is_none());
+    tokens.put_image(lease);
+    assert!(rt; tokens.image(SlotNo(2)).is_some() && tokens.image(SlotNo(1)).is_none());
+    let Some(lease) = tokens.take_image(SlotNo(2)) else {
+        return Ok(assert!(rt; false));
+    };
+    assert!(rt; lease.until() == 15_000 && tokens.image(SlotNo(2)).is_none());
+    assert!(rt; Grant::image(&lease).and(Grant::image(&lease)).guard() == 15_000);
+    lease.dropped();
     tokens.drop_all();
     assert!(rt; tokens.root().is_none() && tokens.take_root().is_none());
     assert!(rt; tokens.take_image(SlotNo(9)).is_none());
-    lease.dropped();
     Ok(())
 }
