@@ -18,7 +18,8 @@ use Rattle.plx_commands.proofs.Places.{at-all, at-same, at-other}
 use Rattle.plx_disk.specs.Writes.{Issued, with_sector, no_sectors, fresh_write, MayLand, after_landing}
 use Rattle.plx_geom.specs.Geometry.{Geometry, image_lease, lease_at}
 use Rattle.plx_geom.proofs.Places.{lease-lease, image-below}
-use Rattle.plx_headline.proofs.Lists.{get-push, at_push, get-set_same, get-set_other, pending-is}
+use Rattle.plx_disk.proofs.Lists.{push-before, push-last, set-other, set-same}
+use Rattle.law_lease.proofs.Lists.{pending-is, push-cases}
 use Rattle.plx_rules.specs.Part.{Part, Ends, ReadThen, WriteThen, ClockThen, UntilThen}
 use Rattle.plx_worlds.specs.Boot.{Place, Idle, Begins, In, Position}
 use Rattle.plx_worlds.specs.Ends.{End}
@@ -39,12 +40,6 @@ use Rattle.law_headline.proofs.HeldFrames.{missing_of, missing-landed, same-refl
 use Rattle.law_headline.proofs.JournalFacts.{Keeps-same}
 use Rattle.law_headline.proofs.Journals.{Keeps, Same}
 use Rattle.law_headline.proofs.Replied.{Names}
-
--- an older element, once one more stands behind it
-get-push_old : {X : Type 0} (xs : List X) (x y : X) (k : ℕ) → slice_get xs k ≡ Some y → slice_get (xs ++ x ∷ []) k ≡ Some y
-get-push_old [] x y k e = cc
-get-push_old (z ∷ xs) x y zero e = e
-get-push_old (z ∷ xs) x y (suc k) e = get-push_old xs x y k e
 
 -- a block of two images' journals is one image's
 of-one : (g : Geometry) (i j block : ℕ) → i < g.images → j < g.images → IsOf g i block → IsOf g j block → i ≡ j
@@ -222,7 +217,7 @@ module _ (w : World) (content : Content w) where
       permitted = content.permitted;
       undamaged = content.undamaged;
       stored = content.stored;
-      opens = λ i within n x op of flags count. elim (at_push writes fresh x n op.found) [
+      opens = λ i within n x op of flags count. elim (push-cases writes fresh x n op.found) [
         | inl old ↦ content.opens i within n x (record { found = old; needs = op.needs; missing = op.missing; live = op.live }) of flags count
         | inr is ↦
             let P : Issued → Type 0 = λ y. Keeps g (put device y.block (mixed flags y.bytes (device y.block))) i (m.slots i) in
@@ -231,7 +226,7 @@ module _ (w : World) (content : Content w) where
             let live : time ≤ guard + 50 = (let e = op.live in let f : x.guard ≡ guard = ap (λ (y : Issued). y.guard) (sym is.1) in omega (arith, e, f)) in
             subst P is.1 ((new-keeps i within (subst Q (sym is.1) of) live what refl (subst N (sym is.1) op.needs)).0 flags count)
       ];
-      whose = λ i within n x op of b mine. elim (at_push writes fresh x n op.found) [
+      whose = λ i within n x op of b mine. elim (push-cases writes fresh x n op.found) [
         | inl old ↦
             let was : IsOpen g time writes (image_lease i) n x = record { found = old; needs = op.needs; missing = op.missing; live = op.live } in
             elim (eqb_tells b a) [
@@ -254,7 +249,7 @@ module _ (w : World) (content : Content w) where
             | inl grips ↦
                 let held : (p a).holds (lease_at (image_lease i)) ≡ Held grips.0 grips.1 =
                 sym (grip-open (p a).place (pending_write now (Some (length writes))) (lease_at (image_lease i)) ((p a).holds (lease_at (image_lease i)))
-                (ap (λ (o : Option Issued). first_landed o) (get-push writes fresh))) ∙ grips.2.0 in
+                (ap (λ (o : Option Issued). first_landed o) (push-last writes fresh))) ∙ grips.2.0 in
                 inl (grips.0, grips.1, grips-free i grips.0 grips.1 held grips.2.1)
             | inr owner ↦ inr owner
           ] in
@@ -269,7 +264,7 @@ module _ (w : World) (content : Content w) where
               fills = λ n x waits found journalled.
                   let at' : length writes ≡ n = cc in
                   let Q : ℕ → Type 0 = λ k. slice_get now k ≡ Some x in
-                  let is : fresh ≡ x = (let e : Some fresh ≡ Some x = sym (get-push writes fresh) ∙ subst Q (sym at') found in cc) in
+                  let is : fresh ≡ x = (let e : Some fresh ≡ Some x = sym (push-last writes fresh) ∙ subst Q (sym at') found in cc) in
                   let R : Issued → Type 0 = λ y. mixed (missing_of y.landed) y.bytes (device y.block) ≡ y.bytes in
                   subst R is (mixed-all 8 bytes (device block) fits.1.1 (content.leased.long block));
             }),
@@ -286,7 +281,7 @@ module _ (w : World) (content : Content w) where
           owned-same g b i device device writes now (w.seats b).pending m (same-refl g i device) (p b).place
           (λ known' command' part' at' names n x waits found journalled.
           let asked = (content.leased.seated b under).asked n waits in
-          let same : asked.0 ≡ x = (let e : Some asked.0 ≡ Some x = sym (get-push_old writes fresh asked.0 n asked.1) ∙ found in cc) in
+          let same : asked.0 ≡ x = (let e : Some asked.0 ≡ Some x = sym (push-before writes fresh asked.0 n asked.1) ∙ found in cc) in
           let was : slice_get writes n ≡ Some x = asked.1 ∙ ap Some same in
           (was, waits-of b under i known' command' part' at' names n x waits was journalled))
           (content.owned i within b under old));
@@ -295,7 +290,7 @@ module _ (w : World) (content : Content w) where
         by_pending : (b : ℕ) → b < w.appliances → (q : Option ℕ) → (w.seats b).pending ≡ q → pending_write now q ≡ pending_write writes q
         by_pending b under None e = refl
         by_pending b under (Some n) e =
-            let asked = (content.leased.seated b under).asked n e in get-push_old writes fresh asked.0 n asked.1 ∙ sym asked.1
+            let asked = (content.leased.seated b under).asked n e in push-before writes fresh asked.0 n asked.1 ∙ sym asked.1
 
   -- ---- a sector lands
 
@@ -321,9 +316,9 @@ module _ (w : World) (content : Content w) where
       | inl same ↦ inl (
         same.1,
         (let P : ℕ → Type 0 = λ k. slice_get now' k ≡ Some x in
-            let e : Some x ≡ Some (with_sector write sector) = sym (subst P same.1 there) ∙ get-set_same writes number write (with_sector write sector) may.found in cc),
+            let e : Some x ≡ Some (with_sector write sector) = sym (subst P same.1 there) ∙ set-same writes number (with_sector write sector) write may.found in cc),
       )
-      | inr away ↦ inr (away.1, sym (get-set_other writes number n (with_sector write sector) away.1) ∙ there)
+      | inr away ↦ inr (away.1, sym (set-other writes number n (with_sector write sector) away.1) ∙ there)
     ]
 
     this-open : (i : ℕ) → IsJournalled write.kind → Needs g write.kind write.block (image_lease i) → IsOpen g time writes (image_lease i) number write
@@ -429,7 +424,7 @@ module _ (w : World) (content : Content w) where
           let hold = (p b).holds (lease_at (image_lease i)) in
           let there : pending_write writes (w.seats b).pending ≡ Some write = ap (pending_write writes) is ∙ may.found in
           let there' : pending_write now' (w.seats b).pending ≡ Some (with_sector write sector) =
-          ap (pending_write now') is ∙ get-set_same writes number write (with_sector write sector) may.found in
+          ap (pending_write now') is ∙ set-same writes number (with_sector write sector) write may.found in
           let old : grip_at (p b).place (pending_write writes (w.seats b).pending) (lease_at (image_lease i)) hold
           ≡ grip_while write.kind (lease_at (image_lease i) == write.block) (first_landed (Some write)) write.bytes hold =
           grip-asked (p b).place (boot_number b (w.seats b).boots) write asked' (pending_write writes (w.seats b).pending) (lease_at (image_lease i)) hold
@@ -447,7 +442,7 @@ module _ (w : World) (content : Content w) where
             (c : Claim) × (u : ℕ) × (grip_while write.kind (lease_at (image_lease i) == write.block) (first_landed (Some write)) write.bytes ((p b).holds (lease_at (image_lease i))) ≡ Held c u)
             × (time ≤ until + 50 → time ≤ u + 50)
         by_kind b k is (suc s) at' may' e =
-            let flag : slice_get (slice_set write.landed sector true) 0 ≡ slice_get write.landed 0 = get-set_other write.landed sector 0 true (λ z. omega (arith, z, at')) in
+            let flag : slice_get (slice_set write.landed sector true) 0 ≡ slice_get write.landed 0 = set-other write.landed sector 0 true (λ z. omega (arith, z, at')) in
             let hold = (p b).holds (lease_at (image_lease i)) in
             (claim, until, ap (λ (o : Option Bool). grip_while write.kind (lease_at (image_lease i) == write.block) (is_set o) write.bytes hold) (sym flag) ∙ e, (λ l. l))
         by_kind b kind.Renew is zero at' may' e =
