@@ -47,6 +47,7 @@ use Rattle.law_run.proofs.Attaching.{twice, twice-is, attach-one, unattached-by,
 use Rattle.law_run.proofs.Detaching.{lease-apart}
 use Rattle.law_run.proofs.Grown.{with-other}
 use Rattle.law_run.proofs.Holding.{first-hold, first-held, first-more, claims-more, LeavesOthers, Spared, spared-first, spared-more, Course, going-first}
+use Rattle.law_run.proofs.Inside.{inside-lease}
 use Rattle.law_run.proofs.Meets.{exchange}
 use Rattle.law_run.proofs.OnImage.{names-own, names-other, names-only, lease-name}
 use Rattle.law_run.proofs.Passed.{Passed, passed}
@@ -291,13 +292,14 @@ module _ (s : Setting) (boot_small : s.boot < 2 ^ 128) (before : List Finished) 
       )
 
   -- the lease is held by this boot's claim
-  goes-held : (sample : ℕ) (bytes : List ℕ) (reading' : ℕ) (again : List ℕ) → hold_of s before (d5 sample bytes reading' again) (image_lease slot.0) ≡ Held (claim_of s.boot known.claims sample) (sample + term) →
+  goes-held : (sample : ℕ) (bytes : List ℕ) (reading' : ℕ) (again : List ℕ) → read_lease bytes ≢ None → read_lease again ≢ None → hold_of s before (d5 sample bytes reading' again) (image_lease slot.0) ≡ Held (claim_of s.boot known.claims sample) (sample + term) →
       Right s before (Attach slot) (d5 sample bytes reading' again) (load_image s (with_claim known) slot.0 (sample + term)) (suc (suc (twice s.geometry.slots)))
-  goes-held sample bytes reading' again held =
+  goes-held sample bytes reading' again some some' held =
       let c : Course = record { reading = reading; claim = claim_of s.boot known.claims sample; until = sample + term; begun = 1 } in
       right-load s before known (with_claim known) slot c within missing fine (let k = rests.claims in omega arith) (λ image. refl) rests (d5 sample bytes reading' again)
       (record { has = tt; first = refl; held = held; spared = spared5 sample bytes reading' (answer.Bytes again); begun = begun5 sample bytes reading' (answer.Bytes again); went = went5 sample bytes reading' again })
       (λ place. unknown place)
+      (λ kept. (inside-lease s.geometry slot.0 kept (image_lease slot.0) again lease-within some', (tt, (tt, (inside-lease s.geometry slot.0 kept (image_lease slot.0) bytes lease-within some, (tt, (tt, tt)))))))
     where
       unknown : (place : ℕ) → learnt s.geometry slot.0 (Attach slot) (d5 sample bytes reading' again) nothing_given (descriptor_at s.geometry slot.0 place) ≡ None
       unknown place =
@@ -325,15 +327,18 @@ module _ (s : Setting) (boot_small : s.boot < 2 ^ 128) (before : List Finished) 
 
   -- ---- the reread
 
-  after-reread : (sample : ℕ) (bytes : List ℕ) (reading' : ℕ) (again : List ℕ) → sample < 2 ^ 48 → sample + wait ≤ reading' → reading' < sample + term → (same : Bool) →
+  after-reread : (sample : ℕ) (bytes : List ℕ) (reading' : ℕ) (again : List ℕ) → sample < 2 ^ 48 → read_lease bytes ≢ None → sample + wait ≤ reading' → reading' < sample + term → (same : Bool) →
       bytes_eq again (lease_bytes (own_record (claim_of s.boot known.claims sample))) ≡ same → (found : Option LeaseRecord) → read_lease again ≡ found →
       Right s before (Attach slot) (d5 sample bytes reading' again)
       (followed_by (reread_by same (own_use (image_lease slot.0) (claim_of s.boot known.claims sample) ∷ []) (claim_of s.boot known.claims sample) found) (after_claim s (with_claim known) slot.0))
       (suc (suc (twice s.geometry.slots)))
-  after-reread sample bytes reading' again small past early true is found sees =
-      goes-held sample bytes reading' again (held5 sample bytes reading' again small past early
+  after-reread sample bytes reading' again small some past early true is found sees =
+      let own' = claim_of s.boot known.claims sample in
+      let same : again ≡ lease_bytes (own_record own') = (bytes_eq-Decides again (lease_bytes (own_record own'))).0 is in
+      let spelled : read_lease again ≡ Some (own_record own') = ap read_lease same ∙ lease-back (own_record own') (own-limits sample small) in
+      goes-held sample bytes reading' again some (λ e. (let P : ⊥ = cc in P)) (held5 sample bytes reading' again small past early
       ∙ ap (λ t. reread t (Held (claim_of s.boot known.claims sample) (sample + term))) is)
-  after-reread sample bytes reading' again small past early false is (Some seen) sees =
+  after-reread sample bytes reading' again small some past early false is (Some seen) sees =
       let own' = claim_of s.boot known.claims sample in
       let done = d5 sample bytes reading' again in
       let name = lease-name s.geometry slot.0 within in
@@ -343,7 +348,7 @@ module _ (s : Setting) (boot_small : s.boot < 2 ^ 128) (before : List Finished) 
             (λ e. bytes-other again (lease_bytes (own_record own')) is ((lease-only again seen sees).1 ∙ ap lease_bytes e))),
         unheld done (reply.Busy (lease.Image slot) seen) (λ other b. refl) (λ h. refl) (spared5 sample bytes reading' (answer.Bytes again)) (begun5 sample bytes reading' (answer.Bytes again)),
       )
-  after-reread sample bytes reading' again small past early false is None sees = (
+  after-reread sample bytes reading' again small some past early false is None sees = (
     (went5 sample bytes reading' again, tt),
     λ last small'.
         let own' = claim_of s.boot known.claims sample in
@@ -380,12 +385,12 @@ module _ (s : Setting) (boot_small : s.boot < 2 ^ 128) (before : List Finished) 
 
   -- ---- the wait
 
-  after-wait : (sample : ℕ) (bytes : List ℕ) (reading' : ℕ) → sample < 2 ^ 48 → sample + wait ≤ reading' →
+  after-wait : (sample : ℕ) (bytes : List ℕ) (reading' : ℕ) → sample < 2 ^ 48 → read_lease bytes ≢ None → sample + wait ≤ reading' →
       Right s before (Attach slot) (d4 sample bytes reading')
       (followed_by (claim_in_time (own_use (image_lease slot.0) (claim_of s.boot known.claims sample) ∷ []) reading'
       (reread_part (own_use (image_lease slot.0) (claim_of s.boot known.claims sample) ∷ []) (image_lease slot.0) (claim_of s.boot known.claims sample))) (after_claim s (with_claim known) slot.0))
       (suc (suc (suc (twice s.geometry.slots))))
-  after-wait sample bytes reading' small past =
+  after-wait sample bytes reading' small some past =
       let own' = claim_of s.boot known.claims sample in
       let until = sample + term in
       let done = d4 sample bytes reading' in
@@ -399,7 +404,7 @@ module _ (s : Setting) (boot_small : s.boot < 2 ^ 128) (before : List Finished) 
       ))
       (λ early. (
         (went4 sample bytes reading', tt),
-        λ again long. after-reread sample bytes reading' again small past early (bytes_eq again (lease_bytes (own_record own'))) refl (read_lease again) refl,
+        λ again long. after-reread sample bytes reading' again small some past early (bytes_eq again (lease_bytes (own_record own'))) refl (read_lease again) refl,
         read-fails done (suc (suc (twice s.geometry.slots))) refl (spared5 sample bytes reading' answer.Fault) (begun5 sample bytes reading' answer.Fault),
       ))
     where
@@ -448,7 +453,7 @@ module _ (s : Setting) (boot_small : s.boot < 2 ^ 128) (before : List Finished) 
             ),
             (
               (went3 sample bytes, record { lease = image_lease slot.0; claim = own'; until = sample + term; wrote = held3 sample bytes small; after = refl }),
-              λ reading' past small'. after-wait sample bytes reading' small past,
+              λ reading' past small'. after-wait sample bytes reading' small (λ e. (let P : ⊥ = cc in P)) past,
             ),
             (
               replied-fine s before (Attach slot) reading fine (claims_lease sample answer.Fault ∷ d2 sample bytes) refl (reply.WriteFault (record { 0 = block }))
@@ -519,7 +524,7 @@ module _ (s : Setting) (boot_small : s.boot < 2 ^ 128) (before : List Finished) 
         suc (suc (twice s.geometry.slots)),
         (let t = twice-is s.geometry.slots in omega arith),
         right-load s before known known slot c within missing fine (let k = rests.claims in omega arith) (λ image. refl) rests (clock reading ∷ [])
-            (going-first s before slot.0 claim until reading is) (λ place. refl),
+            (going-first s before slot.0 claim until reading is) (λ place. refl) (λ kept. (tt, tt)),
       )
   by-hold Nothing is within missing = by-claims Nothing is (λ claim until e. (let P : ⊥ = cc in P)) within missing
   by-hold (Seen sample) is within missing = by-claims (Seen sample) is (λ claim until e. (let P : ⊥ = cc in P)) within missing
