@@ -1,6 +1,6 @@
 -- Attaches, from the first reading on.
 use Rattle.std.proofs.Common.{◌≡◌, ◌≢◌, ℕ, suc, ◌+◌, ◌*◌, ◌≤◌, ◌<◌, ◌^◌, List, [], ◌∷◌, drop, Bool, true, false, Option, Some, None, refl, ap, sym, subst, ◌∙◌, arith, inl, inr}
-use Rattle.std.specs.Prelude.{nat_le, nat_lt}
+use Rattle.std.specs.Prelude.{if◌then◌else◌, nat_le, nat_lt}
 use Rattle.std.specs.Str.{bytes_eq}
 use Rattle.std.proofs.lemmas.Slice.Eq.{bytes_eq-Decides}
 use Rattle.std.proofs.lemmas.Bool.Decides.{leb_tells}
@@ -26,7 +26,7 @@ use Rattle.plx_worlds.specs.Attaching.{load_image, after_claim, claim_image, att
 use Rattle.plx_worlds.specs.Claims.{ClaimEnd, ClaimReadFault, ClaimDamaged, claim_of, own_record, own_use, claim_in_time, reread_by, reread_part, written_part, if_expired, seen_part}
 use Rattle.plx_worlds.specs.Commands.{command_part}
 use Rattle.plx_worlds.specs.Ends.{End, ends, lost}
-use Rattle.plx_worlds.specs.Holds.{Hold, Nothing, Seen, Wrote, Waited, Held, wrote, reread, shown, timed}
+use Rattle.plx_worlds.specs.Holds.{Hold, Nothing, Seen, Wrote, Waited, Held, wrote, reread, seen_by, shown, timed}
 use Rattle.plx_worlds.specs.Parts.{followed_by}
 use Rattle.plx_worlds.specs.Session.{Session, Known, with_claim, nothing_known}
 use Rattle.plx_worlds.specs.Settings.{Setting}
@@ -35,7 +35,7 @@ use Rattle.law_run.specs.AllowedAsks as allowed
 use Rattle.law_run.specs.AllowedAsks.{WentOn}
 use Rattle.law_run.specs.CommandLogs.{Exchange, Finished, first_reading}
 use Rattle.law_run.specs.Holdings as holdings
-use Rattle.law_run.specs.Holdings.{at_first, holds_along, holds_after, hold_of, IsUntil, is_lease_read, is_clock, claims_in, claims_begun}
+use Rattle.law_run.specs.Holdings.{at_first, holds_along, holds_after, hold_of, IsUntil, is_lease_read, is_clock, claims_in, claims_begun, IsNotHeld}
 use Rattle.law_run.specs.KnownBytes.{nothing_given, with_block, learnt}
 use Rattle.law_run.specs.Outside.{no_lease}
 use Rattle.law_run.specs.Refusals.{IsNamedFirst, NeedsClaim, NamesBlock, of_read, of_write, NeedsImage, of_delete, of_block, already_attached, no_slot, claims}
@@ -120,10 +120,27 @@ written-until claim until other hold is (holdings.wrote c e) = let f : Wrote cla
 written-until claim until other hold is (holdings.waited c e) = absurd (let P : ⊥ = cc in P)
 written-until claim until other hold is (holdings.held c e) = absurd (let P : ⊥ = cc in P)
 
+-- at the first reading a lease is held, or nothing of it
+first-nothing : (attached : Bool) (reading : ℕ) (hold : Hold) → IsNotHeld (at_first attached reading hold) → at_first attached reading hold ≡ Nothing
+first-nothing true reading Nothing none = refl
+first-nothing true reading (Seen sample) none = refl
+first-nothing true reading (Wrote c u) none = refl
+first-nothing true reading (Waited c u) none = refl
+first-nothing true reading (Held c u) none = absurd (none c u refl)
+first-nothing false reading Nothing none = refl
+first-nothing false reading (Seen sample) none = refl
+first-nothing false reading (Wrote c u) none = refl
+first-nothing false reading (Waited c u) none = refl
+first-nothing false reading (Held c u) none = by-flag (nat_le u reading) none
+  where
+    by-flag : (test : Bool) → IsNotHeld (if test then Nothing else Held c u) → (if test then Nothing else Held c u) ≡ Nothing
+    by-flag true some = refl
+    by-flag false some = absurd (some c u refl)
+
 -- ---- a claim of the lease of the image
 
 module _ (s : Setting) (boot_small : s.boot < 2 ^ 128) (before : List Finished) (known : Known) (slot : SlotNo) (reading : ℕ) (within : slot.0 < s.geometry.images) (missing : is_attached before slot.0 ≡ false)
-    (rests : Rests s before known) (few : known.claims < last_claim) where
+    (rests : Rests s before known) (few : known.claims < last_claim) (not_held : IsNotHeld (hold_of s before (clock reading ∷ []) (image_lease slot.0))) where
   fine : IsFine s before (Attach slot) reading
   fine done first = attach-passed s before slot done 11 (λ lt. missing) (λ lt. within) (λ lt needed. (let c = rests.claims in omega arith))
 
@@ -226,6 +243,15 @@ module _ (s : Setting) (boot_small : s.boot < 2 ^ 128) (before : List Finished) 
   one-more done is = let c = rests.claims in omega arith
 
   -- what is held of the lease
+  seen2 : (sample : ℕ) (bytes : List ℕ) (seen : LeaseRecord) → read_lease bytes ≡ Some seen → is_expired seen sample ≡ true → hold_of s before (d2 sample bytes) (image_lease slot.0) ≡ Seen sample
+  seen2 sample bytes seen sees expired =
+      let H = holds_along s.geometry (is_attached before) (holds_after s.geometry before) (d1 sample) in
+      let first = first-hold s before reading slot.0 within in
+      let nothing : hold_of s before d0 (image_lease slot.0) ≡ Nothing =
+      first ∙ first-nothing (is_attached before slot.0) reading (holds_after s.geometry before (lease_at (image_lease slot.0))) (λ c u e. not_held c u (first ∙ e)) in
+      at-same H (lease_at (image_lease slot.0)) (shown (Some sample) bytes (H (lease_at (image_lease slot.0))))
+      ∙ (ap (λ h. shown (Some sample) bytes (timed sample h)) nothing ∙ (ap (λ o. seen_by o sample) sees ∙ ap (λ t. if t then Seen sample else Nothing) expired))
+
   held3 : (sample : ℕ) (bytes : List ℕ) → sample < 2 ^ 48 → hold_of s before (d3 sample bytes) (image_lease slot.0) ≡ Wrote (claim_of s.boot known.claims sample) (sample + term)
   held3 sample bytes small =
       let own' = claim_of s.boot known.claims sample in
@@ -448,7 +474,7 @@ module _ (s : Setting) (boot_small : s.boot < 2 ^ 128) (before : List Finished) 
           let n = suc (suc (suc (suc (twice s.geometry.slots)))) in (
             (
               went2 sample bytes,
-              allowed.claim (image_lease slot.0) own' seen bytes d0 lease-within refl refl sees is refl (let c = rests.claims in omega arith) refl
+              allowed.claim (image_lease slot.0) own' seen bytes d0 lease-within refl (λ c u e. (let was = seen2 sample bytes seen sees is in let P : ⊥ = cc in P)) refl sees is refl (let c = rests.claims in omega arith) refl
                   (lease-rest (own_record own') ∙ sym (ap (drop 512) (lease-only bytes seen sees).1 ∙ lease-rest seen)) refl,
             ),
             (
@@ -494,7 +520,7 @@ module _ (s : Setting) (boot_small : s.boot < 2 ^ 128) (before : List Finished) 
     | inl few ↦ rw few.0 (
       suc (suc (suc (suc (suc (suc (suc (twice s.geometry.slots))))))),
       (let t = twice-is s.geometry.slots in omega arith),
-      right-claim s boot_small before known slot reading within missing rests few.1,
+      right-claim s boot_small before known slot reading within missing rests few.1 (λ claim until e. none claim until (sym is ∙ e)),
     )
     | inr worn ↦ rw worn.0 (
       0,
