@@ -31,8 +31,7 @@ use Rattle.plx_worlds.specs.Parts.{followed_by}
 use Rattle.plx_worlds.specs.Session.{Session, Known, with_claim, nothing_known}
 use Rattle.plx_worlds.specs.Settings.{Setting}
 use Rattle.plx_worlds.specs.Times.{window, wait, term, is_expired}
-use Rattle.law_run.specs.AllowedAsks as allowed
-use Rattle.law_run.specs.AllowedAsks.{WentOn}
+use Rattle.law_run.specs.AllowedAsks.{WentOn, claim_of_lease}
 use Rattle.law_run.specs.CommandLogs.{Exchange, Finished, first_reading}
 use Rattle.law_run.specs.Holdings as holdings
 use Rattle.law_run.specs.Holdings.{at_first, holds_along, holds_after, hold_of, IsUntil, is_lease_read, is_clock, claims_in, claims_begun, IsNotHeld}
@@ -474,7 +473,7 @@ module _ (s : Setting) (boot_small : s.boot < 2 ^ 128) (before : List Finished) 
           let n = suc (suc (suc (suc (twice s.geometry.slots)))) in (
             (
               went2 sample bytes,
-              allowed.claim (image_lease slot.0) own' seen bytes d0 lease-within refl (λ c u e. (let was = seen2 sample bytes seen sees is in let P : ⊥ = cc in P)) refl sees is refl (let c = rests.claims in omega arith) refl
+              claim_of_lease (image_lease slot.0) own' seen bytes d0 lease-within refl (λ c u e. (let was = seen2 sample bytes seen sees is in let P : ⊥ = cc in P)) refl sees is refl (let c = rests.claims in omega arith) refl
                   (lease-rest (own_record own') ∙ sym (ap (drop 512) (lease-only bytes seen sees).1 ∙ lease-rest seen)) refl,
             ),
             (
