@@ -14,8 +14,10 @@ use Rattle.plx_worlds.specs.Boot.{Place, Idle, Begins, In}
 use Rattle.plx_worlds.specs.Holds.{Hold, Held}
 use Rattle.plx_geom.specs.Geometry.{lease_count, lease_at}
 use Rattle.plx_gate.specs.Leases.{lease_bytes}
-use Rattle.plx_worlds.specs.Owners.{Owns, Needs, Exclusion, Guarding, held_while, held_at, first_landed, pending_write}
+use Rattle.plx_worlds.specs.Owners.{Owns, Exclusion, Guarding, held_while, held_at, first_landed, pending_write}
 use Rattle.plx_worlds.specs.World.{World, setting_of, stands}
+use Rattle.plx_commands.specs.Replies.{is_in}
+use Rattle.law_lease.proofs.Rests.{one-in}
 use Rattle.law_lease.proofs.LeaseSectors.{sector-past}
 use Rattle.law_lease.proofs.LeaseFrames.{one-claim}
 use Rattle.law_lease.proofs.LeaseIssues.{boots-apart}
@@ -46,9 +48,9 @@ grip-held (In known command (UntilThen from rest)) pending lease hold claim unti
 
 -- an owner's lease is right
 pub owner-held : (w : World) (leased : Leased w) (a lease : ℕ) (within : lease < lease_count w.geometry) → a < w.appliances → (owns : Owns w a lease) →
-    IsHeld w.geometry w.surface.time w.surface.writes lease (leased.on lease within).standing ((setting_of w a).boot) (w.seats a).pending owns.claim owns.until
+    IsHeld w.rests w.surface.time w.surface.writes lease (leased.on lease within).standing ((setting_of w a).boot) (w.seats a).pending owns.claim owns.until
 owner-held w leased a lease within below owns =
-    let P : Hold → Type 0 = λ h. Good w.geometry w.surface.time w.surface.writes lease (leased.on lease within).standing ((setting_of w a).boot) (w.seats a).pending h in
+    let P : Hold → Type 0 = λ h. Good w.rests w.surface.time w.surface.writes lease (leased.on lease within).standing ((setting_of w a).boot) (w.seats a).pending h in
     subst P (grip-held (stands w a).place (pending_write w.surface.writes (w.seats a).pending) (lease_at lease) ((stands w a).holds (lease_at lease))
     owns.claim owns.until owns.held) ((leased.on lease within).each a below)
 
@@ -78,13 +80,13 @@ guarding w reached number sector write lease b within needs may below owns apart
     leased : Leased w
     leased = reached-leased reached
 
-    its : IsHeld w.geometry w.surface.time w.surface.writes lease (leased.on lease within).standing ((setting_of w b).boot) (w.seats b).pending owns.claim owns.until
+    its : IsHeld w.rests w.surface.time w.surface.writes lease (leased.on lease within).standing ((setting_of w b).boot) (w.seats b).pending owns.claim owns.until
     its = owner-held w leased b lease within below owns
 
     -- an open write is the owner's
     closed : Unlanded write.kind write.landed → ⊥
     closed unlanded =
-        let op : IsOpen w.geometry w.surface.time w.surface.writes lease number write = record { found = may.found; needs = needs; missing = unlanded; live = may.early } in
+        let op : IsOpen w.rests w.surface.time w.surface.writes lease number write = record { found = may.found; needs = needs; missing = unlanded; live = may.early } in
         let backed = (leased.on lease within).backed number write op in
         apart (sym its.own ∙ (ap (λ (c : Claim). c.boot.0)
         (one-claim (leased.on lease within).standing owns.claim backed.claim owns.until backed.until (its.there owns.time) backed.there).0 ∙ backed.owner))
@@ -104,18 +106,16 @@ guarding w reached number sector write lease b within needs may below owns apart
         let U : WriteKind → Type 0 = λ k. Unlanded k write.landed in
         absurd (closed (subst U (sym is) (ap (slice_get write.landed) (sym at) ∙ may.missing)))
     by_kind kind.Renew is (suc k) at =
-        let N : WriteKind → Type 0 = λ k. Needs w.geometry k write.block lease in
-        let Q : WriteKind → Type 0 = λ k. IsPlaced w.geometry k write.block write.bytes in
+        let Q : WriteKind → Type 0 = λ k. IsPlaced w.geometry k write.block write.bytes (w.rests number) in
         let placed = subst Q is (leased.right number write may.found).placed in
-        past k at (subst N is needs) placed.3.0 placed.3.1
+        past k at (placed.2 ∙ ap lease_at (sym (one-in lease placed.0 (subst (λ (l : List ℕ). is_in lease l ≡ true) placed.4 needs)))) placed.3.0 placed.3.1
     by_kind kind.Release is zero at =
         let U : WriteKind → Type 0 = λ k. Unlanded k write.landed in
         absurd (closed (subst U (sym is) (ap (slice_get write.landed) (sym at) ∙ may.missing)))
     by_kind kind.Release is (suc k) at =
-        let N : WriteKind → Type 0 = λ k. Needs w.geometry k write.block lease in
-        let Q : WriteKind → Type 0 = λ k. IsPlaced w.geometry k write.block write.bytes in
+        let Q : WriteKind → Type 0 = λ k. IsPlaced w.geometry k write.block write.bytes (w.rests number) in
         let placed = subst Q is (leased.right number write may.found).placed in
-        past k at (subst N is needs) placed.3.0 placed.3.1
+        past k at (placed.2 ∙ ap lease_at (sym (one-in lease placed.0 (subst (λ (l : List ℕ). is_in lease l ≡ true) placed.4 needs)))) placed.3.0 placed.3.1
     by_kind other is s at =
         let U : WriteKind → Type 0 = λ k. Unlanded k write.landed in
         absurd (closed (subst U (sym is) (not-whole write.landed sector may.missing)))

@@ -9,6 +9,7 @@ pub mod Journal
 pub mod Loading
 pub mod Parts
 pub mod Records
+pub mod Rests
 pub mod Session
 pub mod Settings
 pub mod Times
