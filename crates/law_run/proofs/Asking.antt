@@ -1,0 +1,127 @@
+-- The rest of a command of one image by its next ask.
+use Rattle.std.proofs.Common.{◌≡◌, ℕ, zero, suc, ◌+◌, ◌≤◌, ◌<◌, List, ◌∷◌, Some, refl, sym, subst, ◌∙◌, arith, inl, inr}
+use Rattle.plx_base.specs.declared.lease.Claim.{Claim}
+use Rattle.plx_base.specs.declared.lease.LeaseName.{LeaseName}
+use Rattle.plx_base.specs.declared.lease.LeaseName.TheVariants as lease
+use Rattle.plx_base.specs.declared.numbers.SlotNo.{SlotNo}
+use Rattle.plx_base.specs.declared.write_kind.WriteKind.{WriteKind}
+use Rattle.plx_commands.specs.declared.command.Command.{Command}
+use Rattle.plx_commands.specs.declared.reply.Reply.{Reply}
+use Rattle.plx_commands.specs.declared.reply.Reply.TheVariants as reply
+use Rattle.plx_disk.specs.declared.ask.Ask.TheVariants as ask
+use Rattle.plx_disk.specs.declared.ask.Answer.TheVariants as answer
+use Rattle.plx_geom.specs.Geometry.{Geometry, lease_count, lease_number, image_lease}
+use Rattle.plx_rules.specs.Part.{Part}
+use Rattle.plx_worlds.specs.Attaching.{image_use}
+use Rattle.plx_worlds.specs.Ends.{End, ends, lost, write_then, ends_in_time}
+use Rattle.plx_worlds.specs.Holds.{Hold, Nothing, Held}
+use Rattle.plx_worlds.specs.InUse.{lease_name}
+use Rattle.plx_worlds.specs.Owners.{Needs}
+use Rattle.plx_worlds.specs.Session.{Known, nothing_known}
+use Rattle.plx_worlds.specs.Settings.{Setting}
+use Rattle.law_run.specs.AllowedAsks.{WentOn, MayWrite}
+use Rattle.law_run.specs.CommandLogs.{Exchange, Finished, first_reading}
+use Rattle.law_run.specs.Holdings as holdings
+use Rattle.law_run.specs.Holdings.{hold_of, IsUntil, claims_in, claims_begun}
+use Rattle.law_run.specs.Refusals.{IsNamedFirst}
+use Rattle.law_run.specs.Replies.{IsConfirmed, IsInUse, going, unread, of_clock, WasLost, RestsOn, of_need, Comes, IsReplied, worked}
+use Rattle.law_run.specs.Replies as replies
+use Rattle.law_run.proofs.Holding.{Course, Going, going-clock}
+use Rattle.law_run.proofs.Meets.{exchange}
+use Rattle.law_run.proofs.OnImage.{NamesOne, names-own, names-only, lease-name, by-time}
+use Rattle.law_run.proofs.Passed.{Passed, passed-all}
+use Rattle.law_run.proofs.Rests.{rests-lost, rests-failed}
+use Rattle.law_run.proofs.Right.{clock, Rests, finish, log_on, Right}
+use Rattle.law_run.proofs.Tests.{lt-cases}
+
+-- a lease has one end
+pub one-until : (claim : Claim) (until other : ℕ) (hold : Hold) → hold ≡ Held claim until → IsUntil other hold → until ≡ other
+one-until claim until other hold held (holdings.wrote c is) = absurd (let P : ⊥ = cc in P)
+one-until claim until other hold held (holdings.waited c is) = absurd (let P : ⊥ = cc in P)
+one-until claim until other hold held (holdings.held c is) = let e : Held claim until ≡ Held c other = sym held ∙ is in cc
+
+-- a lease by its name
+pub number-name : (g : Geometry) (lease : ℕ) → lease < lease_count g → lease_number g (lease_name g lease) ≡ lease
+number-name g zero within = refl
+number-name g (suc n) within = elim (lt-cases n g.images) [
+  | inl below ↦ rw below.0 (let e : image_lease n ≡ suc n = omega arith in e)
+  | inr above ↦ rw above.0 (omega (arith, above.1))
+]
+
+-- no refusal's fact holds of a command after this first reading
+abbrev pub IsFine : Setting → List Finished → Command → (reading : ℕ) → Type 0
+IsFine s before command reading = (done : List Exchange) → first_reading done ≡ Some reading → Passed s (log_on before command done) 11
+
+-- what the work meets, and an Ok, come where no refusal's fact holds
+pub replied-fine : (s : Setting) (before : List Finished) (command : Command) (reading : ℕ) → IsFine s before command reading → (done : List Exchange) → first_reading done ≡ Some reading → (r : Reply) →
+    Comes s (log_on before command done) r → IsReplied s (log_on before command done) r
+replied-fine s before command reading fine done first r comes = worked (passed-all s (log_on before command done) (fine done first)) comes
+
+-- a write, which rests on a lease
+pub asks-write : (s : Setting) (before : List Finished) (known : Known) (command : Command) (reading : ℕ) → IsFine s before command reading →
+    (done : List Exchange) (lease until : ℕ) (k : WriteKind) (block : ℕ) (bytes : List ℕ) (then_done : Part End) (n : ℕ) →
+    first_reading done ≡ Some reading → known.claims ≡ claims_in s.geometry done + claims_begun s.geometry before →
+    ((x : Exchange) → x.ask ≡ ask.Write k (record { 0 = block }) until → claims_in s.geometry (x ∷ done) ≡ claims_in s.geometry done) →
+    lease < lease_count s.geometry → Needs s.geometry k block lease → WentOn done → MayWrite s (log_on before command done) k block bytes until →
+    Right s before command (exchange (ask.Write k (record { 0 = block }) until) bytes answer.Done ∷ done) then_done n →
+    Right s before command done (write_then s known (record { lease = lease; until = until }) k block bytes then_done) (suc n)
+asks-write s before known command reading fine done lease until k block bytes then_done n first claims more within needs went may right = (
+  (went, may),
+  right,
+  (let x = exchange (ask.Write k (record { 0 = block }) until) bytes answer.Fault in (
+    replied-fine s before command reading fine (x ∷ done) (rw first refl) (reply.WriteFault (record { 0 = block })) (k, until, bytes, (done, refl)),
+    rests-failed s before command (x ∷ done) (record { 0 = block }) known.claims (let m = more x refl in omega arith),
+  )),
+  λ reading' past small. (let x = exchange (ask.Write k (record { 0 = block }) until) bytes (answer.Missed reading') in (
+    replied-fine s before command reading fine (x ∷ done) (rw first refl) (reply.Lost (lease_name s.geometry lease) until reading')
+        (replies.missed k (record { 0 = block }) bytes (done, refl)
+        (of_need (subst (λ l. Needs s.geometry k block l) (sym (number-name s.geometry lease within)) needs))),
+    rests-lost s before command (x ∷ done) (lease_name s.geometry lease) until reading' known.claims (let m = more x refl in omega arith),
+  )),
+)
+
+-- a command of one image, along which its lease is held
+module _ (s : Setting) (before : List Finished) (known : Known) (command : Command) (slot : SlotNo) (c : Course) (one : NamesOne command slot.0) (within : slot.0 < s.geometry.images)
+    (fine : IsFine s before command c.reading) (claims : known.claims ≡ c.begun + claims_begun s.geometry before) where
+  -- the last reading is below the end of the lease
+  pub confirmed : (done : List Exchange) (reading : ℕ) → Going s before done slot.0 c → reading < c.until → IsConfirmed s (log_on before command (clock reading ∷ done)) slot.0
+  confirmed done reading going' below =
+      record { reading = reading; until = c.until; last = (done, refl); held = (c.claim, (going-clock s before done reading slot.0 c going').held); below = below }
+
+  -- a reading has reached it
+  pub lost-late : (done : List Exchange) (reading n : ℕ) → Going s before done slot.0 c → c.until ≤ reading →
+      Right s before command (clock reading ∷ done) (lost s known (record { lease = image_lease slot.0; until = c.until }) reading) n
+  lost-late done reading n going' past =
+      let after = going-clock s before done reading slot.0 c going' in
+      subst (λ (name : LeaseName). Right s before command (clock reading ∷ done) (ends (reply.Lost name c.until reading) (nothing_known known.claims)) n) (sym (lease-name s.geometry slot.0 within)) (
+        replied-fine s before command c.reading fine (clock reading ∷ done) after.first (reply.Lost (lease.Image slot) c.until reading)
+            (replies.reached slot (of_clock (done, refl))
+            (going (names-own command slot.0 one) (holdings.held c.claim after.held)) past (λ other until' is le. alone other until' is)),
+        rests-lost s before command (clock reading ∷ done) (lease.Image slot) c.until reading known.claims (let b = after.begun in omega arith),
+      )
+    where
+      alone : (other until' : ℕ) → IsInUse s (log_on before command (clock reading ∷ done)) other until' → IsNamedFirst slot.0 c.until other until'
+      alone other until' (going named is) =
+          let same = names-only command slot.0 one other named in
+          let here = subst (λ o. IsUntil until' (hold_of s before (clock reading ∷ done) (image_lease o))) same is in
+          inr (one-until c.claim c.until until' _ (going-clock s before done reading slot.0 c going').held here, omega arith)
+      alone other until' (unread claim bytes r older named last waited none gone) =
+          let same = names-only command slot.0 one other named in
+          let e : Held c.claim c.until ≡ Nothing =
+          sym (going-clock s before done reading slot.0 c going').held ∙ subst (λ o. hold_of s before (clock reading ∷ done) (image_lease o) ≡ Nothing) same gone in
+          absurd (let P : ⊥ = cc in P)
+
+  -- a reply after one more reading
+  pub asks-confirm : (done : List Exchange) (r : Reply) (next : Known) (n : ℕ) → Going s before done slot.0 c →
+      ((reading : ℕ) → reading < c.until → Going s before (clock reading ∷ done) slot.0 c → IsConfirmed s (log_on before command (clock reading ∷ done)) slot.0 →
+      Comes s (log_on before command (clock reading ∷ done)) r × Rests s (finish command (clock reading ∷ done) r ∷ before) next) →
+      Right s before command done (ends_in_time s known (image_use slot.0 c.until) r next) (suc n)
+  asks-confirm done r next n going' right = (
+    (going'.went, tt),
+    λ reading small. by-time (λ part. Right s before command (clock reading ∷ done) part n) s known slot.0 c.until reading (ends r next)
+        (λ past. lost-late done reading n going' past)
+        (λ below.
+        let after = going-clock s before done reading slot.0 c going' in
+        let both = right reading below after (confirmed done reading going' below) in
+        (replied-fine s before command c.reading fine (clock reading ∷ done) after.first r both.0, both.1)),
+  )

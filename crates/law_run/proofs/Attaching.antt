@@ -1,0 +1,359 @@
+-- Attaches, from the held lease on.
+use Rattle.std.proofs.Common.{◌≡◌, ℕ, zero, suc, ◌+◌, ◌<◌, List, [], ◌∷◌, Bool, true, false, Option, Some, None, refl, ap, sym, subst, ◌∙◌, arith, inl, inr, ◌⊎◌}
+use Rattle.std.specs.Prelude.{if◌then◌else◌, nat_lt}
+use Rattle.plx_base.specs.declared.numbers.SlotNo.{SlotNo}
+use Rattle.plx_commands.specs.declared.command.Command.TheVariants.{Attach}
+use Rattle.plx_commands.specs.declared.reply.Reply.{Reply}
+use Rattle.plx_commands.specs.declared.reply.Reply.TheVariants as reply
+use Rattle.plx_disk.specs.declared.ask.Ask.TheVariants as ask
+use Rattle.plx_disk.specs.declared.ask.Answer.TheVariants as answer
+use Rattle.plx_gate.specs.Descriptors.{read_descriptor}
+use Rattle.plx_gate.specs.Images.{read_image}
+use Rattle.plx_gate.specs.declared.descriptor.Descriptor.{Descriptor}
+use Rattle.plx_gate.specs.declared.image.ImageRecord.{ImageRecord}
+use Rattle.plx_geom.specs.Geometry.{Geometry, lease_count, image_lease, record_at, descriptor_at, data_at}
+use Rattle.plx_geom.proofs.Places.{record-record, record-log, record-descriptor, record-data, log-descriptor, descriptor-descriptor, data-descriptor}
+use Rattle.plx_rules.specs.Part.{Part}
+use Rattle.plx_rules.specs.declared.journaled.Journaled.{Journaled}
+use Rattle.plx_worlds.specs.Attaching.{image_use, attach_ends, after_load, load_journal, after_record, load_image}
+use Rattle.plx_worlds.specs.Ends.{End, read_then, damaged}
+use Rattle.plx_worlds.specs.Journal.{journal_slot, Finding, Outside, Unused, Counts, finding}
+use Rattle.plx_worlds.specs.Loading.{LoadEnd, gap_found, load_found, load_read, load_part}
+use Rattle.plx_worlds.specs.Parts.{followed_by}
+use Rattle.plx_worlds.specs.Records.{is_live, is_plain, size_of, applied_of, plain_record, attached_record}
+use Rattle.plx_worlds.specs.Session.{Session, Known, with_session, inserted, first_gap, session_report}
+use Rattle.plx_worlds.specs.Settings.{Setting}
+use Rattle.plx_worlds.specs.Stored.{Given, record_in, record_on, Stores}
+use Rattle.law_run.specs.CommandLogs.{Exchange, Finished, IsIn}
+use Rattle.law_run.specs.Holdings.{hold_of, is_lease_read, claims_in, claims_begun}
+use Rattle.plx_worlds.specs.Holds.{Held}
+use Rattle.law_run.specs.KnownBytes.{nothing_given, with_block, learnt, known_in}
+use Rattle.law_run.specs.Outside.{IsOutside, no_record, not_plain, no_descriptor, misplaced, past_size, past_gap}
+use Rattle.law_run.specs.Replies.{ReadRestsOn, of_record, of_log, of_descriptor, of_data}
+use Rattle.law_run.specs.Sessions.{attached_by, is_attached}
+use Rattle.law_run.proofs.Asking.{IsFine, replied-fine, asks-confirm}
+use Rattle.law_run.proofs.Counted.{eqb-isn't}
+use Rattle.law_run.proofs.Facts.{image_of, plain-parts, stores-session}
+use Rattle.law_run.proofs.Grown.{with-same, with-other, fits-empty}
+use Rattle.law_run.proofs.Holding.{at-same, at-other, first-more, claims-more, Spared, spared-more, Course, Going, going-more}
+use Rattle.law_run.proofs.Inserted.{gap-is}
+use Rattle.law_run.proofs.Loading.{Says, says, Loading, loads-first, loads-none, loads-write, loaded-fits, whole-spelled}
+use Rattle.law_run.proofs.Meets.{exchange, meets-more}
+use Rattle.law_run.proofs.OnImage.{NamesOne, names-own, names-other}
+use Rattle.law_run.proofs.Rests.{clash, KeepsHolds, rests-by}
+use Rattle.law_run.proofs.Right.{clock, descriptor_of, Fits, FitsAt, Rests, finish, log_on, May, Shows, Right}
+use Rattle.law_run.proofs.Tests.{nat_le-true, nat_le-false, lt-cases}
+
+-- two asks a slot
+abbrev pub twice : ℕ → ℕ
+twice zero = zero
+twice (suc n) = suc (suc (twice n))
+
+pub twice-is : (n : ℕ) → twice n ≡ n + n
+twice-is zero = refl
+twice-is (suc n) = let e = twice-is n in omega arith
+
+pub attach-one : (slot : SlotNo) → NamesOne (Attach slot) slot.0
+attach-one slot = λ other. refl
+
+-- a read past the leases begins no claim
+pub no-claim : (g : Geometry) (block : ℕ) → lease_count g < block → is_lease_read g (ask.Read (record { 0 = block })) ≡ false
+no-claim g block past = rw (nat_le-true 1 block (omega arith), nat_le-false block (lease_count g) past) refl
+
+-- what a record that can't be attached is
+bad-record : (bytes : List ℕ) (found : Option ImageRecord) → read_image bytes ≡ found → plain_record found ≡ None →
+    (read_image bytes ≡ None) ⊎ ((kept : ImageRecord) × (read_image bytes ≡ Some kept) × (is_plain kept ≡ false))
+bad-record bytes None is bad = inl is
+bad-record bytes (Some kept) is bad = by-plain (is_plain kept) refl bad
+  where
+    by-plain : (plain : Bool) → is_plain kept ≡ plain → (if plain then Some kept else None) ≡ None →
+        (read_image bytes ≡ None) ⊎ ((k : ImageRecord) × (read_image bytes ≡ Some k) × (is_plain k ≡ false))
+    by-plain true e b = absurd (let P : ⊥ = cc in P)
+    by-plain false e b = inr (kept, is, e)
+
+good-record : (found : Option ImageRecord) (kept : ImageRecord) → plain_record found ≡ Some kept → (found ≡ Some kept) × (is_plain kept ≡ true)
+good-record None kept is = absurd (let P : ⊥ = cc in P)
+good-record (Some other) kept is = by-plain (is_plain other) refl is
+  where
+    by-plain : (plain : Bool) → is_plain other ≡ plain → (if plain then Some other else None) ≡ Some kept → (Some other ≡ Some kept) × (is_plain kept ≡ true)
+    by-plain true e b = (b, (let same : kept ≡ other = cc in ap is_plain same ∙ e))
+    by-plain false e b = absurd (let P : ⊥ = cc in P)
+
+-- a descriptor that is found outside the format
+outside-found : (g : Geometry) (given : Given) (image : ℕ) (kept : ImageRecord) (slot : ℕ) (bytes : List ℕ) → slot < g.slots → record_on g given image ≡ Some kept →
+    Says kept g.slots slot (read_descriptor bytes) Outside → IsOutside g given image (descriptor_at g image slot) bytes
+outside-found g given image kept slot bytes within found (inl none) = no_descriptor slot within refl none
+outside-found g given image kept slot bytes within found (inr (d, is, unapplied, inl elsewhere)) =
+    misplaced kept slot d within refl found is unapplied (eqb-isn't (journal_slot g.slots d.number) slot elsewhere)
+outside-found g given image kept slot bytes within found (inr (d, is, unapplied, inr past)) =
+    past_size kept slot d within refl found is unapplied (elim (lt-cases d.vblock (size_of kept)) [
+      | inl below ↦ absurd (clash (nat_lt d.vblock (size_of kept)) below.0 past)
+      | inr above ↦ above.1
+    ])
+
+no-session : (s : Setting) (before : List Finished) (image : ℕ) → is_attached before image ≡ false → (found : Option Session) → FitsAt s before image found → found ≡ None
+no-session s before image missing None fits = refl
+no-session s before image missing (Some session) fits = absurd (clash (is_attached before image) fits.0 missing)
+
+-- a reply of an attach that begins no session
+pub unattached-by : (s : Setting) (before : List Finished) (known next : Known) (slot : SlotNo) → is_attached before slot.0 ≡ false → ((image : ℕ) → next.sessions image ≡ known.sessions image) →
+    Rests s before known → (done : List Exchange) (r : Reply) → ((other : ℕ) (b : Bool) → attached_by r (Attach slot) other b ≡ b) → KeepsHolds r → Spared s before done slot.0 →
+    next.claims ≡ claims_in s.geometry done + claims_begun s.geometry before → Rests s (finish (Attach slot) done r ∷ before) next
+unattached-by s before known next slot missing same rests done r none keeps spared claims =
+    rests-by s before (Attach slot) done r known next slot.0 (names-other (Attach slot) slot.0 (attach-one slot)) (λ other apart. same other) (λ other b apart. none other b) keeps spared
+    (subst (λ o. FitsAt s (finish (Attach slot) done r ∷ before) slot.0 o) (sym (same slot.0 ∙ no-session s before slot.0 missing (known.sessions slot.0) (rests.sessions slot.0)))
+    (none slot.0 (is_attached before slot.0) ∙ missing)) claims rests
+
+-- an attach that holds the lease of its image
+module _ (s : Setting) (before : List Finished) (known next : Known) (slot : SlotNo) (c : Course) (within : slot.0 < s.geometry.images) (missing : is_attached before slot.0 ≡ false)
+    (fine : IsFine s before (Attach slot) c.reading) (claims : next.claims ≡ c.begun + claims_begun s.geometry before) (same : (image : ℕ) → next.sessions image ≡ known.sessions image)
+    (rests : Rests s before known) where
+  -- what is known of the image
+  abbrev told_now : List Exchange → Given
+  told_now done = learnt s.geometry slot.0 (Attach slot) done nothing_given
+
+  known-now : (done : List Exchange) → known_in s.geometry (log_on before (Attach slot) done) slot.0 ≡ learnt s.geometry slot.0 (Attach slot) done nothing_given
+  known-now done = rw (names-own (Attach slot) slot.0 (attach-one slot), missing) refl
+
+  -- a reply that begins no session
+  pub unattached : (done : List Exchange) (r : Reply) → ((other : ℕ) (b : Bool) → attached_by r (Attach slot) other b ≡ b) → KeepsHolds r → Going s before done slot.0 c →
+      Rests s (finish (Attach slot) done r ∷ before) next
+  unattached done r none keeps going =
+      unattached-by s before known next slot missing same rests done r none keeps going.spared (let b = going.begun in omega arith)
+
+  -- after a read past the leases
+  going-bytes : (done : List Exchange) (block : ℕ) (bytes : List ℕ) → lease_count s.geometry < block → Going s before done slot.0 c →
+      Going s before (exchange (ask.Read (record { 0 = block })) [] (answer.Bytes bytes) ∷ done) slot.0 c
+  going-bytes done block bytes past going =
+      going-more s before done (exchange (ask.Read (record { 0 = block })) [] (answer.Bytes bytes)) slot.0 c tt (λ other apart. tt) (no-claim s.geometry block past) tt going
+
+  -- a read past the leases, which may fail
+  pub asks-read : (done : List Exchange) (block : ℕ) (rest : List ℕ → Part End) (n : ℕ) → lease_count s.geometry < block → Going s before done slot.0 c →
+      ((bytes : List ℕ) → Going s before (exchange (ask.Read (record { 0 = block })) [] (answer.Bytes bytes) ∷ done) slot.0 c →
+      Right s before (Attach slot) (exchange (ask.Read (record { 0 = block })) [] (answer.Bytes bytes) ∷ done) (rest bytes) n) →
+      Right s before (Attach slot) done (read_then block next rest) (suc n)
+  asks-read done block rest n past going right = (
+    (going.went, tt),
+    λ bytes long. right bytes (going-bytes done block bytes past going),
+    (
+        let x = exchange (ask.Read (record { 0 = block })) [] answer.Fault in (
+          replied-fine s before (Attach slot) c.reading fine (x ∷ done) (first-more done x c.reading going.first) (reply.ReadFault (record { 0 = block })) (done, refl),
+          unattached-by s before known next slot missing same rests (x ∷ done) (reply.ReadFault (record { 0 = block })) (λ other b. refl) (λ h. refl)
+              (spared-more s before done x slot.0 going.has (λ other apart. tt) going.spared)
+              (let more = claims-more s.geometry done x going.has (no-claim s.geometry block past) in let b = going.begun in omega arith),
+        )
+        ),
+  )
+
+  -- bytes outside the format, of a block whose reads rest on the lease of the image alone
+  right-damaged : (done : List Exchange) (block : ℕ) (bytes : List ℕ) → Going s before done slot.0 c →
+      IsIn (exchange (ask.Read (record { 0 = block })) [] (answer.Bytes bytes)) done → IsOutside s.geometry (learnt s.geometry slot.0 (Attach slot) done nothing_given) slot.0 block bytes →
+      ((other : ℕ) → other < s.geometry.images → ReadRestsOn s.geometry block other → other ≡ slot.0) → (n : ℕ) →
+      Right s before (Attach slot) done (damaged s next (image_use slot.0 c.until) block) (suc n)
+  right-damaged done block bytes going read outside own n =
+      asks-confirm s before next (Attach slot) slot c (attach-one slot) within fine claims done (reply.Damaged (record { 0 = block })) next n going
+      (λ reading early after confirmed. (
+        record {
+          image = slot.0;
+          named = names-own (Attach slot) slot.0 (attach-one slot);
+          bytes = bytes;
+          reading = reading;
+          read = inr read;
+          outside = subst (λ (g : Given). IsOutside s.geometry g slot.0 block bytes) (sym (known-now (clock reading ∷ done))) outside;
+          last = (done, refl);
+          below = λ other less rests'. (
+              let is = own other less rests' in
+              (c.until, (c.claim, subst (λ o. hold_of s before (clock reading ∷ done) (image_lease o) ≡ Held c.claim c.until) (sym is) after.held), early));
+        },
+        unattached (clock reading ∷ done) (reply.Damaged (record { 0 = block })) (λ other b. refl) (λ h. refl) after,
+      ))
+
+  -- the attach ends with a session
+  right-ends : (done : List Exchange) (session : Session) → Going s before done slot.0 c → Fits s.geometry (learnt s.geometry slot.0 (Attach slot) done nothing_given) slot.0 session → (n : ℕ) →
+      Right s before (Attach slot) done (attach_ends s next slot.0 c.until session) (suc n)
+  right-ends done session going fits n =
+      let r = reply.Attached (session_report session) in
+      let more = with_session next slot.0 (Some session) in
+      asks-confirm s before next (Attach slot) slot c (attach-one slot) within fine claims done r more n going
+      (λ reading early after confirmed.
+      let here = known-now (clock reading ∷ done) in (
+        record {
+          slot = slot;
+          command = refl;
+          confirmed = confirmed;
+          image = image_of session;
+          stores = subst (λ (g : Given). Stores s.geometry g slot.0 (image_of session)) (sym here)
+              (stores-session s.geometry (learnt s.geometry slot.0 (Attach slot) done nothing_given) slot.0 session fits);
+          whole = (plain-parts session.image fits.plain).0;
+          told = refl;
+        },
+        rests-by s before (Attach slot) (clock reading ∷ done) r known more slot.0 (names-other (Attach slot) slot.0 (attach-one slot))
+            (λ other apart. at-other next.sessions slot.0 (Some session) other apart ∙ same other) (λ other b apart. rw (names-other (Attach slot) slot.0 (attach-one slot) other apart) refl) (λ h. refl)
+            after.spared
+            (subst (λ o. FitsAt s (finish (Attach slot) (clock reading ∷ done) r ∷ before) slot.0 o) (sym (at-same next.sessions slot.0 (Some session)))
+            (rw (names-own (Attach slot) slot.0 (attach-one slot)) refl, subst (λ (g : Given). Fits s.geometry g slot.0 session) (sym here) fits, (c.claim, c.until, after.held)))
+            (let b = after.begun in omega arith) rests,
+      ))
+
+  -- ---- the journal
+
+  own-descriptor : (place : ℕ) → place < s.geometry.slots → (other : ℕ) → other < s.geometry.images → ReadRestsOn s.geometry (descriptor_at s.geometry slot.0 place) other → other ≡ slot.0
+  own-descriptor place below other less (of_record is) = absurd (record-descriptor s.geometry other slot.0 place less (sym is))
+  own-descriptor place below other less (of_log is) = absurd (log-descriptor s.geometry other slot.0 place less (sym is))
+  own-descriptor place below other less (of_descriptor t lt is) = sym (descriptor-descriptor s.geometry slot.0 other place t below lt is)
+  own-descriptor place below other less (of_data t lt is) = absurd (data-descriptor s.geometry other slot.0 t place (sym is))
+
+  module _ (kept : ImageRecord) (plain : is_plain kept ≡ true) where
+    abbrev after : LoadEnd → Part End
+    after = after_load s next slot.0 c.until kept
+
+    -- all slots were read
+    all-read : (done : List Exchange) (writes : List Journaled) → Going s before done slot.0 c →
+        Loading s.geometry (learnt s.geometry slot.0 (Attach slot) done nothing_given) slot.0 kept s.geometry.slots writes done → (gap : Option ℕ) → first_gap (applied_of kept) writes ≡ gap →
+        Right s before (Attach slot) done (after_load s next slot.0 c.until kept (gap_found s.geometry slot.0 writes gap)) 1
+    all-read done writes going l None follows =
+        right-ends done (record { image = kept; writes = writes }) going
+        (loaded-fits s.geometry (learnt s.geometry slot.0 (Attach slot) done nothing_given) slot.0 kept writes done within plain l follows) 0
+    all-read done writes going l (Some number) follows =
+        let g = s.geometry in
+        let gap = gap-is (applied_of kept) writes number l.ascending follows in
+        let at = ap (journal_slot g.slots) gap.is in
+        let below : journal_slot g.slots number < g.slots = (let b = l.below gap.write gap.has in omega arith) in
+        let read = l.was_read (journal_slot g.slots number) below in
+        right-damaged done (descriptor_at g slot.0 (journal_slot g.slots number)) read.0 going read.1
+        (past_gap kept (journal_slot g.slots gap.write.number) (descriptor_of kept gap.write) gap.missing (ap (descriptor_at g slot.0) (sym at)) l.found (l.counts gap.write gap.has)
+        (record {
+          above = gap.above;
+          absent = λ other d counts same'. (
+              let o = l.only other d counts in
+              let n = ap (λ (e : Descriptor). e.number) o.2 in
+              let low = gap.least o.0 o.1 (omega arith) in
+              let high = gap.below in
+              omega arith);
+          there = λ n above under. (let w = gap.there n above under in (journal_slot g.slots w.0.number, descriptor_of kept w.0, l.counts w.0 w.1, w.2));
+        })
+        (let b = gap.below in let i = gap.is in omega arith)
+        (λ other e counts more. (
+        let o = l.only other e counts in
+        let n = ap (λ (d : Descriptor). d.number) o.2 in
+        let least = gap.least o.0 o.1 (omega arith) in
+        let i = gap.is in
+        omega arith)))
+        (own-descriptor (journal_slot g.slots number) below) 0
+
+    loads : (left place : ℕ) (done : List Exchange) (writes : List Journaled) → left + place ≡ s.geometry.slots → Going s before done slot.0 c →
+        Loading s.geometry (learnt s.geometry slot.0 (Attach slot) done nothing_given) slot.0 kept place writes done →
+        Right s before (Attach slot) done (followed_by (load_part s.geometry slot.0 kept left place writes) (after_load s next slot.0 c.until kept)) (suc (twice left))
+    loads zero place done writes all going l =
+        let e : place ≡ s.geometry.slots = omega arith in
+        all-read done writes going (subst (λ p. Loading s.geometry (learnt s.geometry slot.0 (Attach slot) done nothing_given) slot.0 kept p writes done) e l) (first_gap (applied_of kept) writes) refl
+    loads (suc left) place done writes all going l =
+        let g = s.geometry in
+        let block = descriptor_at g slot.0 place in
+        let room : place < g.slots = omega arith in
+        let given = learnt g slot.0 (Attach slot) done nothing_given in
+        asks-read done block _ (suc (suc (twice left))) (omega arith) going
+        (λ bytes going1.
+        let done1 = exchange (ask.Read (record { 0 = block })) [] (answer.Bytes bytes) ∷ done in
+        by-finding bytes going1 (finding kept g.slots place bytes) (says kept g.slots place (read_descriptor bytes))
+        (λ none. loads left (place + 1) done1 writes (omega arith) going1 none)
+        (λ d data' going2 counts. loads left (place + 1) (exchange (ask.Read (record { 0 = data_at g slot.0 place })) [] (answer.Bytes data') ∷ done1)
+        (inserted (record { number = d.number; vblock = d.vblock; block = data' }) writes) (omega arith) going2 counts))
+      where
+        by-finding : (bytes : List ℕ) → Going s before (exchange (ask.Read (record { 0 = descriptor_at s.geometry slot.0 place })) [] (answer.Bytes bytes) ∷ done) slot.0 c → (f : Finding) →
+            Says kept s.geometry.slots place (read_descriptor bytes) f →
+            (Loading s.geometry (learnt s.geometry slot.0 (Attach slot) (exchange (ask.Read (record { 0 = descriptor_at s.geometry slot.0 place })) [] (answer.Bytes bytes) ∷ done) nothing_given) slot.0 kept
+            (place + 1) writes (exchange (ask.Read (record { 0 = descriptor_at s.geometry slot.0 place })) [] (answer.Bytes bytes) ∷ done) →
+            Right s before (Attach slot) (exchange (ask.Read (record { 0 = descriptor_at s.geometry slot.0 place })) [] (answer.Bytes bytes) ∷ done)
+            (followed_by (load_part s.geometry slot.0 kept left (place + 1) writes) (after_load s next slot.0 c.until kept)) (suc (twice left))) →
+            ((d : Descriptor) (data' : List ℕ) →
+            Going s before (exchange (ask.Read (record { 0 = data_at s.geometry slot.0 place })) [] (answer.Bytes data')
+            ∷ exchange (ask.Read (record { 0 = descriptor_at s.geometry slot.0 place })) [] (answer.Bytes bytes) ∷ done) slot.0 c →
+            Loading s.geometry (learnt s.geometry slot.0 (Attach slot) (exchange (ask.Read (record { 0 = data_at s.geometry slot.0 place })) [] (answer.Bytes data')
+            ∷ exchange (ask.Read (record { 0 = descriptor_at s.geometry slot.0 place })) [] (answer.Bytes bytes) ∷ done) nothing_given) slot.0 kept (place + 1)
+            (inserted (record { number = d.number; vblock = d.vblock; block = data' }) writes)
+            (exchange (ask.Read (record { 0 = data_at s.geometry slot.0 place })) [] (answer.Bytes data')
+            ∷ exchange (ask.Read (record { 0 = descriptor_at s.geometry slot.0 place })) [] (answer.Bytes bytes) ∷ done) →
+            Right s before (Attach slot) (exchange (ask.Read (record { 0 = data_at s.geometry slot.0 place })) [] (answer.Bytes data')
+            ∷ exchange (ask.Read (record { 0 = descriptor_at s.geometry slot.0 place })) [] (answer.Bytes bytes) ∷ done)
+            (followed_by (load_part s.geometry slot.0 kept left (place + 1) (inserted (record { number = d.number; vblock = d.vblock; block = data' }) writes)) (after_load s next slot.0 c.until kept))
+            (suc (twice left))) →
+            Right s before (Attach slot) (exchange (ask.Read (record { 0 = descriptor_at s.geometry slot.0 place })) [] (answer.Bytes bytes) ∷ done)
+            (followed_by (load_found (descriptor_at s.geometry slot.0 place) f (load_part s.geometry slot.0 kept left (place + 1) writes)
+            (λ number vblock. load_read (data_at s.geometry slot.0 place) (λ data'.
+            load_part s.geometry slot.0 kept left (place + 1) (inserted (record { number = number; vblock = vblock; block = data' }) writes)))) (after_load s next slot.0 c.until kept))
+            (suc (suc (twice left)))
+        by-finding bytes going1 Outside says' none counts =
+            let g = s.geometry in
+            let room : place < g.slots = omega arith in
+            let done1 = exchange (ask.Read (record { 0 = descriptor_at g slot.0 place })) [] (answer.Bytes bytes) ∷ done in
+            let given1 = with_block (learnt g slot.0 (Attach slot) done nothing_given) (descriptor_at g slot.0 place) bytes in
+            let found : record_on g given1 slot.0 ≡ Some kept =
+            ap record_in (with-other (learnt g slot.0 (Attach slot) done nothing_given) (descriptor_at g slot.0 place) bytes (record_at g slot.0) (record-descriptor g slot.0 slot.0 place within)) ∙ l.found in
+            right-damaged done1 (descriptor_at g slot.0 place) bytes going1 (inl refl)
+            (outside-found g given1 slot.0 kept place bytes room found says') (own-descriptor place room) (suc (twice left))
+        by-finding bytes going1 Unused says' none counts =
+            let g = s.geometry in
+            let done1 = exchange (ask.Read (record { 0 = descriptor_at g slot.0 place })) [] (answer.Bytes bytes) ∷ done in
+            let whole = whole-spelled bytes says'.1.0 says'.1.1 in
+            meets-more (May s before (Attach slot)) (Shows s before (Attach slot)) (followed_by (load_part g slot.0 kept left (place + 1) writes) (after_load s next slot.0 c.until kept)) done1 (suc (twice left))
+            (none (loads-none g (learnt g slot.0 (Attach slot) done nothing_given) slot.0 kept place writes done l within (omega arith) bytes whole says'.0))
+        by-finding bytes going1 (Counts d) says' none counts =
+            let g = s.geometry in
+            let done1 = exchange (ask.Read (record { 0 = descriptor_at g slot.0 place })) [] (answer.Bytes bytes) ∷ done in
+            let whole = whole-spelled bytes (Some d) says'.1 in
+            asks-read done1 (data_at g slot.0 place) _ (suc (twice left)) (omega arith) going1
+            (λ data' going2. counts d data' going2
+            (loads-write g (learnt g slot.0 (Attach slot) done nothing_given) slot.0 kept place writes done l within (omega arith) bytes whole d says'.0 data'))
+
+  -- ---- the record
+
+  own-record : (other : ℕ) → other < s.geometry.images → ReadRestsOn s.geometry (record_at s.geometry slot.0) other → other ≡ slot.0
+  own-record other less (of_record is) = sym (record-record s.geometry slot.0 other is)
+  own-record other less (of_log is) = absurd (record-log s.geometry slot.0 other within is)
+  own-record other less (of_descriptor t lt is) = absurd (record-descriptor s.geometry slot.0 other t within is)
+  own-record other less (of_data t lt is) = absurd (record-data s.geometry slot.0 other t within is)
+
+  -- the record is read, and then the journal of a live image
+  pub right-load : (done : List Exchange) → Going s before done slot.0 c →
+      ((place : ℕ) → learnt s.geometry slot.0 (Attach slot) done nothing_given (descriptor_at s.geometry slot.0 place) ≡ None) →
+      Right s before (Attach slot) done (load_image s next slot.0 c.until) (suc (suc (twice s.geometry.slots)))
+  right-load done going unknown =
+      let g = s.geometry in
+      asks-read done (record_at g slot.0) _ (suc (twice g.slots)) (omega arith) going
+      (λ bytes going1. by-record bytes going1 (attached_record bytes) refl)
+    where
+      record-now : (bytes : List ℕ) (kept : ImageRecord) → read_image bytes ≡ Some kept →
+          record_on s.geometry (with_block (learnt s.geometry slot.0 (Attach slot) done nothing_given) (record_at s.geometry slot.0) bytes) slot.0 ≡ Some kept
+      record-now bytes kept found = ap record_in (with-same (learnt s.geometry slot.0 (Attach slot) done nothing_given) (record_at s.geometry slot.0) bytes) ∙ found
+
+      journal-unknown : (bytes : List ℕ) (place : ℕ) →
+          with_block (learnt s.geometry slot.0 (Attach slot) done nothing_given) (record_at s.geometry slot.0) bytes (descriptor_at s.geometry slot.0 place) ≡ None
+      journal-unknown bytes place =
+          with-other (learnt s.geometry slot.0 (Attach slot) done nothing_given) (record_at s.geometry slot.0) bytes (descriptor_at s.geometry slot.0 place)
+          (λ e. record-descriptor s.geometry slot.0 slot.0 place within (sym e)) ∙ unknown place
+
+      by-live : (bytes : List ℕ) (kept : ImageRecord) → is_plain kept ≡ true → Going s before (exchange (ask.Read (record { 0 = record_at s.geometry slot.0 })) [] (answer.Bytes bytes) ∷ done) slot.0 c →
+          read_image bytes ≡ Some kept → (live : Bool) → is_live kept ≡ live →
+          Right s before (Attach slot) (exchange (ask.Read (record { 0 = record_at s.geometry slot.0 })) [] (answer.Bytes bytes) ∷ done) (load_journal s next slot.0 c.until kept live) (suc (twice s.geometry.slots))
+      by-live bytes kept plain going1 found true is =
+          let g = s.geometry in
+          loads kept plain g.slots 0 (exchange (ask.Read (record { 0 = record_at g slot.0 })) [] (answer.Bytes bytes) ∷ done) [] (omega arith) going1
+          (loads-first g (with_block (learnt g slot.0 (Attach slot) done nothing_given) (record_at g slot.0) bytes) slot.0 kept
+          (exchange (ask.Read (record { 0 = record_at g slot.0 })) [] (answer.Bytes bytes) ∷ done) (record-now bytes kept found) (journal-unknown bytes))
+      by-live bytes kept plain going1 found false is =
+          let g = s.geometry in
+          right-ends (exchange (ask.Read (record { 0 = record_at g slot.0 })) [] (answer.Bytes bytes) ∷ done) (record { image = kept; writes = [] }) going1
+          (fits-empty g (with_block (learnt g slot.0 (Attach slot) done nothing_given) (record_at g slot.0) bytes) slot.0 kept within (record-now bytes kept found) plain (journal-unknown bytes)) (twice g.slots)
+
+      by-record : (bytes : List ℕ) → Going s before (exchange (ask.Read (record { 0 = record_at s.geometry slot.0 })) [] (answer.Bytes bytes) ∷ done) slot.0 c →
+          (found : Option ImageRecord) → attached_record bytes ≡ found →
+          Right s before (Attach slot) (exchange (ask.Read (record { 0 = record_at s.geometry slot.0 })) [] (answer.Bytes bytes) ∷ done) (after_record s next slot.0 c.until found) (suc (twice s.geometry.slots))
+      by-record bytes going1 None is =
+          right-damaged (exchange (ask.Read (record { 0 = record_at s.geometry slot.0 })) [] (answer.Bytes bytes) ∷ done) (record_at s.geometry slot.0) bytes going1 (inl refl)
+          (elim (bad-record bytes (read_image bytes) refl is) [
+            | inl none ↦ no_record refl none
+            | inr bad ↦ not_plain bad.0 refl bad.1 bad.2
+          ]) own-record (twice s.geometry.slots)
+      by-record bytes going1 (Some kept) is =
+          let good = good-record (read_image bytes) kept is in by-live bytes kept good.1 going1 good.0 (is_live kept) refl

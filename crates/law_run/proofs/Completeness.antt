@@ -1,0 +1,44 @@
+-- A reply that isn't the command's own Ok has a cause.
+use Rattle.std.proofs.Common.{◌≡◌, ◌⊎◌, inl, inr, true, refl, sym, subst}
+use Rattle.plx_commands.specs.Replies.{is_own}
+use Rattle.plx_commands.specs.declared.command.Command.{Command}
+use Rattle.plx_commands.specs.declared.reply.Reply.{Reply}
+use Rattle.plx_commands.specs.declared.reply.Reply.TheVariants as reply
+use Rattle.plx_worlds.specs.Settings.{Setting}
+use Rattle.law_run.specs.CommandLogs.{CommandLog}
+use Rattle.law_run.specs.Completeness.{HasCause, fact, failed, missed, reached, busy, outside, OkWithoutCause}
+use Rattle.law_run.specs.Replies.{Comes, IsReplied, refused, worked}
+use Rattle.law_run.specs.Replies as replies
+
+own : (command : Command) (is : Command) (r : Reply) → command ≡ is → is_own is r ≡ true → is_own command r ≡ true
+own command is r e mine = subst (λ c. is_own c r ≡ true) (sym e) mine
+
+of-work : (s : Setting) (log : CommandLog) (r : Reply) → Comes s log r → HasCause s log ⊎ (is_own log.command r ≡ true)
+of-work s log (reply.Attached report) comes = inr (own log.command _ (reply.Attached report) comes.command refl)
+of-work s log reply.Detached comes = inr (own log.command _ reply.Detached comes.command refl)
+of-work s log reply.Created comes = inr (own log.command _ reply.Created comes.command refl)
+of-work s log reply.Deleted comes = inr (own log.command _ reply.Deleted comes.command refl)
+of-work s log (reply.Data payload) comes = inr (own log.command _ (reply.Data payload) comes.command refl)
+of-work s log (reply.Written number) comes = inr (own log.command _ (reply.Written number) comes.command refl)
+of-work s log (reply.Flushed applied blocks) comes = absurd comes
+of-work s log reply.Reserved comes = absurd comes
+of-work s log reply.Renewed comes = inr (own log.command _ reply.Renewed comes.command refl)
+of-work s log reply.Retired comes = absurd comes
+of-work s log (reply.Reclaimed covered freed reads) comes = absurd comes
+of-work s log reply.NotAttached comes = absurd comes
+of-work s log reply.AlreadyAttached comes = absurd comes
+of-work s log reply.NoImage comes = absurd comes
+of-work s log reply.Exists comes = absurd comes
+of-work s log (reply.OutOfRange size) comes = absurd comes
+of-work s log (reply.Busy lease seen) comes = inl (busy lease seen comes)
+of-work s log (reply.Lost lease until reading) (replies.missed k b bytes was rests) = inl (missed _ bytes _ was)
+of-work s log (reply.Lost lease until reading) (replies.reached slot last used past first) = inl (reached slot.0 until reading last used past)
+of-work s log (reply.ReadFault b) comes = inl (failed _ _ comes)
+of-work s log (reply.WriteFault b) comes = inl (failed _ comes.2 comes.3)
+of-work s log reply.Full comes = absurd comes
+of-work s log (reply.Damaged b) comes = inl (outside comes.image b comes.bytes comes.named comes.read comes.outside)
+of-work s log (reply.WornOut count) comes = absurd comes
+
+pub ok-without-cause : OkWithoutCause
+ok-without-cause s log r (refused place once refuses first) = inl (fact place r refuses)
+ok-without-cause s log r (worked fine comes) = of-work s log r comes

@@ -1,0 +1,37 @@
+-- Work after work.
+use Rattle.std.proofs.Common.{◌≡◌, ℕ, zero, suc, ◌+◌, List, arith}
+use Rattle.plx_disk.specs.declared.ask.Ask.{Ask}
+use Rattle.plx_rules.specs.Part.{Part, Ends, ReadThen, WriteThen, ClockThen, UntilThen}
+use Rattle.plx_worlds.specs.Parts.{followed_by}
+use Rattle.law_run.specs.CommandLogs.{Exchange}
+use Rattle.law_run.proofs.Meets.{Meets, meets-more}
+
+-- so many answers and then so many
+abbrev pub both : ℕ → ℕ → ℕ
+both zero m = m
+both (suc n) m = suc (both n m)
+
+pub both-is : (n m : ℕ) → both n m ≡ n + m
+both-is zero m = omega arith
+both-is (suc n) m = let e = both-is n m in omega arith
+
+-- what is met with so many answers left is met with more
+pub meets-both : {F : Type 0} (May : List Exchange → Ask → List ℕ → Type 0) (Shows : List Exchange → F → Type 0) (part : Part F) (done : List Exchange) (n m : ℕ) →
+    Meets May Shows done part m → Meets May Shows done part (both n m)
+meets-both May Shows part done zero m meets = meets
+meets-both May Shows part done (suc n) m meets = meets-more May Shows part done (both n m) (meets-both May Shows part done n m meets)
+
+-- work after work: the first meets the rules, and at each of its ends the second does from the exchanges there on
+module _ {E F : Type 0} (May : List Exchange → Ask → List ℕ → Type 0) (Shows : List Exchange → F → Type 0) (next : E → Part F) (m : ℕ) where
+  pub meets-then : (part : Part E) (done : List Exchange) (n : ℕ) → Meets May (λ after end. Meets May Shows after (next end) m) done part n →
+      Meets May Shows done (followed_by part next) (both n m)
+  meets-then (Ends end) done n meets = meets-both May Shows (next end) done n m meets
+  meets-then (ReadThen block rest fault) done zero meets = absurd meets
+  meets-then (ReadThen block rest fault) done (suc n) meets = (meets.0, λ bytes long. meets-then (rest bytes) _ n (meets.1 bytes long), meets-then fault _ n meets.2)
+  meets-then (WriteThen kind block bytes guard then_done fault missed) done zero meets = absurd meets
+  meets-then (WriteThen kind block bytes guard then_done fault missed) done (suc n) meets =
+      (meets.0, meets-then then_done _ n meets.1, meets-then fault _ n meets.2, λ reading past small. meets-then (missed reading) _ n (meets.3 reading past small))
+  meets-then (ClockThen rest) done zero meets = absurd meets
+  meets-then (ClockThen rest) done (suc n) meets = (meets.0, λ reading small. meets-then (rest reading) _ n (meets.1 reading small))
+  meets-then (UntilThen from rest) done zero meets = absurd meets
+  meets-then (UntilThen from rest) done (suc n) meets = (meets.0, λ reading past small. meets-then (rest reading) _ n (meets.1 reading past small))

@@ -1,0 +1,128 @@
+-- Which asks a command may make.
+use Rattle.std.specs.Prelude.{◌≡◌, ◌+◌, ◌<◌, ℕ, List, [], ◌∷◌, length, drop, Option, Some, None, true}
+use Rattle.plx_base.specs.Blocks.{zeros}
+use Rattle.plx_base.specs.Payload.{bytes_of}
+use Rattle.plx_base.specs.declared.label.Label.{Label}
+use Rattle.plx_base.specs.declared.lease.Claim.{Claim}
+use Rattle.plx_base.specs.declared.lease.LeaseRecord.{LeaseRecord}
+use Rattle.plx_base.specs.declared.lease.LeaseRecord.TheVariants as lease_is
+use Rattle.plx_base.specs.declared.numbers.SlotNo.{SlotNo}
+use Rattle.plx_base.specs.declared.payload.Payload.{Payload}
+use Rattle.plx_base.specs.declared.write_kind.WriteKind.{WriteKind}
+use Rattle.plx_base.specs.declared.write_kind.WriteKind.TheVariants as kind
+use Rattle.plx_commands.specs.declared.command.Command.TheVariants.{Create, Delete, Write}
+use Rattle.plx_disk.specs.declared.ask.Ask.{Ask}
+use Rattle.plx_disk.specs.declared.ask.Ask.TheVariants as ask
+use Rattle.plx_disk.specs.declared.ask.Answer.{Answer}
+use Rattle.plx_disk.specs.declared.ask.Answer.TheVariants as answer
+use Rattle.plx_gate.specs.Descriptors.{descriptor_bytes}
+use Rattle.plx_gate.specs.Images.{image_bytes}
+use Rattle.plx_gate.specs.Leases.{lease_bytes, read_lease}
+use Rattle.plx_gate.specs.declared.descriptor.Descriptor.{Descriptor}
+use Rattle.plx_gate.specs.declared.image.ImageRecord.{ImageRecord}
+use Rattle.plx_gate.specs.declared.image.ImageRecord.TheVariants as image_is
+use Rattle.plx_geom.specs.Geometry.{lease_count, lease_at, record_at, descriptor_at, data_at}
+use Rattle.plx_worlds.specs.Commands.{later_of}
+use Rattle.plx_worlds.specs.Holds.{Wrote}
+use Rattle.plx_worlds.specs.Journal.{journal_slot}
+use Rattle.plx_worlds.specs.Records.{is_live, generation_of, made_record}
+use Rattle.plx_worlds.specs.Settings.{Setting}
+use Rattle.plx_worlds.specs.Stored.{Given, record_on, IsCounted, IsWriteCount}
+use Rattle.plx_worlds.specs.Times.{window, wait, term, is_expired}
+use Rattle.law_run.specs.CommandLogs.{Exchange, CommandLog, WasAnswered, first_reading}
+use Rattle.law_run.specs.Holdings.{hold_of, Holds, HoldsImage, claims_in, claims_begun}
+use Rattle.law_run.specs.KnownBytes.{known_in}
+use Rattle.law_run.specs.Sessions.{is_attached}
+
+-- the last two exchanges of a command were a reading of the clock and the read of a lease
+abbrev pub HasSampled : CommandLog → (lease sample : ℕ) → (bytes : List ℕ) → (older : List Exchange) → Type 0
+HasSampled log lease sample bytes older =
+    log.exchanges ≡ (record { ask = ask.Read (record { 0 = lease_at lease }); bytes = []; answer = answer.Bytes bytes })
+    ∷ (record { ask = ask.Clock; bytes = []; answer = answer.Reading sample }) ∷ older
+
+-- the write after the last one of an attached image, whose journal slot holds no write that counts
+pub record IsNext (s : Setting) (log : CommandLog) (image number : ℕ) : Type 0 where
+  pub attached : is_attached log.before image ≡ true
+  pub kept : ImageRecord
+  pub found : record_on s.geometry (known_in s.geometry log image) image ≡ Some kept
+  pub live : is_live kept ≡ true
+  pub count : ℕ
+  pub counts : IsWriteCount s.geometry (known_in s.geometry log image) image kept count
+  pub next : number ≡ count + 1
+  pub free : (d : Descriptor) → ¬ IsCounted s.geometry (known_in s.geometry log image) image kept (journal_slot s.geometry.slots number) d
+
+-- the bytes that are known of a block, or zeros where none are
+abbrev pub last_known : Option (List ℕ) → List ℕ
+last_known None = zeros
+last_known (Some bytes) = bytes
+
+-- new bytes of a block differ from the known ones in the first sector alone
+abbrev pub IsFirstSector : Given → (block : ℕ) → List ℕ → Type 0
+IsFirstSector given block bytes = drop 512 bytes ≡ drop 512 (last_known (given block))
+
+-- a write may be asked for, by its kind, with its block, its bytes and its guard
+pub data MayWrite (s : Setting) (log : CommandLog) : WriteKind → (block : ℕ) → (bytes : List ℕ) → (guard : ℕ) → Type 0 where
+  claim : {block : ℕ} {bytes : List ℕ} {guard : ℕ} (lease : ℕ) (claim : Claim) (seen : LeaseRecord) (read : List ℕ) (older : List Exchange) →
+      lease < lease_count s.geometry → block ≡ lease_at lease → HasSampled log lease claim.sample read older →
+      read_lease read ≡ Some seen → is_expired seen claim.sample ≡ true →
+      claim.boot.0 ≡ s.boot → claim.number ≡ claims_in s.geometry older + claims_begun s.geometry log.before →
+      bytes ≡ lease_bytes (lease_is.Claimed claim (claim.sample + term)) → drop 512 bytes ≡ drop 512 read → guard ≡ claim.sample + window →
+      MayWrite s log kind.Claim block bytes guard
+  renew : {block : ℕ} {bytes : List ℕ} {guard : ℕ} (lease : ℕ) (claim : Claim) (reading : ℕ) →
+      lease < lease_count s.geometry → block ≡ lease_at lease → Holds s log lease claim guard → first_reading log.exchanges ≡ Some reading →
+      bytes ≡ lease_bytes (lease_is.Claimed claim (later_of guard (reading + term))) → MayWrite s log kind.Renew block bytes guard
+  release : {block : ℕ} {bytes : List ℕ} {guard : ℕ} (lease : ℕ) (claim : Claim) →
+      lease < lease_count s.geometry → block ≡ lease_at lease → Holds s log lease claim guard →
+      bytes ≡ lease_bytes lease_is.Free → MayWrite s log kind.Release block bytes guard
+  record_of_create : {block : ℕ} {bytes : List ℕ} {guard : ℕ} (slot : SlotNo) (size : ℕ) (label : Label) (generation : ℕ) →
+      log.command ≡ Create slot size label → HoldsImage s log slot.0 guard → block ≡ record_at s.geometry slot.0 →
+      record_on s.geometry (known_in s.geometry log slot.0) slot.0 ≡ Some (image_is.Free generation) →
+      bytes ≡ image_bytes (made_record (generation + 1) size label) → IsFirstSector (known_in s.geometry log slot.0) block bytes →
+      MayWrite s log kind.Record block bytes guard
+  record_of_delete : {block : ℕ} {bytes : List ℕ} {guard : ℕ} (slot : SlotNo) (kept : ImageRecord) →
+      log.command ≡ Delete slot → HoldsImage s log slot.0 guard → block ≡ record_at s.geometry slot.0 →
+      record_on s.geometry (known_in s.geometry log slot.0) slot.0 ≡ Some kept → is_live kept ≡ true →
+      bytes ≡ image_bytes (image_is.Free (generation_of kept)) → IsFirstSector (known_in s.geometry log slot.0) block bytes →
+      MayWrite s log kind.Record block bytes guard
+  data_of_write : {block : ℕ} {bytes : List ℕ} {guard : ℕ} (slot : SlotNo) (vblock : ℕ) (payload : Payload) (number : ℕ) →
+      log.command ≡ Write slot vblock payload → HoldsImage s log slot.0 guard → IsNext s log slot.0 number →
+      block ≡ data_at s.geometry slot.0 (journal_slot s.geometry.slots number) → bytes ≡ bytes_of payload → length bytes ≡ 4096 →
+      MayWrite s log kind.JData block bytes guard
+  commit_of_write : {block : ℕ} {bytes : List ℕ} {guard : ℕ} (slot : SlotNo) (vblock : ℕ) (payload : Payload) (d : Descriptor) →
+      log.command ≡ Write slot vblock payload → HoldsImage s log slot.0 guard → (next : IsNext s log slot.0 d.number) →
+      block ≡ descriptor_at s.geometry slot.0 (journal_slot s.geometry.slots d.number) → bytes ≡ descriptor_bytes d →
+      d.vblock ≡ vblock → d.generation ≡ generation_of next.kept →
+      WasAnswered log (ask.Write kind.JData (record { 0 = data_at s.geometry slot.0 (journal_slot s.geometry.slots d.number) }) guard) (bytes_of payload) answer.Done →
+      IsFirstSector (known_in s.geometry log slot.0) block bytes → MayWrite s log kind.JCommit block bytes guard
+
+-- a wait may be asked for: from 601 ms after the sample of a claim that was written
+pub record MayWait (s : Setting) (log : CommandLog) (from : ℕ) : Type 0 where
+  pub lease : ℕ
+  pub claim : Claim
+  pub until : ℕ
+  pub wrote : hold_of s log.before log.exchanges lease ≡ Wrote claim until
+  pub after : from ≡ claim.sample + wait
+
+-- what an ask needs: a read and a reading nothing
+abbrev pub HasGrounds : Setting → CommandLog → Ask → (bytes : List ℕ) → Type 0
+HasGrounds s log (ask.Write kind block guard) bytes = MayWrite s log kind block.0 bytes guard
+HasGrounds s log (ask.Read block) bytes = Unit {0}
+HasGrounds s log ask.Clock bytes = Unit {0}
+HasGrounds s log (ask.Until from) bytes = MayWait s log from
+
+-- a command goes on after an answer: a fault and a missed write end it at once
+abbrev pub GoesOn : Answer → Type 0
+GoesOn (answer.Bytes bytes) = Unit {0}
+GoesOn answer.Done = Unit {0}
+GoesOn (answer.Reading reading) = Unit {0}
+GoesOn (answer.Missed reading) = ⊥
+GoesOn answer.Fault = ⊥
+
+-- it went on after each of these
+abbrev pub WentOn : List Exchange → Type 0
+WentOn [] = Unit {0}
+WentOn (exchange ∷ older) = GoesOn exchange.answer × WentOn older
+
+-- an ask is allowed: nothing before it ended the command, and it has what it needs
+abbrev pub MayAsk : Setting → CommandLog → Ask → (bytes : List ℕ) → Type 0
+MayAsk s log ask bytes = WentOn log.exchanges × HasGrounds s log ask bytes

@@ -1,0 +1,84 @@
+-- What a boot holds of each lease, and how many claims it began, by its commands.
+use Rattle.std.specs.Prelude.{◌≡◌, ◌+◌, ◌-◌, ℕ, List, [], ◌∷◌, Bool, true, false, ◌&&◌, nat_le, nat_lt, if◌then◌else◌}
+use Rattle.plx_base.specs.declared.lease.Claim.{Claim}
+use Rattle.plx_disk.specs.declared.ask.Ask.{Ask}
+use Rattle.plx_disk.specs.declared.ask.Ask.TheVariants as ask
+use Rattle.plx_disk.specs.declared.ask.Answer.{Answer}
+use Rattle.plx_disk.specs.declared.ask.Answer.TheVariants as answer
+use Rattle.plx_geom.specs.Geometry.{Geometry, lease_count, image_lease, lease_at}
+use Rattle.plx_worlds.specs.Holds.{Hold, Nothing, Wrote, Waited, Held, no_holds, after_answer, sample_of, after_reply}
+use Rattle.plx_worlds.specs.Settings.{Setting}
+use Rattle.law_run.specs.CommandLogs.{Exchange, Finished, CommandLog}
+use Rattle.law_run.specs.Sessions.{is_attached}
+
+-- whether a block is the lease of an attached image
+abbrev pub lease_attached : Geometry → (attached : ℕ → Bool) → (block : ℕ) → Bool
+lease_attached g attached block = if nat_le 2 block && nat_lt block (2 + g.images) then attached (block - 2) else false
+
+-- the first reading of a command drops a lease without a session that it has reached; and no claim of an earlier command goes on
+abbrev pub at_first : (attached : Bool) → (reading : ℕ) → Hold → Hold
+at_first false reading (Held claim until) = if nat_le until reading then Nothing else Held claim until
+at_first true reading (Held claim until) = Held claim until
+at_first attached reading other = Nothing
+
+-- what is held after the answer to a command's first ask
+abbrev pub after_first_answer : Geometry → (attached : ℕ → Bool) → Answer → (ℕ → Hold) → ℕ → Hold
+after_first_answer g attached (answer.Reading reading) holds = λ block. at_first (lease_attached g attached block) reading (holds block)
+after_first_answer g attached other holds = holds
+
+-- what is held after some exchanges of a command that began with these sessions and holdings, by the block of each lease
+abbrev pub holds_along : Geometry → (attached : ℕ → Bool) → (start : ℕ → Hold) → List Exchange → ℕ → Hold
+holds_along g attached start [] = start
+holds_along g attached start (exchange ∷ []) = after_first_answer g attached exchange.answer start
+holds_along g attached start (exchange ∷ last ∷ older) =
+    after_answer (sample_of last.answer) exchange.ask exchange.bytes exchange.answer (holds_along g attached start (last ∷ older))
+
+-- what is held after some commands
+abbrev pub holds_after : Geometry → List Finished → ℕ → Hold
+holds_after g [] = no_holds
+holds_after g (finished ∷ before) =
+    after_reply finished.reply (holds_along g (is_attached before) (holds_after g before) finished.exchanges)
+
+-- what is held of a lease after some exchanges of a command with those before it
+abbrev pub hold_of : Setting → List Finished → List Exchange → (lease : ℕ) → Hold
+hold_of s before exchanges lease = holds_along s.geometry (is_attached before) (holds_after s.geometry before) exchanges (lease_at lease)
+
+-- a lease is held until that moment, by this claim: its own record was read again in time
+abbrev pub Holds : Setting → CommandLog → (lease : ℕ) → Claim → (until : ℕ) → Type 0
+Holds s log lease claim until = hold_of s log.before log.exchanges lease ≡ Held claim until
+
+-- the lease of an image is held until that moment
+abbrev pub HoldsImage : Setting → CommandLog → (image until : ℕ) → Type 0
+HoldsImage s log image until = (claim : Claim) × Holds s log (image_lease image) claim until
+
+-- a claim was written, which may have waited, or the lease is held
+pub data IsUntil (until : ℕ) : Hold → Type 0 where
+  wrote : {hold : Hold} (claim : Claim) → hold ≡ Wrote claim until → IsUntil until hold
+  waited : {hold : Hold} (claim : Claim) → hold ≡ Waited claim until → IsUntil until hold
+  held : {hold : Hold} (claim : Claim) → hold ≡ Held claim until → IsUntil until hold
+
+-- whether an ask is the read of a lease
+abbrev pub is_lease_read : Geometry → Ask → Bool
+is_lease_read g (ask.Read block) = nat_le 1 block.0 && nat_le block.0 (lease_count g)
+is_lease_read g (ask.Write kind block guard) = false
+is_lease_read g ask.Clock = false
+is_lease_read g (ask.Until from) = false
+
+-- whether an ask is for the clock
+abbrev pub is_clock : Ask → Bool
+is_clock (ask.Read block) = false
+is_clock (ask.Write kind block guard) = false
+is_clock ask.Clock = true
+is_clock (ask.Until from) = false
+
+-- how many claims began in some exchanges: each asks the clock and then reads its lease
+abbrev pub claims_in : Geometry → List Exchange → ℕ
+claims_in g [] = 0
+claims_in g (exchange ∷ []) = 0
+claims_in g (exchange ∷ last ∷ older) =
+    (if is_lease_read g exchange.ask && is_clock last.ask then 1 else 0) + claims_in g (last ∷ older)
+
+-- how many claims a boot has begun in its commands
+abbrev pub claims_begun : Geometry → List Finished → ℕ
+claims_begun g [] = 0
+claims_begun g (finished ∷ before) = claims_in g finished.exchanges + claims_begun g before

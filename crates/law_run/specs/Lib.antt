@@ -1,0 +1,15 @@
+pub mod CommandLogs
+pub mod Sessions
+pub mod Holdings
+pub mod KnownBytes
+pub mod Changes
+pub mod AllowedAsks
+pub mod Bounds
+pub mod Outside
+pub mod Refusals
+pub mod Replies
+pub mod Completeness
+pub mod OneImage
+pub mod Rules
+pub mod Positions
+pub mod Worlds

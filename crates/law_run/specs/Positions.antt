@@ -1,0 +1,35 @@
+-- What a boot holds, and its sessions, by its commands and by where it stands.
+use Rattle.std.specs.Prelude.{◌≡◌, ℕ, List, is_some}
+use Rattle.plx_worlds.specs.Boot.{Happening, Place, Idle, Begins, In, Position, position, IsRun}
+use Rattle.plx_worlds.specs.Holds.{Hold}
+use Rattle.plx_worlds.specs.Session.{Known}
+use Rattle.plx_worlds.specs.Settings.{Setting}
+use Rattle.law_run.specs.CommandLogs.{Finished, Commands, Between, Within, commands}
+use Rattle.law_run.specs.Holdings.{holds_along, holds_after}
+use Rattle.law_run.specs.Rules.{IsSetting}
+use Rattle.law_run.specs.Sessions.{is_attached}
+
+-- the commands that have their replies
+abbrev pub finished_of : Commands → List Finished
+finished_of (Between before) = before
+finished_of (Within log) = log.before
+
+-- what a boot holds by its commands
+abbrev pub holds_by : Setting → Commands → ℕ → Hold
+holds_by s (Between before) = holds_after s.geometry before
+holds_by s (Within log) = holds_along s.geometry (is_attached log.before) (holds_after s.geometry log.before) log.exchanges
+
+-- what a boot knew as its last command began
+abbrev pub known_at : Place → Known
+known_at (Idle known) = known
+known_at (Begins known command) = known
+known_at (In known command part) = known
+
+-- leases and sessions by the commands are those by the order of asks
+pub record IsByCommands (s : Setting) (p : Position) (commands : Commands) : Type 0 where
+  pub holds : (block : ℕ) → p.holds block ≡ holds_by s commands block
+  pub attached : (image : ℕ) → is_some ((known_at p.place).sessions image) ≡ is_attached (finished_of commands) image
+
+-- of each run: what it holds, and which images have a session
+abbrev pub PositionsAgree : Type 0
+PositionsAgree = (s : Setting) (log : List Happening) → IsSetting s → IsRun s log → IsByCommands s (position s log) (commands s log)

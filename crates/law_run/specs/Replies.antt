@@ -1,0 +1,213 @@
+-- What the log of a command shows where its reply comes.
+use Rattle.std.specs.Prelude.{◌≡◌, ◌≢◌, ◌≤◌, ◌<◌, ◌+◌, ℕ, List, [], ◌∷◌, true, false, Some, None}
+use Rattle.plx_base.specs.Payload.{bytes_of}
+use Rattle.plx_base.specs.declared.label.Label.{Label}
+use Rattle.plx_base.specs.declared.lease.Claim.{Claim}
+use Rattle.plx_base.specs.declared.lease.LeaseName.{LeaseName}
+use Rattle.plx_base.specs.declared.lease.LeaseName.TheVariants as lease
+use Rattle.plx_base.specs.declared.lease.LeaseRecord.{LeaseRecord}
+use Rattle.plx_base.specs.declared.lease.LeaseRecord.TheVariants as lease_is
+use Rattle.plx_base.specs.declared.numbers.BlockNo.{BlockNo}
+use Rattle.plx_base.specs.declared.numbers.SlotNo.{SlotNo}
+use Rattle.plx_base.specs.declared.payload.Payload.{Payload}
+use Rattle.plx_base.specs.declared.write_kind.WriteKind.{WriteKind}
+use Rattle.plx_base.specs.declared.write_kind.WriteKind.TheVariants as kind
+use Rattle.plx_commands.specs.declared.command.Command.TheVariants.{Attach, Detach, Create, Delete, Read, Write, Renew}
+use Rattle.plx_commands.specs.declared.reply.Report.{Report}
+use Rattle.plx_commands.specs.declared.reply.Reply.{Reply}
+use Rattle.plx_commands.specs.declared.reply.Reply.TheVariants as reply
+use Rattle.plx_disk.specs.declared.ask.Ask.TheVariants as ask
+use Rattle.plx_disk.specs.declared.ask.Answer.TheVariants as answer
+use Rattle.plx_gate.specs.Leases.{lease_bytes, read_lease}
+use Rattle.plx_gate.specs.declared.image.ImageRecord.{ImageRecord}
+use Rattle.plx_geom.specs.Geometry.{Geometry, lease_count, lease_number, image_lease, lease_at, record_at, log_at, descriptor_at, data_at}
+use Rattle.plx_worlds.specs.Holds.{Nothing, Waited}
+use Rattle.plx_worlds.specs.Owners.{Needs}
+use Rattle.plx_worlds.specs.Settings.{Setting}
+use Rattle.plx_worlds.specs.Stored.{Holds, StoredImage, record_on, IsContent, Stores}
+use Rattle.plx_worlds.specs.Times.{is_expired}
+use Rattle.law_run.specs.AllowedAsks.{HasSampled}
+use Rattle.law_run.specs.Changes.{written_on, created_on, deleted_on, report_on}
+use Rattle.law_run.specs.CommandLogs.{Exchange, CommandLog, WasAnswered, EndsWith, LastAnswered}
+use Rattle.law_run.specs.Holdings as holdings
+use Rattle.law_run.specs.Holdings.{hold_of, HoldsImage, IsUntil}
+use Rattle.law_run.specs.KnownBytes.{known_in, known_before}
+use Rattle.law_run.specs.Outside.{IsOutside}
+use Rattle.law_run.specs.Refusals.{Refuses, IsNamedFirst}
+use Rattle.law_run.specs.Sessions.{names}
+
+-- ---- leases
+
+-- the last ask of a command was for the clock, whose reading is below the end of the lease of an image
+pub record IsConfirmed (s : Setting) (log : CommandLog) (image : ℕ) : Type 0 where
+  pub reading : ℕ
+  pub until : ℕ
+  pub last : LastAnswered log ask.Clock [] (answer.Reading reading)
+  pub held : HoldsImage s log image until
+  pub below : reading < until
+
+-- a lease on which a write rests: the one that its kind needs, or the one that it claims
+pub data RestsOn (g : Geometry) : WriteKind → (block : ℕ) → LeaseName → Type 0 where
+  of_need : {kind : WriteKind} {block : ℕ} {name : LeaseName} → Needs g kind block (lease_number g name) → RestsOn g kind block name
+  of_claim : {block : ℕ} {name : LeaseName} → block ≡ lease_at (lease_number g name) → RestsOn g kind.Claim block name
+
+-- a lease is in use until that moment: it is that of an image which the command names, and it is held, or its claim was written and goes on;
+-- or the claim has waited, and its reread showed bytes that are no lease, after which the clock was asked
+pub data IsInUse (s : Setting) (log : CommandLog) (image until : ℕ) : Type 0 where
+  going : names log.command image ≡ true → IsUntil until (hold_of s log.before log.exchanges (image_lease image)) → IsInUse s log image until
+  unread : (claim : Claim) (bytes : List ℕ) (reading : ℕ) (older : List Exchange) → names log.command image ≡ true →
+      log.exchanges ≡ (record { ask = ask.Clock; bytes = []; answer = answer.Reading reading })
+      ∷ (record { ask = ask.Read (record { 0 = lease_at (image_lease image) }); bytes = []; answer = answer.Bytes bytes }) ∷ older →
+      hold_of s log.before older (image_lease image) ≡ Waited claim until → read_lease bytes ≡ None →
+      hold_of s log.before log.exchanges (image_lease image) ≡ Nothing → IsInUse s log image until
+
+-- the last answer of a command was this reading
+pub data IsLastReading (log : CommandLog) (reading : ℕ) : Type 0 where
+  of_clock : LastAnswered log ask.Clock [] (answer.Reading reading) → IsLastReading log reading
+  of_wait : (from : ℕ) → LastAnswered log (ask.Until from) [] (answer.Reading reading) → IsLastReading log reading
+
+-- a lease is lost: a write that rests on it came too late for its guard; or a reading has reached its end while it was in use,
+-- and of several such leases it is the one to be named
+pub data WasLost (s : Setting) (log : CommandLog) : LeaseName → (until reading : ℕ) → Type 0 where
+  missed : {name : LeaseName} {until reading : ℕ} (kind : WriteKind) (block : BlockNo) (bytes : List ℕ) →
+      LastAnswered log (ask.Write kind block until) bytes (answer.Missed reading) → RestsOn s.geometry kind block.0 name → WasLost s log name until reading
+  reached : {until reading : ℕ} (slot : SlotNo) → IsLastReading log reading → IsInUse s log slot.0 until → until ≤ reading →
+      ((other other_until : ℕ) → IsInUse s log other other_until → other_until ≤ reading → IsNamedFirst slot.0 until other other_until) →
+      WasLost s log (lease.Image slot) until reading
+
+-- a lease is busy: a claim of this command read its record, which isn't expired for the claim's sample;
+-- or its reread, after the wait, showed a record that isn't the claim's own
+pub data WasBusy (s : Setting) (log : CommandLog) : LeaseName → LeaseRecord → Type 0 where
+  unexpired : {name : LeaseName} {seen : LeaseRecord} (sample : ℕ) (bytes : List ℕ) (older : List Exchange) →
+      HasSampled log (lease_number s.geometry name) sample bytes older → read_lease bytes ≡ Some seen → is_expired seen sample ≡ false → WasBusy s log name seen
+  taken : {name : LeaseName} {seen : LeaseRecord} (claim : Claim) (until : ℕ) (bytes : List ℕ) (older : List Exchange) →
+      EndsWith log.exchanges (ask.Read (record { 0 = lease_at (lease_number s.geometry name) })) [] (answer.Bytes bytes) older →
+      hold_of s log.before older (lease_number s.geometry name) ≡ Waited claim until →
+      read_lease bytes ≡ Some seen → seen ≢ lease_is.Claimed claim until → WasBusy s log name seen
+
+-- ---- bytes outside the format
+
+-- a read rests on the lease of an image: it is of the image's record, log or journal
+pub data ReadRestsOn (g : Geometry) (block image : ℕ) : Type 0 where
+  of_record : block ≡ record_at g image → ReadRestsOn g block image
+  of_log : block ≡ log_at g image → ReadRestsOn g block image
+  of_descriptor : (slot : ℕ) → slot < g.slots → block ≡ descriptor_at g image slot → ReadRestsOn g block image
+  of_data : (slot : ℕ) → slot < g.slots → block ≡ data_at g image slot → ReadRestsOn g block image
+
+-- the bytes read at a block are outside the format, and a later reading, the last ask, is below the end of each lease on which the read rested
+pub record WasDamaged (s : Setting) (log : CommandLog) (block : BlockNo) : Type 0 where
+  pub image : ℕ
+  pub named : names log.command image ≡ true
+  pub bytes : List ℕ
+  pub reading : ℕ
+  pub read : WasAnswered log (ask.Read block) [] (answer.Bytes bytes)
+  pub outside : IsOutside s.geometry (known_in s.geometry log image) image block.0 bytes
+  pub last : LastAnswered log ask.Clock [] (answer.Reading reading)
+  pub below : (other : ℕ) → other < s.geometry.images → ReadRestsOn s.geometry block.0 other → (until : ℕ) × HoldsImage s log other until × (reading < until)
+
+-- ---- the Ok of each command
+
+-- the image is attached: the report is that of the image that the known bytes store, which has no snapshots
+pub record ShowsImage (s : Setting) (log : CommandLog) (report : Report) : Type 0 where
+  pub slot : SlotNo
+  pub command : log.command ≡ Attach slot
+  pub confirmed : IsConfirmed s log slot.0
+  pub image : StoredImage
+  pub stores : Stores s.geometry (known_in s.geometry log slot.0) slot.0 image
+  pub whole : image.taken ≡ 0
+  pub told : report ≡ report_on image
+
+-- the image is detached: its lease is released
+pub record ShowsRelease (s : Setting) (log : CommandLog) : Type 0 where
+  pub slot : SlotNo
+  pub command : log.command ≡ Detach slot
+  pub guard : ℕ
+  pub released : LastAnswered log (ask.Write kind.Release (record { 0 = lease_at (image_lease slot.0) }) guard) (lease_bytes lease_is.Free) answer.Done
+
+-- an image is made: the known bytes store the new image, where they stored a free slot
+pub record ShowsCreate (s : Setting) (log : CommandLog) : Type 0 where
+  pub slot : SlotNo
+  pub size : ℕ
+  pub label : Label
+  pub command : log.command ≡ Create slot size label
+  pub confirmed : IsConfirmed s log slot.0
+  pub image : StoredImage
+  pub free : image.live ≡ false
+  pub before : Stores s.geometry (known_before s.geometry log slot.0) slot.0 image
+  pub after : Stores s.geometry (known_in s.geometry log slot.0) slot.0 (created_on image size label)
+
+-- an image is deleted: the known bytes store a free slot, where they stored the image
+pub record ShowsDelete (s : Setting) (log : CommandLog) : Type 0 where
+  pub slot : SlotNo
+  pub command : log.command ≡ Delete slot
+  pub confirmed : IsConfirmed s log slot.0
+  pub image : StoredImage
+  pub live : image.live ≡ true
+  pub before : Stores s.geometry (known_before s.geometry log slot.0) slot.0 image
+  pub after : Stores s.geometry (known_in s.geometry log slot.0) slot.0 (deleted_on image)
+
+-- data was given: it is the content that the known bytes store
+pub record ShowsContent (s : Setting) (log : CommandLog) (payload : Payload) : Type 0 where
+  pub slot : SlotNo
+  pub vblock : ℕ
+  pub command : log.command ≡ Read slot vblock
+  pub confirmed : IsConfirmed s log slot.0
+  pub kept : ImageRecord
+  pub found : record_on s.geometry (known_in s.geometry log slot.0) slot.0 ≡ Some kept
+  pub content : IsContent s.geometry (known_in s.geometry log slot.0) slot.0 kept vblock (Holds (bytes_of payload))
+
+-- a block was written: the known bytes store the image from before, changed by this write
+pub record ShowsWrite (s : Setting) (log : CommandLog) (number : ℕ) : Type 0 where
+  pub slot : SlotNo
+  pub vblock : ℕ
+  pub payload : Payload
+  pub command : log.command ≡ Write slot vblock payload
+  pub confirmed : IsConfirmed s log slot.0
+  pub image : StoredImage
+  pub before : Stores s.geometry (known_before s.geometry log slot.0) slot.0 image
+  pub after : Stores s.geometry (known_in s.geometry log slot.0) slot.0 (written_on image vblock (bytes_of payload))
+  pub told : number ≡ image.writes + 1
+
+-- each lease that is held was renewed in this command, until the moment until which it is held
+pub record ShowsRenewals (s : Setting) (log : CommandLog) : Type 0 where
+  pub command : log.command ≡ Renew
+  pub renewed : (lease : ℕ) (claim : Claim) (until : ℕ) → lease < lease_count s.geometry → holdings.Holds s log lease claim until →
+      (guard : ℕ) × WasAnswered log (ask.Write kind.Renew (record { 0 = lease_at lease }) guard) (lease_bytes (lease_is.Claimed claim until)) answer.Done
+
+-- ---- all replies
+
+-- why a reply comes of the work, and what it shows; a refusal that rests on a fact comes of none, and no command that is built has the Oks that show nothing
+abbrev pub Comes : Setting → CommandLog → Reply → Type 0
+Comes s log (reply.Attached report) = ShowsImage s log report
+Comes s log reply.Detached = ShowsRelease s log
+Comes s log reply.Created = ShowsCreate s log
+Comes s log reply.Deleted = ShowsDelete s log
+Comes s log (reply.Data payload) = ShowsContent s log payload
+Comes s log (reply.Written number) = ShowsWrite s log number
+Comes s log (reply.Flushed applied blocks) = ⊥
+Comes s log reply.Reserved = ⊥
+Comes s log reply.Renewed = ShowsRenewals s log
+Comes s log reply.Retired = ⊥
+Comes s log (reply.Reclaimed covered freed reads) = ⊥
+Comes s log reply.NotAttached = ⊥
+Comes s log reply.AlreadyAttached = ⊥
+Comes s log reply.NoImage = ⊥
+Comes s log reply.Exists = ⊥
+Comes s log (reply.OutOfRange size) = ⊥
+Comes s log (reply.Busy lease seen) = WasBusy s log lease seen
+Comes s log (reply.Lost lease until reading) = WasLost s log lease until reading
+Comes s log (reply.ReadFault block) = LastAnswered log (ask.Read block) [] answer.Fault
+Comes s log (reply.WriteFault block) = (kind : WriteKind) × (guard : ℕ) × (bytes : List ℕ) × LastAnswered log (ask.Write kind block guard) bytes answer.Fault
+Comes s log reply.Full = ⊥
+Comes s log (reply.Damaged block) = WasDamaged s log block
+Comes s log (reply.WornOut count) = ⊥
+
+-- a command was asked for its first reading alone
+abbrev pub IsAtFirst : CommandLog → Type 0
+IsAtFirst log = (reading : ℕ) × EndsWith log.exchanges ask.Clock [] (answer.Reading reading) []
+
+-- a command has its reply: at its first reading the first refusal whose fact holds, or, where no fact of a refusal holds, what comes of its work
+pub data IsReplied (s : Setting) (log : CommandLog) : Reply → Type 0 where
+  refused : {reply : Reply} (place : ℕ) → IsAtFirst log → Refuses s log place reply → ((later : ℕ) (other : Reply) → Refuses s log later other → place ≤ later) →
+      IsReplied s log reply
+  worked : {reply : Reply} → ((place : ℕ) (other : Reply) → ¬ Refuses s log place other) → Comes s log reply → IsReplied s log reply

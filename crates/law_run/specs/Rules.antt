@@ -1,0 +1,50 @@
+-- What each run keeps, beside the order of its asks.
+use Rattle.std.specs.Prelude.{◌≡◌, ◌^◌, ◌≤◌, ◌<◌, ℕ, List, [], ◌∷◌, length, Option, Some}
+use Rattle.plx_commands.specs.declared.command.Command.{Command}
+use Rattle.plx_disk.specs.declared.ask.Ask.{Ask}
+use Rattle.plx_geom.specs.Geometry.{IsGeometry}
+use Rattle.plx_worlds.specs.Boot.{Happening, position, asks, writes_out, IsRun}
+use Rattle.plx_worlds.specs.Settings.{Setting}
+use Rattle.law_run.specs.AllowedAsks.{MayAsk}
+use Rattle.law_run.specs.Bounds.{bound}
+use Rattle.law_run.specs.CommandLogs.{Exchange, Finished, CommandLog, Commands, Between, Within, commands, log_of}
+use Rattle.law_run.specs.Replies.{IsReplied}
+
+-- each ask of a command was allowed when it was asked
+abbrev pub AllAllowed : Setting → List Finished → Command → List Exchange → Type 0
+AllAllowed s before command [] = Unit {0}
+AllAllowed s before command (exchange ∷ older) =
+    MayAsk s (record { before = before; command = command; exchanges = older }) exchange.ask exchange.bytes × AllAllowed s before command older
+
+-- a command that has its reply kept the rules
+pub record IsKept (s : Setting) (finished : Finished) (before : List Finished) : Type 0 where
+  pub allowed : AllAllowed s before finished.command finished.exchanges
+  pub replied : IsReplied s (log_of finished before) finished.reply
+  pub bounded : length finished.exchanges ≤ bound s before finished.command
+
+-- all commands that have their replies did
+abbrev pub AllKept : Setting → List Finished → Type 0
+AllKept s [] = Unit {0}
+AllKept s (finished ∷ before) = IsKept s finished before × AllKept s before
+
+-- a command that runs keeps them: so do the commands before it, and the ask that stands is allowed and within the bound
+pub record IsKeptSoFar (s : Setting) (log : CommandLog) (standing : Option Ask) (bytes : List ℕ) : Type 0 where
+  pub older : AllKept s log.before
+  pub allowed : AllAllowed s log.before log.command log.exchanges
+  pub stands : (ask : Ask) → standing ≡ Some ask → MayAsk s log ask bytes
+  pub bounded : (ask : Ask) → standing ≡ Some ask → length log.exchanges < bound s log.before log.command
+
+-- a boot log keeps the rules
+abbrev pub KeepsRules : Setting → Commands → (standing : Option Ask) → (bytes : List ℕ) → Type 0
+KeepsRules s (Between finished) standing bytes = AllKept s finished
+KeepsRules s (Within log) standing bytes = IsKeptSoFar s log standing bytes
+
+-- a boot is given a geometry within its limits, and a number of 128 bits
+pub record IsSetting (s : Setting) : Type 0 where
+  pub geometry : IsGeometry s.geometry
+  pub boot : s.boot < 2 ^ 128
+
+-- each log that is a run keeps the rules, whatever its answers were
+abbrev pub RunsKeepRules : Type 0
+RunsKeepRules = (s : Setting) (log : List Happening) → IsSetting s → IsRun s log →
+    KeepsRules s (commands s log) (asks (position s log).place) (writes_out (position s log).place)

@@ -1,0 +1,37 @@
+//! What each boot's log shows of its commands, however its asks were answered: the asks were allowed, each reply
+//! has its cause, refusals come in order, a command keeps its bound, and an Ok shows its work on the known bytes.
+//!
+//! The functions of this crate are laws: they have no parameters and an empty body, and their contracts
+//! are the theorems.
+#![tactic(auto)]
+
+ghost use Rattle.law_run.specs.Completeness.{OkWithoutCause};
+ghost use Rattle.law_run.specs.OneImage.{StoresOneImage};
+ghost use Rattle.law_run.specs.Positions.{PositionsAgree};
+ghost use Rattle.law_run.specs.Rules.{RunsKeepRules};
+ghost use Rattle.law_run.specs.Worlds.{BootsKeepRules};
+
+/// Each run keeps the rules, whatever its answers were.
+pub fn runs_keep_rules()
+    ensures { RunsKeepRules }
+{}
+
+/// A command that has its reply has a cause in its log, or the reply is its own Ok.
+pub fn ok_without_cause()
+    ensures { OkWithoutCause }
+{}
+
+/// Given bytes store one image at most, so "the image that the known bytes stored" is one.
+pub fn stores_one_image()
+    ensures { StoresOneImage }
+{}
+
+/// What a boot holds, and which images have a session, is the same by its commands and by where it stands.
+pub fn positions_agree()
+    ensures { PositionsAgree }
+{}
+
+/// The log of each boot keeps the rules, in every world that events lead to.
+pub fn boots_keep_rules()
+    ensures { BootsKeepRules }
+{}
