@@ -26,9 +26,9 @@ use Rattle.plx_worlds.specs.Ends.{End}
 use Rattle.plx_worlds.specs.Headline.{model_in}
 use Rattle.plx_worlds.specs.Holds.{Hold, Held}
 use Rattle.plx_worlds.specs.Owners.{is_set, pending_write, first_landed}
-use Rattle.plx_worlds.specs.Rests.{Needs, rests_on}
+use Rattle.plx_worlds.specs.Rests.{IsUnder, rests_on}
 use Rattle.plx_commands.specs.Replies.{is_in}
-use Rattle.law_lease.proofs.Rests.{in-home, needs-before, needs-last}
+use Rattle.law_lease.proofs.Rests.{rests-alone, needs-before, needs-last}
 use Rattle.plx_worlds.specs.Session.{Known}
 use Rattle.plx_worlds.specs.Settings.{boot_number}
 use Rattle.plx_worlds.specs.World.{World, Seat, with_surface, after_issue}
@@ -60,19 +60,19 @@ placed-cases g kind.Sweep block bytes leases placed i within = inr (λ of. of-ma
 placed-cases g kind.Record block bytes leases placed i within = elim (eqb_tells placed.0 i) [
   | inl same ↦
       let P : ℕ → Type 0 = λ n. IsOf g n block × Unit {0} × (is_in (image_lease n) leases ≡ true) in
-      inl (subst P same.1 (inl placed.2, tt, in-home (image_lease placed.0) leases placed.3))
+      inl (subst P same.1 (inl placed.2, tt, rests-alone (image_lease placed.0) (image_lease placed.0) leases placed.3 refl))
   | inr away ↦ inr (λ of. of-apart g placed.0 i block placed.1 within away.1 (inl placed.2) of)
 ]
 placed-cases g kind.JData block bytes leases placed i within = elim (eqb_tells placed.0 i) [
   | inl same ↦
       let P : ℕ → Type 0 = λ n. IsOf g n block × Unit {0} × (is_in (image_lease n) leases ≡ true) in
-      inl (subst P same.1 (inr (placed.1, placed.3, inr placed.4), tt, in-home (image_lease placed.0) leases placed.5))
+      inl (subst P same.1 (inr (placed.1, placed.3, inr placed.4), tt, rests-alone (image_lease placed.0) (image_lease placed.0) leases placed.5 refl))
   | inr away ↦ inr (λ of. of-apart g placed.0 i block placed.2 within away.1 (inr (placed.1, placed.3, inr placed.4)) of)
 ]
 placed-cases g kind.JCommit block bytes leases placed i within = elim (eqb_tells placed.0 i) [
   | inl same ↦
       let P : ℕ → Type 0 = λ n. IsOf g n block × Unit {0} × (is_in (image_lease n) leases ≡ true) in
-      inl (subst P same.1 (inr (placed.1, placed.3, inl placed.4), tt, in-home (image_lease placed.0) leases placed.5))
+      inl (subst P same.1 (inr (placed.1, placed.3, inl placed.4), tt, rests-alone (image_lease placed.0) (image_lease placed.0) leases placed.5 refl))
   | inr away ↦ inr (λ of. of-apart g placed.0 i block placed.2 within away.1 (inr (placed.1, placed.3, inl placed.4)) of)
 ]
 placed-cases g other block bytes leases placed i within = absurd placed
@@ -327,7 +327,7 @@ module _ (w : World) (content : Content w) where
       | inr away ↦ inr (away.1, sym (set-other writes number n (with_sector write sector) away.1) ∙ there)
     ]
 
-    this-open : (i : ℕ) → IsJournalled write.kind → Needs w.rests number (image_lease i) → IsOpen w.rests time writes (image_lease i) number write
+    this-open : (i : ℕ) → IsJournalled write.kind → IsUnder w.rests number (image_lease i) → IsOpen w.rests time writes (image_lease i) number write
     this-open i journalled needs = record { found = may.found; needs = needs; missing = unlanded write.kind journalled; live = may.early }
       where
         unlanded : (k : WriteKind) → IsJournalled k → Unlanded k write.landed
@@ -360,7 +360,7 @@ module _ (w : World) (content : Content w) where
         no-sector (suc (suc (suc (suc (suc (suc (suc zero))))))) less = refl
         no-sector (suc (suc (suc (suc (suc (suc (suc (suc k)))))))) less = absurd (omega (arith, less))
 
-    cases : (i : ℕ) → i < g.images → (IsOf g i write.block × IsJournalled write.kind × Needs w.rests number (image_lease i)) ⊎ (IsOf g i write.block → ⊥)
+    cases : (i : ℕ) → i < g.images → (IsOf g i write.block × IsJournalled write.kind × IsUnder w.rests number (image_lease i)) ⊎ (IsOf g i write.block → ⊥)
     cases i within = placed-cases g write.kind write.block write.bytes (w.rests number) right.placed i within
 
     stored-after : (i : ℕ) → i < g.images → Keeps g after i (m.slots i)
@@ -372,7 +372,7 @@ module _ (w : World) (content : Content w) where
     opens-after : (i : ℕ) → i < g.images → Opens g w.rests time after now' i (m.slots i)
     opens-after i within n x op of flags count = elim (landed-or n x op.found) [
       | inl here' ↦
-          let N : ℕ → Type 0 = λ k. Needs w.rests k (image_lease i) in
+          let N : ℕ → Type 0 = λ k. IsUnder w.rests k (image_lease i) in
           let U : Issued → Type 0 = λ y. Unlanded y.kind y.landed in
           let Q : Issued → Type 0 = λ y. IsOf g i y.block in
           let P : Issued → Type 0 = λ y. Keeps g (put after y.block (mixed flags y.bytes (after y.block))) i (m.slots i) in
@@ -400,7 +400,7 @@ module _ (w : World) (content : Content w) where
     whose-after : (i : ℕ) → i < g.images → Whose g w.rests time now' w.seats i (m.slots i)
     whose-after i within n x op of b mine = elim (landed-or n x op.found) [
       | inl here' ↦
-          let N : ℕ → Type 0 = λ k. Needs w.rests k (image_lease i) in
+          let N : ℕ → Type 0 = λ k. IsUnder w.rests k (image_lease i) in
           let U : Issued → Type 0 = λ y. Unlanded y.kind y.landed in
           let Q : Issued → Type 0 = λ y. IsOf g i y.block in
           let was : IsOpen w.rests time writes (image_lease i) number write = record {
@@ -587,7 +587,7 @@ module _ (w : World) (content : Content w) where
               by_place (p b).place waits mine (subst Q same asked.2) (content.seats b under) owned
         ]
       where
-        by_place : (place : Place) → (w.seats b).pending ≡ Some number → (IsOf g i write.block × IsJournalled write.kind × Needs w.rests number (image_lease i)) →
+        by_place : (place : Place) → (w.seats b).pending ≡ Some number → (IsOf g i write.block × IsJournalled write.kind × IsUnder w.rests number (image_lease i)) →
             IsAskedAt place (boot_number b (w.seats b).boots) write → PlaceFits g b m (p b) place → OwnedAt g b i device writes (w.seats b).pending m place → OwnedAt g b i after now' (w.seats b).pending m place
         by_place (Idle known) waits mine asked fits owned = absurd asked
         by_place (Begins known command) waits mine asked fits owned = absurd asked

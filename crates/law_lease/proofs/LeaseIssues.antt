@@ -20,7 +20,7 @@ use Rattle.plx_geom.specs.Geometry.{Geometry, IsGeometry, lease_count, lease_at}
 use Rattle.plx_gate.specs.Leases.{IsClaimed}
 use Rattle.plx_worlds.specs.Owners.{first_landed, pending_write}
 use Rattle.plx_commands.specs.Replies.{is_in}
-use Rattle.law_lease.proofs.Rests.{rests-or, one-in, needs-before, needs-last}
+use Rattle.law_lease.proofs.Rests.{rests-or, rests-home, needs-before, needs-last}
 use Rattle.plx_worlds.specs.Settings.{boot_number}
 use Rattle.plx_worlds.specs.World.{Seat, setting_at}
 use Rattle.law_lease.proofs.LeaseFrames.{Shrinks, good-shrinks, one-claim, grip-open}
@@ -263,14 +263,14 @@ module _ (g : Geometry) (rests : ℕ → List ℕ) (appliances time : ℕ) (devi
             ),
           ))
           (λ k. let e : kind.Renew ≡ kind.Claim = sym is ∙ k in let P : ⊥ = cc in P)
-      | inr away ↦ issue-still (λ need. away.1 (one-in lease may.lease (subst (λ (l : List ℕ). is_in lease l ≡ true) may.alone need)))
+      | inr away ↦ issue-still (λ need. away.1 (rests-home lease may.lease leases may.alone need))
           (λ k. let e : kind.Renew ≡ kind.Claim = sym is ∙ k in let P : ⊥ = cc in absurd P)
     ]
     issue-of kind.Release is may = elim (eqb_tells lease may.lease) [
       | inl here ↦ issue-needed may.claim may.until (ap (λ (i : ℕ). p.holds (lease_at i)) here.1 ∙ may.hold) (omega (arith, may.guarded))
           (λ limits. let K : WriteKind → Type 0 = λ k. IsOfKind k may.claim may.until guard bytes in subst K (sym is) (may.guarded, may.spells))
           (λ k. let e : kind.Release ≡ kind.Claim = sym is ∙ k in let P : ⊥ = cc in P)
-      | inr away ↦ issue-still (λ need. away.1 (one-in lease may.lease (subst (λ (l : List ℕ). is_in lease l ≡ true) may.alone need)))
+      | inr away ↦ issue-still (λ need. away.1 (rests-home lease may.lease leases may.alone need))
           (λ k. let e : kind.Release ≡ kind.Claim = sym is ∙ k in let P : ⊥ = cc in absurd P)
     ]
     issue-of kind.Take is may = issue-use kind.Take is may (λ k. let P : ⊥ = cc in P) (λ c u limits. tt)

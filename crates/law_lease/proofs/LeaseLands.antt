@@ -19,9 +19,8 @@ use Rattle.plx_geom.specs.Geometry.{Geometry, lease_count, lease_at}
 use Rattle.plx_worlds.specs.Holds.{renewed}
 use Rattle.plx_gate.specs.Leases.{lease_bytes, read_lease, IsLease, IsClaimed}
 use Rattle.plx_worlds.specs.Owners.{first_landed, pending_write, is_set}
-use Rattle.plx_worlds.specs.Rests.{Needs, rests_on}
-use Rattle.plx_commands.specs.Replies.{is_in}
-use Rattle.law_lease.proofs.Rests.{in-one}
+use Rattle.plx_worlds.specs.Rests.{IsUnder, rests_on}
+use Rattle.law_lease.proofs.Rests.{rests-alone}
 use Rattle.plx_worlds.specs.Settings.{boot_number}
 use Rattle.plx_worlds.specs.World.{Seat, setting_at}
 use Rattle.plx_gate.proofs.Leases.{lease-back, lease-same}
@@ -128,7 +127,7 @@ module _ (g : Geometry) (rests : ℕ → List ℕ) (appliances time : ℕ) (devi
     | inl here ↦
         let P : Issued → Type 0 = λ y. IsOpen rests time now lease m y in
         let is' : IsOpen rests time now lease m (with_sector write sector) = subst P here.1 is in
-        let needs : Needs rests number lease = (let Q : ℕ → Type 0 = λ k. Needs rests k lease in subst Q here.0 is'.needs) in
+        let needs : IsUnder rests number lease = (let Q : ℕ → Type 0 = λ k. IsUnder rests k lease in subst Q here.0 is'.needs) in
         inl (here.0, here.1, record { found = found; needs = needs; missing = unlanded-before write.kind write.landed sector missing is'.missing; live = early })
     | inr away ↦ inr (away.0, record { found = away.1; needs = is.needs; missing = is.missing; live = is.live })
   ]
@@ -312,11 +311,11 @@ module _ (g : Geometry) (rests : ℕ → List ℕ) (appliances time : ℕ) (devi
       subst (λ (k : WriteKind). P (first_landed (Some (with_sector write sector))) k hold) (sym is) new))
 
   -- a write of a lease rests on it
-  needs-home : (home : ℕ) → write.block ≡ lease_at home → rests number ≡ home ∷ [] → lease_at lease ≡ write.block → Needs rests number lease
-  needs-home home at all here = subst (λ (leases : List ℕ). is_in lease leases ≡ true) (sym all) (in-one lease home (lease-lease lease home (here ∙ at)))
+  needs-home : (home : ℕ) → write.block ≡ lease_at home → rests number ≡ home ∷ [] → lease_at lease ≡ write.block → IsUnder rests number lease
+  needs-home home at all here = rests-alone lease home (rests number) all (lease-lease lease home (here ∙ at))
 
   -- the first sector of a write that needs the lease
-  module _ (here : lease_at lease ≡ write.block) (first : sector ≡ 0) (needs : Needs rests number lease) (unlanded : Unlanded write.kind write.landed)
+  module _ (here : lease_at lease ≡ write.block) (first : sector ≡ 0) (needs : IsUnder rests number lease) (unlanded : Unlanded write.kind write.landed)
       (landed-now : Unlanded write.kind (slice_set write.landed sector true) → ⊥) where
     this-open : IsOpen rests time writes lease number write
     this-open = record { found = found; needs = needs; missing = unlanded; live = early }
@@ -360,7 +359,7 @@ module _ (g : Geometry) (rests : ℕ → List ℕ) (appliances time : ℕ) (devi
       let e : Some true ≡ Some false = sym set ∙ flag in let P : ⊥ = cc in P
 
   -- the first sector of a renewal
-  land-renew : write.kind ≡ kind.Renew → lease_at lease ≡ write.block → sector ≡ 0 → Needs rests number lease → LeaseOn g rests appliances time after now seats lease
+  land-renew : write.kind ≡ kind.Renew → lease_at lease ≡ write.block → sector ≡ 0 → IsUnder rests number lease → LeaseOn g rests appliances time after now seats lease
   land-renew is here first needs =
       let zeroth : slice_get write.landed 0 ≡ Some false = ap (slice_get write.landed) (sym first) ∙ missing in
       let U : WriteKind → Type 0 = λ k. Unlanded k write.landed in
@@ -406,7 +405,7 @@ module _ (g : Geometry) (rests : ℕ → List ℕ) (appliances time : ℕ) (devi
       subst (λ (k : WriteKind). Q k hold) (sym is) (subst R (sym back) done)))
 
   -- the first sector of a release
-  land-release : write.kind ≡ kind.Release → lease_at lease ≡ write.block → sector ≡ 0 → Needs rests number lease → LeaseOn g rests appliances time after now seats lease
+  land-release : write.kind ≡ kind.Release → lease_at lease ≡ write.block → sector ≡ 0 → IsUnder rests number lease → LeaseOn g rests appliances time after now seats lease
   land-release is here first needs =
       let zeroth : slice_get write.landed 0 ≡ Some false = ap (slice_get write.landed) (sym first) ∙ missing in
       let U : WriteKind → Type 0 = λ k. Unlanded k write.landed in

@@ -14,7 +14,7 @@ use Rattle.plx_rules.specs.Part.{Part, Ends, ReadThen, WriteThen, ClockThen, Unt
 use Rattle.plx_worlds.specs.Boot.{Place, Idle, Begins, In, Position, position}
 use Rattle.plx_worlds.specs.Claims.{claim_of}
 use Rattle.plx_worlds.specs.Commands.{IsWellFormed}
-use Rattle.plx_worlds.specs.Rests.{Needs, rests_on}
+use Rattle.plx_worlds.specs.Rests.{IsUnder, rests_on}
 use Rattle.plx_commands.specs.Replies.{is_in}
 use Rattle.plx_commands.specs.declared.command.Command.{Command}
 use Rattle.plx_geom.specs.Geometry.{Geometry, IsGeometry, lease_count, root_lease, image_lease, extent_lease, map_at, record_at, lease_at, descriptor_at, data_at}
@@ -146,7 +146,7 @@ Unlanded other landed = landed ≢ all_sectors
 -- an open write: it needs the lease, may still change something, and isn't too late to land
 pub record IsOpen (rests : ℕ → List ℕ) (time : ℕ) (writes : List Issued) (lease number : ℕ) (write : Issued) : Type 0 where
   pub found : slice_get writes number ≡ Some write
-  pub needs : Needs rests number lease
+  pub needs : IsUnder rests number lease
   pub missing : Unlanded write.kind write.landed
   pub live : time ≤ write.guard + 50
 

@@ -9,7 +9,7 @@ use Rattle.std.proofs.lemmas.Bool.Decides.{eqb_tells}
 use Rattle.std.proofs.lemmas.Nat.{div-mul-add}
 use Rattle.plx_commands.specs.Replies.{is_in}
 use Rattle.plx_geom.specs.Geometry.{Geometry, lease_at, record_at, journal_start, descriptor_at, data_at, map_at}
-use Rattle.plx_worlds.specs.Rests.{Needs, lease_in, image_of_record, image_of_journal, extent_of}
+use Rattle.plx_worlds.specs.Rests.{IsUnder, lease_in, image_of_record, image_of_journal, extent_of}
 
 -- a write rests on a lease, or doesn't
 pub rests-or : (lease : ℕ) (rests : List ℕ) → (is_in lease rests ≡ true) ⊎ (is_in lease rests ≡ true → ⊥)
@@ -30,20 +30,34 @@ one-in lease home is = elim (eqb_tells lease home) [
   | inr away ↦ absurd (let P : Bool → Type 0 = λ b. (b || false) ≡ true in let e : false ≡ true = subst P away.0 is in let Q : ⊥ = cc in Q)
 ]
 
--- one that rests on one lease alone rests on it
-pub in-home : (home : ℕ) (leases : List ℕ) → leases ≡ home ∷ [] → is_in home leases ≡ true
-in-home home leases all = subst (λ (l : List ℕ). is_in home l ≡ true) (sym all) (in-one home home refl)
+-- the same, of the list that a write has
+pub rests-alone : (lease home : ℕ) (leases : List ℕ) → leases ≡ home ∷ [] → lease ≡ home → is_in lease leases ≡ true
+rests-alone lease home leases all same = subst (λ (l : List ℕ). is_in lease l ≡ true) (sym all) (in-one lease home same)
+
+pub rests-home : (lease home : ℕ) (leases : List ℕ) → leases ≡ home ∷ [] → is_in lease leases ≡ true → lease ≡ home
+rests-home lease home leases all is = one-in lease home (subst (λ (l : List ℕ). is_in lease l ≡ true) all is)
+
+-- one that rests on two leases rests on these
+pub in-either : (lease home other : ℕ) → (lease ≡ home) ⊎ (lease ≡ other) → is_in lease (home ∷ other ∷ []) ≡ true
+in-either lease home other (inl same) = elim (eqb_tells lease home) [ inl is ↦ rw is.0 refl | inr away ↦ absurd (away.1 same) ]
+in-either lease home other (inr same) = elim (eqb_tells lease home) [ inl is ↦ rw is.0 refl | inr away ↦ rw away.0 (in-one lease other same) ]
+
+pub either-in : (lease home other : ℕ) → is_in lease (home ∷ other ∷ []) ≡ true → (lease ≡ home) ⊎ (lease ≡ other)
+either-in lease home other is = elim (eqb_tells lease home) [
+  | inl same ↦ inl same.1
+  | inr away ↦ inr (one-in lease other (subst (λ (b : Bool). (b || is_in lease (other ∷ [])) ≡ true) away.0 is))
+]
 
 -- what an older write needs, once one more is issued
 pub needs-before : (rests : ℕ → List ℕ) (writes : List Issued) (leases : List ℕ) (n : ℕ) (x : Issued) (lease : ℕ) → slice_get writes n ≡ Some x →
-    Needs (at rests (length writes) leases) n lease → Needs rests n lease
+    IsUnder (at rests (length writes) leases) n lease → IsUnder rests n lease
 needs-before rests writes leases n x lease there needs =
     let below = slice_get_within writes n x there in
     subst (λ (l : List ℕ). is_in lease l ≡ true) (at-other rests (length writes) n leases (λ e. omega (arith, below, e))) needs
 
 -- and what that one needs
 pub needs-last : (rests : ℕ → List ℕ) (writes : List Issued) (leases : List ℕ) (n lease : ℕ) → n ≡ length writes →
-    Needs (at rests (length writes) leases) n lease → is_in lease leases ≡ true
+    IsUnder (at rests (length writes) leases) n lease → is_in lease leases ≡ true
 needs-last rests writes leases n lease last needs =
     subst (λ (l : List ℕ). is_in lease l ≡ true) (ap (at rests (length writes) leases) last ∙ at-same rests (length writes) leases) needs
 

@@ -40,9 +40,9 @@ rests_on g command holds kind.Log block bytes = []
 rests_on g command holds kind.JData block bytes = image_lease (image_of_journal g block) ∷ []
 rests_on g command holds kind.JCommit block bytes = image_lease (image_of_journal g block) ∷ []
 
--- the issued write with this number needs a lease: it rests on it
-abbrev pub Needs : (rests : ℕ → List ℕ) → (number lease : ℕ) → Type 0
-Needs rests number lease = is_in lease (rests number) ≡ true
+-- the issued write with this number stands under a lease: it rests on it
+abbrev pub IsUnder : (rests : ℕ → List ℕ) → (number lease : ℕ) → Type 0
+IsUnder rests number lease = is_in lease (rests number) ≡ true
 
 -- the home of a write: the lease under which its own block lies, where it lies under one
 abbrev pub home_of : List ℕ → Option ℕ
