@@ -1,11 +1,16 @@
+# A crash after the data of a write has landed, before its descriptor is issued: the write is lost.
 world 1 1 16 2 1
 start 0 attach 0
 run 0
 start 0 write 0 0 all:aa
 run 0
+
+# The second write, up to where its descriptor would be issued.
 start 0 write 0 0 all:bb
 upto 0 jcommit
 crash 0
+
+# The attach reports one write, and the read gives it.
 start 0 attach 0
 run 0
 start 0 read 0 0

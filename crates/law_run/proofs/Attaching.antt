@@ -32,17 +32,17 @@ use Rattle.law_run.specs.Outside.{IsOutside, no_record, not_plain, no_descriptor
 use Rattle.law_run.specs.Replies.{ReadRestsOn, of_record, of_log, of_descriptor, of_data}
 use Rattle.law_run.specs.Sessions.{attached_by, is_attached}
 use Rattle.law_run.proofs.Asking.{IsFine, replied-fine, asks-confirm}
-use Rattle.law_run.proofs.Counted.{eqb-isn't}
 use Rattle.law_run.proofs.Facts.{image_of, plain-parts, stores-session}
 use Rattle.law_run.proofs.Grown.{with-same, with-other, fits-empty}
-use Rattle.law_run.proofs.Holding.{at-same, at-other, first-more, claims-more, Spared, spared-more, Course, Going, going-more}
+use Rattle.law_run.proofs.Holding.{first-more, claims-more, Spared, spared-more, Course, Going, going-more}
 use Rattle.law_run.proofs.Inserted.{gap-is}
 use Rattle.law_run.proofs.Loading.{Says, says, Loading, loads-first, loads-none, loads-write, loaded-fits, whole-spelled}
 use Rattle.law_run.proofs.Meets.{exchange, meets-more}
 use Rattle.law_run.proofs.OnImage.{NamesOne, names-own, names-other}
-use Rattle.law_run.proofs.Rests.{clash, KeepsHolds, rests-by}
+use Rattle.law_run.proofs.Rests.{KeepsHolds, rests-by}
 use Rattle.law_run.proofs.Right.{clock, descriptor_of, Fits, FitsAt, Rests, finish, log_on, May, Shows, Right}
-use Rattle.law_run.proofs.Tests.{nat_le-true, nat_le-false, lt-cases}
+use Rattle.law_run.proofs.Tests.{nat_le-true, nat_le-false, lt-cases, clash, eqb-isn't}
+use Rattle.plx_commands.proofs.Places.{at-other, at-same}
 
 -- two asks a slot
 abbrev pub twice : ℕ → ℕ
@@ -188,7 +188,7 @@ module _ (s : Setting) (before : List Finished) (known next : Known) (slot : Slo
           told = refl;
         },
         rests-by s before (Attach slot) (clock reading ∷ done) r known more slot.0 (names-other (Attach slot) slot.0 (attach-one slot))
-            (λ other apart. at-other next.sessions slot.0 (Some session) other apart ∙ same other) (λ other b apart. rw (names-other (Attach slot) slot.0 (attach-one slot) other apart) refl) (λ h. refl)
+            (λ other apart. at-other next.sessions slot.0 other (Some session) apart ∙ same other) (λ other b apart. rw (names-other (Attach slot) slot.0 (attach-one slot) other apart) refl) (λ h. refl)
             after.spared
             (subst (λ o. FitsAt s (finish (Attach slot) (clock reading ∷ done) r ∷ before) slot.0 o) (sym (at-same next.sessions slot.0 (Some session)))
             (rw (names-own (Attach slot) slot.0 (attach-one slot)) refl, subst (λ (g : Given). Fits s.geometry g slot.0 session) (sym here) fits, (c.claim, c.until, after.held)))

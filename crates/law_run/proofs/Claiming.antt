@@ -44,18 +44,18 @@ use Rattle.law_run.specs.Replies as replies
 use Rattle.law_run.specs.Sessions.{attached_by, is_attached}
 use Rattle.law_run.proofs.Asking.{IsFine, replied-fine}
 use Rattle.law_run.proofs.Attaching.{twice, twice-is, attach-one, unattached-by, right-load}
-use Rattle.law_run.proofs.Counted.{lt-is}
 use Rattle.law_run.proofs.Detaching.{lease-apart}
 use Rattle.law_run.proofs.Grown.{with-other}
-use Rattle.law_run.proofs.Holding.{at-same, first-hold, first-held, first-more, claims-more, LeavesOthers, Spared, spared-first, spared-more, Course, going-first}
+use Rattle.law_run.proofs.Holding.{first-hold, first-held, first-more, claims-more, LeavesOthers, Spared, spared-first, spared-more, Course, going-first}
 use Rattle.law_run.proofs.Meets.{exchange}
 use Rattle.law_run.proofs.OnImage.{names-own, names-other, names-only, lease-name}
 use Rattle.law_run.proofs.Passed.{Passed, passed}
-use Rattle.law_run.proofs.Rests.{clash, KeepsHolds, rests-by, own-still, rests-lost, rests-failed}
+use Rattle.law_run.proofs.Rests.{KeepsHolds, rests-by, own-still, rests-lost, rests-failed}
 use Rattle.law_run.proofs.Right.{clock, FitsAt, Rests, finish, log_on, Right}
 use Rattle.law_run.proofs.Runs.{HasFirst, start}
 use Rattle.law_run.proofs.Spelled.{lease-rest}
-use Rattle.law_run.proofs.Tests.{nat_le-true, nat_lt-true, nat_lt-false, lt-cases, and-false}
+use Rattle.law_run.proofs.Tests.{nat_le-true, nat_lt-true, nat_lt-false, lt-cases, and-false, clash, lt-is, lt-isn't}
+use Rattle.plx_commands.proofs.Places.{at-same}
 
 -- ---- refusals of an attach
 
@@ -476,9 +476,6 @@ module _ (s : Setting) (boot_small : s.boot < 2 ^ 128) (before : List Finished) 
   )
 
 -- ---- all attaches
-
-lt-isn't : (a b : ℕ) → nat_lt a b ≡ false → b ≤ a
-lt-isn't a b e = elim (lt-cases a b) [ inl below ↦ absurd (clash (nat_lt a b) below.0 e) | inr above ↦ above.1 ]
 
 -- at most so many asks are answered after the first reading
 abbrev Within : Setting → List Finished → SlotNo → (reading : ℕ) → Part End → Type 0

@@ -1,7 +1,6 @@
 -- What a descriptor that counts tells.
-use Rattle.std.proofs.Common.{◌≡◌, ◌≢◌, ℕ, ◌<◌, List, refl, ap, sym, ◌∙◌, Bool, true, false, Option, Some, None, inl, inr}
+use Rattle.std.proofs.Common.{◌≡◌, ℕ, ◌<◌, List, refl, ap, sym, ◌∙◌, Bool, true, false, Option, Some, None}
 use Rattle.std.specs.Prelude.{if◌then◌else◌, ◌==◌, ◌&&◌, nat_lt}
-use Rattle.std.proofs.lemmas.Bool.Decides.{eqb_tells}
 use Rattle.plx_gate.specs.Descriptors.{read_descriptor, descriptor_bytes}
 use Rattle.plx_gate.specs.declared.descriptor.Descriptor.{Descriptor}
 use Rattle.plx_gate.specs.declared.image.ImageRecord.{ImageRecord}
@@ -9,20 +8,7 @@ use Rattle.plx_geom.specs.Geometry.{Geometry, descriptor_at}
 use Rattle.plx_worlds.specs.Journal.{journal_slot, is_unapplied, is_placed, counted, counted_of}
 use Rattle.plx_worlds.specs.Records.{is_live, generation_of, applied_of}
 use Rattle.plx_worlds.specs.Stored.{Given, counted_in, IsCounted}
-use Rattle.law_run.proofs.Tests.{eqb-true, nat_lt-true, lt-cases}
-
-pub and-parts : (a b : Bool) → (a && b) ≡ true → (a ≡ true) × (b ≡ true)
-and-parts true b e = (refl, e)
-and-parts false b e = absurd (let P : ⊥ = cc in P)
-
-pub eqb-is : (a b : ℕ) → (a == b) ≡ true → a ≡ b
-eqb-is a b e = elim (eqb_tells a b) [ inl same ↦ same.1 | inr other ↦ absurd (let f = other.0 in let P : ⊥ = cc in P) ]
-
-pub eqb-isn't : (a b : ℕ) → (a == b) ≡ false → a ≢ b
-eqb-isn't a b e = elim (eqb_tells a b) [ inl same ↦ absurd (let f = same.0 in let P : ⊥ = cc in P) | inr other ↦ other.1 ]
-
-pub lt-is : (a b : ℕ) → nat_lt a b ≡ true → a < b
-lt-is a b e = elim (lt-cases a b) [ inl below ↦ below.1 | inr above ↦ absurd (let f = above.0 in let P : ⊥ = cc in P) ]
+use Rattle.law_run.proofs.Tests.{eqb-true, nat_lt-true, and-parts, eqb-is, lt-is}
 
 -- a descriptor that counts in a slot: the image is live, the generation is its own, the number is above the last one applied, and it stands in the slot of its number
 pub record Tells (kept : ImageRecord) (slots slot : ℕ) (d : Descriptor) : Type 0 where

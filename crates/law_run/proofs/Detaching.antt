@@ -20,12 +20,13 @@ use Rattle.law_run.specs.CommandLogs.{Finished}
 use Rattle.law_run.specs.Refusals.{NamesBlock, of_read, of_write, NeedsImage, of_delete, of_block}
 use Rattle.law_run.proofs.Asking.{IsFine, replied-fine, asks-write}
 use Rattle.law_run.proofs.Clear.{Clear, clear}
-use Rattle.law_run.proofs.Holding.{at-same, at-other, spared-first, spared-more}
+use Rattle.law_run.proofs.Holding.{spared-first, spared-more}
 use Rattle.law_run.proofs.Meets.{exchange}
 use Rattle.law_run.proofs.OnImage.{OnImage, names-own, names-other, on-image, Ready}
 use Rattle.law_run.proofs.Rests.{rests-by}
 use Rattle.law_run.proofs.Right.{clock, FitsAt, Rests, finish, Right}
 use Rattle.law_run.proofs.Runs.{start}
+use Rattle.plx_commands.proofs.Places.{at-other, at-same}
 
 on-detach : (slot : SlotNo) → OnImage (Detach slot) slot.0
 on-detach slot = record { named = λ other. refl; used = λ other. refl; needed = λ other. refl; no_attach = λ other is. (let P : ⊥ = cc in P) }
@@ -69,7 +70,7 @@ right-detach s before known slot reading rests session claim until ready =
     (release lease claim within refl ready.now refl) (
       replied-fine s before command reading fine (x ∷ clock reading ∷ []) refl reply.Detached (record { slot = slot; command = refl; guard = until; released = (clock reading ∷ [], refl) }),
       rests-by s before command (x ∷ clock reading ∷ []) reply.Detached known next slot.0 (names-other command slot.0 on.named)
-          (λ other apart. at-other known.sessions slot.0 None other apart) (λ other b apart. rw (names-other command slot.0 on.named other apart) refl) (λ h. refl)
+          (λ other apart. at-other known.sessions slot.0 other None apart) (λ other b apart. rw (names-other command slot.0 on.named other apart) refl) (λ h. refl)
           (spared-more s before (clock reading ∷ []) x slot.0 tt (λ other apart. lease-apart slot.0 other apart) (spared-first s before reading slot.0))
           (subst (λ o. FitsAt s (finish command (x ∷ clock reading ∷ []) reply.Detached ∷ before) slot.0 o) (sym (at-same known.sessions slot.0 None))
           (rw (names-own command slot.0 on.named) refl))

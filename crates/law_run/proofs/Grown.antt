@@ -68,10 +68,10 @@ fits-empty g given image kept within found plain unknown = record {
 }
 
 -- two slots of an image whose data stands in one block are one
-data-one : (g : Geometry) (image s t : ℕ) → data_at g image s ≡ data_at g image t → s ≡ t
+pub data-one : (g : Geometry) (image s t : ℕ) → data_at g image s ≡ data_at g image t → s ≡ t
 data-one g image s t same = omega (arith, same)
 
-descriptor-one : (g : Geometry) (image s t : ℕ) → descriptor_at g image s ≡ descriptor_at g image t → s ≡ t
+pub descriptor-one : (g : Geometry) (image s t : ℕ) → descriptor_at g image s ≡ descriptor_at g image t → s ≡ t
 descriptor-one g image s t same = omega (arith, same)
 
 -- data in a slot that holds no write

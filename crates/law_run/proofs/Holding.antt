@@ -18,14 +18,8 @@ use Rattle.law_run.specs.Holdings.{lease_attached, at_first, holds_along, holds_
 use Rattle.law_run.specs.Sessions.{is_attached}
 use Rattle.law_run.proofs.Right.{clock, IsHeld}
 use Rattle.law_run.proofs.Runs.{HasFirst, last_sample, along-more}
-use Rattle.law_run.proofs.Tests.{nat_le-true, nat_lt-true, eqb-true, eqb-false}
-
--- a table that is changed at a place
-pub at-same : {X : Type 0} (table : ℕ → X) (place : ℕ) (x : X) → at table place x place ≡ x
-at-same table place x = rw (eqb-true place place refl) refl
-
-pub at-other : {X : Type 0} (table : ℕ → X) (place : ℕ) (x : X) (k : ℕ) → k ≢ place → at table place x k ≡ table k
-at-other table place x k other = rw (eqb-false k place other) refl
+use Rattle.law_run.proofs.Tests.{nat_le-true, nat_lt-true}
+use Rattle.plx_commands.proofs.Places.{at-other}
 
 -- an exchange leaves a lease held in this block: it is no write that failed or was missed, and no claim, renewal or release of it
 abbrev pub LeavesHeld : (block : ℕ) → Ask → Answer → Type 0
@@ -38,9 +32,9 @@ LeavesHeld block a x = Unit {0}
 
 leaves-write : (k : WriteKind) (b guard : ℕ) (bytes : List ℕ) (holds : ℕ → Hold) (block : ℕ) (claim : Claim) (until : ℕ) →
     LeavesHeld block (ask.Write k (record { 0 = b }) guard) answer.Done → holds block ≡ Held claim until → after_write k b bytes holds block ≡ Held claim until
-leaves-write kind.Claim b guard bytes holds block claim until apart held = at-other holds b _ block apart ∙ held
-leaves-write kind.Renew b guard bytes holds block claim until apart held = at-other holds b _ block apart ∙ held
-leaves-write kind.Release b guard bytes holds block claim until apart held = at-other holds b _ block apart ∙ held
+leaves-write kind.Claim b guard bytes holds block claim until apart held = at-other holds b block _ apart ∙ held
+leaves-write kind.Renew b guard bytes holds block claim until apart held = at-other holds b block _ apart ∙ held
+leaves-write kind.Release b guard bytes holds block claim until apart held = at-other holds b block _ apart ∙ held
 leaves-write k b guard bytes holds block claim until apart held = held
 
 shown-held : (sample : Option ℕ) (found : List ℕ) (holds : ℕ → Hold) (b block : ℕ) (claim : Claim) (until : ℕ) → holds block ≡ Held claim until →

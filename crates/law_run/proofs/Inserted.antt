@@ -4,7 +4,7 @@ use Rattle.std.specs.Prelude.{slice_get, nat_lt, if◌then◌else◌, ◌==◌}
 use Rattle.std.proofs.lemmas.Bool.Decides.{eqb_tells}
 use Rattle.plx_worlds.specs.Session.{inserted, first_gap}
 use Rattle.plx_rules.specs.declared.journaled.Journaled.{Journaled}
-use Rattle.law_run.proofs.Tests.{lt-cases}
+use Rattle.law_run.proofs.Tests.{lt-cases, eqb-is, eqb-isn't}
 
 abbrev pub Has : List Journaled → Journaled → Type 0
 Has writes write = (k : ℕ) × (slice_get writes k ≡ Some write)
@@ -89,12 +89,6 @@ above-all before (x ∷ writes) ascending write (suc k, e) = let later = above-a
 by-number : {X : Type 0} (test : Bool) (rest other found : Option X) → (if test then rest else other) ≡ found → ((test ≡ true) × (rest ≡ found)) ⊎ ((test ≡ false) × (other ≡ found))
 by-number true rest other found e = inl (refl, e)
 by-number false rest other found e = inr (refl, e)
-
-eqb-is : (a b : ℕ) → (a == b) ≡ true → a ≡ b
-eqb-is a b e = elim (eqb_tells a b) [ inl same ↦ same.1 | inr other ↦ absurd (let f = other.0 in let P : ⊥ = cc in P) ]
-
-eqb-isn't : (a b : ℕ) → (a == b) ≡ false → a ≢ b
-eqb-isn't a b e = elim (eqb_tells a b) [ inl same ↦ absurd (let f = same.0 in let P : ⊥ = cc in P) | inr other ↦ other.1 ]
 
 pub numbered : (before : ℕ) (writes : List Journaled) → first_gap before writes ≡ None → (k : ℕ) (write : Journaled) → slice_get writes k ≡ Some write → write.number ≡ before + k + 1
 numbered before [] e k write found = absurd (let P : ⊥ = cc in P)

@@ -20,16 +20,12 @@ use Rattle.law_run.specs.AllowedAsks.{last_known}
 use Rattle.law_run.specs.CommandLogs.{Exchange, IsIn}
 use Rattle.law_run.specs.KnownBytes.{with_block}
 use Rattle.law_run.proofs.Counted.{Tells, counted-tells, no-count}
-use Rattle.law_run.proofs.Grown.{with-same, with-other, counts-same}
+use Rattle.law_run.proofs.Grown.{with-same, with-other, counts-same, data-one, descriptor-one}
 use Rattle.law_run.proofs.Inserted.{Has, has-inserted, inserted-new, inserted-old, length-inserted, Ascending, ascending-inserted, numbered}
 use Rattle.law_run.proofs.Meets.{exchange}
 use Rattle.law_run.proofs.Right.{descriptor_of, Fits}
 
 -- ---- what is found in a slot
-
-flag-cases : (b : Bool) → (b ≡ true) ⊎ (b ≡ false)
-flag-cases true = inl refl
-flag-cases false = inr refl
 
 -- what a finding says of the slot's descriptor
 abbrev pub Says : ImageRecord → (slots slot : ℕ) → Option (Option Descriptor) → Finding → Type 0
@@ -107,12 +103,6 @@ loaded-fits g given image kept writes done within plain l follows = record {
   only = λ slot d counts. (let o = l.only slot d counts in let h = o.1 in (h.0, o.0, h.1, o.2));
   whole = λ slot below. l.whole slot below;
 }
-
-descriptor-one : (g : Geometry) (image s t : ℕ) → descriptor_at g image s ≡ descriptor_at g image t → s ≡ t
-descriptor-one g image s t same = omega (arith, same)
-
-data-one : (g : Geometry) (image s t : ℕ) → data_at g image s ≡ data_at g image t → s ≡ t
-data-one g image s t same = omega (arith, same)
 
 -- one more descriptor is read
 module _ (g : Geometry) (given : Given) (image : ℕ) (kept : ImageRecord) (place : ℕ) (writes : List Journaled) (done : List Exchange) (l : Loading g given image kept place writes done)

@@ -1,12 +1,12 @@
 -- Creates and deletes.
 use Rattle.std.proofs.Common.{◌≡◌, ℕ, ◌+◌, ◌≤◌, ◌<◌, ◌^◌, List, [], ◌∷◌, drop, Bool, true, false, Some, None, refl, ap, sym, subst, ◌∙◌, arith, inl}
-use Rattle.std.specs.Prelude.{nat_lt, nat_le}
+use Rattle.std.specs.Prelude.{not, nat_lt, nat_le}
 use Rattle.plx_base.specs.Labels.{IsLabel}
 use Rattle.plx_base.specs.declared.label.Label.{Label}
 use Rattle.plx_base.specs.declared.lease.Claim.{Claim}
 use Rattle.plx_base.specs.declared.numbers.SlotNo.{SlotNo}
 use Rattle.plx_base.specs.declared.write_kind.WriteKind.TheVariants as kind
-use Rattle.plx_commands.specs.Facts.{is_size, is_worn, not}
+use Rattle.plx_commands.specs.Facts.{is_size, is_worn}
 use Rattle.plx_commands.specs.Limits.{last_generation, greatest_size}
 use Rattle.plx_commands.specs.declared.command.Command.{Command}
 use Rattle.plx_commands.specs.declared.command.Command.TheVariants.{Create, Delete}
@@ -35,20 +35,19 @@ use Rattle.law_run.specs.Replies.{IsConfirmed, refused, Comes}
 use Rattle.law_run.specs.Sessions.{names, attached_by}
 use Rattle.law_run.proofs.Asking.{IsFine, asks-write, asks-confirm}
 use Rattle.law_run.proofs.Clear.{by-unless, Clear, known-here, clear}
-use Rattle.law_run.proofs.Counted.{and-parts, lt-is}
 use Rattle.law_run.proofs.Facts.{image_of, limits, record-spelled, stores-session}
 use Rattle.law_run.proofs.Grown.{with-same, fits-empty}
-use Rattle.law_run.proofs.Holding.{at-same, at-other, Course, going-first, going-more}
+use Rattle.law_run.proofs.Holding.{Course, going-first, going-more}
 use Rattle.law_run.proofs.Meets.{exchange}
 use Rattle.law_run.proofs.OnImage.{OnImage, names-own, names-other, still, on-image, Ready}
 use Rattle.law_run.proofs.Passed.{Passed, passed}
-use Rattle.law_run.proofs.Reading.{not-true, not-false, le-is, le-isn't}
 use Rattle.law_run.proofs.Rests.{KeepsHolds, held-after, rests-by}
 use Rattle.law_run.proofs.Right.{clock, Fits, FitsAt, Rests, finish, log_on, Right}
 use Rattle.law_run.proofs.Runs.{start}
 use Rattle.law_run.proofs.Spelled.{image-rest}
-use Rattle.law_run.proofs.Tests.{eqb-true, nat_le-true, nat_le-false}
+use Rattle.law_run.proofs.Tests.{eqb-true, nat_le-true, nat_le-false, and-parts, le-is, le-isn't, lt-is, not-false, not-true}
 use Rattle.law_run.proofs.Unwritten.{unwritten-quiet}
+use Rattle.plx_commands.proofs.Places.{at-other, at-same}
 
 -- what is known of an image once its record was written anew
 abbrev pub made_known : Geometry → (image : ℕ) → ImageRecord → Given → Given
@@ -117,7 +116,7 @@ module _ (s : Setting) (before : List Finished) (known : Known) (command : Comma
             (subst (λ (g : Given). Stores s.geometry g slot.0 (image_of session)) (sym was) (stores-session s.geometry (known_after s.geometry before slot.0) slot.0 session ready.fits))
             (subst (λ (g : Given). Stores s.geometry g slot.0 (image_of (new_session made))) (sym same)
             (stores-session s.geometry (made_known s.geometry slot.0 made (known_after s.geometry before slot.0)) slot.0 (new_session made) fits)),
-        rests-by s before command done r known next slot.0 (names-other command slot.0 on.named) (λ other apart. at-other known.sessions slot.0 (Some (new_session made)) other apart)
+        rests-by s before command done r known next slot.0 (names-other command slot.0 on.named) (λ other apart. at-other known.sessions slot.0 other (Some (new_session made)) apart)
             (λ other b apart. none other b) keeps going.spared
             (subst (λ o. FitsAt s (finish command done r ∷ before) slot.0 o) (sym (at-same known.sessions slot.0 (Some (new_session made)))) (
               none slot.0 _ ∙ ready.attached,

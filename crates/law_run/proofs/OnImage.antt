@@ -27,10 +27,10 @@ use Rattle.law_run.specs.Replies.{refused}
 use Rattle.law_run.specs.Sessions.{names, uses, needs, attached_by, is_attached}
 use Rattle.law_run.proofs.Holding.{spared-first, first-held}
 use Rattle.law_run.proofs.Passed.{Passed, passed}
-use Rattle.law_run.proofs.Rests.{clash, KeepsHolds, rests-by, own-still, rests-lost}
+use Rattle.law_run.proofs.Rests.{KeepsHolds, rests-by, own-still, rests-lost}
 use Rattle.law_run.proofs.Right.{clock, IsHeld, Fits, FitsAt, Rests, finish, log_on, Right}
 use Rattle.law_run.proofs.Runs.{start}
-use Rattle.law_run.proofs.Tests.{eqb-true, eqb-false, nat_lt-true}
+use Rattle.law_run.proofs.Tests.{eqb-true, eqb-false, nat_lt-true, clash}
 
 -- a command names one image, and needs its session
 pub record OnImage (command : Command) (image : ℕ) : Type 0 where

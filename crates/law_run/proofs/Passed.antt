@@ -1,5 +1,5 @@
 -- Which refusals' facts hold of a command.
-use Rattle.std.proofs.Common.{◌≡◌, ◌≢◌, ℕ, suc, ◌+◌, ◌≤◌, ◌<◌, Bool, true, false, Some, arith, inl, inr}
+use Rattle.std.proofs.Common.{◌≡◌, ◌≢◌, ℕ, suc, ◌+◌, ◌≤◌, ◌<◌, true, false, Some, arith, inl, inr}
 use Rattle.std.proofs.lemmas.Bool.Decides.{leb_tells}
 use Rattle.plx_base.specs.declared.label.Label.{Label}
 use Rattle.plx_base.specs.declared.numbers.SlotNo.{SlotNo}
@@ -17,6 +17,7 @@ use Rattle.law_run.specs.Holdings.{claims_begun}
 use Rattle.law_run.specs.KnownBytes.{known_from, record_known}
 use Rattle.law_run.specs.Refusals.{IsExpired, NeedsClaim, NamesBlock, NeedsImage, Refuses, not_attached, already_attached, expired, no_slot, no_image, exists, out_of_range, out_of_limits, generations, writes, claims, full}
 use Rattle.law_run.specs.Sessions.{needs, is_attached}
+use Rattle.law_run.proofs.Tests.{clash}
 
 -- no fact of a refusal before this place holds
 pub record Passed (s : Setting) (log : CommandLog) (n : ℕ) : Type 0 where
@@ -40,9 +41,6 @@ pub record Passed (s : Setting) (log : CommandLog) (n : ℕ) : Type 0 where
 
 at-least : (n p : ℕ) → (suc p ≤ n → ⊥) → n ≤ p
 at-least n p not_below = elim (leb_tells n p) [ inl le ↦ le.1 | inr above ↦ absurd (not_below (omega (arith, above.1))) ]
-
-clash : (test : Bool) → test ≡ true → test ≡ false → ⊥
-clash test h e = cc
 
 -- each refusal whose fact holds has this place or a later one
 pub passed : (s : Setting) (log : CommandLog) (n p : ℕ) (other : Reply) → Passed s log n → Refuses s log p other → n ≤ p

@@ -1,13 +1,11 @@
 -- Reads.
-use Rattle.std.proofs.Common.{◌≡◌, ℕ, ◌≤◌, ◌<◌, List, [], ◌∷◌, Bool, true, false, Some, refl, ap, sym, subst, ◌∙◌, arith, inl, inr}
-use Rattle.std.specs.Prelude.{nat_le}
-use Rattle.std.proofs.lemmas.Bool.Decides.{leb_tells}
+use Rattle.std.proofs.Common.{◌≡◌, ℕ, ◌≤◌, ◌<◌, List, [], ◌∷◌, true, Some, refl, ap, sym, subst, ◌∙◌, arith}
+use Rattle.std.specs.Prelude.{not, nat_le}
 use Rattle.plx_base.specs.Canonical.{payload_of}
 use Rattle.plx_base.specs.Payload.{bytes_of}
 use Rattle.plx_base.specs.declared.lease.Claim.{Claim}
 use Rattle.plx_base.specs.declared.numbers.SlotNo.{SlotNo}
 use Rattle.plx_base.proofs.Canonical.{bytes_of-payload_of}
-use Rattle.plx_commands.specs.Facts.{not}
 use Rattle.plx_commands.specs.declared.command.Command.TheVariants.{Read}
 use Rattle.plx_commands.specs.declared.reply.Reply.TheVariants as reply
 use Rattle.plx_worlds.specs.Commands.{read_part, command_part}
@@ -27,6 +25,7 @@ use Rattle.law_run.proofs.OnImage.{OnImage, names-own, still, on-image, Ready}
 use Rattle.law_run.proofs.Passed.{Passed, passed}
 use Rattle.law_run.proofs.Right.{clock, Rests, log_on, Right}
 use Rattle.law_run.proofs.Runs.{start}
+use Rattle.law_run.proofs.Tests.{le-is, le-isn't, not-false, not-true}
 
 pub on-read : (slot : SlotNo) (vblock : ℕ) → OnImage (Read slot vblock) slot.0
 on-read slot vblock = record { named = λ other. refl; used = λ other. refl; needed = λ other. refl; no_attach = λ other is. (let P : ⊥ = cc in P) }
@@ -46,20 +45,6 @@ read-clear slots slot vblock session n live below = record {
   counted = λ lt other v payload is. absurd (let P : ⊥ = cc in P);
   room = λ lt other v payload is. absurd (let P : ⊥ = cc in P);
 }
-
-pub not-true : (b : Bool) → not b ≡ true → b ≡ false
-not-true true e = cc
-not-true false e = refl
-
-pub not-false : (b : Bool) → not b ≡ false → b ≡ true
-not-false true e = refl
-not-false false e = cc
-
-pub le-is : (a b : ℕ) → nat_le a b ≡ true → a ≤ b
-le-is a b e = elim (leb_tells a b) [ inl le ↦ le.1 | inr other ↦ absurd (let f = other.0 in let P : ⊥ = cc in P) ]
-
-pub le-isn't : (a b : ℕ) → nat_le a b ≡ false → b < a
-le-isn't a b e = elim (leb_tells a b) [ inl le ↦ absurd (let f = le.0 in let P : ⊥ = cc in P) | inr other ↦ omega (arith, other.1) ]
 
 module _ (s : Setting) (before : List Finished) (known : Known) (slot : SlotNo) (vblock reading : ℕ) (rests : Rests s before known)
     (session : Session) (claim : Claim) (until : ℕ) (ready : Ready s before known (Read slot vblock) slot reading (on-read slot vblock) rests session claim until) where

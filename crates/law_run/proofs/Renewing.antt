@@ -30,15 +30,17 @@ use Rattle.law_run.specs.Refusals.{IsExpired, IsNamedFirst, NamesBlock, of_read,
 use Rattle.law_run.specs.Replies.{refused}
 use Rattle.law_run.specs.Sessions.{is_attached}
 use Rattle.law_run.proofs.Asking.{IsFine, replied-fine, asks-write}
-use Rattle.law_run.proofs.Holding.{at-same, at-other, first-held, first-more, claims-more}
+use Rattle.law_run.proofs.Holding.{first-held, first-more, claims-more}
 use Rattle.law_run.proofs.Limits.{Limited, limited}
 use Rattle.law_run.proofs.Meets.{exchange}
 use Rattle.law_run.proofs.OnImage.{passed-sessions, lease-name}
 use Rattle.law_run.proofs.Passed.{Passed, passed}
 use Rattle.law_run.proofs.Reached.{IsUse, NotAfter, IsFirst, Tells, first-tells, OfSession, of-session, session-use}
-use Rattle.law_run.proofs.Rests.{clash, rests-by, rests-lost}
+use Rattle.law_run.proofs.Rests.{rests-by, rests-lost}
 use Rattle.law_run.proofs.Right.{clock, IsHeld, FitsAt, Rests, finish, log_on, Right}
 use Rattle.law_run.proofs.Runs.{HasFirst, along-more, start}
+use Rattle.law_run.proofs.Tests.{clash}
+use Rattle.plx_commands.proofs.Places.{at-other, at-same}
 
 -- ---- no other refusal's fact holds of a renewal
 
@@ -177,7 +179,7 @@ module _ (s : Setting) (before : List Finished) (known : Known) (reading : ℕ) 
       let here : hold_of s before (x ∷ done) lease ≡ Held claim next =
       step lease ∙ (at-same H (lease_at lease) (renewed (read_lease bytes)) ∙ ap renewed (lease-back (lease_is.Claimed claim next) is)) in
       let apart : (l : ℕ) → l ≢ lease → hold_of s before (x ∷ done) l ≡ hold_of s before done l =
-      λ l ne. step l ∙ at-other H (lease_at lease) (renewed (read_lease bytes)) (lease_at l) (lease-one l lease ne) in
+      λ l ne. step l ∙ at-other H (lease_at lease) (lease_at l) (renewed (read_lease bytes)) (lease-one l lease ne) in
       record {
         has = tt;
         first = first-more done x reading r.first;

@@ -18,9 +18,6 @@ use Rattle.law_run.specs.Sessions.{names, attached_by, is_attached}
 use Rattle.law_run.proofs.Holding.{Spared}
 use Rattle.law_run.proofs.Right.{IsHeld, Fits, FitsAt, Rests, finish, log_on}
 
-pub clash : (test : Bool) → test ≡ true → test ≡ false → ⊥
-clash test h e = cc
-
 -- what is known of an image that the command names
 pub named-known : (g : Geometry) (before : List Finished) (command : Command) (done : List Exchange) (image : ℕ) → names command image ≡ true →
     known_in g (log_on before command done) image ≡ learnt g image command done (known_from g (log_on before command done) image)

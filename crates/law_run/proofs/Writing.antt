@@ -1,13 +1,13 @@
 -- Writes.
 use Rattle.std.proofs.Common.{◌≡◌, ℕ, ◌+◌, ◌≤◌, ◌<◌, ◌^◌, List, [], ◌∷◌, length, drop, Bool, true, false, Some, refl, ap, sym, subst, ◌∙◌, arith, inl, length-append}
-use Rattle.std.specs.Prelude.{if◌then◌else◌, ◌==◌, nat_le}
+use Rattle.std.specs.Prelude.{not, if◌then◌else◌, ◌==◌, nat_le}
 use Rattle.plx_base.specs.Blocks.{zeros}
 use Rattle.plx_base.specs.Payload.{bytes_of}
 use Rattle.plx_base.specs.declared.lease.Claim.{Claim}
 use Rattle.plx_base.specs.declared.numbers.SlotNo.{SlotNo}
 use Rattle.plx_base.specs.declared.payload.Payload.{Payload}
 use Rattle.plx_base.specs.declared.write_kind.WriteKind.TheVariants as kind
-use Rattle.plx_commands.specs.Facts.{is_worn, not}
+use Rattle.plx_commands.specs.Facts.{is_worn}
 use Rattle.plx_commands.specs.Limits.{last_write}
 use Rattle.plx_commands.specs.declared.command.Command.TheVariants.{Write}
 use Rattle.plx_commands.specs.declared.reply.Reply.TheVariants as reply
@@ -38,20 +38,20 @@ use Rattle.law_run.specs.Refusals.{NamesBlock, of_read, of_write, of_block, no_i
 use Rattle.law_run.specs.Replies.{refused}
 use Rattle.law_run.proofs.Asking.{IsFine, asks-write, asks-confirm}
 use Rattle.law_run.proofs.Clear.{by-unless, Clear, known-here, clear}
-use Rattle.law_run.proofs.Counted.{eqb-is, eqb-isn't}
 use Rattle.law_run.proofs.Facts.{image_of, limits, stores-session, next-free, write-count}
 use Rattle.law_run.proofs.Grown.{with-same, fits-data, fits-more}
-use Rattle.law_run.proofs.Holding.{at-same, at-other, Course, going-first, going-more}
+use Rattle.law_run.proofs.Holding.{Course, going-first, going-more}
 use Rattle.law_run.proofs.Latest.{latest-push}
 use Rattle.law_run.proofs.Meets.{exchange}
 use Rattle.law_run.proofs.OnImage.{OnImage, names-own, names-other, still, on-image, Ready}
 use Rattle.law_run.proofs.Passed.{Passed, passed}
-use Rattle.law_run.proofs.Reading.{not-true, not-false, le-is, le-isn't}
 use Rattle.law_run.proofs.Rests.{rests-by}
 use Rattle.law_run.proofs.Right.{clock, descriptor_of, Fits, FitsAt, Rests, finish, log_on, Right}
 use Rattle.law_run.proofs.Runs.{start}
 use Rattle.law_run.proofs.Slots.{slot-below}
 use Rattle.law_run.proofs.Unwritten.{unwritten-quiet}
+use Rattle.law_run.proofs.Tests.{eqb-is, eqb-isn't, le-is, le-isn't, not-false, not-true}
+use Rattle.plx_commands.proofs.Places.{at-other, at-same}
 
 pub on-write : (slot : SlotNo) (vblock : ℕ) (payload : Payload) → OnImage (Write slot vblock payload) slot.0
 on-write slot vblock payload = record { named = λ other. refl; used = λ other. refl; needed = λ other. refl; no_attach = λ other is. (let P : ⊥ = cc in P) }
@@ -192,7 +192,7 @@ module _ (s : Setting) (some : 1 ≤ s.geometry.slots) (before : List Finished) 
           told = refl;
         },
         rests-by s before command done3 (reply.Written (write_count session + 1)) known next slot.0 (names-other command slot.0 on.named)
-            (λ other apart. at-other known.sessions slot.0 (Some (with_write session write)) other apart) (λ other b apart. refl) (λ h. refl) going.spared
+            (λ other apart. at-other known.sessions slot.0 other (Some (with_write session write)) apart) (λ other b apart. refl) (λ h. refl) going.spared
             (subst (λ o. FitsAt s (finish command done3 (reply.Written (write_count session + 1)) ∷ before) slot.0 o) (sym (at-same known.sessions slot.0 (Some (with_write session write))))
             (ready.attached, subst (λ (h : Given). Fits g h slot.0 (with_write session write)) (sym known3) fits2, (claim, until, going.held)))
             (let a = rests.claims in let b = going.begun in omega arith) rests,

@@ -1,6 +1,5 @@
 -- A printed trace spells one trace alone.
 use Rattle.std.proofs.Common.{◌≡◌, ◌∙◌, ℕ, true, List, [], ◌∷◌, ◌++◌, map, codes, refl, ap, sym}
-use Rattle.std.specs.Prelude.{Some, None}
 use Rattle.plx_base.specs.declared.lease.LeaseName.TheVariants.{Root, Image, Extent}
 use Rattle.plx_model.specs.declared.command.Command.{Command}
 use Rattle.plx_model.specs.declared.command.Command.TheVariants.{Attach}
@@ -14,7 +13,7 @@ use Rattle.plx_words.specs.Pieces.{AllTell, Piece, all_spelled}
 use Rattle.plx_text.specs.Replies.{reply_line}
 use Rattle.plx_text.specs.Once.{TraceOnce}
 use Rattle.plx_words.specs.Texts.{LinesTell}
-use Rattle.plx_words.proofs.Once.{heads, none-some, one-value, some-same}
+use Rattle.plx_words.proofs.Once.{heads, none-some, some-same}
 use Rattle.plx_words.proofs.Values.{value}
 use Rattle.plx_text.specs.Schedules.{world_line, world_of}
 use Rattle.plx_text.specs.Traces.{end_line, entry_line, entry_of, plain_entry, trace_lines}

@@ -1,6 +1,6 @@
 -- The lines of schedules.
-use Rattle.std.proofs.Common.{◌≡◌, ℕ, List, [], ◌∷◌, ◌++◌, subst, arith}
-use Rattle.std.specs.Prelude.{Some, IfSome}
+use Rattle.std.proofs.Common.{◌≡◌, ℕ, List, [], ◌∷◌, ◌++◌, subst}
+use Rattle.std.specs.Prelude.{IfSome}
 use Rattle.plx_model.specs.declared.event.Event.{Event}
 use Rattle.plx_text.specs.Events.{SpellsEvent, event_of}
 use Rattle.plx_words.specs.Files.{Begins, IsFirstBad, Numbered}

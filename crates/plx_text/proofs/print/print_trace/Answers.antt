@@ -1,4 +1,3 @@
-use Rattle.std.proofs.Common.{map}
 use Rattle.plx_words.proofs.Spaced.{lines-tell-append, text-parts}
 use Rattle.plx_text.specs.Schedules.{world_line}
 use Rattle.plx_text.specs.Traces.{end_line, entry_lines}
