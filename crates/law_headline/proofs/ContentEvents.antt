@@ -65,7 +65,7 @@ module _ (w : World) (content : Content w) (a : ℕ) (below : a < w.appliances) 
   foreign-stored : (i : ℕ) → i < w.geometry.images → Keeps w.geometry w.surface.device i (n.slots i)
   foreign-stored i within = keeps-foreign w.geometry i a w.surface.device ((model_in w).slots i) (n.slots i) (foreign i) (content.stored i within)
 
-  foreign-opens : (i : ℕ) → i < w.geometry.images → Opens w.geometry w.surface.time w.surface.device w.surface.writes i (n.slots i)
+  foreign-opens : (i : ℕ) → i < w.geometry.images → Opens w.geometry w.rests w.surface.time w.surface.device w.surface.writes i (n.slots i)
   foreign-opens i within k x op of flags count = keeps-foreign w.geometry i a _ ((model_in w).slots i) (n.slots i) (foreign i) (content.opens i within k x op of flags count)
 
   foreign-seats : SeatFits w.geometry n a seat → (b : ℕ) → b < w.appliances → SeatFits w.geometry n b (at w.seats a seat b)
@@ -78,8 +78,8 @@ module _ (w : World) (content : Content w) (a : ℕ) (below : a < w.appliances) 
       (λ b ne under minds. owned-foreign w.geometry a b i w.surface.device w.surface.writes (w.seats b).pending (model_in w) n ne unmoved (foreign i) (sound.differs i) _
       (content.owned i within b under (elim minds [ inl grips ↦ inl grips | inr theirs ↦ inr ((foreign i).owner b theirs) ])))
 
-  foreign-whose : ((i : ℕ) → i < w.geometry.images → (k : ℕ) (x : Issued) → IsOpen w.geometry w.surface.time w.surface.writes (image_lease i) k x → IsOf w.geometry i x.block → (n.slots i).owner ≡ Some a → ⊥) →
-      (i : ℕ) → i < w.geometry.images → Whose w.geometry w.surface.time w.surface.writes (at w.seats a seat) i (n.slots i)
+  foreign-whose : ((i : ℕ) → i < w.geometry.images → (k : ℕ) (x : Issued) → IsOpen w.rests w.surface.time w.surface.writes (image_lease i) k x → IsOf w.geometry i x.block → (n.slots i).owner ≡ Some a → ⊥) →
+      (i : ℕ) → i < w.geometry.images → Whose w.geometry w.rests w.surface.time w.surface.writes (at w.seats a seat) i (n.slots i)
   foreign-whose quiet i within k x op of b owns' = elim (eqb_tells b a) [
     | inl same ↦ absurd (quiet i within k x op of (owns' ∙ ap Some same.1))
     | inr away ↦ ap (λ (s : Seat). s.pending) (at-other w.seats a b seat away.1) ∙ content.whose i within k x op of b ((foreign i).owner b owns')

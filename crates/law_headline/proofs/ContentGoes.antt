@@ -136,7 +136,7 @@ module _ (w : World) (content : Content w) (a : ℕ) (below : a < w.appliances) 
 
   -- nothing of what the boot's appliance owns in the model is open
   abbrev pub IsQuiet : Type 0
-  IsQuiet = (i : ℕ) → i < g.images → (k : ℕ) (x : Issued) → IsOpen g time writes (image_lease i) k x → IsOf g i x.block → (m.slots i).owner ≡ Some a → ⊥
+  IsQuiet = (i : ℕ) → i < g.images → (k : ℕ) (x : Issued) → IsOpen w.rests time writes (image_lease i) k x → IsOf g i x.block → (m.slots i).owner ≡ Some a → ⊥
 
   -- directly after a reading below the end of the named image's lease
   pub record IsJust (part : Part End) : Type 0 where
@@ -231,7 +231,7 @@ module _ (w : World) (content : Content w) (a : ℕ) (below : a < w.appliances) 
       IsGripped j = (claim : Claim) × (until : ℕ) × Grips g time writes a (w.seats a) j claim until
 
       abbrev IsClosed : ℕ → Type 0
-      IsClosed j = (k : ℕ) (x : Issued) → IsOpen g time writes (image_lease j) k x → IsOf g j x.block → ⊥
+      IsClosed j = (k : ℕ) (x : Issued) → IsOpen w.rests time writes (image_lease j) k x → IsOf g j x.block → ⊥
 
       foreign-or : (j : ℕ) → j < g.images → (Foreign a (m.slots j) (n.slots j)) ⊎ ((IsHeldBy (Ends end) j) × IsClosed j × (IsGripped j ⊎ ((m.slots j).owner ≡ Some a)))
       foreign-or j within = elim replies-how [
@@ -348,13 +348,13 @@ module _ (w : World) (content : Content w) (a : ℕ) (below : a < w.appliances) 
                   | inr owner ↦ (owner.0.2 m owner.0.1).1
                 ]);
             opens = λ i within.
-                let P : Model → Type 0 = λ x. Opens g time device writes i (x.slots i) in
+                let P : Model → Type 0 = λ x. Opens g w.rests time device writes i (x.slots i) in
                 subst P (sym is-model) (λ k x op of flags count. elim (foreign-or i within) [
                   | inl foreign ↦ keeps-foreign g i a _ (m.slots i) (n.slots i) foreign (content.opens i within k x op of flags count)
                   | inr owner ↦ absurd (owner.1 k x op of)
                 ]);
             whose = λ i within.
-                let P : Model → Type 0 = λ x. Whose g time writes (at w.seats a seat') i (x.slots i) in
+                let P : Model → Type 0 = λ x. Whose g w.rests time writes (at w.seats a seat') i (x.slots i) in
                 subst P (sym is-model) (λ k x op of b owns'. elim (foreign-or i within) [
                   | inl foreign ↦
                       let before = foreign.owner b owns' in

@@ -174,6 +174,7 @@ t0 : S 1000 first_device p0 []
 t0 = record {
   device = first_device;
   writes = [];
+  rests = λ number. [];
   seats = λ b. world.first_seat;
   history = [];
   reached = world.first small-is (omega arith) (omega arith) (formatted-is small_geometry small-is);
@@ -600,7 +601,7 @@ t35 = first-reading small_geometry 2 few 2 t34 one one-in k4 again refl (lost s0
 
 -- an appliance in no command owns what it holds
 owns-idle : {t : ℕ} {device : Device} {p : ℕ → Spot} {tr : List Entry} (st : S t device p tr) (a : ℕ) (known : Known) (claim : Claim) (until : ℕ) → (p a).place ≡ Idle known →
-    (p a).hold ≡ Held claim until → t ≤ until + 50 → Owns (world_at small_geometry 2 few 2 t st.device st.writes st.seats tr st.history) a (image_lease 0)
+    (p a).hold ≡ Held claim until → t ≤ until + 50 → Owns (world_at small_geometry 2 few 2 t st.device st.writes st.rests st.seats tr st.history) a (image_lease 0)
 owns-idle st a known claim until here held early =
     let q : Position = position (setting_at small_geometry a (st.seats a).boots) (st.seats a).log in
     record {
@@ -614,8 +615,8 @@ owns-idle st a known claim until here held early =
 
 pub taken-over : TakenOver
 taken-over = (
-  world_at small_geometry 2 few 2 1601 t19.device t19.writes t19.seats trace_before t19.history,
-  world_at small_geometry 2 few 2 11702 t35.device t35.writes t35.seats trace_after t35.history,
+  world_at small_geometry 2 few 2 1601 t19.device t19.writes t19.rests t19.seats trace_before t19.history,
+  world_at small_geometry 2 few 2 11702 t35.device t35.writes t35.rests t35.seats trace_after t35.history,
   record {
     reached = t19.reached;
     owned = owns-idle t19 0 k4 mine 11000 refl refl (omega arith);

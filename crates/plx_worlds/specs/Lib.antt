@@ -10,6 +10,7 @@ pub mod Loading
 pub mod Machines
 pub mod Parts
 pub mod Records
+pub mod Rests
 pub mod Session
 pub mod Settings
 pub mod Times
