@@ -32,3 +32,4 @@ pub mod Claiming
 pub mod Begun
 pub mod Worlds
 pub mod Inside
+pub mod Attaches
