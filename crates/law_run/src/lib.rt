@@ -26,7 +26,8 @@ pub fn stores_one_image()
     ensures { StoresOneImage }
 {}
 
-/// What a boot holds, and which images have a session, is the same by its commands and by where it stands.
+/// What a boot holds, which images have a session, and how many claims were begun, is the same by a log's commands
+/// and by where the log leads.
 pub fn positions_agree()
     ensures { PositionsAgree }
 {}
