@@ -1,0 +1,6 @@
+mod Filled
+mod Founded
+mod OnResult
+mod Reports
+mod SameBytes
+mod Tables
