@@ -1,7 +1,7 @@
 -- What a command's own Ok does to the slot that the command names.
 use Rattle.std.specs.Prelude.{ℕ, ◌<◌, List, [], ◌∷◌, Bool, true, false, Option, Some, None}
 use Rattle.plx_commands.specs.Model.{Model}
-use Rattle.plx_commands.specs.Moves.{entered, left, rested, done_at}
+use Rattle.plx_commands.specs.Moves.{entered, forgotten, left, rested, done_at, refused_at}
 use Rattle.plx_commands.specs.declared.command.Command.{Command}
 use Rattle.plx_commands.specs.declared.command.Command.TheVariants.{Attach, Detach, Create, Delete, Read, Write, Flush, Reserve, Renew, Retire, Reclaim}
 use Rattle.plx_commands.specs.declared.reply.Reply.{Reply}
@@ -49,3 +49,23 @@ brought m appliance (effect.Enter slot) reply = rested m appliance m.slots (m.se
 brought m appliance (effect.Leave slot) reply = left m appliance slot
 brought m appliance (effect.Change slot) reply = rested m appliance (done_at m (Some slot)) (m.sessions appliance)
 brought m appliance effect.Rest reply = rested m appliance m.slots (m.sessions appliance)
+
+-- the model after a reply to a command of this effect: its own Ok, a reply that ends all sessions, or another
+abbrev pub ended : Model → ℕ → Effect → (own ends : Bool) → Reply → Model
+ended m appliance which true ends reply = brought m appliance which reply
+ended m appliance which false true reply = forgotten m appliance
+ended m appliance which false false reply = rested m appliance (refused_at m appliance (changed_by which)) (m.sessions appliance)
+
+-- the command is an attach
+abbrev pub is_attach : Command → Bool
+is_attach (Attach slot) = true
+is_attach (Detach slot) = false
+is_attach (Create slot size label) = false
+is_attach (Delete slot) = false
+is_attach (Read slot vblock) = false
+is_attach (Write slot vblock payload) = false
+is_attach (Flush slot) = false
+is_attach (Reserve count) = false
+is_attach Renew = false
+is_attach Retire = false
+is_attach Reclaim = false

@@ -2,7 +2,7 @@
 ghost use Rattle.std.specs.Prelude.{◌≡◌};
 ghost use Rattle.plx_commands.specs.Judge.{of_owner};
 ghost use Rattle.plx_commands.specs.Slots.{changed, named};
-ghost use Rattle.plx_judge.specs.Effects.{changed_by, effect_of, slots_in};
+ghost use Rattle.plx_judge.specs.Effects.{changed_by, effect_of, is_attach, slots_in};
 
 use plx_commands::Command;
 
@@ -87,5 +87,23 @@ pub fn of_owner(command: &Command) -> Option<u32>
         Command::Renew => None,
         Command::Retire => None,
         Command::Reclaim => None,
+    }
+}
+// Whether the command is an attach.
+pub fn is_attach(command: &Command) -> bool
+    ensures { result ≡ is_attach command.now }
+{
+    match command {
+        Command::Attach { .. } => true,
+        Command::Detach { .. } => false,
+        Command::Create { .. } => false,
+        Command::Delete { .. } => false,
+        Command::Read { .. } => false,
+        Command::Write { .. } => false,
+        Command::Flush { .. } => false,
+        Command::Reserve { .. } => false,
+        Command::Renew => false,
+        Command::Retire => false,
+        Command::Reclaim => false,
     }
 }

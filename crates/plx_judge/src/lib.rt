@@ -8,9 +8,11 @@ mod first;
 mod frozen;
 mod judge;
 mod model;
+mod moves;
 mod refusals;
 mod replies;
 mod report;
+mod rules;
 mod seat;
 mod slot;
 

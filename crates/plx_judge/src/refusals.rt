@@ -1,4 +1,5 @@
 //! The refusals of a command whose facts hold.
+use crate::replies::{OK, number_of};
 use plx_commands::Reply;
 
 /// How many claims a boot can begin.
@@ -56,8 +57,9 @@ pub struct Refusals {
 }
 
 impl Refusals {
-    ghost use Rattle.std.specs.Prelude.{◌≡◌, ◌↔◌, ◌++◌, IsTrue};
+    ghost use Rattle.std.specs.Prelude.{◌≡◌, ◌↔◌, ◌++◌, [], IsTrue};
     ghost use Rattle.plx_commands.specs.Facts.{is_none};
+    ghost use Rattle.plx_commands.specs.Replies.{number_of};
     ghost use Rattle.plx_judge.specs.Shown.{IsFoundedIn, IsWornAt, listed, listed_claims};
 
     // Whether there is none, apart from a claim that the model knows nothing of.
@@ -96,6 +98,13 @@ impl Refusals {
             Reply::Full => true,
             Reply::Damaged { .. } => true,
         }
+    }
+
+    // Whether there is none, where the reply is an Ok.
+    pub fn allow(&self, reply: &Reply) -> bool
+        ensures { IsTrue result ↔ (number_of reply.now ≡ 0 → listed self.now ≡ []) }
+    {
+        number_of(reply) != OK || self.is_empty()
     }
 
     fn is_worn(&self, count: u64) -> bool
