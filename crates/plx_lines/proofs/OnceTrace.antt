@@ -8,7 +8,6 @@ use Rattle.plx_commands.specs.declared.entry.Entry.{Entry}
 use Rattle.plx_commands.specs.declared.entry.Entry.TheVariants as entry
 use Rattle.plx_commands.specs.declared.reply.Reply.{Reply}
 use Rattle.plx_commands.specs.declared.reply.Reply.TheVariants.{Busy, Lost}
-use Rattle.plx_geom.specs.Geometry.{Geometry}
 use Rattle.plx_words.specs.Candidates.{named_at}
 use Rattle.plx_lines.specs.Commands.{command_line}
 use Rattle.plx_words.specs.Pieces.{AllTell, Piece, all_spelled}

@@ -1,5 +1,5 @@
 -- The words of a world line, one after another.
-use Rattle.std.proofs.Common.{◌≡◌, ◌<◌, ◌^◌, ℕ, List, [], ◌∷◌, codes, decimal, Option, Some, None, arith, subst, ap}
+use Rattle.std.proofs.Common.{◌≡◌, ◌<◌, ◌^◌, ℕ, List, [], ◌∷◌, codes, decimal, Option, Some, None, arith, subst}
 use Rattle.std.specs.Prelude.{IfSome}
 use Rattle.plx_geom.specs.Geometry.{Geometry, IsGeometry, geometry_of}
 use Rattle.plx_words.proofs.Once.{one-value}

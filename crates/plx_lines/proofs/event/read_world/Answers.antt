@@ -1,4 +1,4 @@
-use Rattle.std.proofs.Common.{◌≡◌, ◌∙◌, ℕ, sym, arith}
+use Rattle.std.proofs.Common.{◌∙◌, ℕ, sym, arith}
 use Rattle.std.proofs.lemmas.Bool.{false≢true}
 use Rattle.plx_geom.specs.Geometry.{Geometry}
 use Rattle.plx_lines.proofs.Worlds.{after-four, after-three, none-of, six-words, within}
