@@ -101,14 +101,14 @@ SeatOwns g time device writes m i a seat =
     Minds g time writes m a seat i → OwnedAt g a i device writes seat.pending m (stands_at g a seat).place
 
 -- whatever of an open write lands, the image is kept
-abbrev pub Opens : Geometry → ℕ → Device → List Issued → ℕ → Slot → Type 0
-Opens g time device writes i slot =
-    (n : ℕ) (x : Issued) → IsOpen g time writes (image_lease i) n x → IsOf g i x.block → (flags : List Bool) → length flags ≡ 8 → Keeps g (put device x.block (mixed flags x.bytes (device x.block))) i slot
+abbrev pub Opens : Geometry → (rests : ℕ → List ℕ) → ℕ → Device → List Issued → ℕ → Slot → Type 0
+Opens g rests time device writes i slot =
+    (n : ℕ) (x : Issued) → IsOpen rests time writes (image_lease i) n x → IsOf g i x.block → (flags : List Bool) → length flags ≡ 8 → Keeps g (put device x.block (mixed flags x.bytes (device x.block))) i slot
 
 -- while an appliance owns the image in the model, an open write of the image is what it waits for
-abbrev pub Whose : Geometry → ℕ → List Issued → (ℕ → Seat) → ℕ → Slot → Type 0
-Whose g time writes seats i slot =
-    (n : ℕ) (x : Issued) → IsOpen g time writes (image_lease i) n x → IsOf g i x.block → (b : ℕ) → slot.owner ≡ Some b → (seats b).pending ≡ Some n
+abbrev pub Whose : Geometry → (rests : ℕ → List ℕ) → ℕ → List Issued → (ℕ → Seat) → ℕ → Slot → Type 0
+Whose g rests time writes seats i slot =
+    (n : ℕ) (x : Issued) → IsOpen rests time writes (image_lease i) n x → IsOf g i x.block → (b : ℕ) → slot.owner ≡ Some b → (seats b).pending ≡ Some n
 
 -- the invariant of the headline
 pub record Content (w : World) : Type 0 where
@@ -117,7 +117,7 @@ pub record Content (w : World) : Type 0 where
   pub permitted : Permitted (model_before w) w.trace
   pub undamaged : AreUndamaged w.trace
   pub stored : (i : ℕ) → i < w.geometry.images → Keeps w.geometry w.surface.device i ((model_in w).slots i)
-  pub opens : (i : ℕ) → i < w.geometry.images → Opens w.geometry w.surface.time w.surface.device w.surface.writes i ((model_in w).slots i)
-  pub whose : (i : ℕ) → i < w.geometry.images → Whose w.geometry w.surface.time w.surface.writes w.seats i ((model_in w).slots i)
+  pub opens : (i : ℕ) → i < w.geometry.images → Opens w.geometry w.rests w.surface.time w.surface.device w.surface.writes i ((model_in w).slots i)
+  pub whose : (i : ℕ) → i < w.geometry.images → Whose w.geometry w.rests w.surface.time w.surface.writes w.seats i ((model_in w).slots i)
   pub seats : (a : ℕ) → a < w.appliances → SeatFits w.geometry (model_in w) a (w.seats a)
   pub owned : (i : ℕ) → i < w.geometry.images → (a : ℕ) → a < w.appliances → SeatOwns w.geometry w.surface.time w.surface.device w.surface.writes (model_in w) i a (w.seats a)

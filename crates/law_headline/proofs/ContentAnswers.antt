@@ -30,7 +30,7 @@ use Rattle.plx_disk.specs.declared.ask.Answer.TheVariants as answer
 use Rattle.plx_gate.specs.Leases.{lease_bytes, read_lease, IsClaimed}
 use Rattle.plx_geom.specs.Geometry.{Geometry, image_lease, lease_at}
 use Rattle.plx_geom.proofs.Places.{image-below}
-use Rattle.plx_headline.proofs.Lists.{none-other}
+use Rattle.law_lease.proofs.Lists.{none-some}
 use Rattle.plx_rules.specs.Part.{Part, Ends, ReadThen, WriteThen, ClockThen, UntilThen}
 use Rattle.plx_worlds.specs.Boot.{Happening, Asked, Place, Begins, In, Position, position, place_of, after_part, goes_to, went_on}
 use Rattle.plx_worlds.specs.Commands.{IsBuilt, IsWellFormed, attached_part, of_attached, detach_part, create_part, delete_part, read_part, write_part, command_part}
@@ -38,6 +38,7 @@ use Rattle.plx_worlds.specs.Ends.{End}
 use Rattle.plx_worlds.specs.Headline.{IsUndamaged, starts_and_crashes, events_told, model_in}
 use Rattle.plx_worlds.specs.Holds.{Hold, Nothing, Seen, Wrote, Waited, Held, no_holds, after_write, after_reply, after_first, first_hold, session_at, timed, shown, reread, seen_for, seen_by, renewed, wrote}
 use Rattle.plx_worlds.specs.Owners.{first_landed, pending_write}
+use Rattle.plx_worlds.specs.Rests.{rests_on}
 use Rattle.plx_worlds.specs.Session.{Session, Known}
 use Rattle.plx_worlds.specs.Settings.{Setting}
 use Rattle.plx_worlds.specs.Times.{is_expired}
@@ -187,8 +188,8 @@ module _ (w : World) (content : Content w) (a : ℕ) (below : a < w.appliances) 
   minds-back i log back (inr mine) = inr mine
 
   -- nothing is open where no write is waited for
-  quiet-free : (w.seats a).pending ≡ None → (i : ℕ) → i < g.images → (k : ℕ) (x : Issued) → IsOpen g time writes (image_lease i) k x → IsOf g i x.block → (m.slots i).owner ≡ Some a → ⊥
-  quiet-free free i within k x op of mine = none-other k (sym free ∙ content.whose i within k x op of a mine)
+  quiet-free : (w.seats a).pending ≡ None → (i : ℕ) → i < g.images → (k : ℕ) (x : Issued) → IsOpen w.rests time writes (image_lease i) k x → IsOf g i x.block → (m.slots i).owner ≡ Some a → ⊥
+  quiet-free free i within k x op of mine = none-some k (sym free ∙ content.whose i within k x op of a mine)
 
   -- a session that isn't there
   is-none : (o : Option Session) → is_some o ≡ false → o ≡ None
@@ -526,10 +527,10 @@ module _ (w : World) (content : Content w) (a : ℕ) (below : a < w.appliances) 
             closed kind.Release flags is missing = (let e : Some true ≡ Some false = sym (ap (λ (l : List Bool). slice_get l 0) is) ∙ missing in cc)
             closed other flags is missing = missing is
 
-            may : (k : WriteKind) → what ≡ k → MayAsk g s.boot p.holds k block bytes guard
+            may : (k : WriteKind) → what ≡ k → MayAsk g s.boot p.holds (rests_on g command p.holds k block bytes) k block bytes guard
             may k is =
                 let P : Place → Type 0 = λ q. LawfulAt g s.boot p.holds p.sample q in
-                let M : WriteKind → Type 0 = λ x. MayAsk g s.boot p.holds x block bytes guard in
+                let M : WriteKind → Type 0 = λ x. MayAsk g s.boot p.holds (rests_on g command p.holds x block bytes) x block bytes guard in
                 subst M is (subst P here (content.leased.seated a below).lawful).0
 
             full : (mixed (missing_of landed.0.landed) landed.0.bytes (device landed.0.block) ≡ landed.0.bytes) → device block ≡ bytes
@@ -640,9 +641,9 @@ module _ (w : World) (content : Content w) (a : ℕ) (below : a < w.appliances) 
       let limits : (i : ℕ) → i < g.images → (claim : Claim) (until : ℕ) → h (lease_at (image_lease i)) ≡ Held claim until → IsClaimed claim until =
       λ i within claim until held.
       (let held' = first-held (session_at g known (lease_at (image_lease i))) reading (p.holds (lease_at (image_lease i))) claim until held in
-      let G : Hold → Type 0 = λ x. Good g time writes (image_lease i) (content.leased.on (image_lease i) (image-below g i within)).standing s.boot None x in
-      let good : IsHeld g time writes (image_lease i) (content.leased.on (image_lease i) (image-below g i within)).standing s.boot None claim until =
-      subst G held' (good-free g w.appliances time device writes w.seats (image_lease i) (content.leased.on (image_lease i) (image-below g i within)) a below free) in
+      let G : Hold → Type 0 = λ x. Good w.rests time writes (image_lease i) (content.leased.on (image_lease i) (image-below g i within)).standing s.boot None x in
+      let good : IsHeld w.rests time writes (image_lease i) (content.leased.on (image_lease i) (image-below g i within)).standing s.boot None claim until =
+      subst G held' (good-free g w.rests w.appliances time device writes w.seats (image_lease i) (content.leased.on (image_lease i) (image-below g i within)) a below free) in
       good.limits) in
       let own : (i : ℕ) → i < g.images → (claim : Claim) (until : ℕ) → h (lease_at (image_lease i)) ≡ Held claim until → Minds g time writes m a (w.seats a) i →
       (Names command i → Serving known command part i) × ((Names command i → ⊥) → Has g a i known device m) =

@@ -16,8 +16,8 @@ use Rattle.plx_commands.proofs.Accepted.{accepts-start, accepts-crash}
 use Rattle.plx_commands.proofs.Places.{at-all, at-same, at-other}
 use Rattle.plx_disk.specs.Writes.{Issued, passed}
 use Rattle.plx_geom.specs.Geometry.{image_lease, lease_at}
-use Rattle.plx_headline.proofs.Lists.{none-other}
-use Rattle.plx_headline.proofs.Tests.{nat_lt-true, nat_le-false}
+use Rattle.law_lease.proofs.Lists.{none-some}
+use Rattle.plx_base.proofs.Tests.{nat_lt-true, nat_le-false}
 use Rattle.plx_worlds.specs.Boot.{Began, Place, Idle, begun}
 use Rattle.plx_worlds.specs.Commands.{IsBuilt, IsWellFormed}
 use Rattle.plx_worlds.specs.Headline.{model_before, model_in}
@@ -65,7 +65,7 @@ module _ (w : World) (content : Content w) (a : ℕ) (below : a < w.appliances) 
   foreign-stored : (i : ℕ) → i < w.geometry.images → Keeps w.geometry w.surface.device i (n.slots i)
   foreign-stored i within = keeps-foreign w.geometry i a w.surface.device ((model_in w).slots i) (n.slots i) (foreign i) (content.stored i within)
 
-  foreign-opens : (i : ℕ) → i < w.geometry.images → Opens w.geometry w.surface.time w.surface.device w.surface.writes i (n.slots i)
+  foreign-opens : (i : ℕ) → i < w.geometry.images → Opens w.geometry w.rests w.surface.time w.surface.device w.surface.writes i (n.slots i)
   foreign-opens i within k x op of flags count = keeps-foreign w.geometry i a _ ((model_in w).slots i) (n.slots i) (foreign i) (content.opens i within k x op of flags count)
 
   foreign-seats : SeatFits w.geometry n a seat → (b : ℕ) → b < w.appliances → SeatFits w.geometry n b (at w.seats a seat b)
@@ -78,8 +78,8 @@ module _ (w : World) (content : Content w) (a : ℕ) (below : a < w.appliances) 
       (λ b ne under minds. owned-foreign w.geometry a b i w.surface.device w.surface.writes (w.seats b).pending (model_in w) n ne unmoved (foreign i) (sound.differs i) _
       (content.owned i within b under (elim minds [ inl grips ↦ inl grips | inr theirs ↦ inr ((foreign i).owner b theirs) ])))
 
-  foreign-whose : ((i : ℕ) → i < w.geometry.images → (k : ℕ) (x : Issued) → IsOpen w.geometry w.surface.time w.surface.writes (image_lease i) k x → IsOf w.geometry i x.block → (n.slots i).owner ≡ Some a → ⊥) →
-      (i : ℕ) → i < w.geometry.images → Whose w.geometry w.surface.time w.surface.writes (at w.seats a seat) i (n.slots i)
+  foreign-whose : ((i : ℕ) → i < w.geometry.images → (k : ℕ) (x : Issued) → IsOpen w.rests w.surface.time w.surface.writes (image_lease i) k x → IsOf w.geometry i x.block → (n.slots i).owner ≡ Some a → ⊥) →
+      (i : ℕ) → i < w.geometry.images → Whose w.geometry w.rests w.surface.time w.surface.writes (at w.seats a seat) i (n.slots i)
   foreign-whose quiet i within k x op of b owns' = elim (eqb_tells b a) [
     | inl same ↦ absurd (quiet i within k x op of (owns' ∙ ap Some same.1))
     | inr away ↦ ap (λ (s : Seat). s.pending) (at-other w.seats a b seat away.1) ∙ content.whose i within k x op of b ((foreign i).owner b owns')
@@ -239,5 +239,5 @@ start-content w a command known below here well built content leased =
             (λ away s is. let Q : Slot → Type 0 = λ t. HasImage g i a s w.surface.device t in subst Q (sym (started-away m a command i (changed command) refl away)) (has s is)),
           ));
       whose = foreign-whose w content a below n unmoved foreign sound' seat
-          (λ i within k x op of mine. none-other k (sym free ∙ content.whose i within k x op of a ((foreign i).owner a mine)));
+          (λ i within k x op of mine. none-some k (sym free ∙ content.whose i within k x op of a ((foreign i).owner a mine)));
     }

@@ -143,17 +143,17 @@ pub one-grip : (w : World) → Leased w → (i a b : ℕ) → i < w.geometry.ima
 one-grip w leased i a b within one other c d u v grip grip' =
     let on = leased.on (image_lease i) (image-below w.geometry i within) in
     let few = leased.few in
-    let P : ℕ → Hold → Type 0 = λ n h. Good w.geometry w.surface.time w.surface.writes (image_lease i) on.standing (boot_number n (w.seats n).boots) (w.seats n).pending h in
-    let mine : IsHeld w.geometry w.surface.time w.surface.writes (image_lease i) on.standing (boot_number a (w.seats a).boots) (w.seats a).pending c u = subst (P a) grip.0 (on.each a one) in
-    let its : IsHeld w.geometry w.surface.time w.surface.writes (image_lease i) on.standing (boot_number b (w.seats b).boots) (w.seats b).pending d v = subst (P b) grip'.0 (on.each b other) in
+    let P : ℕ → Hold → Type 0 = λ n h. Good w.rests w.surface.time w.surface.writes (image_lease i) on.standing (boot_number n (w.seats n).boots) (w.seats n).pending h in
+    let mine : IsHeld w.rests w.surface.time w.surface.writes (image_lease i) on.standing (boot_number a (w.seats a).boots) (w.seats a).pending c u = subst (P a) grip.0 (on.each a one) in
+    let its : IsHeld w.rests w.surface.time w.surface.writes (image_lease i) on.standing (boot_number b (w.seats b).boots) (w.seats b).pending d v = subst (P b) grip'.0 (on.each b other) in
     boots-apart a b (w.seats a).boots (w.seats b).boots (omega arith) (omega arith)
     (sym mine.own ∙ (ap (λ (x : Claim). x.boot.0) (one-claim on.standing c d u v (mine.there grip.1) (its.there grip'.1)).0 ∙ its.own))
 
 -- what is open under a held lease is what its boot waits for
 pub grip-only : (w : World) → Leased w → (i a : ℕ) → i < w.geometry.images → a < w.appliances → (c : Claim) (u : ℕ) →
-    Grips w.geometry w.surface.time w.surface.writes a (w.seats a) i c u → (n : ℕ) (x : Issued) → IsOpen w.geometry w.surface.time w.surface.writes (image_lease i) n x → (w.seats a).pending ≡ Some n
+    Grips w.geometry w.surface.time w.surface.writes a (w.seats a) i c u → (n : ℕ) (x : Issued) → IsOpen w.rests w.surface.time w.surface.writes (image_lease i) n x → (w.seats a).pending ≡ Some n
 grip-only w leased i a within below c u grip n x is =
     let on = leased.on (image_lease i) (image-below w.geometry i within) in
-    let P : Hold → Type 0 = λ h. Good w.geometry w.surface.time w.surface.writes (image_lease i) on.standing (boot_number a (w.seats a).boots) (w.seats a).pending h in
-    let mine : IsHeld w.geometry w.surface.time w.surface.writes (image_lease i) on.standing (boot_number a (w.seats a).boots) (w.seats a).pending c u = subst P grip.0 (on.each a below) in
+    let P : Hold → Type 0 = λ h. Good w.rests w.surface.time w.surface.writes (image_lease i) on.standing (boot_number a (w.seats a).boots) (w.seats a).pending h in
+    let mine : IsHeld w.rests w.surface.time w.surface.writes (image_lease i) on.standing (boot_number a (w.seats a).boots) (w.seats a).pending c u = subst P grip.0 (on.each a below) in
     mine.only grip.1 n x is

@@ -21,7 +21,7 @@ use Rattle.plx_commands.proofs.Accepted.{Answers, accepts-reply}
 use Rattle.plx_commands.proofs.Places.{at-all, at-other}
 use Rattle.plx_disk.specs.Writes.{Issued}
 use Rattle.plx_geom.specs.Geometry.{Geometry, image_lease}
-use Rattle.plx_headline.proofs.Lists.{none-other}
+use Rattle.law_lease.proofs.Lists.{none-some}
 use Rattle.plx_rules.specs.Part.{Part, Ends, ReadThen, WriteThen, ClockThen, UntilThen}
 use Rattle.plx_worlds.specs.Boot.{Happening, In, Position, position, goes_to}
 use Rattle.plx_worlds.specs.Ends.{End}
@@ -136,7 +136,7 @@ module _ (w : World) (content : Content w) (a : ℕ) (below : a < w.appliances) 
 
   -- nothing of what the boot's appliance owns in the model is open
   abbrev pub IsQuiet : Type 0
-  IsQuiet = (i : ℕ) → i < g.images → (k : ℕ) (x : Issued) → IsOpen g time writes (image_lease i) k x → IsOf g i x.block → (m.slots i).owner ≡ Some a → ⊥
+  IsQuiet = (i : ℕ) → i < g.images → (k : ℕ) (x : Issued) → IsOpen w.rests time writes (image_lease i) k x → IsOf g i x.block → (m.slots i).owner ≡ Some a → ⊥
 
   -- directly after a reading below the end of the named image's lease
   pub record IsJust (part : Part End) : Type 0 where
@@ -175,7 +175,7 @@ module _ (w : World) (content : Content w) (a : ℕ) (below : a < w.appliances) 
           let mine = own i within minds in
           let P : Position → Type 0 = λ q. OwnedAt g a i device writes None m q.place in
           subst P (sym leads) (
-            (λ names. (let s = mine.0 names in record { regime = s.0; looks = s.1; held = s.2; on = s.3; fills = λ n x e. absurd (none-other n e) })),
+            (λ names. (let s = mine.0 names in record { regime = s.0; looks = s.1; held = s.2; on = s.3; fills = λ n x e. absurd (none-some n e) })),
             mine.1,
           ))
           (λ b ne under. content.owned i within b under);
@@ -231,7 +231,7 @@ module _ (w : World) (content : Content w) (a : ℕ) (below : a < w.appliances) 
       IsGripped j = (claim : Claim) × (until : ℕ) × Grips g time writes a (w.seats a) j claim until
 
       abbrev IsClosed : ℕ → Type 0
-      IsClosed j = (k : ℕ) (x : Issued) → IsOpen g time writes (image_lease j) k x → IsOf g j x.block → ⊥
+      IsClosed j = (k : ℕ) (x : Issued) → IsOpen w.rests time writes (image_lease j) k x → IsOf g j x.block → ⊥
 
       foreign-or : (j : ℕ) → j < g.images → (Foreign a (m.slots j) (n.slots j)) ⊎ ((IsHeldBy (Ends end) j) × IsClosed j × (IsGripped j ⊎ ((m.slots j).owner ≡ Some a)))
       foreign-or j within = elim replies-how [
@@ -242,7 +242,7 @@ module _ (w : World) (content : Content w) (a : ℕ) (below : a < w.appliances) 
                 let same : owner.0 ≡ j = names-one command owner.0 j owner.2 names in
                 let P : ℕ → Type 0 = λ k. (IsHeldBy (Ends end) k) × IsGripped k in
                 let o = subst P same (owner.3, owner.4) in
-                inr (o.0, (λ k x op of. none-other k (sym owner.5 ∙ grip-only w content.leased j a within below o.1.0 o.1.1 o.1.2 k x op)), inl o.1)
+                inr (o.0, (λ k x op of. none-some k (sym owner.5 ∙ grip-only w content.leased j a within below o.1.0 o.1.1 o.1.2 k x op)), inl o.1)
             | inr away ↦ inl (away-foreign m a command end.reply j away)
           ]
           | inr yields ↦ elim (owner-cases (m.slots j).owner a) [
@@ -348,13 +348,13 @@ module _ (w : World) (content : Content w) (a : ℕ) (below : a < w.appliances) 
                   | inr owner ↦ (owner.0.2 m owner.0.1).1
                 ]);
             opens = λ i within.
-                let P : Model → Type 0 = λ x. Opens g time device writes i (x.slots i) in
+                let P : Model → Type 0 = λ x. Opens g w.rests time device writes i (x.slots i) in
                 subst P (sym is-model) (λ k x op of flags count. elim (foreign-or i within) [
                   | inl foreign ↦ keeps-foreign g i a _ (m.slots i) (n.slots i) foreign (content.opens i within k x op of flags count)
                   | inr owner ↦ absurd (owner.1 k x op of)
                 ]);
             whose = λ i within.
-                let P : Model → Type 0 = λ x. Whose g time writes (at w.seats a seat') i (x.slots i) in
+                let P : Model → Type 0 = λ x. Whose g w.rests time writes (at w.seats a seat') i (x.slots i) in
                 subst P (sym is-model) (λ k x op of b owns'. elim (foreign-or i within) [
                   | inl foreign ↦
                       let before = foreign.owner b owns' in

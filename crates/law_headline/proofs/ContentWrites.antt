@@ -18,18 +18,22 @@ use Rattle.plx_commands.proofs.Places.{at-all, at-same, at-other}
 use Rattle.plx_disk.specs.Writes.{Issued, with_sector, no_sectors, fresh_write, MayLand, after_landing}
 use Rattle.plx_geom.specs.Geometry.{Geometry, image_lease, lease_at}
 use Rattle.plx_geom.proofs.Places.{lease-lease, image-below}
-use Rattle.plx_headline.proofs.Lists.{get-push, at_push, get-set_same, get-set_other, pending-is}
+use Rattle.plx_disk.proofs.Lists.{push-before, push-last, set-other, set-same}
+use Rattle.law_lease.proofs.Lists.{pending-is, push-cases}
 use Rattle.plx_rules.specs.Part.{Part, Ends, ReadThen, WriteThen, ClockThen, UntilThen}
 use Rattle.plx_worlds.specs.Boot.{Place, Idle, Begins, In, Position}
 use Rattle.plx_worlds.specs.Ends.{End}
 use Rattle.plx_worlds.specs.Headline.{model_in}
 use Rattle.plx_worlds.specs.Holds.{Hold, Held}
-use Rattle.plx_worlds.specs.Owners.{Needs, is_set, pending_write, first_landed}
+use Rattle.plx_worlds.specs.Owners.{is_set, pending_write, first_landed}
+use Rattle.plx_worlds.specs.Rests.{IsUnder, rests_on}
+use Rattle.plx_commands.specs.Replies.{is_in}
+use Rattle.law_lease.proofs.Rests.{rests-alone, needs-before, needs-last}
 use Rattle.plx_worlds.specs.Session.{Known}
 use Rattle.plx_worlds.specs.Settings.{boot_number}
 use Rattle.plx_worlds.specs.World.{World, Seat, with_surface, after_issue}
 use Rattle.law_lease.proofs.LeaseFrames.{grip-open, grip_while-open, grip_while-away}
-use Rattle.law_lease.proofs.LeaseLands.{asked-may, grip-asked, first-set, pending-other, not-whole, unlanded-before}
+use Rattle.law_lease.proofs.LeaseLands.{MayBeAsked, asked-may, grip-asked, first-set, pending-other, not-whole, unlanded-before}
 use Rattle.law_lease.proofs.Leased.{MayAsk, LawfulAt, IsOpen, Unlanded, IsAskedAt, IsPlaced, IsRight, grip_while, grip_at, Leased}
 use Rattle.law_headline.proofs.Content.{appliance_no, stands_at, IsJournalled, PlaceFits, OwnedAt, Grips, Minds, Whose, SeatFits, SeatOwns, Opens, Content}
 use Rattle.law_headline.proofs.ContentFrames.{owned-same, grip-only}
@@ -40,44 +44,38 @@ use Rattle.law_headline.proofs.JournalFacts.{Keeps-same}
 use Rattle.law_headline.proofs.Journals.{Keeps, Same}
 use Rattle.law_headline.proofs.Replied.{Names}
 
--- an older element, once one more stands behind it
-get-push_old : {X : Type 0} (xs : List X) (x y : X) (k : ℕ) → slice_get xs k ≡ Some y → slice_get (xs ++ x ∷ []) k ≡ Some y
-get-push_old [] x y k e = cc
-get-push_old (z ∷ xs) x y zero e = e
-get-push_old (z ∷ xs) x y (suc k) e = get-push_old xs x y k e
-
 -- a block of two images' journals is one image's
 of-one : (g : Geometry) (i j block : ℕ) → i < g.images → j < g.images → IsOf g i block → IsOf g j block → i ≡ j
 of-one g i j block wi wj one two = elim (eqb_tells i j) [ inl same ↦ same.1 | inr away ↦ absurd (of-apart g i j block wi wj away.1 one two) ]
 
 -- where a write stands, as an image sees it
-placed-cases : (g : Geometry) (k : WriteKind) (block : ℕ) (bytes : List ℕ) → IsPlaced g k block bytes → (i : ℕ) → i < g.images →
-    (IsOf g i block × IsJournalled k × Needs g k block (image_lease i)) ⊎ (IsOf g i block → ⊥)
-placed-cases g kind.Claim block bytes placed i within = inr (λ of. of-lease g i placed.0 placed.1 (let P : ℕ → Type 0 = λ b. IsOf g i b in subst P placed.2 of))
-placed-cases g kind.Renew block bytes placed i within = inr (λ of. of-lease g i placed.0 placed.1 (let P : ℕ → Type 0 = λ b. IsOf g i b in subst P placed.2 of))
-placed-cases g kind.Release block bytes placed i within = inr (λ of. of-lease g i placed.0 placed.1 (let P : ℕ → Type 0 = λ b. IsOf g i b in subst P placed.2 of))
-placed-cases g kind.Take block bytes placed i within = inr (λ of. of-map g i placed.0 within (let P : ℕ → Type 0 = λ b. IsOf g i b in subst P placed.2 of))
-placed-cases g kind.Give block bytes placed i within = inr (λ of. of-map g i placed.0 within (let P : ℕ → Type 0 = λ b. IsOf g i b in subst P placed.2 of))
-placed-cases g kind.Sweep block bytes placed i within = inr (λ of. of-map g i placed.0 within (let P : ℕ → Type 0 = λ b. IsOf g i b in subst P placed.2 of))
-placed-cases g kind.Record block bytes placed i within = elim (eqb_tells placed.0 i) [
+placed-cases : (g : Geometry) (k : WriteKind) (block : ℕ) (bytes : List ℕ) (leases : List ℕ) → IsPlaced g k block bytes leases → (i : ℕ) → i < g.images →
+    (IsOf g i block × IsJournalled k × (is_in (image_lease i) leases ≡ true)) ⊎ (IsOf g i block → ⊥)
+placed-cases g kind.Claim block bytes leases placed i within = inr (λ of. of-lease g i placed.0 placed.1 (let P : ℕ → Type 0 = λ b. IsOf g i b in subst P placed.2 of))
+placed-cases g kind.Renew block bytes leases placed i within = inr (λ of. of-lease g i placed.0 placed.1 (let P : ℕ → Type 0 = λ b. IsOf g i b in subst P placed.2 of))
+placed-cases g kind.Release block bytes leases placed i within = inr (λ of. of-lease g i placed.0 placed.1 (let P : ℕ → Type 0 = λ b. IsOf g i b in subst P placed.2 of))
+placed-cases g kind.Take block bytes leases placed i within = inr (λ of. of-map g i placed.0 within (let P : ℕ → Type 0 = λ b. IsOf g i b in subst P placed.2 of))
+placed-cases g kind.Give block bytes leases placed i within = inr (λ of. of-map g i placed.0 within (let P : ℕ → Type 0 = λ b. IsOf g i b in subst P placed.2 of))
+placed-cases g kind.Sweep block bytes leases placed i within = inr (λ of. of-map g i placed.0 within (let P : ℕ → Type 0 = λ b. IsOf g i b in subst P placed.2 of))
+placed-cases g kind.Record block bytes leases placed i within = elim (eqb_tells placed.0 i) [
   | inl same ↦
-      let P : ℕ → Type 0 = λ n. IsOf g n block × Unit {0} × Needs g kind.Record block (image_lease n) in
-      inl (subst P same.1 (inl placed.2, tt, (placed.0, placed.1, placed.2, refl)))
+      let P : ℕ → Type 0 = λ n. IsOf g n block × Unit {0} × (is_in (image_lease n) leases ≡ true) in
+      inl (subst P same.1 (inl placed.2, tt, rests-alone (image_lease placed.0) (image_lease placed.0) leases placed.3 refl))
   | inr away ↦ inr (λ of. of-apart g placed.0 i block placed.1 within away.1 (inl placed.2) of)
 ]
-placed-cases g kind.JData block bytes placed i within = elim (eqb_tells placed.0 i) [
+placed-cases g kind.JData block bytes leases placed i within = elim (eqb_tells placed.0 i) [
   | inl same ↦
-      let P : ℕ → Type 0 = λ n. IsOf g n block × Unit {0} × Needs g kind.JData block (image_lease n) in
-      inl (subst P same.1 (inr (placed.1, placed.3, inr placed.4), tt, (placed.0, placed.1, placed.2, placed.3, placed.4, refl)))
+      let P : ℕ → Type 0 = λ n. IsOf g n block × Unit {0} × (is_in (image_lease n) leases ≡ true) in
+      inl (subst P same.1 (inr (placed.1, placed.3, inr placed.4), tt, rests-alone (image_lease placed.0) (image_lease placed.0) leases placed.5 refl))
   | inr away ↦ inr (λ of. of-apart g placed.0 i block placed.2 within away.1 (inr (placed.1, placed.3, inr placed.4)) of)
 ]
-placed-cases g kind.JCommit block bytes placed i within = elim (eqb_tells placed.0 i) [
+placed-cases g kind.JCommit block bytes leases placed i within = elim (eqb_tells placed.0 i) [
   | inl same ↦
-      let P : ℕ → Type 0 = λ n. IsOf g n block × Unit {0} × Needs g kind.JCommit block (image_lease n) in
-      inl (subst P same.1 (inr (placed.1, placed.3, inl placed.4), tt, (placed.0, placed.1, placed.2, placed.3, placed.4, refl)))
+      let P : ℕ → Type 0 = λ n. IsOf g n block × Unit {0} × (is_in (image_lease n) leases ≡ true) in
+      inl (subst P same.1 (inr (placed.1, placed.3, inl placed.4), tt, rests-alone (image_lease placed.0) (image_lease placed.0) leases placed.5 refl))
   | inr away ↦ inr (λ of. of-apart g placed.0 i block placed.2 within away.1 (inr (placed.1, placed.3, inl placed.4)) of)
 ]
-placed-cases g other block bytes placed i within = absurd placed
+placed-cases g other block bytes leases placed i within = absurd placed
 
 -- a journal's write that is waited for is one of the named image
 named-of : (g : Geometry) (a i : ℕ) (command : Command) (known : Known) (holds : ℕ → Hold) (sample : Option ℕ) (part : Part End) (boot : ℕ) (x : Issued) →
@@ -164,15 +162,19 @@ module _ (w : World) (content : Content w) where
     with-owner i (With image change) looks is = looks.slot.0
     with-owner i (Without kept ws) looks is = absurd is
 
+    -- on what it rests, as a write of its kind
+    abbrev leases : WriteKind → List ℕ
+    leases k = rests_on g command (p a).holds k block bytes
+
     -- whatever of the new write lands, its image is kept, which is the appliance's in the model
-    new-keeps : (i : ℕ) → i < g.images → IsOf g i block → time ≤ guard + 50 → (k : WriteKind) → what ≡ k → Needs g k block (image_lease i) →
+    new-keeps : (i : ℕ) → i < g.images → IsOf g i block → time ≤ guard + 50 → (k : WriteKind) → what ≡ k → is_in (image_lease i) (leases k) ≡ true →
         ((flags : List Bool) → length flags ≡ 8 → Keeps g (put device block (mixed flags bytes (device block))) i (m.slots i)) × ((m.slots i).owner ≡ Some a)
     new-keeps i within of live k is needs = by_kind k is (may k is) (named k is) (held k is) needs
       where
-        may : (k : WriteKind) → what ≡ k → MayAsk g boot (p a).holds k block bytes guard
+        may : (k : WriteKind) → what ≡ k → MayAsk g boot (p a).holds (leases k) k block bytes guard
         may k is =
             let P : Place → Type 0 = λ q. LawfulAt g boot (p a).holds (p a).sample q in
-            let M : WriteKind → Type 0 = λ x. MayAsk g boot (p a).holds x block bytes guard in
+            let M : WriteKind → Type 0 = λ x. MayAsk g boot (p a).holds (leases x) x block bytes guard in
             subst M is (subst P here (content.leased.seated a below).lawful).0
 
         named : (k : WriteKind) → what ≡ k → IsNamed g command k block
@@ -185,64 +187,63 @@ module _ (w : World) (content : Content w) where
             let H : WriteKind → Type 0 = λ x. HeldPart g a i command known s.regime (WriteThen x block bytes guard done fault missed) device in
             (s.regime, s.looks, subst H is s.held)
 
-        by_kind : (k : WriteKind) → what ≡ k → MayAsk g boot (p a).holds k block bytes guard → IsNamed g command k block →
+        by_kind : (k : WriteKind) → what ≡ k → MayAsk g boot (p a).holds (leases k) k block bytes guard → IsNamed g command k block →
             ((claim : Claim) (until : ℕ) → (p a).holds (lease_at (image_lease i)) ≡ Held claim until → guard ≤ until → Names command i →
             (regime : Regime) × Looks g a i command known regime m × HeldPart g a i command known regime (WriteThen k block bytes guard done fault missed) device) →
-            Needs g k block (image_lease i) →
+            is_in (image_lease i) (leases k) ≡ true →
             ((flags : List Bool) → length flags ≡ 8 → Keeps g (put device block (mixed flags bytes (device block))) i (m.slots i)) × ((m.slots i).owner ≡ Some a)
         by_kind kind.Record is t n h needs =
-            let grant = t.grants (image_lease i) (image-below g i within) needs in
+            let grant = t.grants (image_lease i) needs in
             let names : Names command i = (let P : ℕ → Type 0 = λ j. Names command j in subst P (of-one g n.0 i block n.1 within n.2 of) n.3) in
             let s = h grant.claim grant.until grant.hold grant.guarded names in
             ((λ flags count. s.2.1 flags count m s.1), with-owner i s.0 s.1 s.2.3)
         by_kind kind.JData is t n h needs =
-            let grant = t.grants (image_lease i) (image-below g i within) needs in
+            let grant = t.grants (image_lease i) needs in
             let names : Names command i = (let P : ℕ → Type 0 = λ j. Names command j in subst P (of-one g n.0 i block n.1 within n.2 of) n.3) in
             let s = h grant.claim grant.until grant.hold grant.guarded names in
             ((λ flags count. s.2.1 flags count m s.1), with-owner i s.0 s.1 s.2.3)
         by_kind kind.JCommit is t n h needs =
-            let grant = t.grants (image_lease i) (image-below g i within) needs in
+            let grant = t.grants (image_lease i) needs in
             let names : Names command i = (let P : ℕ → Type 0 = λ j. Names command j in subst P (of-one g n.0 i block n.1 within n.2 of) n.3) in
             let s = h grant.claim grant.until grant.hold grant.guarded names in
             ((λ flags count. s.2.1 flags count m s.1), with-owner i s.0 s.1 s.2.3)
-        by_kind kind.Renew is t n h needs = absurd (of-lease g i (image_lease i) (image-below g i within) (let P : ℕ → Type 0 = λ b. IsOf g i b in subst P needs of))
-        by_kind kind.Release is t n h needs = absurd (of-lease g i (image_lease i) (image-below g i within) (let P : ℕ → Type 0 = λ b. IsOf g i b in subst P needs of))
-        by_kind kind.Take is t n h needs = absurd (of-map g i needs.0 within (let P : ℕ → Type 0 = λ b. IsOf g i b in subst P needs.2 of))
-        by_kind kind.Give is t n h needs = absurd (of-map g i needs.0 within (let P : ℕ → Type 0 = λ b. IsOf g i b in subst P needs.2 of))
-        by_kind kind.Sweep is t n h needs = absurd (of-map g i needs.0 within (let P : ℕ → Type 0 = λ b. IsOf g i b in subst P needs.2 of))
-        by_kind other is t n h needs = absurd needs
+        by_kind kind.Renew is t n h needs = absurd (of-lease g i t.lease t.within (let P : ℕ → Type 0 = λ b. IsOf g i b in subst P t.at_lease of))
+        by_kind kind.Release is t n h needs = absurd (of-lease g i t.lease t.within (let P : ℕ → Type 0 = λ b. IsOf g i b in subst P t.at_lease of))
+        by_kind kind.Take is t n h needs = absurd (of-map g i t.placed.0 within (let P : ℕ → Type 0 = λ b. IsOf g i b in subst P t.placed.2 of))
+        by_kind kind.Give is t n h needs = absurd (of-map g i t.placed.0 within (let P : ℕ → Type 0 = λ b. IsOf g i b in subst P t.placed.2 of))
+        by_kind kind.Sweep is t n h needs = absurd (of-map g i t.placed.0 within (let P : ℕ → Type 0 = λ b. IsOf g i b in subst P t.placed.2 of))
+        by_kind kind.Claim is t n h needs = absurd (of-lease g i t.lease t.within (let P : ℕ → Type 0 = λ b. IsOf g i b in subst P t.at_lease of))
+        by_kind other is t n h needs = absurd t
 
     abbrev seat' : Seat
     seat' = record { boots = (w.seats a).boots; log = (w.seats a).log; pending = Some (length writes) }
 
-    pub issue-content : Leased (after_issue w (appliance_no a) what block bytes guard) → Content (after_issue w (appliance_no a) what block bytes guard)
+    pub issue-content : Leased (after_issue w (appliance_no a) command what block bytes guard) → Content (after_issue w (appliance_no a) command what block bytes guard)
     issue-content leased = record {
       leased = leased;
       told = content.told;
       permitted = content.permitted;
       undamaged = content.undamaged;
       stored = content.stored;
-      opens = λ i within n x op of flags count. elim (at_push writes fresh x n op.found) [
-        | inl old ↦ content.opens i within n x (record { found = old; needs = op.needs; missing = op.missing; live = op.live }) of flags count
+      opens = λ i within n x op of flags count. elim (push-cases writes fresh x n op.found) [
+        | inl old ↦ content.opens i within n x (record { found = old; needs = needs-before w.rests writes (leases what) n x (image_lease i) old op.needs; missing = op.missing; live = op.live }) of flags count
         | inr is ↦
             let P : Issued → Type 0 = λ y. Keeps g (put device y.block (mixed flags y.bytes (device y.block))) i (m.slots i) in
             let Q : Issued → Type 0 = λ y. IsOf g i y.block in
-            let N : Issued → Type 0 = λ y. Needs g y.kind y.block (image_lease i) in
             let live : time ≤ guard + 50 = (let e = op.live in let f : x.guard ≡ guard = ap (λ (y : Issued). y.guard) (sym is.1) in omega (arith, e, f)) in
-            subst P is.1 ((new-keeps i within (subst Q (sym is.1) of) live what refl (subst N (sym is.1) op.needs)).0 flags count)
+            subst P is.1 ((new-keeps i within (subst Q (sym is.1) of) live what refl (needs-last w.rests writes (leases what) n (image_lease i) is.0 op.needs)).0 flags count)
       ];
-      whose = λ i within n x op of b mine. elim (at_push writes fresh x n op.found) [
+      whose = λ i within n x op of b mine. elim (push-cases writes fresh x n op.found) [
         | inl old ↦
-            let was : IsOpen g time writes (image_lease i) n x = record { found = old; needs = op.needs; missing = op.missing; live = op.live } in
+            let was : IsOpen w.rests time writes (image_lease i) n x = record { found = old; needs = needs-before w.rests writes (leases what) n x (image_lease i) old op.needs; missing = op.missing; live = op.live } in
             elim (eqb_tells b a) [
               | inl same ↦ absurd (let e : None ≡ Some n = sym free ∙ content.whose i within n x was of a (mine ∙ ap Some same.1) in let P : ⊥ = cc in P)
               | inr away ↦ ap (λ (s : Seat). s.pending) (at-other w.seats a b seat' away.1) ∙ content.whose i within n x was of b mine
             ]
         | inr is ↦
             let Q : Issued → Type 0 = λ y. IsOf g i y.block in
-            let N : Issued → Type 0 = λ y. Needs g y.kind y.block (image_lease i) in
             let live : time ≤ guard + 50 = (let e = op.live in let f : x.guard ≡ guard = ap (λ (y : Issued). y.guard) (sym is.1) in omega (arith, e, f)) in
-            let owner = (new-keeps i within (subst Q (sym is.1) of) live what refl (subst N (sym is.1) op.needs)).1 in
+            let owner = (new-keeps i within (subst Q (sym is.1) of) live what refl (needs-last w.rests writes (leases what) n (image_lease i) is.0 op.needs)).1 in
             let same : a ≡ b = (let e : Some a ≡ Some b = sym owner ∙ mine in cc) in
             let S : ℕ → Type 0 = λ j. (at w.seats a seat' j).pending ≡ Some n in
             subst S same (ap (λ (s : Seat). s.pending) (at-same w.seats a seat') ∙ ap Some (sym is.0))
@@ -254,7 +255,7 @@ module _ (w : World) (content : Content w) where
             | inl grips ↦
                 let held : (p a).holds (lease_at (image_lease i)) ≡ Held grips.0 grips.1 =
                 sym (grip-open (p a).place (pending_write now (Some (length writes))) (lease_at (image_lease i)) ((p a).holds (lease_at (image_lease i)))
-                (ap (λ (o : Option Issued). first_landed o) (get-push writes fresh))) ∙ grips.2.0 in
+                (ap (λ (o : Option Issued). first_landed o) (push-last writes fresh))) ∙ grips.2.0 in
                 inl (grips.0, grips.1, grips-free i grips.0 grips.1 held grips.2.1)
             | inr owner ↦ inr owner
           ] in
@@ -269,7 +270,7 @@ module _ (w : World) (content : Content w) where
               fills = λ n x waits found journalled.
                   let at' : length writes ≡ n = cc in
                   let Q : ℕ → Type 0 = λ k. slice_get now k ≡ Some x in
-                  let is : fresh ≡ x = (let e : Some fresh ≡ Some x = sym (get-push writes fresh) ∙ subst Q (sym at') found in cc) in
+                  let is : fresh ≡ x = (let e : Some fresh ≡ Some x = sym (push-last writes fresh) ∙ subst Q (sym at') found in cc) in
                   let R : Issued → Type 0 = λ y. mixed (missing_of y.landed) y.bytes (device y.block) ≡ y.bytes in
                   subst R is (mixed-all 8 bytes (device block) fits.1.1 (content.leased.long block));
             }),
@@ -286,7 +287,7 @@ module _ (w : World) (content : Content w) where
           owned-same g b i device device writes now (w.seats b).pending m (same-refl g i device) (p b).place
           (λ known' command' part' at' names n x waits found journalled.
           let asked = (content.leased.seated b under).asked n waits in
-          let same : asked.0 ≡ x = (let e : Some asked.0 ≡ Some x = sym (get-push_old writes fresh asked.0 n asked.1) ∙ found in cc) in
+          let same : asked.0 ≡ x = (let e : Some asked.0 ≡ Some x = sym (push-before writes fresh asked.0 n asked.1) ∙ found in cc) in
           let was : slice_get writes n ≡ Some x = asked.1 ∙ ap Some same in
           (was, waits-of b under i known' command' part' at' names n x waits was journalled))
           (content.owned i within b under old));
@@ -295,7 +296,7 @@ module _ (w : World) (content : Content w) where
         by_pending : (b : ℕ) → b < w.appliances → (q : Option ℕ) → (w.seats b).pending ≡ q → pending_write now q ≡ pending_write writes q
         by_pending b under None e = refl
         by_pending b under (Some n) e =
-            let asked = (content.leased.seated b under).asked n e in get-push_old writes fresh asked.0 n asked.1 ∙ sym asked.1
+            let asked = (content.leased.seated b under).asked n e in push-before writes fresh asked.0 n asked.1 ∙ sym asked.1
 
   -- ---- a sector lands
 
@@ -306,7 +307,7 @@ module _ (w : World) (content : Content w) where
     abbrev after : Device
     after = put device write.block (landed sector write.bytes (device write.block))
 
-    right : IsRight g write
+    right : IsRight g (w.rests number) write
     right = content.leased.right number write may.found
 
     below-8 : sector < 8
@@ -321,12 +322,12 @@ module _ (w : World) (content : Content w) where
       | inl same ↦ inl (
         same.1,
         (let P : ℕ → Type 0 = λ k. slice_get now' k ≡ Some x in
-            let e : Some x ≡ Some (with_sector write sector) = sym (subst P same.1 there) ∙ get-set_same writes number write (with_sector write sector) may.found in cc),
+            let e : Some x ≡ Some (with_sector write sector) = sym (subst P same.1 there) ∙ set-same writes number (with_sector write sector) write may.found in cc),
       )
-      | inr away ↦ inr (away.1, sym (get-set_other writes number n (with_sector write sector) away.1) ∙ there)
+      | inr away ↦ inr (away.1, sym (set-other writes number n (with_sector write sector) away.1) ∙ there)
     ]
 
-    this-open : (i : ℕ) → IsJournalled write.kind → Needs g write.kind write.block (image_lease i) → IsOpen g time writes (image_lease i) number write
+    this-open : (i : ℕ) → IsJournalled write.kind → IsUnder w.rests number (image_lease i) → IsOpen w.rests time writes (image_lease i) number write
     this-open i journalled needs = record { found = may.found; needs = needs; missing = unlanded write.kind journalled; live = may.early }
       where
         unlanded : (k : WriteKind) → IsJournalled k → Unlanded k write.landed
@@ -359,8 +360,8 @@ module _ (w : World) (content : Content w) where
         no-sector (suc (suc (suc (suc (suc (suc (suc zero))))))) less = refl
         no-sector (suc (suc (suc (suc (suc (suc (suc (suc k)))))))) less = absurd (omega (arith, less))
 
-    cases : (i : ℕ) → i < g.images → (IsOf g i write.block × IsJournalled write.kind × Needs g write.kind write.block (image_lease i)) ⊎ (IsOf g i write.block → ⊥)
-    cases i within = placed-cases g write.kind write.block write.bytes right.placed i within
+    cases : (i : ℕ) → i < g.images → (IsOf g i write.block × IsJournalled write.kind × IsUnder w.rests number (image_lease i)) ⊎ (IsOf g i write.block → ⊥)
+    cases i within = placed-cases g write.kind write.block write.bytes (w.rests number) right.placed i within
 
     stored-after : (i : ℕ) → i < g.images → Keeps g after i (m.slots i)
     stored-after i within = elim (cases i within) [
@@ -368,23 +369,23 @@ module _ (w : World) (content : Content w) where
       | inr no' ↦ Keeps-same g device after i (m.slots i) (same-after i no') (content.stored i within)
     ]
 
-    opens-after : (i : ℕ) → i < g.images → Opens g time after now' i (m.slots i)
+    opens-after : (i : ℕ) → i < g.images → Opens g w.rests time after now' i (m.slots i)
     opens-after i within n x op of flags count = elim (landed-or n x op.found) [
       | inl here' ↦
-          let N : Issued → Type 0 = λ y. Needs g y.kind y.block (image_lease i) in
+          let N : ℕ → Type 0 = λ k. IsUnder w.rests k (image_lease i) in
           let U : Issued → Type 0 = λ y. Unlanded y.kind y.landed in
           let Q : Issued → Type 0 = λ y. IsOf g i y.block in
           let P : Issued → Type 0 = λ y. Keeps g (put after y.block (mixed flags y.bytes (after y.block))) i (m.slots i) in
-          let was : IsOpen g time writes (image_lease i) number write = record {
+          let was : IsOpen w.rests time writes (image_lease i) number write = record {
             found = may.found;
-            needs = subst N here'.1 op.needs;
+            needs = subst N here'.0 op.needs;
             missing = unlanded-before write.kind write.landed sector may.missing (subst U here'.1 op.missing);
             live = may.early;
           } in
           subst P (sym here'.1) (keeps-landed g i write.block sector write.bytes device (m.slots i) below-8 bytes-long (content.leased.long write.block)
           (λ f c. content.opens i within number write was (subst Q here'.1 of) f c) flags count)
       | inr away ↦
-          let was : IsOpen g time writes (image_lease i) n x = record { found = away.1; needs = op.needs; missing = op.missing; live = op.live } in
+          let was : IsOpen w.rests time writes (image_lease i) n x = record { found = away.1; needs = op.needs; missing = op.missing; live = op.live } in
           elim (cases i within) [
             | inl mine ↦ absurd (away.0 ((content.leased.on (image_lease i) (image-below g i within)).alone n number x write was (this-open i mine.1 mine.2)))
             | inr no' ↦
@@ -396,15 +397,15 @@ module _ (w : World) (content : Content w) where
           ]
     ]
 
-    whose-after : (i : ℕ) → i < g.images → Whose g time now' w.seats i (m.slots i)
+    whose-after : (i : ℕ) → i < g.images → Whose g w.rests time now' w.seats i (m.slots i)
     whose-after i within n x op of b mine = elim (landed-or n x op.found) [
       | inl here' ↦
-          let N : Issued → Type 0 = λ y. Needs g y.kind y.block (image_lease i) in
+          let N : ℕ → Type 0 = λ k. IsUnder w.rests k (image_lease i) in
           let U : Issued → Type 0 = λ y. Unlanded y.kind y.landed in
           let Q : Issued → Type 0 = λ y. IsOf g i y.block in
-          let was : IsOpen g time writes (image_lease i) number write = record {
+          let was : IsOpen w.rests time writes (image_lease i) number write = record {
             found = may.found;
-            needs = subst N here'.1 op.needs;
+            needs = subst N here'.0 op.needs;
             missing = unlanded-before write.kind write.landed sector may.missing (subst U here'.1 op.missing);
             live = may.early;
           } in
@@ -429,7 +430,7 @@ module _ (w : World) (content : Content w) where
           let hold = (p b).holds (lease_at (image_lease i)) in
           let there : pending_write writes (w.seats b).pending ≡ Some write = ap (pending_write writes) is ∙ may.found in
           let there' : pending_write now' (w.seats b).pending ≡ Some (with_sector write sector) =
-          ap (pending_write now') is ∙ get-set_same writes number write (with_sector write sector) may.found in
+          ap (pending_write now') is ∙ set-same writes number (with_sector write sector) write may.found in
           let old : grip_at (p b).place (pending_write writes (w.seats b).pending) (lease_at (image_lease i)) hold
           ≡ grip_while write.kind (lease_at (image_lease i) == write.block) (first_landed (Some write)) write.bytes hold =
           grip-asked (p b).place (boot_number b (w.seats b).boots) write asked' (pending_write writes (w.seats b).pending) (lease_at (image_lease i)) hold
@@ -442,12 +443,12 @@ module _ (w : World) (content : Content w) where
           (back.0, back.1, (old ∙ back.2, back.3 grips.1))
     ]
       where
-        by_kind : (b : ℕ) (k : WriteKind) → write.kind ≡ k → (s : ℕ) → sector ≡ s → MayAsk g (boot_number b (w.seats b).boots) (p b).holds write.kind write.block write.bytes write.guard →
+        by_kind : (b : ℕ) (k : WriteKind) → write.kind ≡ k → (s : ℕ) → sector ≡ s → MayBeAsked g (boot_number b (w.seats b).boots) (p b).holds write.kind write.block write.bytes write.guard →
             grip_while write.kind (lease_at (image_lease i) == write.block) (first_landed (Some (with_sector write sector))) write.bytes ((p b).holds (lease_at (image_lease i))) ≡ Held claim until →
             (c : Claim) × (u : ℕ) × (grip_while write.kind (lease_at (image_lease i) == write.block) (first_landed (Some write)) write.bytes ((p b).holds (lease_at (image_lease i))) ≡ Held c u)
             × (time ≤ until + 50 → time ≤ u + 50)
         by_kind b k is (suc s) at' may' e =
-            let flag : slice_get (slice_set write.landed sector true) 0 ≡ slice_get write.landed 0 = get-set_other write.landed sector 0 true (λ z. omega (arith, z, at')) in
+            let flag : slice_get (slice_set write.landed sector true) 0 ≡ slice_get write.landed 0 = set-other write.landed sector 0 true (λ z. omega (arith, z, at')) in
             let hold = (p b).holds (lease_at (image_lease i)) in
             (claim, until, ap (λ (o : Option Bool). grip_while write.kind (lease_at (image_lease i) == write.block) (is_set o) write.bytes hold) (sym flag) ∙ e, (λ l. l))
         by_kind b kind.Renew is zero at' may' e =
@@ -456,8 +457,8 @@ module _ (w : World) (content : Content w) where
             let before : grip_while write.kind (lease_at (image_lease i) == write.block) (first_landed (Some write)) write.bytes hold ≡ hold =
             ap (λ (f : Bool). grip_while write.kind (lease_at (image_lease i) == write.block) f write.bytes hold) (first-set write false zeroth)
             ∙ grip_while-open write.kind (lease_at (image_lease i) == write.block) write.bytes hold in
-            let M : WriteKind → Type 0 = λ x. MayAsk g (boot_number b (w.seats b).boots) (p b).holds x write.block write.bytes write.guard in
-            let t = subst M is may' in
+            let M : WriteKind → Type 0 = λ x. MayBeAsked g (boot_number b (w.seats b).boots) (p b).holds x write.block write.bytes write.guard in
+            let t = (subst M is may').1 in
             elim (eqb_tells (lease_at (image_lease i)) write.block) [
               | inl here' ↦
                   let same : image_lease i ≡ t.lease = lease-lease (image_lease i) t.lease (here'.1 ∙ t.at_lease) in
@@ -476,8 +477,8 @@ module _ (w : World) (content : Content w) where
             let before : grip_while write.kind (lease_at (image_lease i) == write.block) (first_landed (Some write)) write.bytes hold ≡ hold =
             ap (λ (f : Bool). grip_while write.kind (lease_at (image_lease i) == write.block) f write.bytes hold) (first-set write false zeroth)
             ∙ grip_while-open write.kind (lease_at (image_lease i) == write.block) write.bytes hold in
-            let M : WriteKind → Type 0 = λ x. MayAsk g (boot_number b (w.seats b).boots) (p b).holds x write.block write.bytes write.guard in
-            let t = subst M is may' in
+            let M : WriteKind → Type 0 = λ x. MayBeAsked g (boot_number b (w.seats b).boots) (p b).holds x write.block write.bytes write.guard in
+            let t = (subst M is may').1 in
             elim (eqb_tells (lease_at (image_lease i)) write.block) [
               | inl here' ↦
                   let same : image_lease i ≡ t.lease = lease-lease (image_lease i) t.lease (here'.1 ∙ t.at_lease) in
@@ -586,7 +587,7 @@ module _ (w : World) (content : Content w) where
               by_place (p b).place waits mine (subst Q same asked.2) (content.seats b under) owned
         ]
       where
-        by_place : (place : Place) → (w.seats b).pending ≡ Some number → (IsOf g i write.block × IsJournalled write.kind × Needs g write.kind write.block (image_lease i)) →
+        by_place : (place : Place) → (w.seats b).pending ≡ Some number → (IsOf g i write.block × IsJournalled write.kind × IsUnder w.rests number (image_lease i)) →
             IsAskedAt place (boot_number b (w.seats b).boots) write → PlaceFits g b m (p b) place → OwnedAt g b i device writes (w.seats b).pending m place → OwnedAt g b i after now' (w.seats b).pending m place
         by_place (Idle known) waits mine asked fits owned = absurd asked
         by_place (Begins known command) waits mine asked fits owned = absurd asked

@@ -23,7 +23,7 @@ use Rattle.plx_gate.specs.declared.image.ImageRecord.{ImageRecord}
 use Rattle.plx_gate.specs.declared.image.ImageRecord.TheVariants as image_is
 use Rattle.plx_gate.proofs.Descriptors.{length-descriptor}
 use Rattle.plx_geom.specs.Geometry.{Geometry, IsGeometry, data_at, descriptor_at, lease_count, image_lease, lease_at}
-use Rattle.plx_geom.proofs.Places.{lease-lease, image-below, record-record, data-data, descriptor-descriptor}
+use Rattle.plx_geom.proofs.Places.{lease-lease, image-below}
 use Rattle.plx_rules.specs.Part.{Part, Ends, ReadThen, WriteThen, ClockThen, UntilThen}
 use Rattle.plx_rules.specs.declared.journaled.Journaled.{Journaled}
 use Rattle.plx_worlds.specs.Attaching.{image_use, after_load, load_journal, after_record, load_image, after_claim, claim_image, attach_part}
@@ -41,6 +41,7 @@ use Rattle.plx_worlds.specs.Settings.{Setting}
 use Rattle.plx_worlds.specs.Times.{is_expired, term}
 use Rattle.plx_gate.proofs.Leases.{length-lease}
 use Rattle.law_lease.proofs.Leased.{IsGranted, Lawful, LawfulRest}
+use Rattle.law_lease.proofs.Rests.{one-in, lease-found, record-found, data-found, descriptor-found}
 
 -- between commands a lease is held, or not
 abbrev pub IsRest : Hold → Type 0
@@ -77,11 +78,11 @@ length-labelled (image_is.Free generation) short = length-spelled image_magic (i
 length-labelled (image_is.Live generation size taken root applied label) short =
     length-spelled image_magic (image_fields (image_is.Live generation size taken root applied label)) label (omega (arith, short))
 
-module _ (g : Geometry) (boot : ℕ) where
+module _ (g : Geometry) (boot : ℕ) (command : Command) where
   -- one part and then another
   pub lawful-followed : {E F : Type 0} (At : E → (ℕ → Hold) → Option ℕ → Type 0) (At' : F → (ℕ → Hold) → Option ℕ → Type 0) (part : Part E) (next : E → Part F) (holds : ℕ → Hold) (sample : Option ℕ) →
-      Lawful At g boot holds sample part → ((end : E) (h : ℕ → Hold) (s : Option ℕ) → At end h s → Lawful At' g boot h s (next end)) →
-      Lawful At' g boot holds sample (followed_by part next)
+      Lawful At g boot command holds sample part → ((end : E) (h : ℕ → Hold) (s : Option ℕ) → At end h s → Lawful At' g boot command h s (next end)) →
+      Lawful At' g boot command holds sample (followed_by part next)
   lawful-followed At At' (Ends end) next holds sample lawful then' = then' end holds sample lawful
   lawful-followed At At' (ReadThen block rest fault) next holds sample lawful then' = (
     λ bytes. lawful-followed At At' (rest bytes) next _ _ (lawful.0 bytes) then',
@@ -99,27 +100,27 @@ module _ (g : Geometry) (boot : ℕ) where
 
   -- ---- a claim
 
-  claim-in_time : (uses : List InUse) (reading : ℕ) (rest : Part ClaimEnd) (holds : ℕ → Hold) (sample : Option ℕ) → LawfulRest g boot holds sample rest →
-      LawfulRest g boot holds sample (claim_in_time uses reading rest)
+  claim-in_time : (uses : List InUse) (reading : ℕ) (rest : Part ClaimEnd) (holds : ℕ → Hold) (sample : Option ℕ) → LawfulRest g boot command holds sample rest →
+      LawfulRest g boot command holds sample (claim_in_time uses reading rest)
   claim-in_time uses reading rest holds sample lawful = by_found (first_reached uses reading)
     where
-      by_found : (found : Option InUse) → LawfulRest g boot holds sample (unless_reached found (λ due. Ends (ClaimLost due reading)) rest)
+      by_found : (found : Option InUse) → LawfulRest g boot command holds sample (unless_reached found (λ due. Ends (ClaimLost due reading)) rest)
       by_found None = lawful
       by_found (Some due) = tt
 
-  claim-damaged : (uses : List InUse) (holds : ℕ → Hold) (sample : Option ℕ) → LawfulRest g boot holds sample (claim_damaged uses)
+  claim-damaged : (uses : List InUse) (holds : ℕ → Hold) (sample : Option ℕ) → LawfulRest g boot command holds sample (claim_damaged uses)
   claim-damaged uses holds sample = λ reading early. claim-in_time uses reading (Ends ClaimDamaged) _ _ tt
 
   claim-reread : (own : Bool) (uses : List InUse) (claim : Claim) (seen : Option LeaseRecord) (holds : ℕ → Hold) (sample : Option ℕ) →
-      LawfulRest g boot holds sample (reread_by own uses claim seen)
+      LawfulRest g boot command holds sample (reread_by own uses claim seen)
   claim-reread true uses claim seen holds sample = tt
   claim-reread false uses claim None holds sample = claim-damaged uses holds sample
   claim-reread false uses claim (Some seen) holds sample = tt
 
   claim-written : (others : List InUse) (lease number sample : ℕ) (holds : ℕ → Hold) (last : Option ℕ) → lease < lease_count g → number < 2 ^ 40 → sample < 2 ^ 48 →
-      holds (lease_at lease) ≡ Seen sample → LawfulRest g boot holds last (written_part others lease (claim_of boot number sample))
+      holds (lease_at lease) ≡ Seen sample → LawfulRest g boot command holds last (written_part others lease (claim_of boot number sample))
   claim-written others lease number sample holds last within few early is = (
-    record { lease = lease; number = number; sample = sample; within = within; at_lease = refl; hold = is; spells = refl; few = few; early = early; guarded = refl },
+    record { lease = lease; number = number; sample = sample; within = within; at_lease = refl; alone = refl; hold = is; spells = refl; few = few; early = early; guarded = refl },
     λ reading below. claim-in_time uses reading (reread_part uses lease claim) _ _ (
       λ bytes. claim-reread (bytes_eq bytes (lease_bytes (own_record claim))) uses claim (read_lease bytes) _ _,
       tt,
@@ -136,17 +137,17 @@ module _ (g : Geometry) (boot : ℕ) where
       uses = own_use lease claim ∷ others
 
   claim-seen : (others : List InUse) (lease number sample : ℕ) (found : Option LeaseRecord) (holds : ℕ → Hold) → lease < lease_count g → number < 2 ^ 40 → sample < 2 ^ 48 →
-      holds (lease_at lease) ≡ seen_by found sample → LawfulRest g boot holds None (seen_part others lease (claim_of boot number sample) found)
+      holds (lease_at lease) ≡ seen_by found sample → LawfulRest g boot command holds None (seen_part others lease (claim_of boot number sample) found)
   claim-seen others lease number sample None holds within few early is = claim-damaged others holds None
   claim-seen others lease number sample (Some seen) holds within few early is = by_test (is_expired seen sample) is
     where
       by_test : (a : Bool) → holds (lease_at lease) ≡ (if a then Seen sample else Nothing) →
-          LawfulRest g boot holds None (if_expired a seen (written_part others lease (claim_of boot number sample)))
+          LawfulRest g boot command holds None (if_expired a seen (written_part others lease (claim_of boot number sample)))
       by_test false is' = tt
       by_test true is' = claim-written others lease number sample holds None within few early is'
 
   pub lawful-claim : (others : List InUse) (lease number : ℕ) (holds : ℕ → Hold) (last : Option ℕ) → lease < lease_count g → number < 2 ^ 40 → holds (lease_at lease) ≡ Nothing →
-      LawfulRest g boot holds last (claim_part boot others lease number)
+      LawfulRest g boot command holds last (claim_part boot others lease number)
   lawful-claim others lease number holds last within few is = λ sample early. claim-in_time others sample _ _ _ (
     λ bytes.
         let before : ℕ → Hold = λ block. timed sample (holds block) in
@@ -158,27 +159,27 @@ module _ (g : Geometry) (boot : ℕ) where
   -- ---- the reading of a journal
 
   pub lawful-load : (image : ℕ) (kept : ImageRecord) (left slot : ℕ) (writes : List Journaled) (holds : ℕ → Hold) (sample : Option ℕ) →
-      LawfulRest g boot holds sample (load_part g image kept left slot writes)
+      LawfulRest g boot command holds sample (load_part g image kept left slot writes)
   lawful-load image kept zero slot writes holds sample = tt
   lawful-load image kept (suc left) slot writes holds sample = (
     λ bytes. by_found (finding kept g.slots slot bytes) _ _ (λ h s w. lawful-load image kept left (slot + 1) w h s),
     tt,
   )
     where
-      by_found : (found : Finding) (h : ℕ → Hold) (s : Option ℕ) → ((h' : ℕ → Hold) (s' : Option ℕ) (w : List Journaled) → LawfulRest g boot h' s' (load_part g image kept left (slot + 1) w)) →
-          LawfulRest g boot h s (load_found (descriptor_at g image slot) found (load_part g image kept left (slot + 1) writes)
+      by_found : (found : Finding) (h : ℕ → Hold) (s : Option ℕ) → ((h' : ℕ → Hold) (s' : Option ℕ) (w : List Journaled) → LawfulRest g boot command h' s' (load_part g image kept left (slot + 1) w)) →
+          LawfulRest g boot command h s (load_found (descriptor_at g image slot) found (load_part g image kept left (slot + 1) writes)
           (λ number vblock. ReadThen (data_at g image slot) (λ data'. load_part g image kept left (slot + 1) (inserted (record { number = number; vblock = vblock; block = data' }) writes)) (Ends (LoadReadFault (data_at g image slot)))))
       by_found Outside h s rest = tt
       by_found Unused h s rest = rest h s writes
       by_found (Counts d) h s rest = (λ data'. rest _ _ _, tt)
 
-module _ (s : Setting) where
+module _ (s : Setting) (command : Command) where
   abbrev g : Geometry
   g = s.geometry
 
   -- the rest of a command
   abbrev Right : (ℕ → Hold) → Option ℕ → Part End → Type 0
-  Right holds sample part = LawfulRest s.geometry s.boot holds sample part
+  Right holds sample part = LawfulRest s.geometry s.boot command holds sample part
 
   -- ---- tests and last readings
 
@@ -207,8 +208,8 @@ module _ (s : Setting) where
 
   right-journal : (known : Known) (image until : ℕ) (kept : ImageRecord) (live : Bool) (holds : ℕ → Hold) (sample : Option ℕ) → Right holds sample (load_journal s known image until kept live)
   right-journal known image until kept true holds sample =
-      lawful-followed s.geometry s.boot (λ end held last. Unit {0}) (λ end held last. Unit {0}) (load_part s.geometry image kept s.geometry.slots 0 []) (after_load s known image until kept) holds sample
-      (lawful-load s.geometry s.boot image kept s.geometry.slots 0 [] holds sample)
+      lawful-followed s.geometry s.boot command (λ end held last. Unit {0}) (λ end held last. Unit {0}) (load_part s.geometry image kept s.geometry.slots 0 []) (after_load s known image until kept) holds sample
+      (lawful-load s.geometry s.boot command image kept s.geometry.slots 0 [] holds sample)
       (λ end h l any. right-loaded known image until kept end h l)
   right-journal known image until kept false holds sample = right-ends known (image_use image until) _ _ holds sample
 
@@ -232,8 +233,8 @@ module _ (s : Setting) where
   right-claim false known image holds sample e within is = tt
   right-claim true known image holds sample e within is =
       let few = below-tested known.claims last_claim e in
-      lawful-followed s.geometry s.boot (λ end held last. Unit {0}) (λ end held last. Unit {0}) (claim_part s.boot [] (image_lease image) known.claims) (after_claim s (with_claim known) image) holds sample
-      (lawful-claim s.geometry s.boot [] (image_lease image) known.claims holds sample (image-below s.geometry image within) (omega (arith, few)) is)
+      lawful-followed s.geometry s.boot command (λ end held last. Unit {0}) (λ end held last. Unit {0}) (claim_part s.boot [] (image_lease image) known.claims) (after_claim s (with_claim known) image) holds sample
+      (lawful-claim s.geometry s.boot command [] (image_lease image) known.claims holds sample (image-below s.geometry image within) (omega (arith, few)) is)
       (λ end h l any. right-claimed (with_claim known) image end h l)
 
   right-attach : (known : Known) (image : ℕ) (holds : ℕ → Hold) (sample : Option ℕ) (session : Option Session) (within : Bool) (hold : Hold) → nat_lt image s.geometry.images ≡ within →
@@ -270,7 +271,7 @@ module _ (s : Setting) where
 
     right-detach : (session : Session) → Right holds sample (detach_part s known image session until)
     right-detach session = (
-      record { lease = image_lease image; claim = claim; until = until; within = image-below s.geometry image within; at_lease = refl; hold = is; spells = refl; guarded = refl },
+      record { lease = image_lease image; claim = claim; until = until; within = image-below s.geometry image within; at_lease = refl; alone = ap (λ (n : ℕ). n ∷ []) (lease-found (image_lease image)); hold = is; spells = refl; guarded = refl },
       tt,
       tt,
       λ r. tt,
@@ -280,8 +281,8 @@ module _ (s : Setting) where
     right-made : (made : ImageRecord) (done : Reply) → length (label_of made) ≤ 32 → Right holds sample (record_part s known image until made done)
     right-made made done short = (
       record {
-        placed = (image, within, refl);
-        grants = λ lease below needs. granted lease (needs.3 ∙ ap image_lease (record-record s.geometry needs.0 image (sym needs.2)));
+        placed = (image, within, refl, ap (λ (n : ℕ). image_lease n ∷ []) (record-found s.geometry image));
+        grants = λ lease needs. granted lease (one-in lease _ needs ∙ ap image_lease (record-found s.geometry image));
       },
       right-ends known (image_use image until) done (with_session known image (Some (new_session made))) _ None,
       tt,
@@ -310,13 +311,13 @@ module _ (s : Setting) where
     right-journaled : (vblock : ℕ) (bytes : List ℕ) (session : Session) → 2 ≤ s.geometry.slots → length bytes ≡ 4096 → Right holds sample (journal_part s known image vblock bytes session until)
     right-journaled vblock bytes session some long = (
       record {
-        placed = (image, next_slot s session, within, room, refl);
-        grants = λ lease below needs. granted lease (needs.5 ∙ ap image_lease (data-data s.geometry needs.0 image needs.1 (next_slot s session) needs.3 room (sym needs.4)));
+        placed = (image, next_slot s session, within, room, refl, ap (λ (n : ℕ). image_lease n ∷ []) (data-found s.geometry image (next_slot s session) room));
+        grants = λ lease needs. granted lease (one-in lease _ needs ∙ ap image_lease (data-found s.geometry image (next_slot s session) room));
       },
       (
         record {
-          placed = (image, next_slot s session, within, room, refl);
-          grants = λ lease below needs. granted lease (needs.5 ∙ ap image_lease (descriptor-descriptor s.geometry needs.0 image needs.1 (next_slot s session) needs.3 room (sym needs.4)));
+          placed = (image, next_slot s session, within, room, refl, ap (λ (n : ℕ). image_lease n ∷ []) (descriptor-found s.geometry image (next_slot s session) room));
+          grants = λ lease needs. granted lease (one-in lease _ needs ∙ ap image_lease (descriptor-found s.geometry image (next_slot s session) room));
         },
         right-ends known (image_use image until) (reply.Written (write_count session + 1)) (with_session known image (Some (with_write session (next_write session vblock bytes)))) _ None,
         tt,
@@ -364,6 +365,7 @@ module _ (s : Setting) where
               next = next;
               within = omega arith;
               at_lease = refl;
+              alone = ap (λ (n : ℕ). n ∷ []) (lease-found lease);
               hold = is;
               spells = refl;
               later = later-least until (reading + term);
@@ -380,32 +382,32 @@ module _ (s : Setting) where
       by_hold rest (Wrote claim until) is = rest holds sample (λ j past. same j (omega arith))
       by_hold rest (Waited claim until) is = rest holds sample (λ j past. same j (omega arith))
 
-  -- ---- all commands
+-- ---- all commands
 
-  pub lawful-command : IsGeometry s.geometry → (known : Known) (holds : ℕ → Hold) (reading : ℕ) (command : Command) → reading < 2 ^ 48 → IsWellFormed command →
-      LawfulRest s.geometry s.boot (after_first s.geometry known reading holds) (Some reading) (command_part s known (after_first s.geometry known reading holds) reading command)
-  lawful-command geometry known holds reading (Attach slot) early whole =
-      right-attach known slot.0 (after_first s.geometry known reading holds) (Some reading) (known.sessions slot.0) (nat_lt slot.0 s.geometry.images) _ refl refl
-      (first-rests (session_at s.geometry known (lease_at (image_lease slot.0))) reading (holds (lease_at (image_lease slot.0))))
-  lawful-command geometry known holds reading (Detach slot) early whole =
-      right-attached known slot.0 reading (after_first s.geometry known reading holds) (Some reading) (known.sessions slot.0) (nat_lt slot.0 s.geometry.images) _ (detach_part s known slot.0) refl refl
-      (λ session claim until within is. right-detach known slot.0 (after_first s.geometry known reading holds) (Some reading) claim until within is session)
-  lawful-command geometry known holds reading (Create slot size label) early whole =
-      right-attached known slot.0 reading (after_first s.geometry known reading holds) (Some reading) (known.sessions slot.0) (nat_lt slot.0 s.geometry.images) _ (create_part s known slot.0 size label) refl refl
-      (λ session claim until within is. right-create known slot.0 (after_first s.geometry known reading holds) (Some reading) claim until within is size label session whole)
-  lawful-command geometry known holds reading (Delete slot) early whole =
-      right-attached known slot.0 reading (after_first s.geometry known reading holds) (Some reading) (known.sessions slot.0) (nat_lt slot.0 s.geometry.images) _ (delete_part s known slot.0) refl refl
-      (λ session claim until within is. right-delete known slot.0 (after_first s.geometry known reading holds) (Some reading) claim until within is session)
-  lawful-command geometry known holds reading (Read slot vblock) early whole =
-      right-attached known slot.0 reading (after_first s.geometry known reading holds) (Some reading) (known.sessions slot.0) (nat_lt slot.0 s.geometry.images) _ (read_part s known slot.0 vblock) refl refl
-      (λ session claim until within is. right-read known slot.0 (after_first s.geometry known reading holds) (Some reading) claim until within is vblock session)
-  lawful-command geometry known holds reading (Write slot vblock payload) early whole =
-      right-attached known slot.0 reading (after_first s.geometry known reading holds) (Some reading) (known.sessions slot.0) (nat_lt slot.0 s.geometry.images) _ (write_part s known slot.0 vblock (bytes_of payload)) refl refl
-      (λ session claim until within is. right-write known slot.0 (after_first s.geometry known reading holds) (Some reading) claim until within is vblock (bytes_of payload) session geometry.slots_low whole)
-  lawful-command geometry known holds reading Renew early whole =
-      right-in_time known (attached_uses known (after_first s.geometry known reading holds) s.geometry.images 0) reading _ (after_first s.geometry known reading holds) (Some reading)
-      (right-renew known (after_first s.geometry known reading holds) reading (lease_count s.geometry) 0 (after_first s.geometry known reading holds) (Some reading) early (omega arith) (λ j past. refl))
-  lawful-command geometry known holds reading (Flush slot) early whole = tt
-  lawful-command geometry known holds reading (Reserve count) early whole = tt
-  lawful-command geometry known holds reading Retire early whole = tt
-  lawful-command geometry known holds reading Reclaim early whole = tt
+pub lawful-command : (s : Setting) → IsGeometry s.geometry → (known : Known) (holds : ℕ → Hold) (reading : ℕ) (command : Command) → reading < 2 ^ 48 → IsWellFormed command →
+    LawfulRest s.geometry s.boot command (after_first s.geometry known reading holds) (Some reading) (command_part s known (after_first s.geometry known reading holds) reading command)
+lawful-command s geometry known holds reading (Attach slot) early whole =
+    right-attach s (Attach slot) known slot.0 (after_first s.geometry known reading holds) (Some reading) (known.sessions slot.0) (nat_lt slot.0 s.geometry.images) _ refl refl
+    (first-rests (session_at s.geometry known (lease_at (image_lease slot.0))) reading (holds (lease_at (image_lease slot.0))))
+lawful-command s geometry known holds reading (Detach slot) early whole =
+    right-attached s (Detach slot) known slot.0 reading (after_first s.geometry known reading holds) (Some reading) (known.sessions slot.0) (nat_lt slot.0 s.geometry.images) _ (detach_part s known slot.0) refl refl
+    (λ session claim until within is. right-detach s (Detach slot) known slot.0 (after_first s.geometry known reading holds) (Some reading) claim until within is session)
+lawful-command s geometry known holds reading (Create slot size label) early whole =
+    right-attached s (Create slot size label) known slot.0 reading (after_first s.geometry known reading holds) (Some reading) (known.sessions slot.0) (nat_lt slot.0 s.geometry.images) _ (create_part s known slot.0 size label) refl refl
+    (λ session claim until within is. right-create s (Create slot size label) known slot.0 (after_first s.geometry known reading holds) (Some reading) claim until within is size label session whole)
+lawful-command s geometry known holds reading (Delete slot) early whole =
+    right-attached s (Delete slot) known slot.0 reading (after_first s.geometry known reading holds) (Some reading) (known.sessions slot.0) (nat_lt slot.0 s.geometry.images) _ (delete_part s known slot.0) refl refl
+    (λ session claim until within is. right-delete s (Delete slot) known slot.0 (after_first s.geometry known reading holds) (Some reading) claim until within is session)
+lawful-command s geometry known holds reading (Read slot vblock) early whole =
+    right-attached s (Read slot vblock) known slot.0 reading (after_first s.geometry known reading holds) (Some reading) (known.sessions slot.0) (nat_lt slot.0 s.geometry.images) _ (read_part s known slot.0 vblock) refl refl
+    (λ session claim until within is. right-read s (Read slot vblock) known slot.0 (after_first s.geometry known reading holds) (Some reading) claim until within is vblock session)
+lawful-command s geometry known holds reading (Write slot vblock payload) early whole =
+    right-attached s (Write slot vblock payload) known slot.0 reading (after_first s.geometry known reading holds) (Some reading) (known.sessions slot.0) (nat_lt slot.0 s.geometry.images) _ (write_part s known slot.0 vblock (bytes_of payload)) refl refl
+    (λ session claim until within is. right-write s (Write slot vblock payload) known slot.0 (after_first s.geometry known reading holds) (Some reading) claim until within is vblock (bytes_of payload) session geometry.slots_low whole)
+lawful-command s geometry known holds reading Renew early whole =
+    right-in_time s Renew known (attached_uses known (after_first s.geometry known reading holds) s.geometry.images 0) reading _ (after_first s.geometry known reading holds) (Some reading)
+    (right-renew s Renew known (after_first s.geometry known reading holds) reading (lease_count s.geometry) 0 (after_first s.geometry known reading holds) (Some reading) early (omega arith) (λ j past. refl))
+lawful-command s geometry known holds reading (Flush slot) early whole = tt
+lawful-command s geometry known holds reading (Reserve count) early whole = tt
+lawful-command s geometry known holds reading Retire early whole = tt
+lawful-command s geometry known holds reading Reclaim early whole = tt

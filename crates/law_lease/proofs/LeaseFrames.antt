@@ -10,34 +10,33 @@ use Rattle.plx_disk.specs.Writes.{Issued}
 use Rattle.plx_rules.specs.Part.{Ends, ReadThen, WriteThen, ClockThen, UntilThen}
 use Rattle.plx_worlds.specs.Boot.{Place, Idle, Begins, In}
 use Rattle.plx_worlds.specs.Holds.{Hold, Nothing, Seen, Wrote, Waited, Held}
-use Rattle.plx_geom.specs.Geometry.{Geometry}
 use Rattle.plx_worlds.specs.Owners.{first_landed}
 use Rattle.plx_worlds.specs.Times.{window}
 use Rattle.law_lease.proofs.Leased.{IsOpen, NoneOpen, OpenOnly, Clear, Waits, Mine, IsWritten, Good, grip_while, grip_at}
 
 -- every write that is open later was open before
-abbrev pub Shrinks : Geometry → ℕ → ℕ → List Issued → List Issued → ℕ → Type 0
-Shrinks g time later writes now lease =
-    (n : ℕ) (x : Issued) → IsOpen g later now lease n x → (y : Issued) × IsOpen g time writes lease n y
+abbrev pub Shrinks : (rests since : ℕ → List ℕ) → ℕ → ℕ → List Issued → List Issued → ℕ → Type 0
+Shrinks rests since time later writes now lease =
+    (n : ℕ) (x : Issued) → IsOpen since later now lease n x → (y : Issued) × IsOpen rests time writes lease n y
 
-pub none-shrinks : (g : Geometry) (time later : ℕ) (writes now : List Issued) (lease : ℕ) → Shrinks g time later writes now lease →
-    NoneOpen g time writes lease → NoneOpen g later now lease
-none-shrinks g time later writes now lease shrinks none = λ n x is. let was = shrinks n x is in none n was.0 was.1
+pub none-shrinks : (rests since : ℕ → List ℕ) (time later : ℕ) (writes now : List Issued) (lease : ℕ) → Shrinks rests since time later writes now lease →
+    NoneOpen rests time writes lease → NoneOpen since later now lease
+none-shrinks rests since time later writes now lease shrinks none = λ n x is. let was = shrinks n x is in none n was.0 was.1
 
-pub only-shrinks : (g : Geometry) (time later : ℕ) (writes now : List Issued) (lease : ℕ) (pending : Option ℕ) → Shrinks g time later writes now lease →
-    OpenOnly g time writes lease pending → OpenOnly g later now lease pending
-only-shrinks g time later writes now lease pending shrinks only = λ n x is. let was = shrinks n x is in only n was.0 was.1
+pub only-shrinks : (rests since : ℕ → List ℕ) (time later : ℕ) (writes now : List Issued) (lease : ℕ) (pending : Option ℕ) → Shrinks rests since time later writes now lease →
+    OpenOnly rests time writes lease pending → OpenOnly since later now lease pending
+only-shrinks rests since time later writes now lease pending shrinks only = λ n x is. let was = shrinks n x is in only n was.0 was.1
 
-module _ (g : Geometry) (time later : ℕ) (writes now : List Issued) (lease : ℕ) (standing : LeaseRecord) (boot : ℕ) (pending : Option ℕ)
-    (passed : time ≤ later) (shrinks : Shrinks g time later writes now lease) where
-  mine-shrinks : (sample : ℕ) → Mine g time writes lease standing boot sample → Mine g later now lease standing boot sample
-  mine-shrinks sample mine = λ claim until there own is. none-shrinks g time later writes now lease shrinks (mine claim until there own is)
+module _ (rests since : ℕ → List ℕ) (time later : ℕ) (writes now : List Issued) (lease : ℕ) (standing : LeaseRecord) (boot : ℕ) (pending : Option ℕ)
+    (passed : time ≤ later) (shrinks : Shrinks rests since time later writes now lease) where
+  mine-shrinks : (sample : ℕ) → Mine rests time writes lease standing boot sample → Mine since later now lease standing boot sample
+  mine-shrinks sample mine = λ claim until there own is. none-shrinks rests since time later writes now lease shrinks (mine claim until there own is)
 
-  written-shrinks : (claim : Claim) (until : ℕ) → IsWritten g time writes lease standing boot claim until → IsWritten g later now lease standing boot claim until
+  written-shrinks : (claim : Claim) (until : ℕ) → IsWritten rests time writes lease standing boot claim until → IsWritten since later now lease standing boot claim until
   written-shrinks claim until is = record { own = is.own; ends = is.ends; limits = is.limits; mine = mine-shrinks claim.sample is.mine }
 
   -- the record stays, and no more writes are open
-  pub good-shrinks : (hold : Hold) → Good g time writes lease standing boot pending hold → Good g later now lease standing boot pending hold
+  pub good-shrinks : (hold : Hold) → Good rests time writes lease standing boot pending hold → Good since later now lease standing boot pending hold
   good-shrinks Nothing is = tt
   good-shrinks (Seen sample) is = record {
     waits = record { sampled = (let s = is.waits.sampled in omega arith); clear = is.waits.clear };
@@ -50,14 +49,14 @@ module _ (g : Geometry) (time later : ℕ) (writes now : List Issued) (lease : �
     limits = is.limits;
     waited = (let w = is.waited in omega arith);
     there = λ live. is.there (omega arith);
-    only = λ live. only-shrinks g time later writes now lease pending shrinks (is.only (omega arith));
+    only = λ live. only-shrinks rests since time later writes now lease pending shrinks (is.only (omega arith));
   }
 
-module _ (g : Geometry) (time : ℕ) (writes now : List Issued) (lease : ℕ) (standing changed : LeaseRecord) (boot : ℕ) (pending : Option ℕ)
-    (none : NoneOpen g time now lease) (clears : (sample : ℕ) → sample ≤ time + 50 → Clear standing sample → Clear changed sample) where
+module _ (rests : ℕ → List ℕ) (time : ℕ) (writes now : List Issued) (lease : ℕ) (standing changed : LeaseRecord) (boot : ℕ) (pending : Option ℕ)
+    (none : NoneOpen rests time now lease) (clears : (sample : ℕ) → sample ≤ time + 50 → Clear standing sample → Clear changed sample) where
   -- the record changes, where no other boot holds the lease
-  pub good-changed : ((claim : Claim) (until : ℕ) → claim.sample + 551 ≤ time → time ≤ until + 50 → standing ≡ Claimed claim until → OpenOnly g time writes lease pending → ⊥) →
-      (hold : Hold) → Good g time writes lease standing boot pending hold → Good g time now lease changed boot pending hold
+  pub good-changed : ((claim : Claim) (until : ℕ) → claim.sample + 551 ≤ time → time ≤ until + 50 → standing ≡ Claimed claim until → OpenOnly rests time writes lease pending → ⊥) →
+      (hold : Hold) → Good rests time writes lease standing boot pending hold → Good rests time now lease changed boot pending hold
   good-changed unheld Nothing is = tt
   good-changed unheld (Seen sample) is = record {
     waits = record { sampled = is.waits.sampled; clear = clears sample is.waits.sampled is.waits.clear };

@@ -34,15 +34,15 @@ use Rattle.law_lease.proofs.LeaseLands.{asked-may, grip-asked, first-set}
 use Rattle.law_lease.proofs.Leased.{MayAsk, LawfulAt, IsOpen, Unlanded, Clear, Good, grip_while, grip_at, GoodSeat, LeaseOn, IsAskedAt}
 use Rattle.plx_geom.proofs.Places.{lease-lease}
 
-module _ (g : Geometry) (time : ℕ) (writes : List Issued) (lease : ℕ) (standing : LeaseRecord) (boot : ℕ) where
+module _ (rests : ℕ → List ℕ) (time : ℕ) (writes : List Issued) (lease : ℕ) (standing : LeaseRecord) (boot : ℕ) where
   -- a reply keeps what is right, or drops it
-  good-reply : (reply : Reply) (holds : ℕ → Hold) (block : ℕ) → Good g time writes lease standing boot None (holds block) →
-      Good g time writes lease standing boot None (after_reply reply holds block)
+  good-reply : (reply : Reply) (holds : ℕ → Hold) (block : ℕ) → Good rests time writes lease standing boot None (holds block) →
+      Good rests time writes lease standing boot None (after_reply reply holds block)
   good-reply (reply.Lost i u r) holds block good = tt
   good-reply other holds block good = good
 
-  pub good-part : (part : Part End) (holds : ℕ → Hold) (block : ℕ) → Good g time writes lease standing boot None (holds block) →
-      Good g time writes lease standing boot None (after_part part holds block)
+  pub good-part : (part : Part End) (holds : ℕ → Hold) (block : ℕ) → Good rests time writes lease standing boot None (holds block) →
+      Good rests time writes lease standing boot None (after_part part holds block)
   good-part (Ends end) holds block good = good-reply end.reply holds block good
   good-part (ReadThen b rest fault) holds block good = good
   good-part (WriteThen k b bytes guard done fault missed) holds block good = good
@@ -50,7 +50,7 @@ module _ (g : Geometry) (time : ℕ) (writes : List Issued) (lease : ℕ) (stand
   good-part (UntilThen from rest) holds block good = good
 
   -- a reading: a claim may have waited
-  pub good-timed : (reading : ℕ) (hold : Hold) → reading ≤ time + 50 → Good g time writes lease standing boot None hold → Good g time writes lease standing boot None (timed reading hold)
+  pub good-timed : (reading : ℕ) (hold : Hold) → reading ≤ time + 50 → Good rests time writes lease standing boot None hold → Good rests time writes lease standing boot None (timed reading hold)
   good-timed reading Nothing early good = tt
   good-timed reading (Seen sample) early good = good
   good-timed reading (Waited claim until) early good = good
@@ -58,7 +58,7 @@ module _ (g : Geometry) (time : ℕ) (writes : List Issued) (lease : ℕ) (stand
   good-timed reading (Wrote claim until) early good = by_tests (nat_le (claim.sample + wait) reading) (nat_lt reading until) refl
     where
       by_tests : (a b : Bool) → nat_le (claim.sample + wait) reading ≡ a →
-          Good g time writes lease standing boot None (if a && b then Waited claim until else Wrote claim until)
+          Good rests time writes lease standing boot None (if a && b then Waited claim until else Wrote claim until)
       by_tests false b is = good
       by_tests true false is = good
       by_tests true true is = elim (leb_tells (claim.sample + wait) reading) [
@@ -67,11 +67,11 @@ module _ (g : Geometry) (time : ℕ) (writes : List Issued) (lease : ℕ) (stand
       ]
 
   -- the first reading of a command
-  pub good-first : (session : Option Session) (reading : ℕ) (hold : Hold) → Good g time writes lease standing boot None hold →
-      Good g time writes lease standing boot None (first_hold session reading hold)
+  pub good-first : (session : Option Session) (reading : ℕ) (hold : Hold) → Good rests time writes lease standing boot None hold →
+      Good rests time writes lease standing boot None (first_hold session reading hold)
   good-first None reading (Held claim until) good = by_test (nat_le until reading)
     where
-      by_test : (a : Bool) → Good g time writes lease standing boot None (if a then Nothing else Held claim until)
+      by_test : (a : Bool) → Good rests time writes lease standing boot None (if a then Nothing else Held claim until)
       by_test true = tt
       by_test false = good
   good-first (Some session) reading (Held claim until) good = good
@@ -86,12 +86,12 @@ module _ (g : Geometry) (time : ℕ) (writes : List Issued) (lease : ℕ) (stand
 
   module _ (limits : IsLease standing) where
     -- the block is read: it shows the lease free or expired
-    good-seen : (sample : Option ℕ) → ((s : ℕ) → sample ≡ Some s → s ≤ time + 50) → Good g time writes lease standing boot None (seen_for sample (lease_bytes standing))
+    good-seen : (sample : Option ℕ) → ((s : ℕ) → sample ≡ Some s → s ≤ time + 50) → Good rests time writes lease standing boot None (seen_for sample (lease_bytes standing))
     good-seen None sampled = tt
-    good-seen (Some s) sampled = subst (λ (r : Option LeaseRecord). Good g time writes lease standing boot None (seen_by r s)) (sym (lease-back standing limits)) (by_lease standing refl limits)
+    good-seen (Some s) sampled = subst (λ (r : Option LeaseRecord). Good rests time writes lease standing boot None (seen_by r s)) (sym (lease-back standing limits)) (by_lease standing refl limits)
       where
         by_test : (r : LeaseRecord) → standing ≡ r → IsLease r → (a : Bool) → is_expired r s ≡ a → Clear standing s ⊎ (a ≡ false) →
-            ((c : Claim) (u : ℕ) → standing ≡ Claimed c u → c.sample ≡ s → ⊥) ⊎ (a ≡ false) → Good g time writes lease standing boot None (if a then Seen s else Nothing)
+            ((c : Claim) (u : ℕ) → standing ≡ Claimed c u → c.sample ≡ s → ⊥) ⊎ (a ≡ false) → Good rests time writes lease standing boot None (if a then Seen s else Nothing)
         by_test r is l false e clear never = tt
         by_test r is l true e (inl clear) (inl never) = record {
           waits = record { sampled = sampled s refl; clear = clear };
@@ -100,7 +100,7 @@ module _ (g : Geometry) (time : ℕ) (writes : List Issued) (lease : ℕ) (stand
         by_test r is l true e (inr no') never = cc
         by_test r is l true e clear (inr no') = cc
 
-        by_lease : (r : LeaseRecord) → standing ≡ r → IsLease r → Good g time writes lease standing boot None (if is_expired r s then Seen s else Nothing)
+        by_lease : (r : LeaseRecord) → standing ≡ r → IsLease r → Good rests time writes lease standing boot None (if is_expired r s then Seen s else Nothing)
         by_lease Free is l = by_test Free is l true refl (inl (subst (λ (x : LeaseRecord). Clear x s) (sym is) tt))
             (inl (λ c u there same. let e : Free ≡ Claimed c u = sym is ∙ there in let P : ⊥ = cc in P))
         by_lease (Claimed c u) is l = elim (leb_tells (suc (u + 100)) s) [
@@ -110,15 +110,15 @@ module _ (g : Geometry) (time : ℕ) (writes : List Issued) (lease : ℕ) (stand
           | inr not ↦ by_test (Claimed c u) is l (nat_lt (u + 100) s) refl (inr not.0) (inr not.0)
         ]
 
-    pub good-shown : (sample : Option ℕ) (hold : Hold) → ((s : ℕ) → sample ≡ Some s → s ≤ time + 50) → Good g time writes lease standing boot None hold →
-        Good g time writes lease standing boot None (shown sample (lease_bytes standing) hold)
+    pub good-shown : (sample : Option ℕ) (hold : Hold) → ((s : ℕ) → sample ≡ Some s → s ≤ time + 50) → Good rests time writes lease standing boot None hold →
+        Good rests time writes lease standing boot None (shown sample (lease_bytes standing) hold)
     good-shown sample Nothing sampled good = good-seen sample sampled
     good-shown sample (Seen s) sampled good = good-seen sample sampled
     good-shown sample (Wrote claim until) sampled good = good-seen sample sampled
     good-shown sample (Held claim until) sampled good = good
     good-shown sample (Waited claim until) sampled good = by_test (bytes_eq (lease_bytes standing) (lease_bytes (Claimed claim until))) (bytes_eq-Decides (lease_bytes standing) (lease_bytes (Claimed claim until))).0
       where
-        by_test : (a : Bool) → (a ≡ true → lease_bytes standing ≡ lease_bytes (Claimed claim until)) → Good g time writes lease standing boot None (reread a (Held claim until))
+        by_test : (a : Bool) → (a ≡ true → lease_bytes standing ≡ lease_bytes (Claimed claim until)) → Good rests time writes lease standing boot None (reread a (Held claim until))
         by_test false tells = tt
         by_test true tells =
             let there : standing ≡ Claimed claim until = lease-same standing (Claimed claim until) limits good.0.limits (tells refl) in
@@ -131,9 +131,9 @@ module _ (g : Geometry) (time : ℕ) (writes : List Issued) (lease : ℕ) (stand
             }
 
 -- a write that has landed whole isn't open
-pub whole-closed : (g : Geometry) (time : ℕ) (writes : List Issued) (lease n : ℕ) (write : Issued) → slice_get writes n ≡ Some write → write.landed ≡ all_sectors →
-    (x : Issued) → IsOpen g time writes lease n x → ⊥
-whole-closed g time writes lease n write found all x is =
+pub whole-closed : (rests : ℕ → List ℕ) (time : ℕ) (writes : List Issued) (lease n : ℕ) (write : Issued) → slice_get writes n ≡ Some write → write.landed ≡ all_sectors →
+    (x : Issued) → IsOpen rests time writes lease n x → ⊥
+whole-closed rests time writes lease n write found all x is =
     let same : x ≡ write = (let e : Some x ≡ Some write = sym is.found ∙ found in cc) in
     no' x.kind x.landed (ap (λ (y : Issued). y.landed) same ∙ all) is.missing
   where
@@ -142,27 +142,27 @@ whole-closed g time writes lease n write found all x is =
     no' kind.Release flags whole missing = let e : Some true ≡ Some false = sym (ap (λ (l : List Bool). slice_get l 0) whole) ∙ missing in let P : ⊥ = cc in P
     no' other flags whole missing = missing whole
 
-pub good-done : (g : Geometry) (time : ℕ) (writes : List Issued) (lease : ℕ) (standing : LeaseRecord) (boot n : ℕ) → ((x : Issued) → IsOpen g time writes lease n x → ⊥) → (hold : Hold) →
-    Good g time writes lease standing boot (Some n) hold → Good g time writes lease standing boot None hold
-good-done g time writes lease standing boot n closed Nothing is = tt
-good-done g time writes lease standing boot n closed (Seen sample) is = is
-good-done g time writes lease standing boot n closed (Wrote claim until) is = is
-good-done g time writes lease standing boot n closed (Waited claim until) is = is
-good-done g time writes lease standing boot n closed (Held claim until) is = record {
+pub good-done : (rests : ℕ → List ℕ) (time : ℕ) (writes : List Issued) (lease : ℕ) (standing : LeaseRecord) (boot n : ℕ) → ((x : Issued) → IsOpen rests time writes lease n x → ⊥) → (hold : Hold) →
+    Good rests time writes lease standing boot (Some n) hold → Good rests time writes lease standing boot None hold
+good-done rests time writes lease standing boot n closed Nothing is = tt
+good-done rests time writes lease standing boot n closed (Seen sample) is = is
+good-done rests time writes lease standing boot n closed (Wrote claim until) is = is
+good-done rests time writes lease standing boot n closed (Waited claim until) is = is
+good-done rests time writes lease standing boot n closed (Held claim until) is = record {
   own = is.own;
   limits = is.limits;
   waited = is.waited;
   there = is.there;
   only = λ live m x op. absurd (let e : Some n ≡ Some m = is.only live m x op in
-      let f : n ≡ m = cc in closed x (let P : ℕ → Type 0 = λ k. IsOpen g time writes lease k x in subst P (sym f) op));
+      let f : n ≡ m = cc in closed x (let P : ℕ → Type 0 = λ k. IsOpen rests time writes lease k x in subst P (sym f) op));
 }
 
 -- ---- an appliance's boot goes on
 
-module _ (g : Geometry) (appliances time : ℕ) (device : Device) (writes : List Issued) (seats : ℕ → Seat) (lease : ℕ)
-    (on : LeaseOn g appliances time device writes seats lease) (a : ℕ) where
+module _ (g : Geometry) (rests : ℕ → List ℕ) (appliances time : ℕ) (device : Device) (writes : List Issued) (seats : ℕ → Seat) (lease : ℕ)
+    (on : LeaseOn g rests appliances time device writes seats lease) (a : ℕ) where
   -- its seat changes, and nothing else
-  pub lease-seat : (seat : Seat) → GoodSeat g time writes lease on.standing a seat → LeaseOn g appliances time device writes (at seats a seat) lease
+  pub lease-seat : (seat : Seat) → GoodSeat g rests time writes lease on.standing a seat → LeaseOn g rests appliances time device writes (at seats a seat) lease
   lease-seat seat good = record {
     standing = on.standing;
     limits = on.limits;
@@ -170,7 +170,7 @@ module _ (g : Geometry) (appliances time : ℕ) (device : Device) (writes : List
     alone = on.alone;
     backed = on.backed;
     claims = on.claims;
-    each = at-all (λ b s. b < appliances → GoodSeat g time writes lease on.standing b s) seats a seat (λ below. good) (λ b ne below. on.each b below);
+    each = at-all (λ b s. b < appliances → GoodSeat g rests time writes lease on.standing b s) seats a seat (λ below. good) (λ b ne below. on.each b below);
   }
 
   abbrev boot : ℕ
@@ -180,33 +180,33 @@ module _ (g : Geometry) (appliances time : ℕ) (device : Device) (writes : List
   p = position (setting_at g a (seats a).boots) (seats a).log
 
   -- a log that leads to some position, where no write is issued
-  pub lease-log : (log : List Happening) (q : Position) → position (setting_at g a (seats a).boots) log ≡ q → Good g time writes lease on.standing boot None (q.holds (lease_at lease)) →
-      LeaseOn g appliances time device writes (at seats a (record { boots = (seats a).boots; log = log; pending = None })) lease
+  pub lease-log : (log : List Happening) (q : Position) → position (setting_at g a (seats a).boots) log ≡ q → Good rests time writes lease on.standing boot None (q.holds (lease_at lease)) →
+      LeaseOn g rests appliances time device writes (at seats a (record { boots = (seats a).boots; log = log; pending = None })) lease
   lease-log log q leads good =
       lease-seat (record { boots = (seats a).boots; log = log; pending = None })
-      (let P : Position → Type 0 = λ r. Good g time writes lease on.standing boot None (grip_at r.place None (lease_at lease) (r.holds (lease_at lease))) in
-      let H : Hold → Type 0 = λ h. Good g time writes lease on.standing boot None h in
+      (let P : Position → Type 0 = λ r. Good rests time writes lease on.standing boot None (grip_at r.place None (lease_at lease) (r.holds (lease_at lease))) in
+      let H : Hold → Type 0 = λ h. Good rests time writes lease on.standing boot None h in
       subst P (sym leads) (subst H (sym (grip-open q.place None (lease_at lease) (q.holds (lease_at lease)) refl)) good))
 
   -- what is held at a position that waits for no write
-  pub good-free : a < appliances → (seats a).pending ≡ None → Good g time writes lease on.standing boot None (p.holds (lease_at lease))
+  pub good-free : a < appliances → (seats a).pending ≡ None → Good rests time writes lease on.standing boot None (p.holds (lease_at lease))
   good-free below free =
-      let G : Option ℕ → Type 0 = λ o. Good g time writes lease on.standing boot o (grip_at p.place (pending_write writes o) (lease_at lease) (p.holds (lease_at lease))) in
-      let H : Hold → Type 0 = λ h. Good g time writes lease on.standing boot None h in
+      let G : Option ℕ → Type 0 = λ o. Good rests time writes lease on.standing boot o (grip_at p.place (pending_write writes o) (lease_at lease) (p.holds (lease_at lease))) in
+      let H : Hold → Type 0 = λ h. Good rests time writes lease on.standing boot None h in
       subst H (grip-open p.place None (lease_at lease) (p.holds (lease_at lease)) refl) (subst G free (on.each a below))
 
   -- a read is answered
   pub good-read : a < appliances → (seats a).pending ≡ None → ((s : ℕ) → p.sample ≡ Some s → s ≤ time + 50) → (block : ℕ) →
-      Good g time writes lease on.standing boot None (at p.holds block (shown p.sample (device block) (p.holds block)) (lease_at lease))
+      Good rests time writes lease on.standing boot None (at p.holds block (shown p.sample (device block) (p.holds block)) (lease_at lease))
   good-read below free sampled block = elim (eqb_tells (lease_at lease) block) [
     | inl here ↦
-        let P : Hold → Type 0 = λ h. Good g time writes lease on.standing boot None h in
+        let P : Hold → Type 0 = λ h. Good rests time writes lease on.standing boot None h in
         let Q : List ℕ → Type 0 = λ x. P (shown p.sample x (p.holds (lease_at lease))) in
         let R : ℕ → Type 0 = λ b. P (at p.holds b (shown p.sample (device b) (p.holds b)) (lease_at lease)) in
         subst R here.1 (subst P (sym (at-same p.holds (lease_at lease) (shown p.sample (device (lease_at lease)) (p.holds (lease_at lease)))))
-        (subst Q (sym on.spells) (good-shown g time writes lease on.standing boot on.limits p.sample (p.holds (lease_at lease)) sampled (good-free below free))))
+        (subst Q (sym on.spells) (good-shown rests time writes lease on.standing boot on.limits p.sample (p.holds (lease_at lease)) sampled (good-free below free))))
     | inr away ↦
-        let P : Hold → Type 0 = λ h. Good g time writes lease on.standing boot None h in
+        let P : Hold → Type 0 = λ h. Good rests time writes lease on.standing boot None h in
         subst P (sym (at-other p.holds block (lease_at lease) (shown p.sample (device block) (p.holds block)) away.1)) (good-free below free)
   ]
 
@@ -216,25 +216,25 @@ module _ (g : Geometry) (appliances time : ℕ) (device : Device) (writes : List
     abbrev hold : Hold
     hold = p.holds (lease_at lease)
 
-    good-landed : Good g time writes lease on.standing boot None (grip_while write.kind (lease_at lease == write.block) true write.bytes hold)
+    good-landed : Good rests time writes lease on.standing boot None (grip_while write.kind (lease_at lease == write.block) true write.bytes hold)
     good-landed =
-        let G : Option ℕ → Type 0 = λ o. Good g time writes lease on.standing boot o (grip_at p.place (pending_write writes o) (lease_at lease) hold) in
+        let G : Option ℕ → Type 0 = λ o. Good rests time writes lease on.standing boot o (grip_at p.place (pending_write writes o) (lease_at lease) hold) in
         let set : first_landed (Some write) ≡ true = first-set write true (ap (λ (l : List Bool). slice_get l 0) all) in
         let e : grip_at p.place (pending_write writes (Some n)) (lease_at lease) hold ≡ grip_while write.kind (lease_at lease == write.block) true write.bytes hold =
         grip-asked p.place boot write asked (pending_write writes (Some n)) (lease_at lease) hold
         ∙ ap (λ (o : Option Issued). grip_while write.kind (lease_at lease == write.block) (first_landed o) write.bytes hold) found
         ∙ ap (λ (b : Bool). grip_while write.kind (lease_at lease == write.block) b write.bytes hold) set in
-        let P : Hold → Type 0 = λ h. Good g time writes lease on.standing boot (Some n) h in
-        good-done g time writes lease on.standing boot n (whole-closed g time writes lease n write found all) _ (subst P e (subst G waited (on.each a below)))
+        let P : Hold → Type 0 = λ h. Good rests time writes lease on.standing boot (Some n) h in
+        good-done rests time writes lease on.standing boot n (whole-closed rests time writes lease n write found all) _ (subst P e (subst G waited (on.each a below)))
 
-    done-of : (k : WriteKind) → MayAsk g boot p.holds k write.block write.bytes write.guard →
-        Good g time writes lease on.standing boot None (grip_while k (lease_at lease == write.block) true write.bytes hold) →
-        Good g time writes lease on.standing boot None (after_write k write.block write.bytes p.holds (lease_at lease))
-    done-of kind.Claim may good = elim (eqb_tells (lease_at lease) write.block) [
+    done-of : (k : WriteKind) → (leases : List ℕ) → MayAsk g boot p.holds leases k write.block write.bytes write.guard →
+        Good rests time writes lease on.standing boot None (grip_while k (lease_at lease == write.block) true write.bytes hold) →
+        Good rests time writes lease on.standing boot None (after_write k write.block write.bytes p.holds (lease_at lease))
+    done-of kind.Claim leases may good = elim (eqb_tells (lease_at lease) write.block) [
       | inl here ↦
           let same : lease ≡ may.lease = lease-lease lease may.lease (here.1 ∙ may.at_lease) in
           let seen : hold ≡ Seen may.sample = ap (λ (i : ℕ). p.holds (lease_at i)) same ∙ may.hold in
-          let P : Hold → Type 0 = λ h. Good g time writes lease on.standing boot None h in
+          let P : Hold → Type 0 = λ h. Good rests time writes lease on.standing boot None h in
           let is-seen = subst P seen good in
           let claim = claim_of boot may.number may.sample in
           let few = may.few in
@@ -247,37 +247,37 @@ module _ (g : Geometry) (appliances time : ℕ) (device : Device) (writes : List
           let B : ℕ → Type 0 = λ b. P (at p.holds b (wrote (read_lease write.bytes)) (lease_at lease)) in
           subst B here.1 (subst P (sym (at-same p.holds (lease_at lease) (wrote (read_lease write.bytes)))) new)
       | inr away ↦
-          let P : Hold → Type 0 = λ h. Good g time writes lease on.standing boot None h in
+          let P : Hold → Type 0 = λ h. Good rests time writes lease on.standing boot None h in
           subst P (sym (at-other p.holds write.block (lease_at lease) (wrote (read_lease write.bytes)) away.1)) good
     ]
-    done-of kind.Renew may good = elim (eqb_tells (lease_at lease) write.block) [
+    done-of kind.Renew leases may good = elim (eqb_tells (lease_at lease) write.block) [
       | inl here ↦
-          let P : Hold → Type 0 = λ h. Good g time writes lease on.standing boot None h in
+          let P : Hold → Type 0 = λ h. Good rests time writes lease on.standing boot None h in
           let C : Bool → Type 0 = λ b. P (grip_while kind.Renew b true write.bytes hold) in
           let B : ℕ → Type 0 = λ b. P (at p.holds b (renewed (read_lease write.bytes)) (lease_at lease)) in
           subst B here.1 (subst P (sym (at-same p.holds (lease_at lease) (renewed (read_lease write.bytes)))) (subst C here.0 good))
       | inr away ↦
-          let P : Hold → Type 0 = λ h. Good g time writes lease on.standing boot None h in
+          let P : Hold → Type 0 = λ h. Good rests time writes lease on.standing boot None h in
           let C : Bool → Type 0 = λ b. P (grip_while kind.Renew b true write.bytes hold) in
           subst P (sym (at-other p.holds write.block (lease_at lease) (renewed (read_lease write.bytes)) away.1)) (subst C away.0 good)
     ]
-    done-of kind.Release may good = elim (eqb_tells (lease_at lease) write.block) [
+    done-of kind.Release leases may good = elim (eqb_tells (lease_at lease) write.block) [
       | inl here ↦
-          let P : Hold → Type 0 = λ h. Good g time writes lease on.standing boot None h in
+          let P : Hold → Type 0 = λ h. Good rests time writes lease on.standing boot None h in
           let B : ℕ → Type 0 = λ b. P (at p.holds b Nothing (lease_at lease)) in
           subst B here.1 (subst P (sym (at-same p.holds (lease_at lease) Nothing)) tt)
       | inr away ↦
-          let P : Hold → Type 0 = λ h. Good g time writes lease on.standing boot None h in
+          let P : Hold → Type 0 = λ h. Good rests time writes lease on.standing boot None h in
           let C : Bool → Type 0 = λ b. P (grip_while kind.Release b true write.bytes hold) in
           subst P (sym (at-other p.holds write.block (lease_at lease) Nothing away.1)) (subst C away.0 good)
     ]
-    done-of kind.Take may good = good
-    done-of kind.Give may good = good
-    done-of kind.Sweep may good = good
-    done-of kind.Record may good = good
-    done-of kind.JData may good = good
-    done-of kind.JCommit may good = good
-    done-of other may good = absurd may
+    done-of kind.Take leases may good = good
+    done-of kind.Give leases may good = good
+    done-of kind.Sweep leases may good = good
+    done-of kind.Record leases may good = good
+    done-of kind.JData leases may good = good
+    done-of kind.JCommit leases may good = good
+    done-of other leases may good = absurd may
 
-    pub good-written : Good g time writes lease on.standing boot None (after_write write.kind write.block write.bytes p.holds (lease_at lease))
-    good-written = done-of write.kind (asked-may g boot p.holds p.sample p.place write asked lawful) good-landed
+    pub good-written : Good rests time writes lease on.standing boot None (after_write write.kind write.block write.bytes p.holds (lease_at lease))
+    good-written = (let may = asked-may g boot p.holds p.sample p.place write asked lawful in done-of write.kind may.0 may.1 good-landed)

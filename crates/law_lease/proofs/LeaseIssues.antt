@@ -1,5 +1,5 @@
 -- What holds of a lease stays where a write is issued.
-use Rattle.std.proofs.Common.{◌≡◌, ◌≢◌, ℕ, ◌+◌, ◌^◌, ◌≤◌, ◌<◌, ◌⊎◌, inl, inr, List, [], ◌∷◌, ◌++◌, Option, Some, None, refl, ap, sym, subst, ◌∙◌, arith, length}
+use Rattle.std.proofs.Common.{◌≡◌, ◌≢◌, ℕ, ◌+◌, ◌^◌, ◌≤◌, ◌<◌, ◌⊎◌, inl, inr, List, [], ◌∷◌, ◌++◌, Option, Some, None, true, false, refl, ap, sym, subst, ◌∙◌, arith, length}
 use Rattle.std.specs.Prelude.{slice_get}
 use Rattle.std.proofs.lemmas.Bool.Decides.{eqb_tells}
 use Rattle.plx_base.specs.Sectors.{Device}
@@ -16,78 +16,43 @@ use Rattle.law_lease.proofs.Lists.{push-cases}
 use Rattle.plx_worlds.specs.Boot.{Position, position}
 use Rattle.plx_worlds.specs.Claims.{claim_of}
 use Rattle.plx_worlds.specs.Holds.{Hold, Nothing, Seen, Wrote, Waited, Held}
-use Rattle.plx_geom.specs.Geometry.{Geometry, IsGeometry, lease_count, image_lease, extent_lease, root_lease, lease_at}
+use Rattle.plx_geom.specs.Geometry.{Geometry, IsGeometry, lease_count, lease_at}
 use Rattle.plx_gate.specs.Leases.{IsClaimed}
-use Rattle.plx_worlds.specs.Owners.{Needs, first_landed, pending_write}
+use Rattle.plx_worlds.specs.Owners.{first_landed, pending_write}
+use Rattle.plx_commands.specs.Replies.{is_in}
+use Rattle.law_lease.proofs.Rests.{rests-or, rests-home, needs-before, needs-last}
 use Rattle.plx_worlds.specs.Settings.{boot_number}
 use Rattle.plx_worlds.specs.World.{Seat, setting_at}
 use Rattle.law_lease.proofs.LeaseFrames.{Shrinks, good-shrinks, one-claim, grip-open}
-use Rattle.law_lease.proofs.Leased.{MayAsk, MayUse, IsPlaced, IsOpen, NoneOpen, OpenOnly, IsBacked, IsOfKind, IsClaiming, Good, grip_at, GoodSeat, LeaseOn}
-use Rattle.plx_geom.proofs.Places.{lease-lease, data-data, descriptor-descriptor, map-map, record-record}
-
--- a write that is where it may be needs a lease, or doesn't
-pub needs-or : (g : Geometry) → IsGeometry g → (k : WriteKind) (block : ℕ) (bytes : List ℕ) → IsPlaced g k block bytes → (lease : ℕ) → (Needs g k block lease) ⊎ (Needs g k block lease → ⊥)
-needs-or g geometry kind.Claim block bytes placed lease = inr (λ n. n)
-needs-or g geometry kind.Renew block bytes placed lease = elim (eqb_tells block (lease_at lease)) [ inl same ↦ inl same.1 | inr away ↦ inr away.1 ]
-needs-or g geometry kind.Release block bytes placed lease = elim (eqb_tells block (lease_at lease)) [ inl same ↦ inl same.1 | inr away ↦ inr away.1 ]
-needs-or g geometry kind.Take block bytes placed lease = elim (eqb_tells lease (extent_lease g placed.0)) [
-  | inl same ↦ inl (placed.0, placed.1, placed.2, same.1)
-  | inr away ↦ inr (λ n. away.1 (n.3 ∙ ap (extent_lease g) (map-map g n.0 placed.0 (let b = geometry.blocks_low in omega arith) (sym n.2 ∙ placed.2))))
-]
-needs-or g geometry kind.Give block bytes placed lease = elim (eqb_tells lease (extent_lease g placed.0)) [
-  | inl same ↦ inl (placed.0, placed.1, placed.2, same.1)
-  | inr away ↦ inr (λ n. away.1 (n.3 ∙ ap (extent_lease g) (map-map g n.0 placed.0 (let b = geometry.blocks_low in omega arith) (sym n.2 ∙ placed.2))))
-]
-needs-or g geometry kind.Sweep block bytes placed lease = elim (eqb_tells lease (extent_lease g placed.0)) [
-  | inl same ↦ inl (placed.0, placed.1, placed.2, inl same.1)
-  | inr away ↦ elim (eqb_tells lease root_lease) [
-    | inl root ↦ inl (placed.0, placed.1, placed.2, inr root.1)
-    | inr other ↦ inr (λ n. elim n.3 [
-      | inl its ↦ away.1 (its ∙ ap (extent_lease g) (map-map g n.0 placed.0 (let b = geometry.blocks_low in omega arith) (sym n.2 ∙ placed.2)))
-      | inr root ↦ other.1 root
-    ])
-  ]
-]
-needs-or g geometry kind.Record block bytes placed lease = elim (eqb_tells lease (image_lease placed.0)) [
-  | inl same ↦ inl (placed.0, placed.1, placed.2, same.1)
-  | inr away ↦ inr (λ n. away.1 (n.3 ∙ ap image_lease (record-record g n.0 placed.0 (sym n.2 ∙ placed.2))))
-]
-needs-or g geometry kind.JData block bytes placed lease = elim (eqb_tells lease (image_lease placed.0)) [
-  | inl same ↦ inl (placed.0, placed.1, placed.2, placed.3, placed.4, same.1)
-  | inr away ↦ inr (λ n. away.1 (n.5 ∙ ap image_lease (data-data g n.0 placed.0 n.1 placed.1 n.3 placed.3 (sym n.4 ∙ placed.4))))
-]
-needs-or g geometry kind.JCommit block bytes placed lease = elim (eqb_tells lease (image_lease placed.0)) [
-  | inl same ↦ inl (placed.0, placed.1, placed.2, placed.3, placed.4, same.1)
-  | inr away ↦ inr (λ n. away.1 (n.5 ∙ ap image_lease (descriptor-descriptor g n.0 placed.0 n.1 placed.1 n.3 placed.3 (sym n.4 ∙ placed.4))))
-]
-needs-or g geometry other' block bytes placed lease = absurd placed
+use Rattle.law_lease.proofs.Leased.{MayAsk, MayUse, IsOpen, NoneOpen, OpenOnly, IsBacked, IsOfKind, IsClaiming, Good, grip_at, GoodSeat, LeaseOn}
+use Rattle.plx_geom.proofs.Places.{lease-lease}
 
 -- boots of two appliances have two numbers
 pub boots-apart : (a b k l : ℕ) → a < 8 → b < 8 → boot_number a k ≡ boot_number b l → a ≡ b
 boots-apart a b k l one other e = omega (arith, one, other, e)
 
 -- while it waits for no write, nothing is open under what a boot holds
-pub none-of-only : (g : Geometry) (time : ℕ) (writes : List Issued) (lease : ℕ) → OpenOnly g time writes lease None → NoneOpen g time writes lease
-none-of-only g time writes lease only = λ m x is. (let e : None ≡ Some m = only m x is in let P : ⊥ = cc in P)
+pub none-of-only : (rests : ℕ → List ℕ) (time : ℕ) (writes : List Issued) (lease : ℕ) → OpenOnly rests time writes lease None → NoneOpen rests time writes lease
+none-of-only rests time writes lease only = λ m x is. (let e : None ≡ Some m = only m x is in let P : ⊥ = cc in P)
 
-pub good-pending : (g : Geometry) (time : ℕ) (writes : List Issued) (lease : ℕ) (standing : LeaseRecord) (boot : ℕ) (pending : Option ℕ) (hold : Hold) →
-    Good g time writes lease standing boot None hold → Good g time writes lease standing boot pending hold
-good-pending g time writes lease standing boot pending Nothing is = tt
-good-pending g time writes lease standing boot pending (Seen sample) is = is
-good-pending g time writes lease standing boot pending (Wrote claim until) is = is
-good-pending g time writes lease standing boot pending (Waited claim until) is = is
-good-pending g time writes lease standing boot pending (Held claim until) is = record {
+pub good-pending : (rests : ℕ → List ℕ) (time : ℕ) (writes : List Issued) (lease : ℕ) (standing : LeaseRecord) (boot : ℕ) (pending : Option ℕ) (hold : Hold) →
+    Good rests time writes lease standing boot None hold → Good rests time writes lease standing boot pending hold
+good-pending rests time writes lease standing boot pending Nothing is = tt
+good-pending rests time writes lease standing boot pending (Seen sample) is = is
+good-pending rests time writes lease standing boot pending (Wrote claim until) is = is
+good-pending rests time writes lease standing boot pending (Waited claim until) is = is
+good-pending rests time writes lease standing boot pending (Held claim until) is = record {
   own = is.own;
   limits = is.limits;
   waited = is.waited;
   there = is.there;
-  only = λ live m x open'. absurd (none-of-only g time writes lease (is.only live) m x open');
+  only = λ live m x open'. absurd (none-of-only rests time writes lease (is.only live) m x open');
 }
 
-module _ (g : Geometry) (appliances time : ℕ) (device : Device) (writes : List Issued) (seats : ℕ → Seat) (lease : ℕ) (within : lease < lease_count g) (geometry : IsGeometry g) (few : appliances ≤ 8)
-    (on : LeaseOn g appliances time device writes seats lease)
+module _ (g : Geometry) (rests : ℕ → List ℕ) (appliances time : ℕ) (device : Device) (writes : List Issued) (seats : ℕ → Seat) (lease : ℕ) (within : lease < lease_count g) (geometry : IsGeometry g) (few : appliances ≤ 8)
+    (on : LeaseOn g rests appliances time device writes seats lease)
     (a : ℕ) (below : a < appliances) (boots : (seats a).boots < 2 ^ 32) (free : (seats a).pending ≡ None)
-    (what : WriteKind) (block : ℕ) (bytes : List ℕ) (guard : ℕ) where
+    (leases : List ℕ) (what : WriteKind) (block : ℕ) (bytes : List ℕ) (guard : ℕ) where
   abbrev boot : ℕ
   boot = boot_number a (seats a).boots
 
@@ -100,6 +65,9 @@ module _ (g : Geometry) (appliances time : ℕ) (device : Device) (writes : List
   abbrev now : List Issued
   now = writes ++ write ∷ []
 
+  abbrev since : ℕ → List ℕ
+  since = at rests (length writes) leases
+
   abbrev seats' : ℕ → Seat
   seats' = at seats a (record { boots = (seats a).boots; log = (seats a).log; pending = Some (length writes) })
 
@@ -107,30 +75,30 @@ module _ (g : Geometry) (appliances time : ℕ) (device : Device) (writes : List
   hold = p.holds (lease_at lease)
 
   -- what the boot holds is right before the write is issued
-  good-before : Good g time writes lease on.standing boot None hold
+  good-before : Good rests time writes lease on.standing boot None hold
   good-before =
-      let G : Option ℕ → Type 0 = λ q. Good g time writes lease on.standing boot q (grip_at p.place (pending_write writes q) (lease_at lease) hold) in
-      let H : Hold → Type 0 = λ h. Good g time writes lease on.standing boot None h in
+      let G : Option ℕ → Type 0 = λ q. Good rests time writes lease on.standing boot q (grip_at p.place (pending_write writes q) (lease_at lease) hold) in
+      let H : Hold → Type 0 = λ h. Good rests time writes lease on.standing boot None h in
       subst H (grip-open p.place None (lease_at lease) hold refl) (subst G free (on.each a below))
 
   -- and after it
-  seats-now : Good g time now lease on.standing boot (Some (length writes)) hold →
-      ((b : ℕ) → b < appliances → b ≢ a → (h : Hold) → Good g time writes lease on.standing (boot_number b (seats b).boots) (seats b).pending h →
-      Good g time now lease on.standing (boot_number b (seats b).boots) (seats b).pending h) →
+  seats-now : Good since time now lease on.standing boot (Some (length writes)) hold →
+      ((b : ℕ) → b < appliances → b ≢ a → (h : Hold) → Good rests time writes lease on.standing (boot_number b (seats b).boots) (seats b).pending h →
+      Good since time now lease on.standing (boot_number b (seats b).boots) (seats b).pending h) →
       ((b : ℕ) (q : Option ℕ) → b ≢ a → b < appliances → (h : ℕ) → (seats b).pending ≡ Some h → pending_write now (Some h) ≡ pending_write writes (Some h)) →
-      (b : ℕ) → b < appliances → GoodSeat g time now lease on.standing b (seats' b)
+      (b : ℕ) → b < appliances → GoodSeat g since time now lease on.standing b (seats' b)
   seats-now mine others kept =
-      at-all (λ b s. b < appliances → GoodSeat g time now lease on.standing b s) seats a _
-      (λ under. let H : Hold → Type 0 = λ h. Good g time now lease on.standing boot (Some (length writes)) h in
+      at-all (λ b s. b < appliances → GoodSeat g since time now lease on.standing b s) seats a _
+      (λ under. let H : Hold → Type 0 = λ h. Good since time now lease on.standing boot (Some (length writes)) h in
       subst H (sym (grip-open p.place (pending_write now (Some (length writes))) (lease_at lease) hold
       (ap (λ (o : Option Issued). first_landed o) (push-last writes write)))) mine)
       (λ b ne under. by_pending b ne under (seats b).pending refl)
     where
-      by_pending : (b : ℕ) → b ≢ a → b < appliances → (q : Option ℕ) → (seats b).pending ≡ q → GoodSeat g time now lease on.standing b (seats b)
+      by_pending : (b : ℕ) → b ≢ a → b < appliances → (q : Option ℕ) → (seats b).pending ≡ q → GoodSeat g since time now lease on.standing b (seats b)
       by_pending b ne under q is =
           let bb = boot_number b (seats b).boots in
           let pb = position (setting_at g b (seats b).boots) (seats b).log in
-          let F : Option Issued → Type 0 = λ o. Good g time now lease on.standing bb (seats b).pending (grip_at pb.place o (lease_at lease) (pb.holds (lease_at lease))) in
+          let F : Option Issued → Type 0 = λ o. Good since time now lease on.standing bb (seats b).pending (grip_at pb.place o (lease_at lease) (pb.holds (lease_at lease))) in
           subst F (sym (same b ne under (seats b).pending refl)) (others b under ne (grip_at pb.place (pending_write writes (seats b).pending) (lease_at lease) (pb.holds (lease_at lease))) (on.each b under))
         where
           same : (b : ℕ) → b ≢ a → (b < appliances) → (q : Option ℕ) → (seats b).pending ≡ q → pending_write now q ≡ pending_write writes q
@@ -148,15 +116,15 @@ module _ (g : Geometry) (appliances time : ℕ) (device : Device) (writes : List
     ]
 
     -- the write doesn't need the lease
-    issue-still : (Needs g what block lease → ⊥) → (what ≡ kind.Claim → block ≡ lease_at lease → IsClaiming time on.standing write) →
-        LeaseOn g appliances time device now seats' lease
+    issue-still : (is_in lease leases ≡ true → ⊥) → (what ≡ kind.Claim → block ≡ lease_at lease → IsClaiming time on.standing write) →
+        LeaseOn g since appliances time device now seats' lease
     issue-still unneeded new =
-        let old : (m : ℕ) (x : Issued) → IsOpen g time now lease m x → IsOpen g time writes lease m x =
+        let old : (m : ℕ) (x : Issued) → IsOpen since time now lease m x → IsOpen rests time writes lease m x =
         λ m x is. elim (push-cases writes write x m is.found) [
-          | inl there ↦ record { found = there; needs = is.needs; missing = is.missing; live = is.live }
-          | inr fresh ↦ absurd (unneeded (let P : Issued → Type 0 = λ y. Needs g y.kind y.block lease in subst P (sym fresh.1) is.needs))
+          | inl there ↦ record { found = there; needs = needs-before rests writes leases m x lease there is.needs; missing = is.missing; live = is.live }
+          | inr fresh ↦ absurd (unneeded (needs-last rests writes leases m lease fresh.0 is.needs))
         ] in
-        let shrinks : Shrinks g time time writes now lease = λ m x is. (x, old m x is) in
+        let shrinks : Shrinks rests since time time writes now lease = λ m x is. (x, old m x is) in
         record {
           standing = on.standing;
           limits = on.limits;
@@ -165,24 +133,24 @@ module _ (g : Geometry) (appliances time : ℕ) (device : Device) (writes : List
           backed = λ m x is. on.backed m x (old m x is);
           claims = claims-now new;
           each = seats-now
-              (good-pending g time now lease on.standing boot (Some (length writes)) hold (good-shrinks g time time writes now lease on.standing boot None (omega arith) shrinks hold good-before))
-              (λ b under ne h good. good-shrinks g time time writes now lease on.standing (boot_number b (seats b).boots) (seats b).pending (omega arith) shrinks h good)
+              (good-pending since time now lease on.standing boot (Some (length writes)) hold (good-shrinks rests since time time writes now lease on.standing boot None (omega arith) shrinks hold good-before))
+              (λ b under ne h good. good-shrinks rests since time time writes now lease on.standing (boot_number b (seats b).boots) (seats b).pending (omega arith) shrinks h good)
               kept;
         }
 
     -- the write needs the lease, which the boot holds
     issue-needed : (claim : Claim) (until : ℕ) → hold ≡ Held claim until → guard ≤ until → (IsClaimed claim until → IsOfKind what claim until guard bytes) → what ≢ kind.Claim →
-        LeaseOn g appliances time device now seats' lease
+        LeaseOn g since appliances time device now seats' lease
     issue-needed claim until is guarded of_kind unclaimed =
-        let H : Hold → Type 0 = λ h. Good g time writes lease on.standing boot None h in
+        let H : Hold → Type 0 = λ h. Good rests time writes lease on.standing boot None h in
         let held = subst H is good-before in
-        let split : (m : ℕ) (x : Issued) → IsOpen g time now lease m x →
-        (IsOpen g time writes lease m x) ⊎ ((m ≡ length writes) × (write ≡ x) × (time ≤ until + 50)) =
+        let split : (m : ℕ) (x : Issued) → IsOpen since time now lease m x →
+        (IsOpen rests time writes lease m x) ⊎ ((m ≡ length writes) × (write ≡ x) × (time ≤ until + 50)) =
         λ m x is'. elim (push-cases writes write x m is'.found) [
-          | inl there ↦ inl (record { found = there; needs = is'.needs; missing = is'.missing; live = is'.live })
+          | inl there ↦ inl (record { found = there; needs = needs-before rests writes leases m x lease there is'.needs; missing = is'.missing; live = is'.live })
           | inr fresh ↦ inr (fresh.0, fresh.1, (let e = is'.live in let f : x.guard ≡ guard = ap (λ (y : Issued). y.guard) (sym fresh.1) in omega (arith, e, f, guarded)))
         ] in
-        let none : time ≤ until + 50 → NoneOpen g time writes lease = λ live. none-of-only g time writes lease (held.only live) in
+        let none : time ≤ until + 50 → NoneOpen rests time writes lease = λ live. none-of-only rests time writes lease (held.only live) in
         record {
           standing = on.standing;
           limits = on.limits;
@@ -207,7 +175,7 @@ module _ (g : Geometry) (appliances time : ℕ) (device : Device) (writes : List
           ];
           claims = claims-now (λ k. absurd (unclaimed k));
           each = seats-now
-              (let N : Hold → Type 0 = λ h. Good g time now lease on.standing boot (Some (length writes)) h in
+              (let N : Hold → Type 0 = λ h. Good since time now lease on.standing boot (Some (length writes)) h in
               subst N (sym is) (record {
                 own = held.own;
                 limits = held.limits;
@@ -222,9 +190,9 @@ module _ (g : Geometry) (appliances time : ℕ) (device : Device) (writes : List
       where
         others : (b : ℕ) → b < appliances → b ≢ a → (h : Hold) →
             (time ≤ until + 50 → (c : Claim) (u : ℕ) → on.standing ≡ Claimed c u → c.boot.0 ≡ boot_number b (seats b).boots → ⊥) →
-            ((m : ℕ) (x : Issued) → IsOpen g time now lease m x → (IsOpen g time writes lease m x) ⊎ ((m ≡ length writes) × (write ≡ x) × (time ≤ until + 50))) →
-            Good g time writes lease on.standing (boot_number b (seats b).boots) (seats b).pending h →
-            Good g time now lease on.standing (boot_number b (seats b).boots) (seats b).pending h
+            ((m : ℕ) (x : Issued) → IsOpen since time now lease m x → (IsOpen rests time writes lease m x) ⊎ ((m ≡ length writes) × (write ≡ x) × (time ≤ until + 50))) →
+            Good rests time writes lease on.standing (boot_number b (seats b).boots) (seats b).pending h →
+            Good since time now lease on.standing (boot_number b (seats b).boots) (seats b).pending h
         others b under ne Nothing foreign split good = tt
         others b under ne (Seen sample) foreign split good = record {
           waits = good.waits;
@@ -254,23 +222,23 @@ module _ (g : Geometry) (appliances time : ℕ) (device : Device) (writes : List
         }
 
     -- a write under some leases that the boot holds
-    issue-use : (k : WriteKind) → what ≡ k → MayUse g p.holds k block bytes guard → k ≢ kind.Claim →
-        ((claim : Claim) (until : ℕ) → IsClaimed claim until → IsOfKind k claim until guard bytes) → LeaseOn g appliances time device now seats' lease
-    issue-use k is may unclaimed of_kind = elim (needs-or g geometry k block bytes may.placed lease) [
+    issue-use : (k : WriteKind) → what ≡ k → MayUse g p.holds leases k block bytes guard → k ≢ kind.Claim →
+        ((claim : Claim) (until : ℕ) → IsClaimed claim until → IsOfKind k claim until guard bytes) → LeaseOn g since appliances time device now seats' lease
+    issue-use k is may unclaimed of_kind = elim (rests-or lease leases) [
       | inl needs ↦
-          let t = may.grants lease within needs in
+          let t = may.grants lease needs in
           issue-needed t.claim t.until t.hold t.guarded
           (λ limits. let K : WriteKind → Type 0 = λ x. IsOfKind x t.claim t.until guard bytes in subst K (sym is) (of_kind t.claim t.until limits))
           (λ c. unclaimed (sym is ∙ c))
-      | inr no' ↦ issue-still (λ need. no' (let N : WriteKind → Type 0 = λ x. Needs g x block lease in subst N is need)) (λ c. absurd (unclaimed (sym is ∙ c)))
+      | inr no' ↦ issue-still no' (λ c. absurd (unclaimed (sym is ∙ c)))
     ]
 
-    issue-of : (k : WriteKind) → what ≡ k → MayAsk g boot p.holds k block bytes guard → LeaseOn g appliances time device now seats' lease
-    issue-of kind.Claim is may = issue-still (let N : WriteKind → Type 0 = λ k. Needs g k block lease in λ need. subst N is need)
+    issue-of : (k : WriteKind) → what ≡ k → MayAsk g boot p.holds leases k block bytes guard → LeaseOn g since appliances time device now seats' lease
+    issue-of kind.Claim is may = issue-still (λ need. let e : false ≡ true = subst (λ (l : List ℕ). is_in lease l ≡ true) may.alone need in let P : ⊥ = cc in P)
         (λ k here.
         let same : lease ≡ may.lease = lease-lease lease may.lease (sym here ∙ may.at_lease) in
         let seen : hold ≡ Seen may.sample = ap (λ (i : ℕ). p.holds (lease_at i)) same ∙ may.hold in
-        let H : Hold → Type 0 = λ h. Good g time writes lease on.standing boot None h in
+        let H : Hold → Type 0 = λ h. Good rests time writes lease on.standing boot None h in
         let is-seen = subst H seen good-before in
         let few' = may.few in
         let early' = may.early in
@@ -295,14 +263,14 @@ module _ (g : Geometry) (appliances time : ℕ) (device : Device) (writes : List
             ),
           ))
           (λ k. let e : kind.Renew ≡ kind.Claim = sym is ∙ k in let P : ⊥ = cc in P)
-      | inr away ↦ issue-still (λ need. away.1 (lease-lease lease may.lease (let N : WriteKind → Type 0 = λ k. Needs g k block lease in sym (subst N is need) ∙ may.at_lease)))
+      | inr away ↦ issue-still (λ need. away.1 (rests-home lease may.lease leases may.alone need))
           (λ k. let e : kind.Renew ≡ kind.Claim = sym is ∙ k in let P : ⊥ = cc in absurd P)
     ]
     issue-of kind.Release is may = elim (eqb_tells lease may.lease) [
       | inl here ↦ issue-needed may.claim may.until (ap (λ (i : ℕ). p.holds (lease_at i)) here.1 ∙ may.hold) (omega (arith, may.guarded))
           (λ limits. let K : WriteKind → Type 0 = λ k. IsOfKind k may.claim may.until guard bytes in subst K (sym is) (may.guarded, may.spells))
           (λ k. let e : kind.Release ≡ kind.Claim = sym is ∙ k in let P : ⊥ = cc in P)
-      | inr away ↦ issue-still (λ need. away.1 (lease-lease lease may.lease (let N : WriteKind → Type 0 = λ k. Needs g k block lease in sym (subst N is need) ∙ may.at_lease)))
+      | inr away ↦ issue-still (λ need. away.1 (rests-home lease may.lease leases may.alone need))
           (λ k. let e : kind.Release ≡ kind.Claim = sym is ∙ k in let P : ⊥ = cc in absurd P)
     ]
     issue-of kind.Take is may = issue-use kind.Take is may (λ k. let P : ⊥ = cc in P) (λ c u limits. tt)
@@ -313,5 +281,5 @@ module _ (g : Geometry) (appliances time : ℕ) (device : Device) (writes : List
     issue-of kind.JCommit is may = issue-use kind.JCommit is may (λ k. let P : ⊥ = cc in P) (λ c u limits. tt)
     issue-of other is may = absurd may
 
-    pub lease-issued : MayAsk g boot p.holds what block bytes guard → LeaseOn g appliances time device now seats' lease
+    pub lease-issued : MayAsk g boot p.holds leases what block bytes guard → LeaseOn g since appliances time device now seats' lease
     lease-issued may = issue-of what refl may

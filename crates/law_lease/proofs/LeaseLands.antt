@@ -1,5 +1,5 @@
 -- What holds of a lease stays where a sector lands.
-use Rattle.std.proofs.Common.{◌≡◌, ◌≢◌, ℕ, zero, suc, ◌+◌, ◌≤◌, ◌<◌, ◌⊎◌, inl, inr, List, Bool, true, false, Option, Some, None, refl, ap, sym, subst, ◌∙◌, arith, slice_set}
+use Rattle.std.proofs.Common.{◌≡◌, ◌≢◌, ℕ, zero, suc, ◌+◌, ◌≤◌, ◌<◌, ◌⊎◌, inl, inr, List, [], ◌∷◌, Bool, true, false, Option, Some, None, refl, ap, sym, subst, ◌∙◌, arith, slice_set}
 use Rattle.std.specs.Prelude.{slice_get, ◌==◌}
 use Rattle.std.proofs.lemmas.Bool.Decides.{eqb_tells}
 use Rattle.plx_base.specs.Sectors.{Device, put, landed}
@@ -18,7 +18,9 @@ use Rattle.plx_worlds.specs.Holds.{Hold, Held}
 use Rattle.plx_geom.specs.Geometry.{Geometry, lease_count, lease_at}
 use Rattle.plx_worlds.specs.Holds.{renewed}
 use Rattle.plx_gate.specs.Leases.{lease_bytes, read_lease, IsLease, IsClaimed}
-use Rattle.plx_worlds.specs.Owners.{Needs, first_landed, pending_write, is_set}
+use Rattle.plx_worlds.specs.Owners.{first_landed, pending_write, is_set}
+use Rattle.plx_worlds.specs.Rests.{IsUnder, rests_on}
+use Rattle.law_lease.proofs.Rests.{rests-alone}
 use Rattle.plx_worlds.specs.Settings.{boot_number}
 use Rattle.plx_worlds.specs.World.{Seat, setting_at}
 use Rattle.plx_gate.proofs.Leases.{lease-back, lease-same}
@@ -50,10 +52,14 @@ first-set write flag e = ap is_set e
 
 -- ---- what the ask tells of the write that is waited for
 
+-- it may be asked, whatever it rests on
+abbrev pub MayBeAsked : Geometry → ℕ → (ℕ → Hold) → WriteKind → ℕ → List ℕ → ℕ → Type 0
+MayBeAsked g boot holds kind block bytes guard = (rests : List ℕ) × MayAsk g boot holds rests kind block bytes guard
+
 pub asked-may : (g : Geometry) (boot : ℕ) (holds : ℕ → Hold) (sample : Option ℕ) (place : Place) (write : Issued) → IsAskedAt place boot write →
-    LawfulAt g boot holds sample place → MayAsk g boot holds write.kind write.block write.bytes write.guard
+    LawfulAt g boot holds sample place → MayBeAsked g boot holds write.kind write.block write.bytes write.guard
 asked-may g boot holds sample (In known command (WriteThen kind block bytes guard done fault missed)) write asked lawful =
-    rw (asked.0, asked.1, asked.2, asked.3) lawful.0
+    (rests_on g command holds kind block bytes, rw (asked.0, asked.1, asked.2, asked.3) lawful.0)
 asked-may g boot holds sample (Idle known) write asked lawful = absurd asked
 asked-may g boot holds sample (Begins known command) write asked lawful = absurd asked
 asked-may g boot holds sample (In known command (Ends end)) write asked lawful = absurd asked
@@ -92,8 +98,8 @@ two-spellings bytes one other e f = sym e ∙ f
 
 -- ---- a landing
 
-module _ (g : Geometry) (appliances time : ℕ) (device : Device) (writes : List Issued) (seats : ℕ → Seat) (lease : ℕ) (within : lease < lease_count g)
-    (on : LeaseOn g appliances time device writes seats lease) (seated : (a : ℕ) → a < appliances → IsSeat g time writes a (seats a))
+module _ (g : Geometry) (rests : ℕ → List ℕ) (appliances time : ℕ) (device : Device) (writes : List Issued) (seats : ℕ → Seat) (lease : ℕ) (within : lease < lease_count g)
+    (on : LeaseOn g rests appliances time device writes seats lease) (seated : (a : ℕ) → a < appliances → IsSeat g time writes a (seats a))
     (number sector : ℕ) (write : Issued) (found : slice_get writes number ≡ Some write) (missing : slice_get write.landed sector ≡ Some false)
     (early : time ≤ write.guard + 50) where
   abbrev now : List Issued
@@ -115,19 +121,20 @@ module _ (g : Geometry) (appliances time : ℕ) (device : Device) (writes : List
     | inr away ↦ inr (away.1, sym (set-other writes number m (with_sector write sector) away.1) ∙ there)
   ]
 
-  open-landed : (m : ℕ) (x : Issued) → IsOpen g time now lease m x →
-      ((m ≡ number) × (x ≡ with_sector write sector) × IsOpen g time writes lease number write) ⊎ ((m ≢ number) × IsOpen g time writes lease m x)
+  open-landed : (m : ℕ) (x : Issued) → IsOpen rests time now lease m x →
+      ((m ≡ number) × (x ≡ with_sector write sector) × IsOpen rests time writes lease number write) ⊎ ((m ≢ number) × IsOpen rests time writes lease m x)
   open-landed m x is = elim (landed-is m x is.found) [
     | inl here ↦
-        let P : Issued → Type 0 = λ y. IsOpen g time now lease m y in
-        let is' : IsOpen g time now lease m (with_sector write sector) = subst P here.1 is in
-        inl (here.0, here.1, record { found = found; needs = is'.needs; missing = unlanded-before write.kind write.landed sector missing is'.missing; live = early })
+        let P : Issued → Type 0 = λ y. IsOpen rests time now lease m y in
+        let is' : IsOpen rests time now lease m (with_sector write sector) = subst P here.1 is in
+        let needs : IsUnder rests number lease = (let Q : ℕ → Type 0 = λ k. IsUnder rests k lease in subst Q here.0 is'.needs) in
+        inl (here.0, here.1, record { found = found; needs = needs; missing = unlanded-before write.kind write.landed sector missing is'.missing; live = early })
     | inr away ↦ inr (away.0, record { found = away.1; needs = is.needs; missing = is.missing; live = is.live })
   ]
 
-  shrinks : Shrinks g time time writes now lease
+  shrinks : Shrinks rests rests time time writes now lease
   shrinks m x is = elim (open-landed m x is) [
-    | inl here ↦ (write, (let P : ℕ → Type 0 = λ k. IsOpen g time writes lease k write in subst P (sym here.0) here.2))
+    | inl here ↦ (write, (let P : ℕ → Type 0 = λ k. IsOpen rests time writes lease k write in subst P (sym here.0) here.2))
     | inr away ↦ (x, away.1)
   ]
 
@@ -160,14 +167,14 @@ module _ (g : Geometry) (appliances time : ℕ) (device : Device) (writes : List
 
   -- a seat that waits for another write, or for this one
   seat-landed : (changed : LeaseRecord) (a : ℕ) → a < appliances →
-      ((seats a).pending ≢ Some number → (hold : Hold) → Good g time writes lease on.standing (boot_number a (seats a).boots) (seats a).pending hold →
-      Good g time now lease changed (boot_number a (seats a).boots) (seats a).pending hold) →
-      ((seats a).pending ≡ Some number → (hold : Hold) → MayAsk g (boot_number a (seats a).boots) (position (setting_at g a (seats a).boots) (seats a).log).holds write.kind write.block write.bytes write.guard →
+      ((seats a).pending ≢ Some number → (hold : Hold) → Good rests time writes lease on.standing (boot_number a (seats a).boots) (seats a).pending hold →
+      Good rests time now lease changed (boot_number a (seats a).boots) (seats a).pending hold) →
+      ((seats a).pending ≡ Some number → (hold : Hold) → MayBeAsked g (boot_number a (seats a).boots) (position (setting_at g a (seats a).boots) (seats a).log).holds write.kind write.block write.bytes write.guard →
       (position (setting_at g a (seats a).boots) (seats a).log).holds (lease_at lease) ≡ hold →
-      Good g time writes lease on.standing (boot_number a (seats a).boots) (seats a).pending (grip_while write.kind (lease_at lease == write.block) (first_landed (Some write)) write.bytes hold) →
-      Good g time now lease changed (boot_number a (seats a).boots) (seats a).pending
+      Good rests time writes lease on.standing (boot_number a (seats a).boots) (seats a).pending (grip_while write.kind (lease_at lease == write.block) (first_landed (Some write)) write.bytes hold) →
+      Good rests time now lease changed (boot_number a (seats a).boots) (seats a).pending
       (grip_while write.kind (lease_at lease == write.block) (first_landed (Some (with_sector write sector))) write.bytes hold)) →
-      GoodSeat g time now lease changed a (seats a)
+      GoodSeat g rests time now lease changed a (seats a)
   seat-landed changed a below others mine =
       let seat = seats a in
       let boot = boot_number a seat.boots in
@@ -189,11 +196,11 @@ module _ (g : Geometry) (appliances time : ℕ) (device : Device) (writes : List
             ≡ grip_while write.kind (lease_at lease == write.block) (first_landed (Some (with_sector write sector))) write.bytes hold =
             grip-asked p.place boot write asked' (pending_write now seat.pending) (lease_at lease) hold
             ∙ ap (λ (o : Option Issued). grip_while write.kind (lease_at lease == write.block) (first_landed o) write.bytes hold) there' in
-            let P : Hold → Type 0 = λ h. Good g time writes lease on.standing boot seat.pending h in
-            let Q : Hold → Type 0 = λ h. Good g time now lease changed boot seat.pending h in
+            let P : Hold → Type 0 = λ h. Good rests time writes lease on.standing boot seat.pending h in
+            let Q : Hold → Type 0 = λ h. Good rests time now lease changed boot seat.pending h in
             subst Q (sym new) (mine is hold (asked-may g boot p.holds p.sample p.place write asked' (seated a below).lawful) refl (subst P old (on.each a below)))
         | inr ne ↦
-            let P : Option Issued → Type 0 = λ o. Good g time now lease changed boot seat.pending (grip_at p.place o (lease_at lease) hold) in
+            let P : Option Issued → Type 0 = λ o. Good rests time now lease changed boot seat.pending (grip_at p.place o (lease_at lease) hold) in
             subst P (sym (pending-other writes number (with_sector write sector) seat.pending ne))
             (others ne (grip_at p.place (pending_write writes seat.pending) (lease_at lease) hold) (on.each a below))
       ]
@@ -202,7 +209,7 @@ module _ (g : Geometry) (appliances time : ℕ) (device : Device) (writes : List
   land-still : after (lease_at lease) ≡ device (lease_at lease) →
       ((hold : Hold) → grip_while write.kind (lease_at lease == write.block) (first_landed (Some (with_sector write sector))) write.bytes hold
       ≡ grip_while write.kind (lease_at lease == write.block) (first_landed (Some write)) write.bytes hold) →
-      LeaseOn g appliances time after now seats lease
+      LeaseOn g rests appliances time after now seats lease
   land-still same grips = record {
     standing = on.standing;
     limits = on.limits;
@@ -217,15 +224,15 @@ module _ (g : Geometry) (appliances time : ℕ) (device : Device) (writes : List
     ];
     claims = claims-landed on.standing (λ sample early' clear. clear);
     each = λ a below. seat-landed on.standing a below
-        (λ ne hold good. good-shrinks g time time writes now lease on.standing (boot_number a (seats a).boots) (seats a).pending (omega arith) shrinks hold good)
+        (λ ne hold good. good-shrinks rests rests time time writes now lease on.standing (boot_number a (seats a).boots) (seats a).pending (omega arith) shrinks hold good)
         (λ is hold may same' good.
         let boot = boot_number a (seats a).boots in
-        let P : Hold → Type 0 = λ h. Good g time now lease on.standing boot (seats a).pending h in
-        subst P (sym (grips hold)) (good-shrinks g time time writes now lease on.standing boot (seats a).pending (omega arith) shrinks _ good));
+        let P : Hold → Type 0 = λ h. Good rests time now lease on.standing boot (seats a).pending h in
+        subst P (sym (grips hold)) (good-shrinks rests rests time time writes now lease on.standing boot (seats a).pending (omega arith) shrinks _ good));
   }
 
   -- the block isn't the lease's
-  land-away : lease_at lease ≢ write.block → LeaseOn g appliances time after now seats lease
+  land-away : lease_at lease ≢ write.block → LeaseOn g rests appliances time after now seats lease
   land-away ne =
       let e = eqb-other (lease_at lease) write.block ne in
       land-still (put-other device write.block (landed sector write.bytes (device write.block)) (lease_at lease) ne)
@@ -234,7 +241,7 @@ module _ (g : Geometry) (appliances time : ℕ) (device : Device) (writes : List
       ∙ sym (ap (λ (b : Bool). grip_while write.kind b (first_landed (Some write)) write.bytes hold) e ∙ grip_while-away write.kind (first_landed (Some write)) write.bytes hold)))
 
   -- a sector past the first one of a lease's write changes nothing
-  land-past : (k : ℕ) → sector ≡ suc k → (r : LeaseRecord) → write.bytes ≡ lease_bytes r → LeaseOn g appliances time after now seats lease
+  land-past : (k : ℕ) → sector ≡ suc k → (r : LeaseRecord) → write.bytes ≡ lease_bytes r → LeaseOn g rests appliances time after now seats lease
   land-past k is r spells = elim (eqb_tells (lease_at lease) write.block) [
     | inl here ↦
         let at : device write.block ≡ lease_bytes on.standing = ap device (sym here.1) ∙ on.spells in
@@ -259,9 +266,9 @@ module _ (g : Geometry) (appliances time : ℕ) (device : Device) (writes : List
       ∙ (ap (λ (b : List ℕ). landed 0 b (device write.block)) spells ∙ (ap (landed 0 (lease_bytes r)) at ∙ sector-first on.standing r))))
 
   -- where the record changes no write is open
-  land-changed : (changed : LeaseRecord) → IsLease changed → after (lease_at lease) ≡ lease_bytes changed → NoneOpen g time now lease →
+  land-changed : (changed : LeaseRecord) → IsLease changed → after (lease_at lease) ≡ lease_bytes changed → NoneOpen rests time now lease →
       ((sample : ℕ) → sample ≤ time + 50 → Clear on.standing sample → Clear changed sample) →
-      ((a : ℕ) → a < appliances → GoodSeat g time now lease changed a (seats a)) → LeaseOn g appliances time after now seats lease
+      ((a : ℕ) → a < appliances → GoodSeat g rests time now lease changed a (seats a)) → LeaseOn g rests appliances time after now seats lease
   land-changed changed limits spells none clears each = record {
     standing = changed;
     limits = limits;
@@ -273,43 +280,47 @@ module _ (g : Geometry) (appliances time : ℕ) (device : Device) (writes : List
   }
 
   -- the first sector of a claim
-  land-claim : write.kind ≡ kind.Claim → lease_at lease ≡ write.block → sector ≡ 0 → LeaseOn g appliances time after now seats lease
+  land-claim : write.kind ≡ kind.Claim → lease_at lease ≡ write.block → sector ≡ 0 → LeaseOn g rests appliances time after now seats lease
   land-claim is here first =
       let claiming = on.claims number write found is (sym here) in
       let claim = claiming.claim in
       let s = claim.sample in
       let live : time ≤ (s + window) + 50 = omega (arith, early, claiming.guarded) in
       let waits = claiming.waits (ap (slice_get write.landed) (sym first) ∙ missing) early in
-      let none : NoneOpen g time writes lease = λ m x op.
+      let none : NoneOpen rests time writes lease = λ m x op.
       (let b = on.backed m x op in
       let e = op.live in
       let h = b.guarded in
       claim-alone time on.standing s live waits b.claim b.until b.waited (omega (arith, e, h)) b.there) in
-      let none' : NoneOpen g time now lease = λ m x op. (let w = shrinks m x op in none m w.0 w.1) in
+      let none' : NoneOpen rests time now lease = λ m x op. (let w = shrinks m x op in none m w.0 w.1) in
       let changed = Claimed claim (s + term) in
       let clears : (sample : ℕ) → sample ≤ time + 50 → Clear on.standing sample → Clear changed sample =
       λ sample sampled clear. claim-clears time s sample on.standing claim (s + term) refl live sampled clear in
       land-changed changed claiming.limits (first-lands here first changed claiming.spells) none' clears
       (λ a below. seat-landed changed a below
-      (λ ne hold good. good-changed g time writes now lease on.standing changed (boot_number a (seats a).boots) (seats a).pending none' clears
+      (λ ne hold good. good-changed rests time writes now lease on.standing changed (boot_number a (seats a).boots) (seats a).pending none' clears
       (λ c u waited live' there only. claim-alone time on.standing s live waits c u waited live' there) hold good)
       (λ pending hold may same good.
       let boot = boot_number a (seats a).boots in
-      let P : Bool → WriteKind → Hold → Type 0 = λ flag k h. Good g time now lease changed boot (seats a).pending (grip_while k (lease_at lease == write.block) flag write.bytes h) in
-      let R : Bool → WriteKind → Hold → Type 0 = λ flag k h. Good g time writes lease on.standing boot (seats a).pending (grip_while k (lease_at lease == write.block) flag write.bytes h) in
-      let old : Good g time writes lease on.standing boot (seats a).pending hold = subst (λ (k : WriteKind). R (first_landed (Some write)) k hold) is good in
-      let new : Good g time now lease changed boot (seats a).pending hold =
-      good-changed g time writes now lease on.standing changed boot (seats a).pending none' clears
+      let P : Bool → WriteKind → Hold → Type 0 = λ flag k h. Good rests time now lease changed boot (seats a).pending (grip_while k (lease_at lease == write.block) flag write.bytes h) in
+      let R : Bool → WriteKind → Hold → Type 0 = λ flag k h. Good rests time writes lease on.standing boot (seats a).pending (grip_while k (lease_at lease == write.block) flag write.bytes h) in
+      let old : Good rests time writes lease on.standing boot (seats a).pending hold = subst (λ (k : WriteKind). R (first_landed (Some write)) k hold) is good in
+      let new : Good rests time now lease changed boot (seats a).pending hold =
+      good-changed rests time writes now lease on.standing changed boot (seats a).pending none' clears
       (λ c u waited live' there only. claim-alone time on.standing s live waits c u waited live' there) hold old in
       subst (λ (k : WriteKind). P (first_landed (Some (with_sector write sector))) k hold) (sym is) new))
 
+  -- a write of a lease rests on it
+  needs-home : (home : ℕ) → write.block ≡ lease_at home → rests number ≡ home ∷ [] → lease_at lease ≡ write.block → IsUnder rests number lease
+  needs-home home at all here = rests-alone lease home (rests number) all (lease-lease lease home (here ∙ at))
+
   -- the first sector of a write that needs the lease
-  module _ (here : lease_at lease ≡ write.block) (first : sector ≡ 0) (needs : Needs g write.kind write.block lease) (unlanded : Unlanded write.kind write.landed)
+  module _ (here : lease_at lease ≡ write.block) (first : sector ≡ 0) (needs : IsUnder rests number lease) (unlanded : Unlanded write.kind write.landed)
       (landed-now : Unlanded write.kind (slice_set write.landed sector true) → ⊥) where
-    this-open : IsOpen g time writes lease number write
+    this-open : IsOpen rests time writes lease number write
     this-open = record { found = found; needs = needs; missing = unlanded; live = early }
 
-    none-now : NoneOpen g time now lease
+    none-now : NoneOpen rests time now lease
     none-now m x op = elim (open-landed m x op) [
       | inl same ↦ landed-now (let P : Issued → Type 0 = λ y. Unlanded y.kind y.landed in subst P same.1 op.missing)
       | inr away ↦ away.0 (on.alone m number x write away.1 this-open)
@@ -317,14 +328,14 @@ module _ (g : Geometry) (appliances time : ℕ) (device : Device) (writes : List
 
     -- of a seat that waits for another write, or for this one
     needed-seats : (changed : LeaseRecord) → ((sample : ℕ) → sample ≤ time + 50 → Clear on.standing sample → Clear changed sample) →
-        ((a : ℕ) → (seats a).pending ≡ Some number → (hold : Hold) → MayAsk g (boot_number a (seats a).boots) (position (setting_at g a (seats a).boots) (seats a).log).holds write.kind write.block write.bytes write.guard →
+        ((a : ℕ) → (seats a).pending ≡ Some number → (hold : Hold) → MayBeAsked g (boot_number a (seats a).boots) (position (setting_at g a (seats a).boots) (seats a).log).holds write.kind write.block write.bytes write.guard →
         (position (setting_at g a (seats a).boots) (seats a).log).holds (lease_at lease) ≡ hold →
-        Good g time writes lease on.standing (boot_number a (seats a).boots) (seats a).pending hold →
-        Good g time now lease changed (boot_number a (seats a).boots) (seats a).pending
+        Good rests time writes lease on.standing (boot_number a (seats a).boots) (seats a).pending hold →
+        Good rests time now lease changed (boot_number a (seats a).boots) (seats a).pending
         (grip_while write.kind true true write.bytes hold)) →
-        (a : ℕ) → a < appliances → GoodSeat g time now lease changed a (seats a)
+        (a : ℕ) → a < appliances → GoodSeat g rests time now lease changed a (seats a)
     needed-seats changed clears mine a below = seat-landed changed a below
-        (λ ne hold good. good-changed g time writes now lease on.standing changed (boot_number a (seats a).boots) (seats a).pending none-now clears
+        (λ ne hold good. good-changed rests time writes now lease on.standing changed (boot_number a (seats a).boots) (seats a).pending none-now clears
         (λ c u waited live there only. ne (only number write this-open)) hold good)
         (λ pending hold may same good.
         let boot = boot_number a (seats a).boots in
@@ -333,11 +344,11 @@ module _ (g : Geometry) (appliances time : ℕ) (device : Device) (writes : List
         let set : slice_get (slice_set write.landed sector true) 0 ≡ Some true =
         ap (slice_get (slice_set write.landed sector true)) (sym first) ∙ set-same write.landed sector true false missing in
         let now' : first_landed (Some (with_sector write sector)) ≡ true = ap is_set set in
-        let P : Hold → Type 0 = λ h. Good g time writes lease on.standing boot (seats a).pending h in
-        let old : Good g time writes lease on.standing boot (seats a).pending hold =
+        let P : Hold → Type 0 = λ h. Good rests time writes lease on.standing boot (seats a).pending h in
+        let old : Good rests time writes lease on.standing boot (seats a).pending hold =
         subst P (ap (λ (b : Bool). grip_while write.kind (lease_at lease == write.block) b write.bytes hold) before
         ∙ grip_while-open write.kind (lease_at lease == write.block) write.bytes hold) good in
-        let Q : Bool → Bool → Type 0 = λ b flag. Good g time now lease changed boot (seats a).pending (grip_while write.kind b flag write.bytes hold) in
+        let Q : Bool → Bool → Type 0 = λ b flag. Good rests time now lease changed boot (seats a).pending (grip_while write.kind b flag write.bytes hold) in
         subst (λ (b : Bool). Q b (first_landed (Some (with_sector write sector)))) (sym (eqb-self (lease_at lease) write.block here))
         (subst (Q true) (sym now') (mine a pending hold may same old)))
 
@@ -348,11 +359,9 @@ module _ (g : Geometry) (appliances time : ℕ) (device : Device) (writes : List
       let e : Some true ≡ Some false = sym set ∙ flag in let P : ⊥ = cc in P
 
   -- the first sector of a renewal
-  land-renew : write.kind ≡ kind.Renew → lease_at lease ≡ write.block → sector ≡ 0 → LeaseOn g appliances time after now seats lease
-  land-renew is here first =
+  land-renew : write.kind ≡ kind.Renew → lease_at lease ≡ write.block → sector ≡ 0 → IsUnder rests number lease → LeaseOn g rests appliances time after now seats lease
+  land-renew is here first needs =
       let zeroth : slice_get write.landed 0 ≡ Some false = ap (slice_get write.landed) (sym first) ∙ missing in
-      let N : WriteKind → Type 0 = λ k. Needs g k write.block lease in
-      let needs : Needs g write.kind write.block lease = subst N (sym is) (sym here) in
       let U : WriteKind → Type 0 = λ k. Unlanded k write.landed in
       let unlanded : Unlanded write.kind write.landed = subst U (sym is) zeroth in
       let V : WriteKind → Type 0 = λ k. Unlanded k (slice_set write.landed sector true) in
@@ -371,11 +380,11 @@ module _ (g : Geometry) (appliances time : ℕ) (device : Device) (writes : List
       (λ a pending hold may same good.
       let boot = boot_number a (seats a).boots in
       let holds = (position (setting_at g a (seats a).boots) (seats a).log).holds in
-      let M : WriteKind → Type 0 = λ k. MayAsk g boot holds k write.block write.bytes write.guard in
-      let renew = subst M is may in
+      let M : WriteKind → Type 0 = λ k. MayBeAsked g boot holds k write.block write.bytes write.guard in
+      let renew = (subst M is may).1 in
       let lease-is : lease ≡ renew.lease = lease-lease lease renew.lease (here ∙ renew.at_lease) in
       let held : hold ≡ Held renew.claim renew.until = same-hold holds lease renew.lease hold (Held renew.claim renew.until) same lease-is renew.hold in
-      let P : Hold → Type 0 = λ h. Good g time writes lease on.standing boot (seats a).pending h in
+      let P : Hold → Type 0 = λ h. Good rests time writes lease on.standing boot (seats a).pending h in
       let old = subst P held good in
       let l = old.limits in
       let renewed-limits : IsClaimed renew.claim renew.next =
@@ -384,8 +393,8 @@ module _ (g : Geometry) (appliances time : ℕ) (device : Device) (writes : List
       let back : read_lease write.bytes ≡ Some (Claimed renew.claim renew.next) = ap read_lease renew.spells ∙ lease-back (Claimed renew.claim renew.next) renewed-limits in
       let alike : changed ≡ Claimed renew.claim renew.next =
       lease-same changed (Claimed renew.claim renew.next) limits renewed-limits (two-spellings write.bytes (lease_bytes changed) (lease_bytes (Claimed renew.claim renew.next)) spells renew.spells) in
-      let Q : WriteKind → Hold → Type 0 = λ k h. Good g time now lease changed boot (seats a).pending (grip_while k true true write.bytes h) in
-      let R : Option LeaseRecord → Type 0 = λ r. Good g time now lease changed boot (seats a).pending (renewed r) in
+      let Q : WriteKind → Hold → Type 0 = λ k h. Good rests time now lease changed boot (seats a).pending (grip_while k true true write.bytes h) in
+      let R : Option LeaseRecord → Type 0 = λ r. Good rests time now lease changed boot (seats a).pending (renewed r) in
       let done : R (Some (Claimed renew.claim renew.next)) = record {
         own = old.own;
         limits = renewed-limits;
@@ -396,11 +405,9 @@ module _ (g : Geometry) (appliances time : ℕ) (device : Device) (writes : List
       subst (λ (k : WriteKind). Q k hold) (sym is) (subst R (sym back) done)))
 
   -- the first sector of a release
-  land-release : write.kind ≡ kind.Release → lease_at lease ≡ write.block → sector ≡ 0 → LeaseOn g appliances time after now seats lease
-  land-release is here first =
+  land-release : write.kind ≡ kind.Release → lease_at lease ≡ write.block → sector ≡ 0 → IsUnder rests number lease → LeaseOn g rests appliances time after now seats lease
+  land-release is here first needs =
       let zeroth : slice_get write.landed 0 ≡ Some false = ap (slice_get write.landed) (sym first) ∙ missing in
-      let N : WriteKind → Type 0 = λ k. Needs g k write.block lease in
-      let needs : Needs g write.kind write.block lease = subst N (sym is) (sym here) in
       let U : WriteKind → Type 0 = λ k. Unlanded k write.landed in
       let unlanded : Unlanded write.kind write.landed = subst U (sym is) zeroth in
       let V : WriteKind → Type 0 = λ k. Unlanded k (slice_set write.landed sector true) in
@@ -412,17 +419,17 @@ module _ (g : Geometry) (appliances time : ℕ) (device : Device) (writes : List
       land-changed Free tt (first-lands here first Free of_kind.1) (none-now here first needs unlanded landed-now) clears
       (needed-seats here first needs unlanded landed-now Free clears
       (λ a pending hold may same good.
-      let Q : WriteKind → Type 0 = λ k. Good g time now lease Free (boot_number a (seats a).boots) (seats a).pending (grip_while k true true write.bytes hold) in
+      let Q : WriteKind → Type 0 = λ k. Good rests time now lease Free (boot_number a (seats a).boots) (seats a).pending (grip_while k true true write.bytes hold) in
       subst Q (sym is) tt))
 
   -- a sector of any write
-  land-of : (k : WriteKind) (s : ℕ) → write.kind ≡ k → sector ≡ s → IsPlaced g k write.block write.bytes → LeaseOn g appliances time after now seats lease
+  land-of : (k : WriteKind) (s : ℕ) → write.kind ≡ k → sector ≡ s → IsPlaced g k write.block write.bytes (rests number) → LeaseOn g rests appliances time after now seats lease
   land-of kind.Claim (suc s) is at placed = land-past s at placed.3.0 placed.3.1
   land-of kind.Claim zero is at placed = elim (eqb_tells (lease_at lease) write.block) [ inl here ↦ land-claim is here.1 at | inr away ↦ land-away away.1 ]
   land-of kind.Renew (suc s) is at placed = land-past s at placed.3.0 placed.3.1
-  land-of kind.Renew zero is at placed = elim (eqb_tells (lease_at lease) write.block) [ inl here ↦ land-renew is here.1 at | inr away ↦ land-away away.1 ]
+  land-of kind.Renew zero is at placed = elim (eqb_tells (lease_at lease) write.block) [ inl here ↦ land-renew is here.1 at (needs-home placed.0 placed.2 placed.4 here.1) | inr away ↦ land-away away.1 ]
   land-of kind.Release (suc s) is at placed = land-past s at placed.3.0 placed.3.1
-  land-of kind.Release zero is at placed = elim (eqb_tells (lease_at lease) write.block) [ inl here ↦ land-release is here.1 at | inr away ↦ land-away away.1 ]
+  land-of kind.Release zero is at placed = elim (eqb_tells (lease_at lease) write.block) [ inl here ↦ land-release is here.1 at (needs-home placed.0 placed.2 placed.4 here.1) | inr away ↦ land-away away.1 ]
   land-of kind.JData s is at placed = land-away (λ e. lease-data g lease placed.0 placed.1 within (e ∙ placed.4))
   land-of kind.JCommit s is at placed = land-away (λ e. lease-descriptor g lease placed.0 placed.1 within (e ∙ placed.4))
   land-of kind.Take s is at placed = land-away (λ e. lease-map g lease placed.0 within (e ∙ placed.2))
@@ -431,5 +438,5 @@ module _ (g : Geometry) (appliances time : ℕ) (device : Device) (writes : List
   land-of kind.Record s is at placed = land-away (λ e. lease-record g lease placed.0 within (e ∙ placed.2))
   land-of other s is at placed = absurd placed
 
-  pub lease-lands : IsRight g write → LeaseOn g appliances time after now seats lease
+  pub lease-lands : IsRight g (rests number) write → LeaseOn g rests appliances time after now seats lease
   lease-lands right = land-of write.kind sector refl refl right.placed

@@ -12,7 +12,7 @@ use Rattle.plx_base.specs.declared.numbers.ExtentNo.{ExtentNo}
 use Rattle.plx_base.specs.declared.numbers.SlotNo.{SlotNo}
 use Rattle.plx_base.specs.declared.write_kind.WriteKind.{WriteKind}
 use Rattle.plx_base.specs.declared.write_kind.WriteKind.TheVariants as kind
-use Rattle.plx_commands.proofs.Places.{at-all}
+use Rattle.plx_commands.proofs.Places.{at-all, at-same, at-other}
 use Rattle.plx_commands.specs.Places.{at}
 use Rattle.plx_commands.specs.declared.command.Command.{Command}
 use Rattle.plx_commands.specs.declared.entry.Entry.{Entry}
@@ -31,6 +31,7 @@ use Rattle.plx_worlds.specs.Commands.{command_part, IsWellFormed}
 use Rattle.plx_worlds.specs.Ends.{End}
 use Rattle.plx_worlds.specs.Formatted.{IsFormatted}
 use Rattle.plx_worlds.specs.Holds.{Hold, no_holds, after_answer, after_write, after_first, session_at, timed}
+use Rattle.plx_worlds.specs.Rests.{rests_on}
 use Rattle.plx_worlds.specs.Session.{Known}
 use Rattle.plx_worlds.specs.Settings.{Setting, boot_number}
 use Rattle.plx_worlds.specs.World as world
@@ -46,12 +47,12 @@ use Rattle.law_lease.proofs.Lists.{push-cases, none-some}
 
 -- ---- time passes
 
-lease-ticks : (g : Geometry) (appliances time later : ℕ) (device : Device) (writes : List Issued) (seats : ℕ → Seat) (lease : ℕ) → time ≤ later →
-    LeaseOn g appliances time device writes seats lease → LeaseOn g appliances later device writes seats lease
-lease-ticks g appliances time later device writes seats lease passed on =
-    let old : (m : ℕ) (x : Issued) → IsOpen g later writes lease m x → IsOpen g time writes lease m x =
+lease-ticks : (g : Geometry) (rests : ℕ → List ℕ) (appliances time later : ℕ) (device : Device) (writes : List Issued) (seats : ℕ → Seat) (lease : ℕ) → time ≤ later →
+    LeaseOn g rests appliances time device writes seats lease → LeaseOn g rests appliances later device writes seats lease
+lease-ticks g rests appliances time later device writes seats lease passed on =
+    let old : (m : ℕ) (x : Issued) → IsOpen rests later writes lease m x → IsOpen rests time writes lease m x =
     λ m x is. record { found = is.found; needs = is.needs; missing = is.missing; live = (let l = is.live in omega arith) } in
-    let shrinks : Shrinks g time later writes writes lease = λ m x is. (x, old m x is) in
+    let shrinks : Shrinks rests rests time later writes writes lease = λ m x is. (x, old m x is) in
     record {
       standing = on.standing;
       limits = on.limits;
@@ -67,7 +68,7 @@ lease-ticks g appliances time later device writes seats lease passed on =
         guarded = c.guarded;
         waits = λ first live. (let w = c.waits first (omega arith) in record { sampled = (let s = w.sampled in omega arith); clear = w.clear });
       });
-      each = λ a below. good-shrinks g time later writes writes lease on.standing (boot_number a (seats a).boots) (seats a).pending passed shrinks _ (on.each a below);
+      each = λ a below. good-shrinks rests rests time later writes writes lease on.standing (boot_number a (seats a).boots) (seats a).pending passed shrinks _ (on.each a below);
     }
 
 -- ---- an appliance goes on
@@ -84,7 +85,7 @@ not-waiting g time writes a seat place is here no-ask = by_pending seat.pending 
         absurd (no-ask (boot_number a seat.boots) asked.0
         (let P : Place → Type 0 = λ p. IsAskedAt p (boot_number a seat.boots) asked.0 in subst P here asked.2))
 
-lawful-placed : (g : Geometry) (boot : ℕ) (known : Known) (command : Command) (holds : ℕ → Hold) (sample : Option ℕ) (part : Part End) → LawfulRest g boot holds sample part →
+lawful-placed : (g : Geometry) (boot : ℕ) (known : Known) (command : Command) (holds : ℕ → Hold) (sample : Option ℕ) (part : Part End) → LawfulRest g boot command holds sample part →
     LawfulAt g boot (after_part part holds) sample (place_of known command part)
 lawful-placed g boot known command holds sample (Ends end) lawful = tt
 lawful-placed g boot known command holds sample (ReadThen block rest fault) lawful = lawful
@@ -120,7 +121,7 @@ module _ (w : World) (leased : Leased w) (a : ℕ) (below : a < w.appliances) (t
 
   -- the log leads to a position that waits for no write
   log-leased : (log : List Happening) (q : Position) → position setting log ≡ q →
-      ((lease : ℕ) (within : lease < lease_count g) → Good g time writes lease (leased.on lease within).standing boot None (q.holds (lease_at lease))) →
+      ((lease : ℕ) (within : lease < lease_count g) → Good w.rests time writes lease (leased.on lease within).standing boot None (q.holds (lease_at lease))) →
       LawfulAt g boot q.holds q.sample q.place → ((s : ℕ) → q.sample ≡ Some s → s ≤ time + 50) → Leased (with-log log)
   log-leased log q leads good lawful sampled = record {
     geometry = leased.geometry;
@@ -136,17 +137,17 @@ module _ (w : World) (leased : Leased w) (a : ℕ) (below : a < w.appliances) (t
           asked = λ n e. absurd (none-some n e);
         })
         (λ b ne below'. leased.seated b below');
-    on = λ lease within. lease-log g w.appliances time w.surface.device writes w.seats lease (leased.on lease within) a log q leads (good lease within);
+    on = λ lease within. lease-log g w.rests w.appliances time w.surface.device writes w.seats lease (leased.on lease within) a log q leads (good lease within);
   }
 
   -- an ask was answered
   went-leased : (log : List Happening) (known : Known) (command : Command) (holds : ℕ → Hold) (sample : Option ℕ) (part : Part End) →
       position setting log ≡ goes_to known command holds sample part →
-      ((lease : ℕ) (within : lease < lease_count g) → Good g time writes lease (leased.on lease within).standing boot None (holds (lease_at lease))) →
-      LawfulRest g boot holds sample part → ((s : ℕ) → sample ≡ Some s → s ≤ time + 50) → Leased (with-log log)
+      ((lease : ℕ) (within : lease < lease_count g) → Good w.rests time writes lease (leased.on lease within).standing boot None (holds (lease_at lease))) →
+      LawfulRest g boot command holds sample part → ((s : ℕ) → sample ≡ Some s → s ≤ time + 50) → Leased (with-log log)
   went-leased log known command holds sample part leads good lawful sampled =
       log-leased log (goes_to known command holds sample part) leads
-      (λ lease within. good-part g time writes lease (leased.on lease within).standing boot part holds (lease_at lease) (good lease within))
+      (λ lease within. good-part w.rests time writes lease (leased.on lease within).standing boot part holds (lease_at lease) (good lease within))
       (lawful-placed g boot known command holds sample part lawful) sampled
 
   abbrev p : Position
@@ -159,7 +160,7 @@ module _ (w : World) (leased : Leased w) (a : ℕ) (below : a < w.appliances) (t
   start-leased known command here whole =
       let free = not-waiting g time writes a seat (Idle known) (leased.seated a below) here (λ b x no'. no') in
       log-leased (Began command ∷ seat.log) (record { holds = p.holds; sample = None; place = begun command p.place }) refl
-      (λ lease within. good-free g w.appliances time w.surface.device writes w.seats lease (leased.on lease within) a below free)
+      (λ lease within. good-free g w.rests w.appliances time w.surface.device writes w.seats lease (leased.on lease within) a below free)
       (let P : Place → Type 0 = λ q. LawfulAt g boot p.holds None (begun command q) in subst P (sym here) whole)
       (λ s e. absurd (none-some s e))
 
@@ -177,8 +178,8 @@ module _ (w : World) (leased : Leased w) (a : ℕ) (below : a < w.appliances) (t
       went-leased (Asked ask.Clock [] (answer.Reading reading) ∷ seat.log) known command (after_first g known reading p.holds) (Some reading)
       (command_part setting known (after_first g known reading p.holds) reading command)
       (ap (went_on setting ask.Clock [] (answer.Reading reading) p) here)
-      (λ lease within. good-first g time writes lease (leased.on lease within).standing boot (session_at g known (lease_at lease)) reading (p.holds (lease_at lease))
-      (good-free g w.appliances time w.surface.device writes w.seats lease (leased.on lease within) a below free))
+      (λ lease within. good-first w.rests time writes lease (leased.on lease within).standing boot (session_at g known (lease_at lease)) reading (p.holds (lease_at lease))
+      (good-free g w.rests w.appliances time w.surface.device writes w.seats lease (leased.on lease within) a below free))
       (lawful-command setting leased.geometry known p.holds reading command (soon reading is) (lawful-at (Begins known command) here))
       (λ s e. let f = some-same reading s e in let l = is.early in omega (arith, f, l))
 
@@ -191,7 +192,7 @@ module _ (w : World) (leased : Leased w) (a : ℕ) (below : a < w.appliances) (t
         went-leased (Asked (ask.Read (record { 0 = block })) [] (answer.Bytes bytes) ∷ seat.log) known command
         (after_answer p.sample (ask.Read (record { 0 = block })) [] (answer.Bytes bytes) p.holds) None (rest bytes)
         (ap (went_on setting (ask.Read (record { 0 = block })) [] (answer.Bytes bytes) p) here)
-        (λ lease within. good-read g w.appliances time w.surface.device writes w.seats lease (leased.on lease within) a below free (leased.seated a below).sampled block)
+        (λ lease within. good-read g w.rests w.appliances time w.surface.device writes w.seats lease (leased.on lease within) a below free (leased.seated a below).sampled block)
         ((lawful-at (In known command (ReadThen block rest fault)) here).0 bytes)
         (λ s e. absurd (none-some s e))
 
@@ -201,7 +202,7 @@ module _ (w : World) (leased : Leased w) (a : ℕ) (below : a < w.appliances) (t
         let free = not-waiting g time writes a seat _ (leased.seated a below) here (λ b x no'. no') in
         went-leased (Asked (ask.Read (record { 0 = block })) [] answer.Fault ∷ seat.log) known command p.holds None fault
         (ap (went_on setting (ask.Read (record { 0 = block })) [] answer.Fault p) here)
-        (λ lease within. good-free g w.appliances time w.surface.device writes w.seats lease (leased.on lease within) a below free)
+        (λ lease within. good-free g w.rests w.appliances time w.surface.device writes w.seats lease (leased.on lease within) a below free)
         (lawful-at (In known command (ReadThen block rest fault)) here).1
         (λ s e. absurd (none-some s e))
 
@@ -211,8 +212,8 @@ module _ (w : World) (leased : Leased w) (a : ℕ) (below : a < w.appliances) (t
         let free = not-waiting g time writes a seat _ (leased.seated a below) here (λ b x no'. no') in
         went-leased (Asked ask.Clock [] (answer.Reading reading) ∷ seat.log) known command (λ block. timed reading (p.holds block)) (Some reading) (rest reading)
         (ap (went_on setting ask.Clock [] (answer.Reading reading) p) here)
-        (λ lease within. good-timed g time writes lease (leased.on lease within).standing boot reading (p.holds (lease_at lease)) is.early
-        (good-free g w.appliances time w.surface.device writes w.seats lease (leased.on lease within) a below free))
+        (λ lease within. good-timed w.rests time writes lease (leased.on lease within).standing boot reading (p.holds (lease_at lease)) is.early
+        (good-free g w.rests w.appliances time w.surface.device writes w.seats lease (leased.on lease within) a below free))
         (lawful-at (In known command (ClockThen rest)) here reading (soon reading is))
         (λ s e. let f = some-same reading s e in let l = is.early in omega (arith, f, l))
 
@@ -222,8 +223,8 @@ module _ (w : World) (leased : Leased w) (a : ℕ) (below : a < w.appliances) (t
         let free = not-waiting g time writes a seat _ (leased.seated a below) here (λ b x no'. no') in
         went-leased (Asked (ask.Until from) [] (answer.Reading reading) ∷ seat.log) known command (λ block. timed reading (p.holds block)) (Some reading) (rest reading)
         (ap (went_on setting (ask.Until from) [] (answer.Reading reading) p) here)
-        (λ lease within. good-timed g time writes lease (leased.on lease within).standing boot reading (p.holds (lease_at lease)) is.early
-        (good-free g w.appliances time w.surface.device writes w.seats lease (leased.on lease within) a below free))
+        (λ lease within. good-timed w.rests time writes lease (leased.on lease within).standing boot reading (p.holds (lease_at lease)) is.early
+        (good-free g w.rests w.appliances time w.surface.device writes w.seats lease (leased.on lease within) a below free))
         (lawful-at (In known command (UntilThen from rest)) here reading (soon reading is))
         (λ s e. let f = some-same reading s e in let l = is.early in omega (arith, f, l))
 
@@ -254,27 +255,27 @@ module _ (w : World) (leased : Leased w) (a : ℕ) (below : a < w.appliances) (t
           went-leased (Asked (ask.Write what (record { 0 = block }) guard) bytes answer.Done ∷ seat.log) known command (after_write what block bytes p.holds) None done
           (ap (went_on setting (ask.Write what (record { 0 = block }) guard) bytes answer.Done p) here)
           (λ lease within.
-          let good = good-written g w.appliances time w.surface.device writes w.seats lease (leased.on lease within) a below leased.few (leased.seated a below).boots n write waited asked.1 all asked.2
+          let good = good-written g w.rests w.appliances time w.surface.device writes w.seats lease (leased.on lease within) a below leased.few (leased.seated a below).boots n write waited asked.1 all asked.2
           (leased.seated a below).lawful in
-          let G : WriteKind → ℕ → List ℕ → Type 0 = λ k b x. Good g time writes lease (leased.on lease within).standing boot None (after_write k b x p.holds (lease_at lease)) in
+          let G : WriteKind → ℕ → List ℕ → Type 0 = λ k b x. Good w.rests time writes lease (leased.on lease within).standing boot None (after_write k b x p.holds (lease_at lease)) in
           subst (λ (x : List ℕ). G what block x) asked'.2 (subst (λ (b : ℕ). G what b write.bytes) asked'.1 (subst (λ (k : WriteKind). G k write.block write.bytes) asked'.0 good)))
           (lawful-at _ here).1
           (λ s e. absurd (none-some s e))
 
 -- ---- a write is issued, or a sector of one lands
 
-placed-may : (g : Geometry) (b : ℕ) (holds : ℕ → Hold) (k : WriteKind) (block : ℕ) (bytes : List ℕ) (guard : ℕ) → MayAsk g b holds k block bytes guard → IsPlaced g k block bytes
-placed-may g b holds kind.Claim block bytes guard may =
-    (may.lease, may.within, may.at_lease, (Claimed (claim_of b may.number may.sample) (may.sample + term), may.spells))
-placed-may g b holds kind.Renew block bytes guard may = (may.lease, may.within, may.at_lease, (Claimed may.claim may.next, may.spells))
-placed-may g b holds kind.Release block bytes guard may = (may.lease, may.within, may.at_lease, (Free, may.spells))
-placed-may g b holds kind.Take block bytes guard may = may.placed
-placed-may g b holds kind.Give block bytes guard may = may.placed
-placed-may g b holds kind.Sweep block bytes guard may = may.placed
-placed-may g b holds kind.Record block bytes guard may = may.placed
-placed-may g b holds kind.JData block bytes guard may = may.placed
-placed-may g b holds kind.JCommit block bytes guard may = may.placed
-placed-may g b holds other block bytes guard may = absurd may
+placed-may : (g : Geometry) (b : ℕ) (holds : ℕ → Hold) (rests : List ℕ) (k : WriteKind) (block : ℕ) (bytes : List ℕ) (guard : ℕ) → MayAsk g b holds rests k block bytes guard → IsPlaced g k block bytes rests
+placed-may g b holds rests kind.Claim block bytes guard may =
+    (may.lease, may.within, may.at_lease, (Claimed (claim_of b may.number may.sample) (may.sample + term), may.spells), may.alone)
+placed-may g b holds rests kind.Renew block bytes guard may = (may.lease, may.within, may.at_lease, (Claimed may.claim may.next, may.spells), may.alone)
+placed-may g b holds rests kind.Release block bytes guard may = (may.lease, may.within, may.at_lease, (Free, may.spells), may.alone)
+placed-may g b holds rests kind.Take block bytes guard may = may.placed
+placed-may g b holds rests kind.Give block bytes guard may = may.placed
+placed-may g b holds rests kind.Sweep block bytes guard may = may.placed
+placed-may g b holds rests kind.Record block bytes guard may = may.placed
+placed-may g b holds rests kind.JData block bytes guard may = may.placed
+placed-may g b holds rests kind.JCommit block bytes guard may = may.placed
+placed-may g b holds rests other block bytes guard may = absurd may
 
 -- the write that is waited for, where a sector of some write has landed
 asked-landed : (writes : List Issued) (number sector : ℕ) (write : Issued) → slice_get writes number ≡ Some write → (place : Place) (boot n : ℕ) (x : Issued) → slice_get writes n ≡ Some x →
@@ -321,7 +322,7 @@ keeps-leases (world.ticks {w = w} {by = by} room) leased = record {
   right = leased.right;
   seated = λ a below. (let s = leased.seated a below in
       record { boots = s.boots; lawful = s.lawful; sampled = λ n e. (let t = s.sampled n e in omega arith); asked = s.asked });
-  on = λ lease within. lease-ticks w.geometry w.appliances w.surface.time (w.surface.time + by) w.surface.device w.surface.writes w.seats lease (omega arith) (leased.on lease within);
+  on = λ lease within. lease-ticks w.geometry w.rests w.appliances w.surface.time (w.surface.time + by) w.surface.device w.surface.writes w.seats lease (omega arith) (leased.on lease within);
 }
 keeps-leases (world.starts {w = w} {appliance = a} {command = command} known below here whole built) leased = start-leased w leased a.0 below _ _ known command here whole
 keeps-leases (world.begins {w = w} {appliance = a} {reading = reading} known command below here is) leased = begin-leased w leased a.0 below _ _ known command reading here is
@@ -330,8 +331,9 @@ keeps-leases (world.read_faults {w = w} {appliance = a} known command block rest
 keeps-leases (world.issues {w = w} {appliance = a} known command what block bytes guard done fault missed below here free) leased =
     let boot = boot_number a.0 (w.seats a.0).boots in
     let p = position (setting_at w.geometry a.0 (w.seats a.0).boots) (w.seats a.0).log in
+    let leases = rests_on w.geometry command p.holds what block bytes in
     let P : Place → Type 0 = λ q. LawfulAt w.geometry boot p.holds p.sample q in
-    let may : MayAsk w.geometry boot p.holds what block bytes guard = (subst P here (leased.seated a.0 below).lawful).0 in
+    let may : MayAsk w.geometry boot p.holds leases what block bytes guard = (subst P here (leased.seated a.0 below).lawful).0 in
     let long : length bytes ≡ 4096 = (subst P here (leased.seated a.0 below).lawful).4 in
     let write = fresh_write boot what block bytes guard in
     record {
@@ -340,8 +342,14 @@ keeps-leases (world.issues {w = w} {appliance = a} known command what block byte
       early = leased.early;
       long = leased.long;
       right = λ n x there. elim (push-cases w.surface.writes write x n there) [
-        | inl old ↦ leased.right n x old
-        | inr fresh ↦ subst (λ (y : Issued). IsRight w.geometry y) fresh.1 (record { placed = placed-may w.geometry boot p.holds what block bytes guard may; flags = refl; long = long; uncancelled = refl })
+        | inl old ↦
+            let within = slice_get_within w.surface.writes n x old in
+            subst (λ (l : List ℕ). IsRight w.geometry l x) (sym (at-other w.rests (length w.surface.writes) n leases (λ e. omega (arith, within, e)))) (leased.right n x old)
+        | inr fresh ↦
+            let same : at w.rests (length w.surface.writes) leases n ≡ leases = ap (at w.rests (length w.surface.writes) leases) fresh.0 ∙ at-same w.rests (length w.surface.writes) leases in
+            subst (λ (y : Issued). IsRight w.geometry (at w.rests (length w.surface.writes) leases n) y) fresh.1
+            (subst (λ (l : List ℕ). IsRight w.geometry l write) (sym same)
+            (record { placed = placed-may w.geometry boot p.holds leases what block bytes guard may; flags = refl; long = long; uncancelled = refl }))
       ];
       seated = at-all (λ b s. b < w.appliances → IsSeat w.geometry w.surface.time (w.surface.writes ++ write ∷ []) b s) w.seats a.0 _
           (λ below'. let s = leased.seated a.0 below in record {
@@ -359,8 +367,8 @@ keeps-leases (world.issues {w = w} {appliance = a} known command what block byte
             sampled = s.sampled;
             asked = λ n e. (let x = s.asked n e in (x.0, push-before w.surface.writes write x.0 n x.1, x.2));
           });
-      on = λ lease within. lease-issued w.geometry w.appliances w.surface.time w.surface.device w.surface.writes w.seats lease within leased.geometry leased.few (leased.on lease within) a.0 below
-          (leased.seated a.0 below).boots free what block bytes guard
+      on = λ lease within. lease-issued w.geometry w.rests w.appliances w.surface.time w.surface.device w.surface.writes w.seats lease within leased.geometry leased.few (leased.on lease within) a.0 below
+          (leased.seated a.0 below).boots free leases what block bytes guard
           (λ b q ne below' h e. (let x = (leased.seated b below').asked h e in push-before w.surface.writes write x.0 h x.1 ∙ sym x.1)) may;
     }
 keeps-leases (world.lands {w = w} {appliance = a} {back = back} {sector = sector} number write below back' may) leased = record {
@@ -373,7 +381,7 @@ keeps-leases (world.lands {w = w} {appliance = a} {back = back} {sector = sector
         let r = leased.right number write may.found in
         let e : x ≡ with_sector write sector = (let P : ℕ → Type 0 = λ k. slice_get (slice_set w.surface.writes number (with_sector write sector)) k ≡ Some x in
         let f : Some x ≡ Some (with_sector write sector) = sym (subst P same.1 there) ∙ set-same w.surface.writes number (with_sector write sector) write may.found in cc) in
-        subst (λ (y : Issued). IsRight w.geometry y) (sym e) (record { placed = r.placed; flags = length-set write.landed sector true ∙ r.flags; long = r.long; uncancelled = r.uncancelled })
+        subst (λ (y : Issued). IsRight w.geometry (w.rests n) y) (sym e) (record { placed = (let P : ℕ → Type 0 = λ k. IsPlaced w.geometry write.kind write.block write.bytes (w.rests k) in subst P (sym same.1) r.placed); flags = length-set write.landed sector true ∙ r.flags; long = r.long; uncancelled = r.uncancelled })
     | inr away ↦ leased.right n x (sym (set-other w.surface.writes number n (with_sector write sector) away.1) ∙ there)
   ];
   seated = λ b below'. (let s = leased.seated b below' in record {
@@ -382,7 +390,7 @@ keeps-leases (world.lands {w = w} {appliance = a} {back = back} {sector = sector
     sampled = s.sampled;
     asked = λ n e. (let x = s.asked n e in asked-landed w.surface.writes number sector write may.found _ _ n x.0 x.1 x.2);
   });
-  on = λ lease within. lease-lands w.geometry w.appliances w.surface.time w.surface.device w.surface.writes w.seats lease within (leased.on lease within) leased.seated number sector write may.found
+  on = λ lease within. lease-lands w.geometry w.rests w.appliances w.surface.time w.surface.device w.surface.writes w.seats lease within (leased.on lease within) leased.seated number sector write may.found
       may.missing may.early (leased.right number write may.found);
 }
 keeps-leases (world.dones {w = w} {appliance = a} known command what block bytes guard done fault missed number below here waited whole) leased =
@@ -410,7 +418,7 @@ keeps-leases (world.crashes {w = w} {appliance = a} below room) leased = record 
     alone = on.alone;
     backed = on.backed;
     claims = on.claims;
-    each = at-all (λ b s. b < w.appliances → GoodSeat w.geometry w.surface.time w.surface.writes lease on.standing b s) w.seats a.0
+    each = at-all (λ b s. b < w.appliances → GoodSeat w.geometry w.rests w.surface.time w.surface.writes lease on.standing b s) w.seats a.0
         (record { boots = (w.seats a.0).boots + 1; log = []; pending = None }) (λ below'. tt) (λ b ne below'. on.each b below');
   });
 }

@@ -1,5 +1,5 @@
 -- What holds of each lease in every world that events lead to.
-use Rattle.std.proofs.Common.{◌≡◌, ◌≢◌, ℕ, ◌+◌, ◌^◌, ◌≤◌, ◌<◌, ◌⊎◌, List, [], Bool, true, false, Option, Some, None, length}
+use Rattle.std.proofs.Common.{◌≡◌, ◌≢◌, ℕ, ◌+◌, ◌^◌, ◌≤◌, ◌<◌, ◌⊎◌, List, [], ◌∷◌, Bool, true, false, Option, Some, None, length}
 use Rattle.std.specs.Prelude.{slice_get, ◌==◌}
 use Rattle.plx_base.specs.Sectors.{Device}
 use Rattle.plx_base.specs.declared.lease.Claim.{Claim}
@@ -14,36 +14,45 @@ use Rattle.plx_rules.specs.Part.{Part, Ends, ReadThen, WriteThen, ClockThen, Unt
 use Rattle.plx_worlds.specs.Boot.{Place, Idle, Begins, In, Position, position}
 use Rattle.plx_worlds.specs.Claims.{claim_of}
 use Rattle.plx_worlds.specs.Commands.{IsWellFormed}
-use Rattle.plx_geom.specs.Geometry.{Geometry, IsGeometry, lease_count, map_at, record_at, lease_at, descriptor_at, data_at}
+use Rattle.plx_worlds.specs.Rests.{IsUnder, rests_on}
+use Rattle.plx_commands.specs.Replies.{is_in}
+use Rattle.plx_commands.specs.declared.command.Command.{Command}
+use Rattle.plx_geom.specs.Geometry.{Geometry, IsGeometry, lease_count, root_lease, image_lease, extent_lease, map_at, record_at, lease_at, descriptor_at, data_at}
 use Rattle.plx_worlds.specs.Holds.{Hold, Nothing, Seen, Wrote, Waited, Held, no_holds, after_answer, after_write, renewed, timed}
 use Rattle.plx_gate.specs.Leases.{lease_bytes, read_lease, IsLease, IsClaimed}
-use Rattle.plx_worlds.specs.Owners.{Needs, first_landed, pending_write}
+use Rattle.plx_worlds.specs.Owners.{first_landed, pending_write}
 use Rattle.plx_worlds.specs.Settings.{boot_number}
 use Rattle.plx_worlds.specs.Times.{window, term}
 use Rattle.plx_worlds.specs.World.{World, Seat, setting_at}
 
--- a write is where its kind may be
-abbrev pub IsPlaced : Geometry → WriteKind → ℕ → List ℕ → Type 0
-IsPlaced g kind.Claim block bytes = (lease : ℕ) × (lease < lease_count g) × (block ≡ lease_at lease) × ((r : LeaseRecord) × (bytes ≡ lease_bytes r))
-IsPlaced g kind.Renew block bytes = (lease : ℕ) × (lease < lease_count g) × (block ≡ lease_at lease) × ((r : LeaseRecord) × (bytes ≡ lease_bytes r))
-IsPlaced g kind.Release block bytes = (lease : ℕ) × (lease < lease_count g) × (block ≡ lease_at lease) × ((r : LeaseRecord) × (bytes ≡ lease_bytes r))
-IsPlaced g kind.Take block bytes = (extent : ℕ) × (extent < g.extents) × (block ≡ map_at g extent)
-IsPlaced g kind.Give block bytes = (extent : ℕ) × (extent < g.extents) × (block ≡ map_at g extent)
-IsPlaced g kind.Sweep block bytes = (extent : ℕ) × (extent < g.extents) × (block ≡ map_at g extent)
-IsPlaced g kind.Record block bytes = (image : ℕ) × (image < g.images) × (block ≡ record_at g image)
-IsPlaced g kind.JData block bytes = (image : ℕ) × (slot : ℕ) × (image < g.images) × (slot < g.slots) × (block ≡ data_at g image slot)
-IsPlaced g kind.JCommit block bytes = (image : ℕ) × (slot : ℕ) × (image < g.images) × (slot < g.slots) × (block ≡ descriptor_at g image slot)
-IsPlaced g other block bytes = ⊥
+-- a write is where its kind may be, and rests on these leases, its home first
+abbrev pub IsPlaced : Geometry → WriteKind → ℕ → List ℕ → (rests : List ℕ) → Type 0
+IsPlaced g kind.Claim block bytes rests =
+    (lease : ℕ) × (lease < lease_count g) × (block ≡ lease_at lease) × ((r : LeaseRecord) × (bytes ≡ lease_bytes r)) × (rests ≡ [])
+IsPlaced g kind.Renew block bytes rests =
+    (lease : ℕ) × (lease < lease_count g) × (block ≡ lease_at lease) × ((r : LeaseRecord) × (bytes ≡ lease_bytes r)) × (rests ≡ lease ∷ [])
+IsPlaced g kind.Release block bytes rests =
+    (lease : ℕ) × (lease < lease_count g) × (block ≡ lease_at lease) × ((r : LeaseRecord) × (bytes ≡ lease_bytes r)) × (rests ≡ lease ∷ [])
+IsPlaced g kind.Take block bytes rests = (extent : ℕ) × (extent < g.extents) × (block ≡ map_at g extent) × (rests ≡ extent_lease g extent ∷ [])
+IsPlaced g kind.Give block bytes rests = (extent : ℕ) × (extent < g.extents) × (block ≡ map_at g extent) × (rests ≡ extent_lease g extent ∷ [])
+IsPlaced g kind.Sweep block bytes rests = (extent : ℕ) × (extent < g.extents) × (block ≡ map_at g extent) × (rests ≡ extent_lease g extent ∷ root_lease ∷ [])
+IsPlaced g kind.Record block bytes rests = (image : ℕ) × (image < g.images) × (block ≡ record_at g image) × (rests ≡ image_lease image ∷ [])
+IsPlaced g kind.JData block bytes rests =
+    (image : ℕ) × (slot : ℕ) × (image < g.images) × (slot < g.slots) × (block ≡ data_at g image slot) × (rests ≡ image_lease image ∷ [])
+IsPlaced g kind.JCommit block bytes rests =
+    (image : ℕ) × (slot : ℕ) × (image < g.images) × (slot < g.slots) × (block ≡ descriptor_at g image slot) × (rests ≡ image_lease image ∷ [])
+IsPlaced g other block bytes rests = ⊥
 
 -- ---- what a boot may ask, by what it holds
 
 -- a claim of a lease that was seen to be free or expired
-pub record MayClaim (g : Geometry) (boot : ℕ) (holds : ℕ → Hold) (block : ℕ) (bytes : List ℕ) (guard : ℕ) : Type 0 where
+pub record MayClaim (g : Geometry) (boot : ℕ) (holds : ℕ → Hold) (rests : List ℕ) (block : ℕ) (bytes : List ℕ) (guard : ℕ) : Type 0 where
   pub lease : ℕ
   pub number : ℕ
   pub sample : ℕ
   pub within : lease < lease_count g
   pub at_lease : block ≡ lease_at lease
+  pub alone : rests ≡ []
   pub hold : holds (lease_at lease) ≡ Seen sample
   pub spells : bytes ≡ lease_bytes (Claimed (claim_of boot number sample) (sample + term))
   pub few : number < 2 ^ 40
@@ -51,13 +60,14 @@ pub record MayClaim (g : Geometry) (boot : ℕ) (holds : ℕ → Hold) (block : 
   pub guarded : guard ≡ sample + window
 
 -- a renewal of a lease that is held
-pub record MayRenew (g : Geometry) (holds : ℕ → Hold) (block : ℕ) (bytes : List ℕ) (guard : ℕ) : Type 0 where
+pub record MayRenew (g : Geometry) (holds : ℕ → Hold) (rests : List ℕ) (block : ℕ) (bytes : List ℕ) (guard : ℕ) : Type 0 where
   pub lease : ℕ
   pub claim : Claim
   pub until : ℕ
   pub next : ℕ
   pub within : lease < lease_count g
   pub at_lease : block ≡ lease_at lease
+  pub alone : rests ≡ lease ∷ []
   pub hold : holds (lease_at lease) ≡ Held claim until
   pub spells : bytes ≡ lease_bytes (Claimed claim next)
   pub later : until ≤ next
@@ -65,17 +75,18 @@ pub record MayRenew (g : Geometry) (holds : ℕ → Hold) (block : ℕ) (bytes :
   pub guarded : guard ≡ until
 
 -- a release of a lease that is held
-pub record MayRelease (g : Geometry) (holds : ℕ → Hold) (block : ℕ) (bytes : List ℕ) (guard : ℕ) : Type 0 where
+pub record MayRelease (g : Geometry) (holds : ℕ → Hold) (rests : List ℕ) (block : ℕ) (bytes : List ℕ) (guard : ℕ) : Type 0 where
   pub lease : ℕ
   pub claim : Claim
   pub until : ℕ
   pub within : lease < lease_count g
   pub at_lease : block ≡ lease_at lease
+  pub alone : rests ≡ lease ∷ []
   pub hold : holds (lease_at lease) ≡ Held claim until
   pub spells : bytes ≡ lease_bytes Free
   pub guarded : guard ≡ until
 
--- a write of any other kind: each lease that it needs is held, and its guard is not above the end of any
+-- a write of any other kind: each lease on which it rests is held, and its guard is not above the end of any
 pub record IsGranted (holds : ℕ → Hold) (lease guard : ℕ) : Type 0 where
   pub claim : Claim
   pub until : ℕ
@@ -83,46 +94,46 @@ pub record IsGranted (holds : ℕ → Hold) (lease guard : ℕ) : Type 0 where
   pub guarded : guard ≤ until
 
 -- such a write is where its kind may be
-pub record MayUse (g : Geometry) (holds : ℕ → Hold) (kind : WriteKind) (block : ℕ) (bytes : List ℕ) (guard : ℕ) : Type 0 where
-  pub placed : IsPlaced g kind block bytes
-  pub grants : (lease : ℕ) → lease < lease_count g → Needs g kind block lease → IsGranted holds lease guard
+pub record MayUse (g : Geometry) (holds : ℕ → Hold) (rests : List ℕ) (kind : WriteKind) (block : ℕ) (bytes : List ℕ) (guard : ℕ) : Type 0 where
+  pub placed : IsPlaced g kind block bytes rests
+  pub grants : (lease : ℕ) → is_in lease rests ≡ true → IsGranted holds lease guard
 
--- a write is allowed, by its kind
-abbrev pub MayAsk : Geometry → ℕ → (ℕ → Hold) → WriteKind → ℕ → List ℕ → ℕ → Type 0
-MayAsk g boot holds kind.Claim block bytes guard = MayClaim g boot holds block bytes guard
-MayAsk g boot holds kind.Renew block bytes guard = MayRenew g holds block bytes guard
-MayAsk g boot holds kind.Release block bytes guard = MayRelease g holds block bytes guard
-MayAsk g boot holds kind.Take block bytes guard = MayUse g holds kind.Take block bytes guard
-MayAsk g boot holds kind.Give block bytes guard = MayUse g holds kind.Give block bytes guard
-MayAsk g boot holds kind.Sweep block bytes guard = MayUse g holds kind.Sweep block bytes guard
-MayAsk g boot holds kind.Record block bytes guard = MayUse g holds kind.Record block bytes guard
-MayAsk g boot holds kind.JData block bytes guard = MayUse g holds kind.JData block bytes guard
-MayAsk g boot holds kind.JCommit block bytes guard = MayUse g holds kind.JCommit block bytes guard
-MayAsk g boot holds other block bytes guard = ⊥
+-- a write that rests on these leases is allowed, by its kind
+abbrev pub MayAsk : Geometry → ℕ → (ℕ → Hold) → (rests : List ℕ) → WriteKind → ℕ → List ℕ → ℕ → Type 0
+MayAsk g boot holds rests kind.Claim block bytes guard = MayClaim g boot holds rests block bytes guard
+MayAsk g boot holds rests kind.Renew block bytes guard = MayRenew g holds rests block bytes guard
+MayAsk g boot holds rests kind.Release block bytes guard = MayRelease g holds rests block bytes guard
+MayAsk g boot holds rests kind.Take block bytes guard = MayUse g holds rests kind.Take block bytes guard
+MayAsk g boot holds rests kind.Give block bytes guard = MayUse g holds rests kind.Give block bytes guard
+MayAsk g boot holds rests kind.Sweep block bytes guard = MayUse g holds rests kind.Sweep block bytes guard
+MayAsk g boot holds rests kind.Record block bytes guard = MayUse g holds rests kind.Record block bytes guard
+MayAsk g boot holds rests kind.JData block bytes guard = MayUse g holds rests kind.JData block bytes guard
+MayAsk g boot holds rests kind.JCommit block bytes guard = MayUse g holds rests kind.JCommit block bytes guard
+MayAsk g boot holds rests other block bytes guard = ⊥
 
--- however a rest is answered, each write that it asks is allowed and is a block; `At` holds at each end, of what is held there
-abbrev pub Lawful : {E : Type 0} → (At : E → (ℕ → Hold) → Option ℕ → Type 0) → Geometry → ℕ → (ℕ → Hold) → Option ℕ → Part E → Type 0
-Lawful At g boot holds sample (Ends end) = At end holds sample
-Lawful At g boot holds sample (ReadThen block rest fault) =
-    ((bytes : List ℕ) → Lawful At g boot (after_answer sample (ask.Read (record { 0 = block })) [] (answer.Bytes bytes) holds) None (rest bytes))
-    × Lawful At g boot holds None fault
-Lawful At g boot holds sample (WriteThen kind block bytes guard done fault missed) =
-    MayAsk g boot holds kind block bytes guard × Lawful At g boot (after_write kind block bytes holds) None done × Lawful At g boot no_holds None fault
-    × ((reading : ℕ) → Lawful At g boot no_holds None (missed reading)) × (length bytes ≡ 4096)
-Lawful At g boot holds sample (ClockThen rest) =
-    (reading : ℕ) → reading < 2 ^ 48 → Lawful At g boot (λ block. timed reading (holds block)) (Some reading) (rest reading)
-Lawful At g boot holds sample (UntilThen from rest) =
-    (reading : ℕ) → reading < 2 ^ 48 → Lawful At g boot (λ block. timed reading (holds block)) (Some reading) (rest reading)
+-- however a rest of a command is answered, each write that it asks is allowed and is a block; `At` holds at each end, of what is held there
+abbrev pub Lawful : {E : Type 0} → (At : E → (ℕ → Hold) → Option ℕ → Type 0) → Geometry → ℕ → Command → (ℕ → Hold) → Option ℕ → Part E → Type 0
+Lawful At g boot command holds sample (Ends end) = At end holds sample
+Lawful At g boot command holds sample (ReadThen block rest fault) =
+    ((bytes : List ℕ) → Lawful At g boot command (after_answer sample (ask.Read (record { 0 = block })) [] (answer.Bytes bytes) holds) None (rest bytes))
+    × Lawful At g boot command holds None fault
+Lawful At g boot command holds sample (WriteThen kind block bytes guard done fault missed) =
+    MayAsk g boot holds (rests_on g command holds kind block bytes) kind block bytes guard × Lawful At g boot command (after_write kind block bytes holds) None done × Lawful At g boot command no_holds None fault
+    × ((reading : ℕ) → Lawful At g boot command no_holds None (missed reading)) × (length bytes ≡ 4096)
+Lawful At g boot command holds sample (ClockThen rest) =
+    (reading : ℕ) → reading < 2 ^ 48 → Lawful At g boot command (λ block. timed reading (holds block)) (Some reading) (rest reading)
+Lawful At g boot command holds sample (UntilThen from rest) =
+    (reading : ℕ) → reading < 2 ^ 48 → Lawful At g boot command (λ block. timed reading (holds block)) (Some reading) (rest reading)
 
 -- the same, where nothing is asked of the ends
-abbrev pub LawfulRest : {E : Type 0} → Geometry → ℕ → (ℕ → Hold) → Option ℕ → Part E → Type 0
-LawfulRest g boot holds sample part = Lawful (λ end held last. Unit {0}) g boot holds sample part
+abbrev pub LawfulRest : {E : Type 0} → Geometry → ℕ → Command → (ℕ → Hold) → Option ℕ → Part E → Type 0
+LawfulRest g boot command holds sample part = Lawful (λ end held last. Unit {0}) g boot command holds sample part
 
 -- the place of a boot
 abbrev pub LawfulAt : Geometry → ℕ → (ℕ → Hold) → Option ℕ → Place → Type 0
 LawfulAt g boot holds sample (Idle known) = Unit {0}
 LawfulAt g boot holds sample (Begins known command) = IsWellFormed command
-LawfulAt g boot holds sample (In known command part) = LawfulRest g boot holds sample part
+LawfulAt g boot holds sample (In known command part) = LawfulRest g boot command holds sample part
 
 -- ---- the writes that may still change something under a lease
 
@@ -133,19 +144,19 @@ Unlanded kind.Release landed = slice_get landed 0 ≡ Some false
 Unlanded other landed = landed ≢ all_sectors
 
 -- an open write: it needs the lease, may still change something, and isn't too late to land
-pub record IsOpen (g : Geometry) (time : ℕ) (writes : List Issued) (lease number : ℕ) (write : Issued) : Type 0 where
+pub record IsOpen (rests : ℕ → List ℕ) (time : ℕ) (writes : List Issued) (lease number : ℕ) (write : Issued) : Type 0 where
   pub found : slice_get writes number ≡ Some write
-  pub needs : Needs g write.kind write.block lease
+  pub needs : IsUnder rests number lease
   pub missing : Unlanded write.kind write.landed
   pub live : time ≤ write.guard + 50
 
 -- no write is open
-abbrev pub NoneOpen : Geometry → ℕ → List Issued → ℕ → Type 0
-NoneOpen g time writes lease = (number : ℕ) (write : Issued) → IsOpen g time writes lease number write → ⊥
+abbrev pub NoneOpen : (rests : ℕ → List ℕ) → ℕ → List Issued → ℕ → Type 0
+NoneOpen rests time writes lease = (number : ℕ) (write : Issued) → IsOpen rests time writes lease number write → ⊥
 
 -- only the write that a boot waits for is open
-abbrev pub OpenOnly : Geometry → ℕ → List Issued → ℕ → Option ℕ → Type 0
-OpenOnly g time writes lease pending = (number : ℕ) (write : Issued) → IsOpen g time writes lease number write → pending ≡ Some number
+abbrev pub OpenOnly : (rests : ℕ → List ℕ) → ℕ → List Issued → ℕ → Option ℕ → Type 0
+OpenOnly rests time writes lease pending = (number : ℕ) (write : Issued) → IsOpen rests time writes lease number write → pending ≡ Some number
 
 -- what the record says where an open write stands
 abbrev pub IsOfKind : WriteKind → Claim → ℕ → ℕ → List ℕ → Type 0
@@ -187,37 +198,37 @@ pub record IsClaiming (time : ℕ) (standing : LeaseRecord) (write : Issued) : T
 -- ---- what a boot holds
 
 -- a record of the boot's own claim stands before nothing rests on it
-abbrev pub Mine : Geometry → ℕ → List Issued → ℕ → LeaseRecord → ℕ → ℕ → Type 0
-Mine g time writes lease standing boot sample =
-    (claim : Claim) (until : ℕ) → standing ≡ Claimed claim until → claim.boot.0 ≡ boot → claim.sample ≡ sample → NoneOpen g time writes lease
+abbrev pub Mine : (rests : ℕ → List ℕ) → ℕ → List Issued → ℕ → LeaseRecord → ℕ → ℕ → Type 0
+Mine rests time writes lease standing boot sample =
+    (claim : Claim) (until : ℕ) → standing ≡ Claimed claim until → claim.boot.0 ≡ boot → claim.sample ≡ sample → NoneOpen rests time writes lease
 
 -- a lease was seen to be free or expired
-pub record IsSeen (g : Geometry) (time : ℕ) (writes : List Issued) (lease : ℕ) (standing : LeaseRecord) (boot sample : ℕ) : Type 0 where
+pub record IsSeen (rests : ℕ → List ℕ) (time : ℕ) (writes : List Issued) (lease : ℕ) (standing : LeaseRecord) (boot sample : ℕ) : Type 0 where
   pub waits : Waits time standing sample
-  pub mine : Mine g time writes lease standing boot sample
+  pub mine : Mine rests time writes lease standing boot sample
 
 -- a claim was written
-pub record IsWritten (g : Geometry) (time : ℕ) (writes : List Issued) (lease : ℕ) (standing : LeaseRecord) (boot : ℕ) (claim : Claim) (until : ℕ) : Type 0 where
+pub record IsWritten (rests : ℕ → List ℕ) (time : ℕ) (writes : List Issued) (lease : ℕ) (standing : LeaseRecord) (boot : ℕ) (claim : Claim) (until : ℕ) : Type 0 where
   pub own : claim.boot.0 ≡ boot
   pub ends : until ≡ claim.sample + term
   pub limits : IsClaimed claim until
-  pub mine : Mine g time writes lease standing boot claim.sample
+  pub mine : Mine rests time writes lease standing boot claim.sample
 
 -- a confirmed lease's record stands on the device until it has run out, and nothing rests on it but what its boot waits for
-pub record IsHeld (g : Geometry) (time : ℕ) (writes : List Issued) (lease : ℕ) (standing : LeaseRecord) (boot : ℕ) (pending : Option ℕ) (claim : Claim) (until : ℕ) : Type 0 where
+pub record IsHeld (rests : ℕ → List ℕ) (time : ℕ) (writes : List Issued) (lease : ℕ) (standing : LeaseRecord) (boot : ℕ) (pending : Option ℕ) (claim : Claim) (until : ℕ) : Type 0 where
   pub own : claim.boot.0 ≡ boot
   pub limits : IsClaimed claim until
   pub waited : claim.sample + 551 ≤ time
   pub there : time ≤ until + 50 → standing ≡ Claimed claim until
-  pub only : time ≤ until + 50 → OpenOnly g time writes lease pending
+  pub only : time ≤ until + 50 → OpenOnly rests time writes lease pending
 
 -- what a boot holds is right
-abbrev pub Good : Geometry → ℕ → List Issued → ℕ → LeaseRecord → ℕ → Option ℕ → Hold → Type 0
-Good g time writes lease standing boot pending Nothing = Unit {0}
-Good g time writes lease standing boot pending (Seen sample) = IsSeen g time writes lease standing boot sample
-Good g time writes lease standing boot pending (Wrote claim until) = IsWritten g time writes lease standing boot claim until
-Good g time writes lease standing boot pending (Waited claim until) = IsWritten g time writes lease standing boot claim until × (claim.sample + 551 ≤ time)
-Good g time writes lease standing boot pending (Held claim until) = IsHeld g time writes lease standing boot pending claim until
+abbrev pub Good : (rests : ℕ → List ℕ) → ℕ → List Issued → ℕ → LeaseRecord → ℕ → Option ℕ → Hold → Type 0
+Good rests time writes lease standing boot pending Nothing = Unit {0}
+Good rests time writes lease standing boot pending (Seen sample) = IsSeen rests time writes lease standing boot sample
+Good rests time writes lease standing boot pending (Wrote claim until) = IsWritten rests time writes lease standing boot claim until
+Good rests time writes lease standing boot pending (Waited claim until) = IsWritten rests time writes lease standing boot claim until × (claim.sample + 551 ≤ time)
+Good rests time writes lease standing boot pending (Held claim until) = IsHeld rests time writes lease standing boot pending claim until
 
 -- what a boot holds while a write of it is asked, once its first sector has landed
 abbrev pub grip_while : WriteKind → Bool → Bool → List ℕ → Hold → Hold
@@ -232,30 +243,30 @@ grip_at (In known command (WriteThen kind block bytes guard done fault missed)) 
 grip_at other pending lease hold = hold
 
 -- what an appliance's present boot holds of a lease is right
-abbrev pub GoodAt : Geometry → ℕ → List Issued → ℕ → LeaseRecord → ℕ → Option ℕ → Position → Type 0
-GoodAt g time writes lease standing boot pending p =
-    Good g time writes lease standing boot pending (grip_at p.place (pending_write writes pending) (lease_at lease) (p.holds (lease_at lease)))
+abbrev pub GoodAt : (rests : ℕ → List ℕ) → ℕ → List Issued → ℕ → LeaseRecord → ℕ → Option ℕ → Position → Type 0
+GoodAt rests time writes lease standing boot pending p =
+    Good rests time writes lease standing boot pending (grip_at p.place (pending_write writes pending) (lease_at lease) (p.holds (lease_at lease)))
 
 -- the same, of an appliance
-abbrev pub GoodSeat : Geometry → ℕ → List Issued → ℕ → LeaseRecord → ℕ → Seat → Type 0
-GoodSeat g time writes lease standing appliance seat =
-    GoodAt g time writes lease standing (boot_number appliance seat.boots) seat.pending (position (setting_at g appliance seat.boots) seat.log)
+abbrev pub GoodSeat : Geometry → (rests : ℕ → List ℕ) → ℕ → List Issued → ℕ → LeaseRecord → ℕ → Seat → Type 0
+GoodSeat g rests time writes lease standing appliance seat =
+    GoodAt rests time writes lease standing (boot_number appliance seat.boots) seat.pending (position (setting_at g appliance seat.boots) seat.log)
 
 -- all that holds of one lease
-pub record LeaseOn (g : Geometry) (appliances time : ℕ) (device : Device) (writes : List Issued) (seats : ℕ → Seat) (lease : ℕ) : Type 0 where
+pub record LeaseOn (g : Geometry) (rests : ℕ → List ℕ) (appliances time : ℕ) (device : Device) (writes : List Issued) (seats : ℕ → Seat) (lease : ℕ) : Type 0 where
   pub standing : LeaseRecord
   pub limits : IsLease standing
   pub spells : device (lease_at lease) ≡ lease_bytes standing
-  pub alone : (m n : ℕ) (x y : Issued) → IsOpen g time writes lease m x → IsOpen g time writes lease n y → m ≡ n
-  pub backed : (n : ℕ) (x : Issued) → IsOpen g time writes lease n x → IsBacked time standing x
+  pub alone : (m n : ℕ) (x y : Issued) → IsOpen rests time writes lease m x → IsOpen rests time writes lease n y → m ≡ n
+  pub backed : (n : ℕ) (x : Issued) → IsOpen rests time writes lease n x → IsBacked time standing x
   pub claims : (n : ℕ) (x : Issued) → slice_get writes n ≡ Some x → x.kind ≡ kind.Claim → x.block ≡ lease_at lease → IsClaiming time standing x
-  pub each : (a : ℕ) → a < appliances → GoodSeat g time writes lease standing a (seats a)
+  pub each : (a : ℕ) → a < appliances → GoodSeat g rests time writes lease standing a (seats a)
 
 -- ---- what holds of each write and each boot
 
--- an issued write
-pub record IsRight (g : Geometry) (write : Issued) : Type 0 where
-  pub placed : IsPlaced g write.kind write.block write.bytes
+-- an issued write that rests on these leases
+pub record IsRight (g : Geometry) (rests : List ℕ) (write : Issued) : Type 0 where
+  pub placed : IsPlaced g write.kind write.block write.bytes rests
   pub flags : length write.landed ≡ 8
   pub long : length write.bytes ≡ 4096
   pub uncancelled : write.cancelled ≡ false
@@ -281,6 +292,6 @@ pub record Leased (w : World) : Type 0 where
   pub few : w.appliances ≤ 8
   pub early : w.surface.time < 2 ^ 47
   pub long : (block : ℕ) → length (w.surface.device block) ≡ 4096
-  pub right : (n : ℕ) (x : Issued) → slice_get w.surface.writes n ≡ Some x → IsRight w.geometry x
+  pub right : (n : ℕ) (x : Issued) → slice_get w.surface.writes n ≡ Some x → IsRight w.geometry (w.rests n) x
   pub seated : (a : ℕ) → a < w.appliances → IsSeat w.geometry w.surface.time w.surface.writes a (w.seats a)
-  pub on : (lease : ℕ) → lease < lease_count w.geometry → LeaseOn w.geometry w.appliances w.surface.time w.surface.device w.surface.writes w.seats lease
+  pub on : (lease : ℕ) → lease < lease_count w.geometry → LeaseOn w.geometry w.rests w.appliances w.surface.time w.surface.device w.surface.writes w.seats lease

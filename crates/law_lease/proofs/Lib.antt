@@ -8,6 +8,7 @@ pub mod LeaseSteps
 pub mod Leased
 pub mod Lists
 pub mod Owners
+pub mod Rests
 pub mod Runs
 pub mod Stages
 pub mod FirstDevice

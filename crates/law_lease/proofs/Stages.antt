@@ -32,6 +32,7 @@ use Rattle.plx_worlds.specs.Holds.{Hold, shown, after_answer, after_write, after
 use Rattle.plx_worlds.specs.Session.{Known}
 use Rattle.plx_worlds.specs.Settings.{boot_number}
 use Rattle.plx_worlds.specs.World as world
+use Rattle.plx_worlds.specs.Rests.{rests_on}
 use Rattle.plx_worlds.specs.World.{World, Seat, Step, Reached, IsReading, IsBack, setting_at, setting_of, stands, told, with_happening, goes_on, with_surface, after_start, after_issue, issued_by, is_boot_of}
 use Rattle.law_lease.proofs.LeaseSteps.{reached-leased}
 use Rattle.law_lease.proofs.Runs.{own-boot}
@@ -119,11 +120,12 @@ first_flags (suc k) = slice_set (first_flags k) k true
 
 module _ (g : Geometry) (appliances : ℕ) (few : appliances ≤ 8) (lease : ℕ) where
   -- a world of this geometry
-  abbrev pub world_at : (time : ℕ) → Device → List Issued → (ℕ → Seat) → List Entry → List Event → World
-  world_at time device writes seats trace history = record {
+  abbrev pub world_at : (time : ℕ) → Device → List Issued → (rests : ℕ → List ℕ) → (ℕ → Seat) → List Entry → List Event → World
+  world_at time device writes rests seats trace history = record {
     geometry = g;
     appliances = appliances;
     surface = record { blocks = block_count g; device = device; writes = writes; time = time };
+    rests = rests;
     seats = seats;
     trace = trace;
     history = history;
@@ -137,9 +139,10 @@ module _ (g : Geometry) (appliances : ℕ) (few : appliances ≤ 8) (lease : ℕ
   pub record Stage (t : ℕ) (d : Device) (p : ℕ → Spot) (tr : List Entry) : Type 0 where
     pub device : Device
     pub writes : List Issued
+    pub rests : ℕ → List ℕ
     pub seats : ℕ → Seat
     pub history : List Event
-    pub reached : Reached (world_at t device writes seats tr history)
+    pub reached : Reached (world_at t device writes rests seats tr history)
     pub same : (b : ℕ) → device b ≡ d b
     pub places : (b : ℕ) → IsSpot lease (place_in b (seats b)) (p b)
     pub free : (b : ℕ) → (seats b).pending ≡ None
@@ -150,6 +153,7 @@ module _ (g : Geometry) (appliances : ℕ) (few : appliances ≤ 8) (lease : ℕ
   ticked st by soon = record {
     device = st.device;
     writes = st.writes;
+    rests = st.rests;
     seats = st.seats;
     history = event.Tick by ∷ st.history;
     reached = world.later st.reached (world.ticks soon);
@@ -161,7 +165,7 @@ module _ (g : Geometry) (appliances : ℕ) (few : appliances ≤ 8) (lease : ℕ
 
   module _ {t : ℕ} {d : Device} {p : ℕ → Spot} {tr : List Entry} (st : Stage t d p tr) (a : ApplianceNo) (below : a.0 < appliances) where
     abbrev w : World
-    w = world_at t st.device st.writes st.seats tr st.history
+    w = world_at t st.device st.writes st.rests st.seats tr st.history
 
     abbrev r : Spot
     r = p a.0
@@ -174,11 +178,12 @@ module _ (g : Geometry) (appliances : ℕ) (few : appliances ≤ 8) (lease : ℕ
 
     -- something happens to the appliance
     go : (happening : Happening) (history : List Event) (trace : List Entry) (q : Spot) →
-        Reached (world_at t st.device st.writes (at st.seats a.0 (with_happening (st.seats a.0) happening)) trace history) →
+        Reached (world_at t st.device st.writes st.rests (at st.seats a.0 (with_happening (st.seats a.0) happening)) trace history) →
         IsSpot lease (place_in a.0 (with_happening (st.seats a.0) happening)) q → Stage t d (at p a.0 q) trace
     go happening history trace q reached is = record {
       device = st.device;
       writes = st.writes;
+      rests = st.rests;
       seats = at st.seats a.0 (with_happening (st.seats a.0) happening);
       history = history;
       reached = reached;
@@ -286,6 +291,9 @@ module _ (g : Geometry) (appliances : ℕ) (few : appliances ≤ 8) (lease : ℕ
       abbrev waiting : ℕ → Seat
       waiting = at st.seats a.0 (record (st.seats a.0) { pending = Some number })
 
+      abbrev since : ℕ → List ℕ
+      since = at st.rests number (rests_on g command (stands w a.0).holds what block bytes)
+
       old-long : length (st.device block) ≡ 4096
       old-long = (reached-leased st.reached).long block
 
@@ -294,7 +302,7 @@ module _ (g : Geometry) (appliances : ℕ) (few : appliances ≤ 8) (lease : ℕ
         device : Device
         writes : List Issued
         history : List Event
-        reached : Reached (world_at t device writes waiting tr history)
+        reached : Reached (world_at t device writes since waiting tr history)
         found : slice_get writes number ≡ Some (write_of flags)
         there : device block ≡ mixed flags bytes (st.device block)
         others : (b : ℕ) → b ≢ block → device b ≡ st.device b
@@ -339,13 +347,14 @@ module _ (g : Geometry) (appliances : ℕ) (few : appliances ≤ 8) (lease : ℕ
       waits-for = ap (λ (s : Seat). s.pending) (at-same st.seats a.0 (record (st.seats a.0) { pending = Some number }))
 
       abbrev last : World
-      last = world_at t landed-whole.device landed-whole.writes waiting tr landed-whole.history
+      last = world_at t landed-whole.device landed-whole.writes since waiting tr landed-whole.history
 
       pub written : (rest : Part End) → done ≡ rest → (hold : Hold) → hold_next lease r (ask.Write what (record { 0 = block }) guard) bytes answer.Done rest ≡ hold →
           Stage t (put d block bytes) (at p a.0 (spot_next known command hold answer.Done rest)) (told a rest tr)
       written rest is hold held = record {
         device = landed-whole.device;
         writes = landed-whole.writes;
+        rests = since;
         seats = at waiting a.0 (with_happening (waiting a.0) (Asked (ask.Write what (record { 0 = block }) guard) bytes answer.Done));
         history = event.Done a ∷ landed-whole.history;
         reached = world.later landed-whole.reached

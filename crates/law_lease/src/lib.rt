@@ -6,7 +6,7 @@
 
 ghost use Rattle.law_lease.specs.FirstDevice.{HasFormatted};
 ghost use Rattle.law_lease.specs.TakenOver.{TakenOver};
-ghost use Rattle.plx_worlds.specs.Owners.{Exclusion, Guarding};
+ghost use Rattle.plx_worlds.specs.Owners.{Exclusion, Guarding, RestsAsNeeded};
 ghost use Rattle.plx_worlds.specs.Sequences.{PlayedIsReached, RunsGoOn};
 ghost use Rattle.plx_worlds.specs.World.{BootsRun};
 
@@ -15,7 +15,12 @@ pub fn exclusion()
     ensures { Exclusion }
 {}
 
-/// No landing of a write that needed a lease changes a byte while another boot owns that lease.
+/// On the leases that its kind needs for its block each issued write rests, and on no others.
+pub fn writes_rest_as_needed()
+    ensures { RestsAsNeeded }
+{}
+
+/// No landing of a write that rests on a lease changes a byte while another boot owns that lease.
 pub fn guarding()
     ensures { Guarding }
 {}

@@ -35,6 +35,7 @@ use Rattle.law_run.proofs.Asking.{IsFine, replied-fine, asks-confirm}
 use Rattle.law_run.proofs.Facts.{image_of, plain-parts, stores-session}
 use Rattle.law_run.proofs.Grown.{with-same, with-other, fits-empty}
 use Rattle.law_run.proofs.Holding.{first-more, claims-more, Spared, spared-more, Course, Going, going-more}
+use Rattle.law_run.proofs.Inside.{AllInside, inside-of, inside-record, not-outside}
 use Rattle.law_run.proofs.Inserted.{gap-is}
 use Rattle.law_run.proofs.Loading.{Says, says, Loading, loads-first, loads-none, loads-write, loaded-fits, whole-spelled}
 use Rattle.law_run.proofs.Meets.{exchange, meets-more}
@@ -169,9 +170,9 @@ module _ (s : Setting) (before : List Finished) (known next : Known) (slot : Slo
       ))
 
   -- the attach ends with a session
-  right-ends : (done : List Exchange) (session : Session) → Going s before done slot.0 c → Fits s.geometry (learnt s.geometry slot.0 (Attach slot) done nothing_given) slot.0 session → (n : ℕ) →
+  right-ends : (done : List Exchange) (session : Session) → Going s before done slot.0 c → AllInside s.geometry slot.0 session.image done → Fits s.geometry (learnt s.geometry slot.0 (Attach slot) done nothing_given) slot.0 session → (n : ℕ) →
       Right s before (Attach slot) done (attach_ends s next slot.0 c.until session) (suc n)
-  right-ends done session going fits n =
+  right-ends done session going inside fits n =
       let r = reply.Attached (session_report session) in
       let more = with_session next slot.0 (Some session) in
       asks-confirm s before next (Attach slot) slot c (attach-one slot) within fine claims done r more n going
@@ -186,6 +187,9 @@ module _ (s : Setting) (before : List Finished) (known next : Known) (slot : Slo
               (stores-session s.geometry (learnt s.geometry slot.0 (Attach slot) done nothing_given) slot.0 session fits);
           whole = (plain-parts session.image fits.plain).0;
           told = refl;
+          inside = λ block bytes there. subst (λ (g : Given). ¬ IsOutside s.geometry g slot.0 block.0 bytes) (sym here)
+              (not-outside s.geometry (learnt s.geometry slot.0 (Attach slot) done nothing_given) slot.0 session block.0 bytes fits
+              (inside-of s.geometry slot.0 session.image (ask.Read block) (answer.Bytes bytes) (clock reading ∷ done) (tt, inside) there));
         },
         rests-by s before (Attach slot) (clock reading ∷ done) r known more slot.0 (names-other (Attach slot) slot.0 (attach-one slot))
             (λ other apart. at-other next.sessions slot.0 other (Some session) apart ∙ same other) (λ other b apart. rw (names-other (Attach slot) slot.0 (attach-one slot) other apart) refl) (λ h. refl)
@@ -212,7 +216,7 @@ module _ (s : Setting) (before : List Finished) (known next : Known) (slot : Slo
         Loading s.geometry (learnt s.geometry slot.0 (Attach slot) done nothing_given) slot.0 kept s.geometry.slots writes done → (gap : Option ℕ) → first_gap (applied_of kept) writes ≡ gap →
         Right s before (Attach slot) done (after_load s next slot.0 c.until kept (gap_found s.geometry slot.0 writes gap)) 1
     all-read done writes going l None follows =
-        right-ends done (record { image = kept; writes = writes }) going
+        right-ends done (record { image = kept; writes = writes }) going l.inside
         (loaded-fits s.geometry (learnt s.geometry slot.0 (Attach slot) done nothing_given) slot.0 kept writes done within plain l follows) 0
     all-read done writes going l (Some number) follows =
         let g = s.geometry in
@@ -296,15 +300,17 @@ module _ (s : Setting) (before : List Finished) (known next : Known) (slot : Slo
             let g = s.geometry in
             let done1 = exchange (ask.Read (record { 0 = descriptor_at g slot.0 place })) [] (answer.Bytes bytes) ∷ done in
             let whole = whole-spelled bytes says'.1.0 says'.1.1 in
+            let sound = says'.2 in
             meets-more (May s before (Attach slot)) (Shows s before (Attach slot)) (followed_by (load_part g slot.0 kept left (place + 1) writes) (after_load s next slot.0 c.until kept)) done1 (suc (twice left))
-            (none (loads-none g (learnt g slot.0 (Attach slot) done nothing_given) slot.0 kept place writes done l within (omega arith) bytes whole says'.0))
+            (none (loads-none g (learnt g slot.0 (Attach slot) done nothing_given) slot.0 kept place writes done l within (omega arith) bytes whole sound says'.0))
         by-finding bytes going1 (Counts d) says' none counts =
             let g = s.geometry in
             let done1 = exchange (ask.Read (record { 0 = descriptor_at g slot.0 place })) [] (answer.Bytes bytes) ∷ done in
             let whole = whole-spelled bytes (Some d) says'.1 in
+            let sound = says'.2 in
             asks-read done1 (data_at g slot.0 place) _ (suc (twice left)) (omega arith) going1
             (λ data' going2. counts d data' going2
-            (loads-write g (learnt g slot.0 (Attach slot) done nothing_given) slot.0 kept place writes done l within (omega arith) bytes whole d says'.0 data'))
+            (loads-write g (learnt g slot.0 (Attach slot) done nothing_given) slot.0 kept place writes done l within (omega arith) bytes whole sound d says'.0 data'))
 
   -- ---- the record
 
@@ -317,8 +323,8 @@ module _ (s : Setting) (before : List Finished) (known next : Known) (slot : Slo
   -- the record is read, and then the journal of a live image
   pub right-load : (done : List Exchange) → Going s before done slot.0 c →
       ((place : ℕ) → learnt s.geometry slot.0 (Attach slot) done nothing_given (descriptor_at s.geometry slot.0 place) ≡ None) →
-      Right s before (Attach slot) done (load_image s next slot.0 c.until) (suc (suc (twice s.geometry.slots)))
-  right-load done going unknown =
+      ((kept : ImageRecord) → AllInside s.geometry slot.0 kept done) → Right s before (Attach slot) done (load_image s next slot.0 c.until) (suc (suc (twice s.geometry.slots)))
+  right-load done going unknown inside =
       let g = s.geometry in
       asks-read done (record_at g slot.0) _ (suc (twice g.slots)) (omega arith) going
       (λ bytes going1. by-record bytes going1 (attached_record bytes) refl)
@@ -340,10 +346,10 @@ module _ (s : Setting) (before : List Finished) (known next : Known) (slot : Slo
           let g = s.geometry in
           loads kept plain g.slots 0 (exchange (ask.Read (record { 0 = record_at g slot.0 })) [] (answer.Bytes bytes) ∷ done) [] (omega arith) going1
           (loads-first g (with_block (learnt g slot.0 (Attach slot) done nothing_given) (record_at g slot.0) bytes) slot.0 kept
-          (exchange (ask.Read (record { 0 = record_at g slot.0 })) [] (answer.Bytes bytes) ∷ done) (record-now bytes kept found) (journal-unknown bytes))
+          (exchange (ask.Read (record { 0 = record_at g slot.0 })) [] (answer.Bytes bytes) ∷ done) (record-now bytes kept found) (journal-unknown bytes) (inside-record g slot.0 kept bytes within found, inside kept))
       by-live bytes kept plain going1 found false is =
           let g = s.geometry in
-          right-ends (exchange (ask.Read (record { 0 = record_at g slot.0 })) [] (answer.Bytes bytes) ∷ done) (record { image = kept; writes = [] }) going1
+          right-ends (exchange (ask.Read (record { 0 = record_at g slot.0 })) [] (answer.Bytes bytes) ∷ done) (record { image = kept; writes = [] }) going1 (inside-record g slot.0 kept bytes within found, inside kept)
           (fits-empty g (with_block (learnt g slot.0 (Attach slot) done nothing_given) (record_at g slot.0) bytes) slot.0 kept within (record-now bytes kept found) plain (journal-unknown bytes)) (twice g.slots)
 
       by-record : (bytes : List ℕ) → Going s before (exchange (ask.Read (record { 0 = record_at s.geometry slot.0 })) [] (answer.Bytes bytes) ∷ done) slot.0 c →

@@ -1,6 +1,6 @@
 -- Attaches, from the first reading on.
 use Rattle.std.proofs.Common.{◌≡◌, ◌≢◌, ℕ, suc, ◌+◌, ◌*◌, ◌≤◌, ◌<◌, ◌^◌, List, [], ◌∷◌, drop, Bool, true, false, Option, Some, None, refl, ap, sym, subst, ◌∙◌, arith, inl, inr}
-use Rattle.std.specs.Prelude.{nat_le, nat_lt}
+use Rattle.std.specs.Prelude.{if◌then◌else◌, nat_le, nat_lt}
 use Rattle.std.specs.Str.{bytes_eq}
 use Rattle.std.proofs.lemmas.Slice.Eq.{bytes_eq-Decides}
 use Rattle.std.proofs.lemmas.Bool.Decides.{leb_tells}
@@ -26,16 +26,15 @@ use Rattle.plx_worlds.specs.Attaching.{load_image, after_claim, claim_image, att
 use Rattle.plx_worlds.specs.Claims.{ClaimEnd, ClaimReadFault, ClaimDamaged, claim_of, own_record, own_use, claim_in_time, reread_by, reread_part, written_part, if_expired, seen_part}
 use Rattle.plx_worlds.specs.Commands.{command_part}
 use Rattle.plx_worlds.specs.Ends.{End, ends, lost}
-use Rattle.plx_worlds.specs.Holds.{Hold, Nothing, Seen, Wrote, Waited, Held, wrote, reread, shown, timed}
+use Rattle.plx_worlds.specs.Holds.{Hold, Nothing, Seen, Wrote, Waited, Held, wrote, reread, seen_by, shown, timed}
 use Rattle.plx_worlds.specs.Parts.{followed_by}
 use Rattle.plx_worlds.specs.Session.{Session, Known, with_claim, nothing_known}
 use Rattle.plx_worlds.specs.Settings.{Setting}
 use Rattle.plx_worlds.specs.Times.{window, wait, term, is_expired}
-use Rattle.law_run.specs.AllowedAsks as allowed
-use Rattle.law_run.specs.AllowedAsks.{WentOn}
+use Rattle.law_run.specs.AllowedAsks.{WentOn, claim_of_lease}
 use Rattle.law_run.specs.CommandLogs.{Exchange, Finished, first_reading}
 use Rattle.law_run.specs.Holdings as holdings
-use Rattle.law_run.specs.Holdings.{at_first, holds_along, holds_after, hold_of, IsUntil, is_lease_read, is_clock, claims_in, claims_begun}
+use Rattle.law_run.specs.Holdings.{at_first, holds_along, holds_after, hold_of, IsUntil, is_lease_read, is_clock, claims_in, claims_begun, IsNotHeld}
 use Rattle.law_run.specs.KnownBytes.{nothing_given, with_block, learnt}
 use Rattle.law_run.specs.Outside.{no_lease}
 use Rattle.law_run.specs.Refusals.{IsNamedFirst, NeedsClaim, NamesBlock, of_read, of_write, NeedsImage, of_delete, of_block, already_attached, no_slot, claims}
@@ -47,6 +46,7 @@ use Rattle.law_run.proofs.Attaching.{twice, twice-is, attach-one, unattached-by,
 use Rattle.law_run.proofs.Detaching.{lease-apart}
 use Rattle.law_run.proofs.Grown.{with-other}
 use Rattle.law_run.proofs.Holding.{first-hold, first-held, first-more, claims-more, LeavesOthers, Spared, spared-first, spared-more, Course, going-first}
+use Rattle.law_run.proofs.Inside.{inside-lease}
 use Rattle.law_run.proofs.Meets.{exchange}
 use Rattle.law_run.proofs.OnImage.{names-own, names-other, names-only, lease-name}
 use Rattle.law_run.proofs.Passed.{Passed, passed}
@@ -119,10 +119,27 @@ written-until claim until other hold is (holdings.wrote c e) = let f : Wrote cla
 written-until claim until other hold is (holdings.waited c e) = absurd (let P : ⊥ = cc in P)
 written-until claim until other hold is (holdings.held c e) = absurd (let P : ⊥ = cc in P)
 
+-- at the first reading a lease is held, or nothing of it
+first-nothing : (attached : Bool) (reading : ℕ) (hold : Hold) → IsNotHeld (at_first attached reading hold) → at_first attached reading hold ≡ Nothing
+first-nothing true reading Nothing none = refl
+first-nothing true reading (Seen sample) none = refl
+first-nothing true reading (Wrote c u) none = refl
+first-nothing true reading (Waited c u) none = refl
+first-nothing true reading (Held c u) none = absurd (none c u refl)
+first-nothing false reading Nothing none = refl
+first-nothing false reading (Seen sample) none = refl
+first-nothing false reading (Wrote c u) none = refl
+first-nothing false reading (Waited c u) none = refl
+first-nothing false reading (Held c u) none = by-flag (nat_le u reading) none
+  where
+    by-flag : (test : Bool) → IsNotHeld (if test then Nothing else Held c u) → (if test then Nothing else Held c u) ≡ Nothing
+    by-flag true some = refl
+    by-flag false some = absurd (some c u refl)
+
 -- ---- a claim of the lease of the image
 
 module _ (s : Setting) (boot_small : s.boot < 2 ^ 128) (before : List Finished) (known : Known) (slot : SlotNo) (reading : ℕ) (within : slot.0 < s.geometry.images) (missing : is_attached before slot.0 ≡ false)
-    (rests : Rests s before known) (few : known.claims < last_claim) where
+    (rests : Rests s before known) (few : known.claims < last_claim) (not_held : IsNotHeld (hold_of s before (clock reading ∷ []) (image_lease slot.0))) where
   fine : IsFine s before (Attach slot) reading
   fine done first = attach-passed s before slot done 11 (λ lt. missing) (λ lt. within) (λ lt needed. (let c = rests.claims in omega arith))
 
@@ -225,6 +242,15 @@ module _ (s : Setting) (boot_small : s.boot < 2 ^ 128) (before : List Finished) 
   one-more done is = let c = rests.claims in omega arith
 
   -- what is held of the lease
+  seen2 : (sample : ℕ) (bytes : List ℕ) (seen : LeaseRecord) → read_lease bytes ≡ Some seen → is_expired seen sample ≡ true → hold_of s before (d2 sample bytes) (image_lease slot.0) ≡ Seen sample
+  seen2 sample bytes seen sees expired =
+      let H = holds_along s.geometry (is_attached before) (holds_after s.geometry before) (d1 sample) in
+      let first = first-hold s before reading slot.0 within in
+      let nothing : hold_of s before d0 (image_lease slot.0) ≡ Nothing =
+      first ∙ first-nothing (is_attached before slot.0) reading (holds_after s.geometry before (lease_at (image_lease slot.0))) (λ c u e. not_held c u (first ∙ e)) in
+      at-same H (lease_at (image_lease slot.0)) (shown (Some sample) bytes (H (lease_at (image_lease slot.0))))
+      ∙ (ap (λ h. shown (Some sample) bytes (timed sample h)) nothing ∙ (ap (λ o. seen_by o sample) sees ∙ ap (λ t. if t then Seen sample else Nothing) expired))
+
   held3 : (sample : ℕ) (bytes : List ℕ) → sample < 2 ^ 48 → hold_of s before (d3 sample bytes) (image_lease slot.0) ≡ Wrote (claim_of s.boot known.claims sample) (sample + term)
   held3 sample bytes small =
       let own' = claim_of s.boot known.claims sample in
@@ -291,13 +317,14 @@ module _ (s : Setting) (boot_small : s.boot < 2 ^ 128) (before : List Finished) 
       )
 
   -- the lease is held by this boot's claim
-  goes-held : (sample : ℕ) (bytes : List ℕ) (reading' : ℕ) (again : List ℕ) → hold_of s before (d5 sample bytes reading' again) (image_lease slot.0) ≡ Held (claim_of s.boot known.claims sample) (sample + term) →
+  goes-held : (sample : ℕ) (bytes : List ℕ) (reading' : ℕ) (again : List ℕ) → read_lease bytes ≢ None → read_lease again ≢ None → hold_of s before (d5 sample bytes reading' again) (image_lease slot.0) ≡ Held (claim_of s.boot known.claims sample) (sample + term) →
       Right s before (Attach slot) (d5 sample bytes reading' again) (load_image s (with_claim known) slot.0 (sample + term)) (suc (suc (twice s.geometry.slots)))
-  goes-held sample bytes reading' again held =
+  goes-held sample bytes reading' again some some' held =
       let c : Course = record { reading = reading; claim = claim_of s.boot known.claims sample; until = sample + term; begun = 1 } in
       right-load s before known (with_claim known) slot c within missing fine (let k = rests.claims in omega arith) (λ image. refl) rests (d5 sample bytes reading' again)
       (record { has = tt; first = refl; held = held; spared = spared5 sample bytes reading' (answer.Bytes again); begun = begun5 sample bytes reading' (answer.Bytes again); went = went5 sample bytes reading' again })
       (λ place. unknown place)
+      (λ kept. (inside-lease s.geometry slot.0 kept (image_lease slot.0) again lease-within some', (tt, (tt, (inside-lease s.geometry slot.0 kept (image_lease slot.0) bytes lease-within some, (tt, (tt, tt)))))))
     where
       unknown : (place : ℕ) → learnt s.geometry slot.0 (Attach slot) (d5 sample bytes reading' again) nothing_given (descriptor_at s.geometry slot.0 place) ≡ None
       unknown place =
@@ -325,15 +352,18 @@ module _ (s : Setting) (boot_small : s.boot < 2 ^ 128) (before : List Finished) 
 
   -- ---- the reread
 
-  after-reread : (sample : ℕ) (bytes : List ℕ) (reading' : ℕ) (again : List ℕ) → sample < 2 ^ 48 → sample + wait ≤ reading' → reading' < sample + term → (same : Bool) →
+  after-reread : (sample : ℕ) (bytes : List ℕ) (reading' : ℕ) (again : List ℕ) → sample < 2 ^ 48 → read_lease bytes ≢ None → sample + wait ≤ reading' → reading' < sample + term → (same : Bool) →
       bytes_eq again (lease_bytes (own_record (claim_of s.boot known.claims sample))) ≡ same → (found : Option LeaseRecord) → read_lease again ≡ found →
       Right s before (Attach slot) (d5 sample bytes reading' again)
       (followed_by (reread_by same (own_use (image_lease slot.0) (claim_of s.boot known.claims sample) ∷ []) (claim_of s.boot known.claims sample) found) (after_claim s (with_claim known) slot.0))
       (suc (suc (twice s.geometry.slots)))
-  after-reread sample bytes reading' again small past early true is found sees =
-      goes-held sample bytes reading' again (held5 sample bytes reading' again small past early
+  after-reread sample bytes reading' again small some past early true is found sees =
+      let own' = claim_of s.boot known.claims sample in
+      let same : again ≡ lease_bytes (own_record own') = (bytes_eq-Decides again (lease_bytes (own_record own'))).0 is in
+      let spelled : read_lease again ≡ Some (own_record own') = ap read_lease same ∙ lease-back (own_record own') (own-limits sample small) in
+      goes-held sample bytes reading' again some (λ e. (let P : ⊥ = cc in P)) (held5 sample bytes reading' again small past early
       ∙ ap (λ t. reread t (Held (claim_of s.boot known.claims sample) (sample + term))) is)
-  after-reread sample bytes reading' again small past early false is (Some seen) sees =
+  after-reread sample bytes reading' again small some past early false is (Some seen) sees =
       let own' = claim_of s.boot known.claims sample in
       let done = d5 sample bytes reading' again in
       let name = lease-name s.geometry slot.0 within in
@@ -343,7 +373,7 @@ module _ (s : Setting) (boot_small : s.boot < 2 ^ 128) (before : List Finished) 
             (λ e. bytes-other again (lease_bytes (own_record own')) is ((lease-only again seen sees).1 ∙ ap lease_bytes e))),
         unheld done (reply.Busy (lease.Image slot) seen) (λ other b. refl) (λ h. refl) (spared5 sample bytes reading' (answer.Bytes again)) (begun5 sample bytes reading' (answer.Bytes again)),
       )
-  after-reread sample bytes reading' again small past early false is None sees = (
+  after-reread sample bytes reading' again small some past early false is None sees = (
     (went5 sample bytes reading' again, tt),
     λ last small'.
         let own' = claim_of s.boot known.claims sample in
@@ -380,12 +410,12 @@ module _ (s : Setting) (boot_small : s.boot < 2 ^ 128) (before : List Finished) 
 
   -- ---- the wait
 
-  after-wait : (sample : ℕ) (bytes : List ℕ) (reading' : ℕ) → sample < 2 ^ 48 → sample + wait ≤ reading' →
+  after-wait : (sample : ℕ) (bytes : List ℕ) (reading' : ℕ) → sample < 2 ^ 48 → read_lease bytes ≢ None → sample + wait ≤ reading' →
       Right s before (Attach slot) (d4 sample bytes reading')
       (followed_by (claim_in_time (own_use (image_lease slot.0) (claim_of s.boot known.claims sample) ∷ []) reading'
       (reread_part (own_use (image_lease slot.0) (claim_of s.boot known.claims sample) ∷ []) (image_lease slot.0) (claim_of s.boot known.claims sample))) (after_claim s (with_claim known) slot.0))
       (suc (suc (suc (twice s.geometry.slots))))
-  after-wait sample bytes reading' small past =
+  after-wait sample bytes reading' small some past =
       let own' = claim_of s.boot known.claims sample in
       let until = sample + term in
       let done = d4 sample bytes reading' in
@@ -399,7 +429,7 @@ module _ (s : Setting) (boot_small : s.boot < 2 ^ 128) (before : List Finished) 
       ))
       (λ early. (
         (went4 sample bytes reading', tt),
-        λ again long. after-reread sample bytes reading' again small past early (bytes_eq again (lease_bytes (own_record own'))) refl (read_lease again) refl,
+        λ again long. after-reread sample bytes reading' again small some past early (bytes_eq again (lease_bytes (own_record own'))) refl (read_lease again) refl,
         read-fails done (suc (suc (twice s.geometry.slots))) refl (spared5 sample bytes reading' answer.Fault) (begun5 sample bytes reading' answer.Fault),
       ))
     where
@@ -443,12 +473,12 @@ module _ (s : Setting) (boot_small : s.boot < 2 ^ 128) (before : List Finished) 
           let n = suc (suc (suc (suc (twice s.geometry.slots)))) in (
             (
               went2 sample bytes,
-              allowed.claim (image_lease slot.0) own' seen bytes d0 lease-within refl refl sees is refl (let c = rests.claims in omega arith) refl
+              claim_of_lease (image_lease slot.0) own' seen bytes d0 lease-within refl (λ c u e. (let was = seen2 sample bytes seen sees is in let P : ⊥ = cc in P)) refl sees is refl (let c = rests.claims in omega arith) refl
                   (lease-rest (own_record own') ∙ sym (ap (drop 512) (lease-only bytes seen sees).1 ∙ lease-rest seen)) refl,
             ),
             (
               (went3 sample bytes, record { lease = image_lease slot.0; claim = own'; until = sample + term; wrote = held3 sample bytes small; after = refl }),
-              λ reading' past small'. after-wait sample bytes reading' small past,
+              λ reading' past small'. after-wait sample bytes reading' small (λ e. (let P : ⊥ = cc in P)) past,
             ),
             (
               replied-fine s before (Attach slot) reading fine (claims_lease sample answer.Fault ∷ d2 sample bytes) refl (reply.WriteFault (record { 0 = block }))
@@ -489,7 +519,7 @@ module _ (s : Setting) (boot_small : s.boot < 2 ^ 128) (before : List Finished) 
     | inl few ↦ rw few.0 (
       suc (suc (suc (suc (suc (suc (suc (twice s.geometry.slots))))))),
       (let t = twice-is s.geometry.slots in omega arith),
-      right-claim s boot_small before known slot reading within missing rests few.1,
+      right-claim s boot_small before known slot reading within missing rests few.1 (λ claim until e. none claim until (sym is ∙ e)),
     )
     | inr worn ↦ rw worn.0 (
       0,
@@ -519,7 +549,7 @@ module _ (s : Setting) (boot_small : s.boot < 2 ^ 128) (before : List Finished) 
         suc (suc (twice s.geometry.slots)),
         (let t = twice-is s.geometry.slots in omega arith),
         right-load s before known known slot c within missing fine (let k = rests.claims in omega arith) (λ image. refl) rests (clock reading ∷ [])
-            (going-first s before slot.0 claim until reading is) (λ place. refl),
+            (going-first s before slot.0 claim until reading is) (λ place. refl) (λ kept. (tt, tt)),
       )
   by-hold Nothing is within missing = by-claims Nothing is (λ claim until e. (let P : ⊥ = cc in P)) within missing
   by-hold (Seen sample) is within missing = by-claims (Seen sample) is (λ claim until e. (let P : ⊥ = cc in P)) within missing

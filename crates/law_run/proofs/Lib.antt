@@ -31,3 +31,4 @@ pub mod Attaching
 pub mod Claiming
 pub mod Begun
 pub mod Worlds
+pub mod Inside

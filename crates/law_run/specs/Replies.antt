@@ -107,7 +107,7 @@ pub record WasDamaged (s : Setting) (log : CommandLog) (block : BlockNo) : Type 
 
 -- ---- the Ok of each command
 
--- the image is attached: the report is that of the image that the known bytes store, which has no snapshots
+-- the image is attached: the report is that of the image that the known bytes store, which has no snapshots; and no bytes that were read are outside the format
 pub record ShowsImage (s : Setting) (log : CommandLog) (report : Report) : Type 0 where
   pub slot : SlotNo
   pub command : log.command ≡ Attach slot
@@ -116,6 +116,8 @@ pub record ShowsImage (s : Setting) (log : CommandLog) (report : Report) : Type 
   pub stores : Stores s.geometry (known_in s.geometry log slot.0) slot.0 image
   pub whole : image.taken ≡ 0
   pub told : report ≡ report_on image
+  pub inside : (block : BlockNo) (bytes : List ℕ) → WasAnswered log (ask.Read block) [] (answer.Bytes bytes) →
+      ¬ IsOutside s.geometry (known_in s.geometry log slot.0) slot.0 block.0 bytes
 
 -- the image is detached: its lease is released
 pub record ShowsRelease (s : Setting) (log : CommandLog) : Type 0 where

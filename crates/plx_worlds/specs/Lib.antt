@@ -7,8 +7,10 @@ pub mod Holds
 pub mod InUse
 pub mod Journal
 pub mod Loading
+pub mod Machines
 pub mod Parts
 pub mod Records
+pub mod Rests
 pub mod Session
 pub mod Settings
 pub mod Times

@@ -9,6 +9,7 @@ use Rattle.plx_geom.specs.Geometry.{Geometry, lease_count, root_lease, image_lea
 use Rattle.plx_rules.specs.Part.{WriteThen}
 use Rattle.plx_worlds.specs.Boot.{Place, In}
 use Rattle.plx_worlds.specs.Holds.{Hold, Nothing, Held, renewed}
+use Rattle.plx_worlds.specs.Rests.{IsUnder}
 use Rattle.plx_worlds.specs.Times.{drift}
 use Rattle.plx_worlds.specs.World.{World, Reached, setting_of, stands}
 
@@ -75,9 +76,14 @@ Needs g kind.JCommit block lease =
 abbrev pub Exclusion : Type 0
 Exclusion = (w : World) → Reached w → (a b lease : ℕ) → a < w.appliances → b < w.appliances → Owns w a lease → Owns w b lease → a ≡ b
 
--- no landing of a write that needed a lease changes a byte while another boot owns that lease
+-- no landing of a write that rests on a lease changes a byte while another boot owns that lease
 abbrev pub Guarding : Type 0
 Guarding = (w : World) → Reached w → (number sector : ℕ) (write : Issued) (lease b : ℕ) → lease < lease_count w.geometry →
-    Needs w.geometry write.kind write.block lease → MayLand w.surface number sector write →
+    IsUnder w.rests number lease → MayLand w.surface number sector write →
     b < w.appliances → Owns w b lease → ¬ ((setting_of w b).boot ≡ write.owner) →
     (block : ℕ) → (after_landing w.surface number write sector).device block ≡ w.surface.device block
+
+-- each issued write rests on the leases that its kind needs for its block, and on no others
+abbrev pub RestsAsNeeded : Type 0
+RestsAsNeeded = (w : World) → Reached w → (number : ℕ) (write : Issued) → slice_get w.surface.writes number ≡ Some write → (lease : ℕ) →
+    (Needs w.geometry write.kind write.block lease → IsUnder w.rests number lease) × (IsUnder w.rests number lease → Needs w.geometry write.kind write.block lease)

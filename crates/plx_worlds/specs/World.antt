@@ -21,6 +21,7 @@ use Rattle.plx_worlds.specs.Commands.{IsBuilt, IsWellFormed, command_part}
 use Rattle.plx_worlds.specs.Ends.{End}
 use Rattle.plx_worlds.specs.Formatted.{IsFormatted}
 use Rattle.plx_worlds.specs.Holds.{after_first}
+use Rattle.plx_worlds.specs.Rests.{rests_on}
 use Rattle.plx_worlds.specs.Session.{Known}
 use Rattle.plx_worlds.specs.Settings.{Setting, boot_number}
 use Rattle.plx_worlds.specs.Times.{drift}
@@ -31,12 +32,13 @@ pub record Seat : Type 0 where
   pub log : List Happening
   pub pending : Option ℕ
 
--- a world: the layout of the device, how many appliances there are, the device with its issued writes and its time, the appliances,
--- the trace and the history of possible events, each with the newest first
+-- a world: the layout of the device, how many appliances there are, the device with its issued writes and its time, the leases on which
+-- each issued write rests, by its number, the appliances, the trace and the history of possible events, each with the newest first
 pub record World : Type 0 where
   pub geometry : Geometry
   pub appliances : ℕ
   pub surface : Surface
+  pub rests : ℕ → List ℕ
   pub seats : ℕ → Seat
   pub trace : List Entry
   pub history : List Event
@@ -51,6 +53,7 @@ first_world g appliances device = record {
   geometry = g;
   appliances = appliances;
   surface = record { blocks = block_count g; device = device; writes = []; time = 1000 };
+  rests = λ number. [];
   seats = λ appliance. first_seat;
   trace = [];
   history = [];
@@ -104,10 +107,11 @@ after_start w appliance command = record w {
 abbrev pub issued_write : World → ApplianceNo → WriteKind → (block : ℕ) → List ℕ → (guard : ℕ) → Issued
 issued_write w appliance kind block bytes guard = fresh_write (setting_of w appliance.0).boot kind block bytes guard
 
--- the world once that write is issued
-abbrev pub after_issue : World → ApplianceNo → WriteKind → (block : ℕ) → List ℕ → (guard : ℕ) → World
-after_issue w appliance kind block bytes guard = record w {
+-- the world once that write, of this command, is issued
+abbrev pub after_issue : World → ApplianceNo → Command → WriteKind → (block : ℕ) → List ℕ → (guard : ℕ) → World
+after_issue w appliance command kind block bytes guard = record w {
   surface = issued w.surface (issued_write w appliance kind block bytes guard);
+  rests = at w.rests (length w.surface.writes) (rests_on w.geometry command (stands w appliance.0).holds kind block bytes);
   seats = at w.seats appliance.0 (record (w.seats appliance.0) { pending = Some (length w.surface.writes) });
   history = event.Issue appliance ∷ w.history;
 }
@@ -163,7 +167,7 @@ pub data Step : World → Event → World → Type 0 where
   issues : {w : World} {appliance : ApplianceNo} (known : Known) (command : Command) (kind : WriteKind) (block : ℕ) (bytes : List ℕ) (guard : ℕ)
       (done fault : Part End) (missed : ℕ → Part End) → appliance.0 < w.appliances →
       (stands w appliance.0).place ≡ In known command (WriteThen kind block bytes guard done fault missed) → (w.seats appliance.0).pending ≡ None →
-      Step w (event.Issue appliance) (after_issue w appliance kind block bytes guard)
+      Step w (event.Issue appliance) (after_issue w appliance command kind block bytes guard)
   lands : {w : World} {appliance : ApplianceNo} {back sector : ℕ} (number : ℕ) (write : Issued) → appliance.0 < w.appliances →
       IsBack w.surface.writes appliance.0 back number write → MayLand w.surface number sector write →
       Step w (event.Land appliance back sector) (with_surface w (event.Land appliance back sector) (after_landing w.surface number write sector))

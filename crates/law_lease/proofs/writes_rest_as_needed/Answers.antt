@@ -1,0 +1,5 @@
+use Rattle.law_lease.proofs.Owners.{rests-as-needed}
+use Rattle.law_lease.proofs.writes_rest_as_needed.Goals as goal
+
+pub returns : goal.returns
+returns c = rests-as-needed
