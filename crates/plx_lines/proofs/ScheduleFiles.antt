@@ -17,9 +17,9 @@ no-world words none = λ some. no-value (world_of words) (λ world. SpellsWorld 
 pub no-event : (words : List (List ℕ)) → IfSome (event_of words) (λ one. ¬ SpellsEvent one words) → ¬ ((one : Event) × SpellsEvent one words)
 no-event words none = λ some. no-value (event_of words) (λ one. SpellsEvent one words) (λ one is. event-spelled one words is) none some.0 some.1
 
-pub begins : (world : Geometry × ℕ) (events : List Event) (lines : List Numbered) → SpellSchedule world events lines → Begins schedule_grammar lines
-begins world events [] spell = absurd spell
-begins world events (first ∷ lines) spell = λ good line more parts. begin world events first lines spell good line more parts
+pub schedule-begins : (world : Geometry × ℕ) (events : List Event) (lines : List Numbered) → SpellSchedule world events lines → Begins schedule_grammar lines
+schedule-begins world events [] spell = absurd spell
+schedule-begins world events (first ∷ lines) spell = λ good line more parts. begin world events first lines spell good line more parts
   where
     begin : (world : Geometry × ℕ) (events : List Event) (first : Numbered) (lines : List Numbered) → SpellSchedule world events (first ∷ lines)
         → (good : List Numbered) (line : Numbered) (more : List Numbered) → first ∷ lines ≡ good ++ line ∷ more → schedule_grammar.Goes good line.1
@@ -27,14 +27,14 @@ begins world events (first ∷ lines) spell = λ good line more parts. begin wor
         let same : first ≡ line = cc in (world, subst (λ (l : Numbered). SpellsWorld world (words_of l.1)) same spell.0)
     begin world events first lines spell (other ∷ good) line more parts = spelled-in (λ (one : Event) (line : Numbered). SpellsEvent one (words_of line.1)) events lines good line more spell.1 (cc)
 
-ends : (world : Geometry × ℕ) (events : List Event) (lines : List Numbered) → SpellSchedule world events lines → schedule_grammar.Ends lines
-ends world events [] spell = spell
-ends world events (first ∷ lines) spell = tt
+schedule-ends : (world : Geometry × ℕ) (events : List Event) (lines : List Numbered) → SpellSchedule world events lines → schedule_grammar.Ends lines
+schedule-ends world events [] spell = spell
+schedule-ends world events (first ∷ lines) spell = tt
 
 -- a schedule has no bad line
 pub no-schedule : (bytes : List ℕ) (number : ℕ) (world : Geometry × ℕ) (events : List Event) → IsFirstBad schedule_grammar bytes number → ¬ IsSchedule bytes world events
 no-schedule bytes number world events bad = λ schedule.
-    none-bad schedule_grammar bytes number (begins world events _ schedule.lines) schedule.whole (ends world events _ schedule.lines) bad
+    none-bad schedule_grammar bytes number (schedule-begins world events _ schedule.lines) schedule.whole (schedule-ends world events _ schedule.lines) bad
 
 -- one more event
 pub schedule-more : (world : Geometry × ℕ) (events : List Event) (lines : List Numbered) (one : Event) (line : Numbered) → SpellSchedule world events lines

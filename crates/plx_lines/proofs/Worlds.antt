@@ -25,8 +25,8 @@ pub six-words : (words one two three four five six : List (List ℕ)) (a b c d e
 six-words words one two three four five six a b c d e f first second third fourth fifth sixth none = cc
 
 -- a geometry that is spelled is within its limits
-limits : (world : Geometry × ℕ) (words : List (List ℕ)) → SpellsWorld world words → IsGeometry world.0
-limits world words spells = record {
+world-limits : (world : Geometry × ℕ) (words : List (List ℕ)) → SpellsWorld world words → IsGeometry world.0
+world-limits world words spells = record {
   images_low = spells.0.1.0.0;
   images_high = omega (arith, spells.0.1.0.1);
   extents_low = spells.0.1.1.0.0;
@@ -38,10 +38,10 @@ limits world words spells = record {
 }
 
 -- and so is that of its numbers
-pub within : (world : Geometry × ℕ) (words : List (List ℕ)) (images extents blocks slots appliances : ℕ) → images < 2 ^ 32 → extents < 2 ^ 32 → blocks < 2 ^ 32 → slots < 2 ^ 32
+pub geometry-spelled : (world : Geometry × ℕ) (words : List (List ℕ)) (images extents blocks slots appliances : ℕ) → images < 2 ^ 32 → extents < 2 ^ 32 → blocks < 2 ^ 32 → slots < 2 ^ 32
     → appliances < 2 ^ 64 → words ≡ codes "world" ∷ decimal images ∷ decimal extents ∷ decimal blocks ∷ decimal slots ∷ decimal appliances ∷ [] → SpellsWorld world words
     → IsGeometry (geometry_of images extents blocks slots)
-within world words images extents blocks slots appliances few some many enough low are spells =
+geometry-spelled world words images extents blocks slots appliances few some many enough low are spells =
     let same = one-value (world_of words) world (geometry_of images extents blocks slots, appliances) (world-spelled world words spells)
     (world-found (geometry_of images extents blocks slots, appliances) words ((tt, (omega arith, (omega arith, (omega arith, (omega arith, (omega arith, tt)))))), are)) in
-    subst (λ (w : Geometry × ℕ). IsGeometry w.0) same (limits world words spells)
+    subst (λ (w : Geometry × ℕ). IsGeometry w.0) same (world-limits world words spells)

@@ -3,7 +3,7 @@ use Rattle.std.specs.Prelude.{ℕ, List, [], ◌∷◌, ◌++◌, codes, Option,
 use Rattle.plx_base.specs.declared.numbers.SlotNo.{SlotNo}
 use Rattle.plx_commands.specs.declared.command.Command.{Command}
 use Rattle.plx_commands.specs.declared.command.Command.TheVariants.{Attach, Detach, Create, Delete, Read, Write, Flush, Reserve, Renew, Retire, Reclaim}
-use Rattle.plx_words.specs.Candidates.{Reads, by_first, data_at, label_at, number_at}
+use Rattle.plx_words.specs.Candidates.{Reads, by_first, payload_at, label_at, number_at}
 use Rattle.plx_words.specs.Pieces.{Piece, word, number, small, label, data_word, unspelled, Spell}
 
 -- the words of a command, by their pieces
@@ -43,7 +43,7 @@ built_rows words = (codes "attach", Some (Attach (slot_at 1 words)))
     ∷ (codes "create", Some (Create (slot_at 1 words) (number_at 2 words) (label_at [] 3 words)))
     ∷ (codes "delete", Some (Delete (slot_at 1 words)))
     ∷ (codes "read", Some (Read (slot_at 1 words) (number_at 2 words)))
-    ∷ (codes "write", Some (Write (slot_at 1 words) (number_at 2 words) (data_at 3 words)))
+    ∷ (codes "write", Some (Write (slot_at 1 words) (number_at 2 words) (payload_at 3 words)))
     ∷ (codes "renew", Some Renew)
     ∷ []
 

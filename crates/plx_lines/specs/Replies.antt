@@ -10,7 +10,7 @@ use Rattle.plx_base.specs.declared.numbers.BlockNo.{BlockNo}
 use Rattle.plx_commands.specs.declared.reply.Report.{Report}
 use Rattle.plx_commands.specs.declared.reply.Reply.{Reply}
 use Rattle.plx_commands.specs.declared.reply.Reply.TheVariants.{Attached, Detached, Created, Deleted, Data, Written, Flushed, Reserved, Renewed, Retired, Reclaimed, NotAttached, AlreadyAttached, NoImage, Exists, OutOfRange, Busy, Lost, ReadFault, WriteFault, Full, Damaged, WornOut}
-use Rattle.plx_words.specs.Candidates.{by_first, data_at, label_at, named_at, number_at}
+use Rattle.plx_words.specs.Candidates.{by_first, payload_at, label_at, named_at, number_at}
 use Rattle.plx_words.specs.Pieces.{Piece, word, number, named, label, data_word, flag}
 
 -- the word of a lease
@@ -20,8 +20,8 @@ lease_piece (Image slot) = named (codes "lease=image:") (2 ^ 32) slot.0
 lease_piece (Extent extent) = named (codes "lease=extent:") (2 ^ 32) extent.0
 
 -- the one lease that a word can name
-abbrev pub lease_of : List ℕ → LeaseName
-lease_of letters = if bytes_eq letters (codes "lease=root") then Root
+abbrev pub lease_in : List ℕ → LeaseName
+lease_in letters = if bytes_eq letters (codes "lease=root") then Root
     else if bytes_eq (take 12 letters) (codes "lease=image:") then Image (record { 0 = digits_value 10 (drop 12 letters) })
     else Extent (record { 0 = digits_value 10 (drop 13 letters) })
 
@@ -32,8 +32,8 @@ record_line (Claimed claim until) = named (codes "boot=") (2 ^ 128) claim.boot.0
     ∷ named (codes "sample=") (2 ^ 64) claim.sample ∷ named (codes "until=") (2 ^ 64) until ∷ []
 
 -- the one record that words can spell
-abbrev pub record_of : List (List ℕ) → LeaseRecord
-record_of words = if bytes_eq (get_or words 2 []) (codes "free") then Free
+abbrev pub lease_record_in : List (List ℕ) → LeaseRecord
+lease_record_in words = if bytes_eq (get_or words 2 []) (codes "free") then Free
     else Claimed (record { boot = record { 0 = named_at (codes "boot=") 2 words }; number = named_at (codes "claim=") 3 words; sample = named_at (codes "sample=") 4 words })
     (named_at (codes "until=") 5 words)
 
@@ -44,8 +44,8 @@ report_line report = named (codes "live=") 2 (flag report.live) ∷ named (codes
     ∷ label (codes "label=") report.label ∷ []
 
 -- the one report that words can spell
-abbrev pub report_of : List (List ℕ) → Report
-report_of words = record {
+abbrev pub report_in : List (List ℕ) → Report
+report_in words = record {
   live = nat_eq (named_at (codes "live=") 1 words) 1;
   generation = named_at (codes "gen=") 2 words;
   size = named_at (codes "size=") 3 words;
@@ -87,13 +87,13 @@ abbrev pub block_at : ℕ → List (List ℕ) → BlockNo
 block_at k words = record { 0 = named_at (codes "block=") k words }
 
 -- the one reply that words can spell
-abbrev pub reply_of : List (List ℕ) → Option Reply
-reply_of words = by_first words (
-    (codes "attached", Some (Attached (report_of words)))
+abbrev pub reply_in : List (List ℕ) → Option Reply
+reply_in words = by_first words (
+    (codes "attached", Some (Attached (report_in words)))
     ∷ (codes "detached", Some Detached)
     ∷ (codes "created", Some Created)
     ∷ (codes "deleted", Some Deleted)
-    ∷ (codes "data", Some (Data (data_at 1 words)))
+    ∷ (codes "data", Some (Data (payload_at 1 words)))
     ∷ (codes "written", Some (Written (number_at 1 words)))
     ∷ (codes "flushed", Some (Flushed (named_at (codes "applied=") 1 words) (named_at (codes "blocks=") 2 words)))
     ∷ (codes "reserved", Some Reserved)
@@ -105,8 +105,8 @@ reply_of words = by_first words (
     ∷ (codes "no-image", Some NoImage)
     ∷ (codes "exists", Some Exists)
     ∷ (codes "out-of-range", Some (OutOfRange (named_at (codes "size=") 1 words)))
-    ∷ (codes "busy", Some (Busy (lease_of (get_or words 1 [])) (record_of words)))
-    ∷ (codes "lost", Some (Lost (lease_of (get_or words 1 [])) (named_at (codes "until=") 2 words) (named_at (codes "reading=") 3 words)))
+    ∷ (codes "busy", Some (Busy (lease_in (get_or words 1 [])) (lease_record_in words)))
+    ∷ (codes "lost", Some (Lost (lease_in (get_or words 1 [])) (named_at (codes "until=") 2 words) (named_at (codes "reading=") 3 words)))
     ∷ (codes "read-fault", Some (ReadFault (block_at 1 words)))
     ∷ (codes "write-fault", Some (WriteFault (block_at 1 words)))
     ∷ (codes "full", Some Full)
