@@ -8,7 +8,7 @@ use Rattle.plx_disk.specs.declared.ask.Answer.TheVariants as answer
 use Rattle.plx_gate.specs.Descriptors.{read_descriptor}
 use Rattle.plx_gate.specs.declared.descriptor.Descriptor.{Descriptor}
 use Rattle.plx_gate.specs.declared.image.ImageRecord.{ImageRecord}
-use Rattle.plx_gate.proofs.Descriptors.{descriptor-back, read-only, read-empty}
+use Rattle.plx_gate.proofs.Descriptors.{descriptor-back, descriptor-only, read-empty}
 use Rattle.plx_geom.specs.Geometry.{Geometry, record_at, descriptor_at, data_at}
 use Rattle.plx_geom.proofs.Places.{record-descriptor, record-data, data-descriptor}
 use Rattle.plx_rules.specs.declared.journaled.Journaled.{Journaled}
@@ -72,7 +72,7 @@ says kept slots slot (Some (Some d)) = says-descriptor kept slots slot d (is_una
 -- bytes that spell a descriptor, or none, are zeros past the first sector
 pub whole-spelled : (bytes : List ℕ) (found : Option Descriptor) → read_descriptor bytes ≡ Some found → drop 512 bytes ≡ drop 512 zeros
 whole-spelled bytes None is = ap (drop 512) (read-empty bytes is)
-whole-spelled bytes (Some d) is = ap (drop 512) (read-only bytes d is).0 ∙ descriptor-back d
+whole-spelled bytes (Some d) is = ap (drop 512) (descriptor-only bytes d is).0 ∙ descriptor-back d
 
 -- ---- the descriptors that were read so far
 
