@@ -33,3 +33,6 @@ pub mod Begun
 pub mod Worlds
 pub mod Inside
 pub mod Attaches
+pub mod Machines
+pub mod ClaimSteps
+pub mod ClaimRules

@@ -5,6 +5,7 @@
 //! are the theorems.
 #![tactic(auto)]
 
+ghost use Rattle.law_run.specs.ClaimEnds.{ClaimsKeepRules};
 ghost use Rattle.law_run.specs.Completeness.{OkWithoutCause};
 ghost use Rattle.law_run.specs.OneImage.{StoresOneImage};
 ghost use Rattle.law_run.specs.Positions.{PositionsAgree};
@@ -35,4 +36,10 @@ pub fn positions_agree()
 /// The log of each boot keeps the rules, in every world that events lead to.
 pub fn boots_keep_rules()
     ensures { BootsKeepRules }
+{}
+
+/// Each claim of a lease keeps the rules by itself, within any command: its asks are allowed, at most six are
+/// answered, and its end has its cause.
+pub fn claims_keep_rules()
+    ensures { ClaimsKeepRules }
 {}
