@@ -1,0 +1,26 @@
+//! One boot of an appliance under leases: a machine that asks, and is answered.
+#![tactic(auto)]
+
+mod detach;
+mod holdings;
+mod images;
+mod lease;
+mod leased;
+mod read;
+mod record;
+mod session;
+mod sessions;
+mod setting;
+mod spell;
+mod write;
+
+pub use detach::Detach;
+pub use holdings::Holdings;
+pub use lease::{Lease, Leases};
+pub use leased::Leased;
+pub use read::Read;
+pub use record::{Done, Record, RecordAt};
+pub use session::Session;
+pub use sessions::Sessions;
+pub use setting::Setting;
+pub use write::{Write, WriteAt};
