@@ -2,6 +2,8 @@
 use Rattle.std.specs.Prelude.{◌^◌, ◌<◌, Option, Some, None}
 use Rattle.plx_disk.specs.declared.ask.Answer.{Answer}
 use Rattle.plx_disk.specs.declared.ask.Answer.TheVariants as answer
+use Rattle.plx_disk.specs.declared.turn.Turn.{Turn}
+use Rattle.plx_disk.specs.declared.turn.Turn.TheVariants.{Again, Ended}
 use Rattle.plx_rules.specs.Part.{Part, Ends, ReadThen, WriteThen, ClockThen, UntilThen}
 
 -- what is left to ask once an answer led to this end, or to none yet
@@ -16,6 +18,14 @@ Asks (ReadThen block rest fault) = Unit {0}
 Asks (WriteThen kind block bytes guard done fault missed) = Unit {0}
 Asks (ClockThen rest) = Unit {0}
 Asks (UntilThen from rest) = Unit {0}
+
+-- whether an ask stands
+abbrev pub turn_of : {E : Type 0} → Part E → Turn
+turn_of (Ends end) = Ended
+turn_of (ReadThen block rest fault) = Again
+turn_of (WriteThen kind block bytes guard done fault missed) = Again
+turn_of (ClockThen rest) = Again
+turn_of (UntilThen from rest) = Again
 
 -- a reading is within the limit of readings
 abbrev pub IsTimely : Answer → Type 0
