@@ -1,10 +1,11 @@
 -- How a command's machine ends.
-use Rattle.std.specs.Prelude.{Option, Some, None}
+use Rattle.std.specs.Prelude.{ℕ, Option, Some, None}
 use Rattle.std.specs.Prelude.{Result, Ok, Err}
 use Rattle.plx_commands.specs.declared.reply.Reply.{Reply}
 use Rattle.plx_commands.specs.declared.reply.Reply.TheVariants as reply
 use Rattle.plx_rules.specs.Part.{Part}
 use Rattle.plx_worlds.specs.Ends.{End, ends}
+use Rattle.plx_worlds.specs.Holds.{Hold, Nothing}
 use Rattle.plx_worlds.specs.Session.{Known, nothing_known}
 
 -- what is known once a command ended with this reply: after a lost lease and a failed write no session is left
@@ -12,6 +13,11 @@ abbrev pub known_after : Reply → Known → Known
 known_after (reply.Lost lease until reading) known = nothing_known known.claims
 known_after (reply.WriteFault block) known = nothing_known known.claims
 known_after other known = known
+
+-- which leases of images are held then: after a lost lease none
+abbrev pub leases_after : Reply → (ℕ → Hold) → ℕ → Hold
+leases_after (reply.Lost lease until reading) leases = λ image. Nothing
+leases_after other leases = leases
 
 -- what a machine leaves: its rest, or the end with this reply
 abbrev pub after_reply : Part End → Known → Option Reply → Part End

@@ -5,4 +5,6 @@ pub mod Kept
 pub mod Pushing
 pub mod Releasing
 pub mod Rests
+pub mod Taking
 pub mod Tied
+pub mod Tokens

@@ -32,7 +32,8 @@ impl Detach {
     ghost use Rattle.plx_boot.specs.Asking.{AreWhole, IsOnDevice};
     ghost use Rattle.plx_boot.specs.Ending.{after_reply};
     ghost use Rattle.plx_boot.specs.Giving.{given};
-    ghost use Rattle.plx_boot.specs.Kept.{known_by, leases_of};
+    ghost use Rattle.plx_boot.specs.Kept.{known_by};
+    ghost use Rattle.plx_boot.specs.Tokens.{leases_of};
     ghost use Rattle.plx_boot.specs.Rests.{detach_rest};
     ghost use Rattle.plx_boot.specs.Releasing.{released};
 
@@ -85,7 +86,9 @@ impl Detach {
         match answer {
             Answer::Done => {
                 sessions.end(self.image.slot);
-                leases.set(self.image.slot, None);
+                if let Some(held) = leases.take(self.image.slot) {
+                    held.released();
+                }
                 Some(Reply::Detached)
             }
             Answer::Fault => Some(Reply::WriteFault {

@@ -3,9 +3,11 @@ ghost use Rattle.std.specs.Prelude.{◌≡◌, ◌≤◌};
 ghost use Rattle.plx_commands.specs.Limits.{last_claim};
 
 use crate::lease::Leases;
+use crate::leased::Leased;
 use crate::sessions::Sessions;
 use crate::setting::Setting;
-use plx_base::NoMemory;
+use plx_base::{NoMemory, SlotNo};
+use plx_commands::Reply;
 use std::alloc::Global;
 
 /// What a boot is given, its sessions, how many claims it began, and the leases that it holds.
@@ -22,10 +24,18 @@ pub struct Holdings {
 }
 
 impl Holdings {
-    ghost use Rattle.std.specs.Prelude.{IfOk};
+    ghost use Rattle.std.specs.Prelude.{ℕ, Ok, Err, IfOk, ◌<◌};
+    ghost use Rattle.plx_rules.specs.Part.{Part};
+    ghost use Rattle.plx_worlds.specs.Commands.{held_part};
+    ghost use Rattle.plx_worlds.specs.Ends.{End};
+    ghost use Rattle.plx_worlds.specs.Session.{Known};
+    ghost use Rattle.plx_boot.specs.Ending.{known_after, leases_after};
+    ghost use Rattle.plx_boot.specs.Giving.{given};
+    ghost use Rattle.plx_boot.specs.Taking.{taken};
     ghost use Rattle.plx_worlds.specs.Holds.{Nothing};
     ghost use Rattle.plx_worlds.specs.Session.{nothing_known};
-    ghost use Rattle.plx_boot.specs.Kept.{known_of, leases_of};
+    ghost use Rattle.plx_boot.specs.Kept.{known_of};
+    ghost use Rattle.plx_boot.specs.Tokens.{leases_of};
 
     /// A boot that has asked nothing.
     pub fn new(alloc: Global, setting: Setting) -> Result<Holdings, NoMemory>
@@ -52,5 +62,39 @@ impl Holdings {
     {
         self.sessions.forget();
         self.leases.forget();
+    }
+
+    /// The image's lease is held, and the reading hasn't reached its end; or the refusal.
+    pub fn leased(&self, slot: SlotNo, reading: u64) -> Result<Leased, Reply>
+        requires { slot.0 < self.now.setting.geometry.images }
+        ensures part { (known : Known) (rest : ℕ → Part End) → taken rest known result ≡ held_part (given self.now.setting) known slot.0 (leases_of self.now.leases.leases.items slot.0) reading rest }
+        ensures slot { (image : Leased) → result ≡ Ok image → image.slot ≡ slot }
+        ensures setting { (image : Leased) → result ≡ Ok image → image.setting ≡ self.now.setting }
+    {
+        let Some(held) = self.leases.get(slot) else {
+            return Err(Reply::NotAttached);
+        };
+        let image = Leased {
+            setting: self.setting,
+            slot,
+            until: held.until(),
+        };
+        if let Some(reply) = image.reached(reading) {
+            return Err(reply);
+        }
+        Ok(image)
+    }
+
+    /// After a lost lease and a failed write no session is left, and after a lost lease none is held.
+    pub fn settle(&mut self, reply: &Reply)
+        ensures setting { self.new.setting ≡ self.old.setting }
+        ensures known { known_of self.new ≡ known_after reply.now (known_of self.old) }
+        ensures leases { leases_of self.new.leases.leases.items ≡ leases_after reply.now (leases_of self.old.leases.leases.items) }
+    {
+        match reply {
+            Reply::Lost { .. } => self.forget(),
+            Reply::WriteFault { .. } => self.sessions.forget(),
+            _ => {}
+        }
     }
 }

@@ -1,34 +1,25 @@
 //! The leases that a boot holds.
-ghost use Rattle.std.specs.Prelude.{◌≡◌, ◌<◌, ◌≤◌, ◌+◌, ◌^◌};
+ghost use Rattle.std.specs.Prelude.{◌≡◌};
 ghost use Rattle.std.specs.Vec.{vec_len};
 
-use plx_base::{Claim, NoMemory, SlotNo};
+use plx_base::{NoMemory, SlotNo};
+use plx_token::{Held, Image};
 use std::alloc::Global;
-
-/// A lease that is held by a claim up to the moment `until`, in milliseconds.
-#[derive(Clone, Copy)]
-pub struct Lease {
-    pub claim: Claim,
-    pub until: u64,
-    ghost number: { claim.number < 2 ^ 40 },
-    ghost sample: { claim.sample < 2 ^ 48 },
-    ghost low: { claim.sample + 10000 ≤ until },
-    ghost high: { until < 2 ^ 49 },
-}
+use std::mem;
 
 /// The leases of images that a boot holds, by image slot.
 #[derive(Drop)]
 pub struct Leases {
     pub count: u32,
-    pub leases: Vec<Option<Lease>>,
+    pub leases: Vec<Option<Held<Image>>>,
     ghost long: { vec_len leases ≡ count },
 }
 
 impl Leases {
-    ghost use Rattle.std.specs.Prelude.{ℕ, None, Some, IfOk, slice_index_or};
+    ghost use Rattle.std.specs.Prelude.{◌<◌, None, Some, IfOk, MatchOption};
     ghost use Rattle.plx_commands.specs.Places.{at};
-    ghost use Rattle.plx_worlds.specs.Holds.{Hold, Held, Nothing};
-    ghost use Rattle.plx_boot.specs.Kept.{hold_of, leases_of};
+    ghost use Rattle.plx_worlds.specs.Holds.{Hold, Nothing};
+    ghost use Rattle.plx_boot.specs.Tokens.{hold_of, leases_of};
 
     /// No lease of so many images is held.
     pub fn new(alloc: Global, count: u32) -> Result<Leases, NoMemory>
@@ -43,23 +34,36 @@ impl Leases {
     }
 
     /// The lease of an image, where it is held.
-    pub fn get(&self, slot: SlotNo) -> Option<Lease>
-        ensures { hold_of result ≡ leases_of self.now.leases.items slot.0 }
+    pub fn get(&self, slot: SlotNo) -> Option<&Held<Image>>
+        ensures { MatchOption result (leases_of self.now.leases.items slot.0 ≡ Nothing) (λ held. leases_of self.now.leases.items slot.0 ≡ hold_of (Some held.now)) }
     {
         let index = slot.0 as usize;
         if index >= self.leases.len() {
             return None;
         }
-        self.leases[index]
+        match &self.leases[index] {
+            Some(held) => Some(held),
+            None => None,
+        }
     }
 
-    /// The lease of an image is held, or isn't held any more.
-    pub fn set(&mut self, slot: SlotNo, lease: Option<Lease>)
+    /// The lease of an image isn't kept any more, where it was held.
+    pub fn take(&mut self, slot: SlotNo) -> Option<Held<Image>>
         requires { slot.0 < self.old.count }
-        ensures held { leases_of self.new.leases.items ≡ at (leases_of self.old.leases.items) slot.0 (hold_of lease) }
+        ensures taken { hold_of result ≡ leases_of self.old.leases.items slot.0 }
+        ensures held { leases_of self.new.leases.items ≡ at (leases_of self.old.leases.items) slot.0 Nothing }
         ensures count { self.new.count ≡ self.old.count }
     {
-        self.leases[slot.0 as usize] = lease;
+        mem::replace(&mut self.leases[slot.0 as usize], None)
+    }
+
+    /// The lease of an image is held.
+    pub fn put(&mut self, slot: SlotNo, held: Held<Image>)
+        requires { slot.0 < self.old.count }
+        ensures held { leases_of self.new.leases.items ≡ at (leases_of self.old.leases.items) slot.0 (hold_of (Some held)) }
+        ensures count { self.new.count ≡ self.old.count }
+    {
+        self.leases[slot.0 as usize] = Some(held);
     }
 
     /// No lease is held any more.

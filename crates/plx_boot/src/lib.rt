@@ -16,7 +16,7 @@ mod write;
 
 pub use detach::Detach;
 pub use holdings::Holdings;
-pub use lease::{Lease, Leases};
+pub use lease::Leases;
 pub use leased::Leased;
 pub use read::Read;
 pub use record::{Done, Record, RecordAt};

@@ -1,6 +1,6 @@
 use Rattle.std.proofs.Common.{◌<◌, ◌≤◌, length, arith}
 use Rattle.std.specs.Prelude.{None}
-use Rattle.plx_boot.specs.Kept.{hold_of}
+use Rattle.plx_boot.specs.Tokens.{hold_of}
 use Rattle.plx_boot.proofs.Tables.{set-default, table-default}
 use Rattle.plx_boot.proofs.lease.Leases.forget.Goals as goal
 
