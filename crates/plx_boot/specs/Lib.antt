@@ -1,10 +1,15 @@
 pub mod Asking
+pub mod Attaches
 pub mod Ending
 pub mod Giving
+pub mod Finds
+pub mod Inside
 pub mod Kept
+pub mod Loads
 pub mod Pushing
 pub mod Releasing
 pub mod Rests
 pub mod Taking
 pub mod Tied
 pub mod Tokens
+pub mod Works

@@ -53,7 +53,7 @@ impl Record {
     ghost use Rattle.plx_worlds.specs.Commands.{create_part, delete_part, record_part};
     ghost use Rattle.plx_worlds.specs.Session.{Known};
     ghost use Rattle.plx_worlds.specs.Session.{Session as KnownSession};
-    ghost use Rattle.plx_boot.specs.Asking.{AreWhole, IsOnDevice};
+    ghost use Rattle.plx_boot.specs.Asking.{AreWhole, IsOnDevice, IsSpare};
     ghost use Rattle.plx_boot.specs.Ending.{after_reply, entered};
     ghost use Rattle.plx_boot.specs.Giving.{given};
     ghost use Rattle.plx_boot.specs.Kept.{known_by, session_of};
@@ -131,6 +131,7 @@ impl Record {
     pub fn ask(&self) -> Ask
         ensures ask { (known : Known) → Some result ≡ standing (record_rest known self.now) }
         ensures within { IsOnDevice self.now.image.setting.geometry result }
+        ensures spare { IsSpare self.now.image.setting.geometry result }
     {
         match self.at {
             RecordAt::First => Ask::Write {

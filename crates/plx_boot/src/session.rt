@@ -25,7 +25,9 @@ pub struct Session {
 
 impl Session {
     ghost use Rattle.plx_worlds.specs.Records.{applied_of, generation_of, is_live, size_of, taken_of};
-    ghost use Rattle.plx_worlds.specs.Session.{content, inserted, new_session, session_report, write_count, with_write};
+    ghost use Rattle.plx_worlds.specs.Session.{content, first_gap, inserted, new_session, session_report, write_count, with_write};
+    ghost use Rattle.std.specs.List.{insert as insert_at};
+    ghost use Rattle.plx_rules.specs.declared.journaled.Journaled.{Journaled as Written};
     ghost use Rattle.plx_boot.specs.Kept.{session_of};
 
     /// A session of a journal without slots, which takes no memory.
@@ -43,7 +45,7 @@ impl Session {
     /// A session of a free slot, with a block for each slot of its journal.
     pub fn new(alloc: Global, slots: u32) -> Result<Session, NoMemory>
         ensures slots { IfOk result (λ s. s.slots ≡ slots) }
-        ensures writes { IfOk result (λ s. s.writes.items ≡ []) }
+        ensures writes { IfOk result (λ s. vec_len s.writes ≡ 0) }
     {
         let writes = Vec::with_capacity(alloc, slots as usize)?;
         let spare = blocks(alloc, slots)?;
@@ -147,6 +149,58 @@ impl Session {
         }) {
             Ok(()) | Err(_) => {}
         }
+    }
+
+    /// The journal was found to hold one more write, among the others by its number.
+    pub fn insert(&mut self, number: u64, vblock: u32, bytes: &Block)
+        requires { vec_len self.old.writes < self.old.slots }
+        ensures slots { self.new.slots ≡ self.old.slots }
+        ensures image { self.new.image ≡ self.old.image }
+        ensures writes { self.new.writes.items ≡ inserted (record { number = number; vblock = vblock; block = bytes.now }) self.old.writes.items }
+        ensures len { vec_len self.new.writes ≡ vec_len self.old.writes + 1 }
+    {
+        let place = self.place(number);
+        let Some(mut block) = self.spare.pop() else {
+            return
+        };
+        block.set(bytes);
+        match self.writes.insert(
+            place,
+            Journaled {
+                number,
+                vblock,
+                block,
+            },
+        ) {
+            Ok(()) | Err(_) => {}
+        }
+    }
+
+    // Where a write of this number has its place.
+    fn place(&self, number: u64) -> usize
+        ensures within { result ≤ vec_len self.now.writes }
+        ensures place { (w : Written) → w.number ≡ number → inserted w self.now.writes.items ≡ insert_at self.now.writes.items result w }
+    {
+        for index in 0..self.writes.len() {
+            if number < self.writes[index].number {
+                return index;
+            }
+        }
+        self.writes.len()
+    }
+
+    /// The number of the first write that doesn't follow on the one before it.
+    pub fn gap(&self) -> Option<u64>
+        ensures { result ≡ first_gap (applied_of self.now.image) self.now.writes.items }
+    {
+        let mut before = self.applied();
+        for write in &self.writes {
+            if write.number != before + 1 {
+                return Some(write.number);
+            }
+            before += 1;
+        }
+        None
     }
 
     /// The session of an image that was just made, or of a slot that was just made free.

@@ -1,10 +1,11 @@
 //! What a boot is given.
 ghost use Rattle.std.specs.Prelude.{◌≡◌, ◌<◌};
+ghost use Rattle.plx_worlds.specs.InUse.{lease_name as name_of_lease};
 ghost use Rattle.plx_geom.specs.Geometry.{IsGeometry, block_count};
 ghost use Rattle.plx_geom.specs.Places.{IsPlace};
 ghost use Rattle.plx_geom.specs.Places.{block_of as place_block};
 
-use plx_base::{ApplianceNo, BlockNo, Boot};
+use plx_base::{ApplianceNo, BlockNo, Boot, ExtentNo, LeaseName, SlotNo};
 use plx_geom::{Geometry, Place};
 
 /// The layout of the device, which appliance it is, and the number of this start of it.
@@ -37,5 +38,19 @@ impl Setting {
         ensures within { result.0 < block_count self.now.geometry }
     {
         self.geometry.number(place)
+    }
+
+    /// What the lease of this number is called.
+    pub fn lease_name(&self, number: u32) -> LeaseName
+        ensures { result ≡ name_of_lease self.now.geometry number }
+    {
+        if number == 0 {
+            return LeaseName::Root;
+        }
+        let image = number - 1;
+        if image < self.geometry.images {
+            return LeaseName::Image(SlotNo(image));
+        }
+        LeaseName::Extent(ExtentNo(image - self.geometry.images))
     }
 }

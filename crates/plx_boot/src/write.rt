@@ -41,7 +41,7 @@ impl Write {
     ghost use Rattle.plx_rules.specs.Part.{answered, standing, bytes_out};
     ghost use Rattle.plx_worlds.specs.Commands.{write_part};
     ghost use Rattle.plx_worlds.specs.Session.{Known};
-    ghost use Rattle.plx_boot.specs.Asking.{AreWhole, IsOnDevice};
+    ghost use Rattle.plx_boot.specs.Asking.{AreWhole, IsOnDevice, IsSpare};
     ghost use Rattle.plx_boot.specs.Ending.{after_reply, entered};
     ghost use Rattle.plx_boot.specs.Giving.{given};
     ghost use Rattle.plx_boot.specs.Kept.{known_by, session_of};
@@ -99,6 +99,7 @@ impl Write {
     pub fn ask(&self) -> Ask
         ensures ask { (known : Known) → Some result ≡ standing (write_rest known self.now) }
         ensures within { IsOnDevice self.now.image.setting.geometry result }
+        ensures spare { IsSpare self.now.image.setting.geometry result }
     {
         match self.at {
             WriteAt::Data => Ask::Write {
