@@ -1,5 +1,8 @@
 pub mod Asking
+pub mod Confirms
 pub mod Contents
+pub mod Entered
+pub mod Held
 pub mod Numbers
 pub mod Places
 pub mod Reached

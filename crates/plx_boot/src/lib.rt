@@ -1,8 +1,11 @@
 //! One boot of an appliance under leases: a machine that asks, and is answered.
 #![tactic(auto)]
 
+mod appliance;
 mod attach;
+mod begun;
 mod detach;
+mod entering;
 mod finding;
 mod holdings;
 mod images;
@@ -18,8 +21,11 @@ mod spell;
 mod work;
 mod write;
 
+pub use appliance::{Appliance, Stage};
 pub use attach::{Attach, AttachAt};
+pub use begun::{Begun, Room};
 pub use detach::Detach;
+pub use entering::enter;
 pub use holdings::Holdings;
 pub use lease::Leases;
 pub use leased::Leased;

@@ -1,5 +1,5 @@
 //! What a boot is given.
-ghost use Rattle.std.specs.Prelude.{◌≡◌, ◌<◌};
+ghost use Rattle.std.specs.Prelude.{◌≡◌, ◌<◌, ◌^◌};
 ghost use Rattle.plx_worlds.specs.InUse.{lease_name as name_of_lease};
 ghost use Rattle.plx_geom.specs.Geometry.{IsGeometry, block_count};
 ghost use Rattle.plx_geom.specs.Places.{IsPlace};
@@ -15,6 +15,7 @@ pub struct Setting {
     pub appliance: ApplianceNo,
     pub boot: Boot,
     ghost limits: { IsGeometry geometry },
+    ghost numbered: { boot.0 < 2 ^ 128 },
 }
 
 impl Setting {
