@@ -1,7 +1,9 @@
 pub mod Asking
 pub mod Confirms
 pub mod Contents
+pub mod Dropping
 pub mod Entered
+pub mod First
 pub mod Held
 pub mod Numbers
 pub mod Places

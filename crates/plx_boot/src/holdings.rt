@@ -32,7 +32,9 @@ impl Holdings {
     ghost use Rattle.plx_boot.specs.Ending.{known_after, leases_after};
     ghost use Rattle.plx_boot.specs.Giving.{given};
     ghost use Rattle.plx_boot.specs.Taking.{taken};
-    ghost use Rattle.plx_worlds.specs.Holds.{Nothing};
+    ghost use Rattle.plx_commands.specs.Places.{at};
+    ghost use Rattle.plx_worlds.specs.Holds.{Nothing, first_hold};
+    ghost use Rattle.plx_boot.specs.Holding.{first_leases};
     ghost use Rattle.plx_worlds.specs.Session.{nothing_known};
     ghost use Rattle.plx_boot.specs.Kept.{known_of};
     ghost use Rattle.plx_boot.specs.Tokens.{leases_of};
@@ -95,6 +97,39 @@ impl Holdings {
             Reply::Lost { .. } => self.forget(),
             Reply::WriteFault { .. } => self.sessions.forget(),
             _ => {}
+        }
+    }
+
+    /// The first reading of a command drops each lease without a session that it has reached.
+    pub fn drop_expired(&mut self, reading: u64)
+        ensures setting { self.new.setting ≡ self.old.setting }
+        ensures known { known_of self.new ≡ known_of self.old }
+        ensures leases { leases_of self.new.leases.leases.items ≡ first_leases (known_of self.old) reading (leases_of self.old.leases.leases.items) }
+    {
+        for index in 0..self.leases.count {
+            self.drop_lease(SlotNo(index), reading);
+        }
+    }
+
+    // Drops the lease of an image without a session, where the reading has reached it.
+    fn drop_lease(&mut self, slot: SlotNo, reading: u64)
+        requires { slot.0 < self.old.setting.geometry.images }
+        ensures setting { self.new.setting ≡ self.old.setting }
+        ensures known { known_of self.new ≡ known_of self.old }
+        ensures leases { leases_of self.new.leases.leases.items ≡ at (leases_of self.old.leases.leases.items) slot.0 (first_hold ((known_of self.old).sessions slot.0) reading (leases_of self.old.leases.leases.items slot.0)) }
+    {
+        match self.sessions.get(slot) {
+            Some(_) => {}
+            None => match self.leases.get(slot) {
+                None => {}
+                Some(held) => {
+                    if held.until() <= reading {
+                        if let Some(over) = self.leases.take(slot) {
+                            over.dropped();
+                        }
+                    }
+                }
+            },
         }
     }
 }
