@@ -4,8 +4,10 @@ pub mod Contents
 pub mod Dropping
 pub mod Entered
 pub mod First
+pub mod Goes
 pub mod Held
 pub mod Numbers
 pub mod Places
 pub mod Reached
+pub mod Stood
 pub mod Tables

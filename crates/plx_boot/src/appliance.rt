@@ -36,6 +36,7 @@ impl Appliance {
     ghost use Rattle.plx_worlds.specs.Boot.{Began, Asked, Fits, Happening, asks, position, replies, writes_out};
     ghost use Rattle.plx_boot.specs.Appliance.{IsIdle, IsRunning, StandsFor, has_session, setting_of};
     ghost use Rattle.plx_boot.specs.Begins.{IsServed};
+    ghost use Rattle.plx_boot.specs.declared.begun.Begun.{Begun as Started};
 
     /// An appliance that was asked nothing yet.
     pub fn fresh(alloc: Global, setting: Setting) -> Result<Appliance, NoMemory>
@@ -104,6 +105,33 @@ impl Appliance {
             Stage::Idle => &[],
             Stage::Begun(_) => &[],
             Stage::In(work) => work.out(),
+        }
+    }
+
+    // The command that has begun has its first reading.
+    fn first(&mut self, reading: u64) -> Option<Reply>
+        ensures log { (log : List Happening) (begun : Started) → self.old.stage ≡ Stage.Begun begun → StandsFor self.old log → StandsFor self.new (Asked Ask.Clock [] (Answer.Reading reading) ∷ log) }
+        ensures reply { (log : List Happening) (begun : Started) → self.old.stage ≡ Stage.Begun begun → StandsFor self.old log → result ≡ replies (setting_of self.old) (Answer.Reading reading) (position (setting_of self.old) log) }
+        ensures setting { self.new.holdings.setting ≡ self.old.holdings.setting }
+    {
+        match mem::replace(&mut self.stage, Stage::Idle) {
+            Stage::Begun(begun) => {
+                self.holdings.drop_expired(reading);
+                match enter(begun, &mut self.holdings, reading) {
+                    Ok(work) => {
+                        self.stage = Stage::In(work);
+                        None
+                    }
+                    Err(reply) => {
+                        self.holdings.settle(&reply);
+                        Some(reply)
+                    }
+                }
+            }
+            other => {
+                self.stage = other;
+                None
+            }
         }
     }
 }
