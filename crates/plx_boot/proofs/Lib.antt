@@ -1,4 +1,5 @@
 pub mod Asking
+pub mod Confirmed
 pub mod Confirms
 pub mod Contents
 pub mod Dropping
