@@ -1,20 +1,19 @@
 -- A claim holds its lease at its end exactly where it says so.
-use Rattle.std.proofs.Common.{◌≡◌, ℕ, ◌+◌, ◌<◌, ◌≤◌, ◌^◌, List, [], ◌∷◌, length, Option, Some, None, Bool, true, false, refl, sym, ap, ◌∙◌, subst, arith}
+use Rattle.std.proofs.Common.{◌≡◌, ℕ, ◌+◌, ◌<◌, ◌≤◌, ◌^◌, List, ◌∷◌, Option, Some, None, Bool, true, false, refl, sym, ap, subst, arith}
 use Rattle.std.specs.Prelude.{nat_lt, nat_le, if◌then◌else◌, ◌&&◌}
 use Rattle.std.specs.Str.{bytes_eq}
 use Rattle.std.proofs.lemmas.Bool.Decides.{nat_tests}
 use Rattle.plx_base.specs.declared.lease.Claim.{Claim}
 use Rattle.plx_base.specs.declared.lease.LeaseRecord.{LeaseRecord}
-use Rattle.plx_base.specs.declared.lease.LeaseRecord.TheVariants.{Claimed, Free}
 use Rattle.plx_gate.specs.Leases.{IsLease, lease_bytes, read_lease}
 use Rattle.plx_gate.proofs.Leases.{lease-back}
 use Rattle.plx_geom.specs.Geometry.{lease_at}
-use Rattle.plx_rules.specs.Part.{Part, Ends, ReadThen, WriteThen, ClockThen, UntilThen}
-use Rattle.plx_worlds.specs.Claims.{ClaimEnd, ClaimHeld, ClaimBusy, ClaimLost, ClaimReadFault, ClaimWriteFault, ClaimDamaged, claim_damaged, claim_in_time, claim_of, claim_part, end_of_term, if_expired, own_record, own_use, reread_by, reread_part, seen_part, written_part}
-use Rattle.plx_worlds.specs.Holds.{Hold, Nothing, Seen, Wrote, Waited, Held, reread, shown, seen_by, seen_for, timed, wrote}
+use Rattle.plx_rules.specs.Part.{Part, Ends, UntilThen}
+use Rattle.plx_worlds.specs.Claims.{ClaimEnd, ClaimLost, ClaimDamaged, claim_damaged, claim_in_time, claim_of, claim_part, end_of_term, if_expired, own_record, own_use, reread_by, reread_part, seen_part, written_part}
+use Rattle.plx_worlds.specs.Holds.{Hold, Nothing, Seen, Wrote, Waited, Held, reread, seen_by, seen_for, timed, wrote}
 use Rattle.plx_worlds.specs.InUse.{InUse, earlier, first_reached, unless_reached}
-use Rattle.plx_worlds.specs.Times.{is_expired, wait, window}
-use Rattle.plx_lease.specs.Holding.{HoldsAtEnd, IsNotHeld}
+use Rattle.plx_worlds.specs.Times.{is_expired, wait}
+use Rattle.plx_lease.specs.Holding.{IsNotHeld}
 use Rattle.plx_boot.specs.Stands.{Confirms}
 
 none-some : {X : Type 0} (x : X) → Some x ≡ None → ⊥

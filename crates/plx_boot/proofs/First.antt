@@ -1,12 +1,12 @@
 -- The first reading of a command.
-use Rattle.std.proofs.Common.{◌≡◌, ℕ, ◌+◌, ◌<◌, ◌≤◌, List, [], ◌∷◌, Option, Some, None, Bool, true, false, refl, sym, ap, ◌∙◌, subst, arith}
+use Rattle.std.proofs.Common.{◌≡◌, ℕ, ◌+◌, ◌<◌, Option, Some, None, Bool, true, false, refl, ap, ◌∙◌, arith}
 use Rattle.std.proofs.lemmas.Bool.Decides.{nat_tests}
 use Rattle.std.specs.Prelude.{◌-◌, nat_lt, nat_le, if◌then◌else◌, ◌&&◌}
 use Rattle.plx_geom.specs.Geometry.{Geometry, image_lease, lease_at, lease_count}
 use Rattle.plx_rules.specs.Part.{Part, Ends, ReadThen, WriteThen, ClockThen, UntilThen}
 use Rattle.plx_worlds.specs.Attaching.{attach_part}
 use Rattle.plx_worlds.specs.Boot.{In, after_part, place_of}
-use Rattle.plx_worlds.specs.Commands.{attached_part, of_attached}
+use Rattle.plx_worlds.specs.Commands.{attached_part}
 use Rattle.plx_worlds.specs.Ends.{End}
 use Rattle.plx_worlds.specs.Holds.{Hold, Nothing, Seen, Wrote, Waited, Held, after_first, first_hold, session_at}
 use Rattle.plx_worlds.specs.Machines.{Asks}

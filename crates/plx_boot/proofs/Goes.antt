@@ -1,28 +1,25 @@
 -- A command that goes on, or ends, after an answer.
-use Rattle.std.proofs.Common.{◌≡◌, ℕ, ◌+◌, ◌<◌, ◌≤◌, List, [], ◌∷◌, Option, Some, None, refl, sym, ap, ◌∙◌, subst, arith}
+use Rattle.std.proofs.Common.{◌≡◌, ℕ, ◌+◌, ◌<◌, List, [], ◌∷◌, Option, Some, None, refl, sym, ap, ◌∙◌, subst, arith}
 use Rattle.std.specs.Prelude.{◌-◌, Bool, true, false, slice_index_or, nat_le, nat_lt, ◌&&◌, if◌then◌else◌}
-use Rattle.plx_commands.specs.declared.command.Command.{Command}
 use Rattle.plx_commands.specs.declared.reply.Reply.{Reply}
 use Rattle.plx_commands.specs.declared.reply.Reply.TheVariants as reply
-use Rattle.plx_disk.specs.declared.ask.Ask.{Ask}
 use Rattle.plx_disk.specs.declared.ask.Ask.TheVariants as ask
-use Rattle.plx_disk.specs.declared.ask.Answer.{Answer}
 use Rattle.plx_disk.specs.declared.ask.Answer.TheVariants as answer
 use Rattle.plx_geom.specs.Geometry.{Geometry, image_lease, lease_at, lease_count}
 use Rattle.plx_rules.specs.Part.{Part, Ends, ReadThen, WriteThen, ClockThen, UntilThen}
 use Rattle.plx_token.specs.declared.held.Held.{Held as Token}
 use Rattle.plx_token.specs.declared.kind.Image.{Image}
-use Rattle.plx_worlds.specs.Boot.{Position, Place, Idle, Begins, In, Happening, Asked, after_part, goes_to, place_of, position, replies, replies_at, reply_of, went_on}
+use Rattle.plx_worlds.specs.Boot.{Position, Idle, In, Happening, Asked, after_part, goes_to, place_of, position, replies, replies_at, reply_of, went_on}
 use Rattle.plx_worlds.specs.Commands.{command_part}
 use Rattle.plx_worlds.specs.Ends.{End, ends}
-use Rattle.plx_worlds.specs.Holds.{Hold, Nothing, Held, after_first, after_reply, no_holds}
+use Rattle.plx_worlds.specs.Holds.{Hold, Nothing, after_first, after_reply}
 use Rattle.plx_worlds.specs.Machines.{Asks}
 use Rattle.plx_worlds.proofs.Nested.{asks-followed}
 use Rattle.plx_worlds.specs.Session.{Known}
 use Rattle.plx_worlds.specs.Settings.{Setting}
 use Rattle.plx_lease.specs.Claiming.{claim_rest}
 use Rattle.plx_boot.specs.Appliance.{HasBegun, IsIn}
-use Rattle.plx_boot.specs.Attaches.{attach_at, attach_rest}
+use Rattle.plx_boot.specs.Attaches.{attach_at}
 use Rattle.plx_boot.specs.Begins.{begun_part}
 use Rattle.plx_boot.specs.Ending.{known_after, leases_after}
 use Rattle.plx_boot.specs.Holding.{HoldsAs, first_leases, settled}

@@ -1,17 +1,15 @@
 -- What is held, lease by lease, after each answer.
-use Rattle.std.proofs.Common.{◌≡◌, ◌≢◌, ℕ, ◌+◌, ◌<◌, ◌≤◌, ◌^◌, List, [], ◌∷◌, length, Option, Some, None, Bool, true, false, refl, sym, ap, ◌∙◌, subst, arith}
-use Rattle.std.specs.Prelude.{nat_lt, nat_le, if◌then◌else◌, ◌&&◌, ◌==◌}
-use Rattle.plx_base.specs.declared.lease.Claim.{Claim}
+use Rattle.std.proofs.Common.{◌≡◌, ℕ, ◌+◌, List, Option, Bool, true, false, refl, ap, ◌∙◌, arith}
+use Rattle.std.specs.Prelude.{nat_lt, nat_le, if◌then◌else◌, ◌&&◌}
 use Rattle.plx_base.specs.declared.write_kind.WriteKind.{WriteKind}
 use Rattle.plx_base.specs.declared.write_kind.WriteKind.TheVariants as kind
-use Rattle.plx_commands.specs.Places.{at}
-use Rattle.plx_commands.proofs.Places.{at-same, at-other}
+use Rattle.plx_commands.proofs.Places.{at-other}
 use Rattle.plx_disk.specs.declared.ask.Ask.{Ask}
 use Rattle.plx_disk.specs.declared.ask.Ask.TheVariants as ask
 use Rattle.plx_disk.specs.declared.ask.Answer.{Answer}
 use Rattle.plx_disk.specs.declared.ask.Answer.TheVariants as answer
-use Rattle.plx_geom.specs.Geometry.{Geometry, lease_at, lease_count}
-use Rattle.plx_worlds.specs.Holds.{Hold, Nothing, Seen, Wrote, Waited, Held, after_answer, after_write, no_holds, shown, timed}
+use Rattle.plx_geom.specs.Geometry.{Geometry, lease_at}
+use Rattle.plx_worlds.specs.Holds.{Hold, Nothing, Seen, Wrote, Waited, Held, after_answer, after_write, shown, timed}
 use Rattle.plx_boot.specs.Asking.{IsOther, IsSpare}
 use Rattle.plx_boot.specs.Tokens.{held_at}
 use Rattle.plx_boot.specs.Holding.{HoldsAs, dropped, settled}

@@ -1,6 +1,6 @@
 -- Each place is a block of the device.
-use Rattle.std.proofs.Common.{◌<◌, ◌≤◌, ℕ, arith}
-use Rattle.plx_geom.specs.Geometry.{Geometry, IsGeometry, block_count, lease_count, root_lease, image_lease, extent_lease, extents_start, journal_start}
+use Rattle.std.proofs.Common.{◌<◌, arith}
+use Rattle.plx_geom.specs.Geometry.{Geometry, IsGeometry, block_count, root_lease, image_lease, extent_lease}
 use Rattle.plx_geom.specs.Places.{IsPlace, block_of}
 use Rattle.plx_geom.specs.declared.place.Place.{Place}
 use Rattle.plx_geom.specs.declared.place.Place.TheVariants.{Super, RootLease, ImageLease, ExtentLease, Record, Log, JDesc, JData, Map, Pool}

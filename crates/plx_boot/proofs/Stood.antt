@@ -1,21 +1,19 @@
 -- Where an appliance stands after the first reading of a command.
-use Rattle.std.proofs.Common.{◌≡◌, ℕ, [], ◌∷◌, List, Some, None, sym, ap, ◌∙◌, subst}
+use Rattle.std.proofs.Common.{◌≡◌, ℕ, List, sym, ap, ◌∙◌, subst}
 use Rattle.plx_commands.specs.declared.reply.Reply.{Reply}
-use Rattle.plx_disk.specs.declared.ask.Ask.TheVariants as ask
-use Rattle.plx_disk.specs.declared.ask.Answer.TheVariants as answer
-use Rattle.plx_worlds.specs.Boot.{Happening, Asked, Idle, position}
+use Rattle.plx_worlds.specs.Boot.{Happening, position}
 use Rattle.plx_worlds.specs.Ends.{ends}
 use Rattle.plx_worlds.specs.Holds.{Hold}
 use Rattle.plx_worlds.specs.Session.{Known}
-use Rattle.plx_boot.specs.Appliance.{HasBegun, IsIn, StandsAt, StandsFor, setting_of}
+use Rattle.plx_boot.specs.Appliance.{StandsAt, StandsFor, setting_of}
 use Rattle.plx_boot.specs.Begins.{begun_part}
-use Rattle.plx_boot.specs.Ending.{known_after, leases_after}
+use Rattle.plx_boot.specs.Ending.{known_after}
 use Rattle.plx_boot.specs.Giving.{given}
-use Rattle.plx_boot.specs.Holding.{HoldsAs, first_leases}
+use Rattle.plx_boot.specs.Holding.{first_leases}
 use Rattle.plx_boot.specs.Kept.{known_of}
 use Rattle.plx_boot.specs.Stands.{IsTied, StartsInside}
 use Rattle.plx_boot.specs.Tokens.{held_at, leases_of}
-use Rattle.plx_boot.specs.Works.{work_entered, work_rest}
+use Rattle.plx_boot.specs.Works.{work_rest}
 use Rattle.plx_boot.specs.declared.appliance.Appliance.{Appliance}
 use Rattle.plx_boot.specs.declared.appliance.Stage.{Stage}
 use Rattle.plx_boot.specs.declared.appliance.Stage.TheVariants as stage

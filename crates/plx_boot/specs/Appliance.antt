@@ -1,7 +1,7 @@
 -- An appliance, by the log of its boot.
-use Rattle.std.specs.Prelude.{◌≡◌, ℕ, List, Option, Some, None, Bool, true, false, is_some}
+use Rattle.std.specs.Prelude.{◌≡◌, ℕ, List, Bool, true, false, is_some}
 use Rattle.plx_commands.specs.declared.command.Command.{Command}
-use Rattle.plx_worlds.specs.Boot.{Position, Place, Idle, Begins, In, Happening, position}
+use Rattle.plx_worlds.specs.Boot.{Position, Idle, Begins, In, Happening, position}
 use Rattle.plx_worlds.specs.Commands.{command_part}
 use Rattle.plx_worlds.specs.Holds.{Hold}
 use Rattle.plx_worlds.specs.Session.{Known}

@@ -1,6 +1,5 @@
 -- What each command still asks, by where its machine stands and by what is known.
-use Rattle.std.specs.Prelude.{ℕ, List, Option, None}
-use Rattle.plx_base.specs.declared.lease.LeaseRecord.TheVariants as record_is
+use Rattle.std.specs.Prelude.{ℕ, None}
 use Rattle.plx_base.specs.declared.write_kind.WriteKind.TheVariants as kind
 use Rattle.plx_commands.specs.declared.reply.Reply.{Reply}
 use Rattle.plx_commands.specs.declared.reply.Reply.TheVariants as reply

@@ -1,12 +1,12 @@
 -- Where a command's machine stands, and how far its claim has come.
-use Rattle.std.specs.Prelude.{◌≡◌, ◌≤◌, ◌<◌, ◌^◌, ℕ, List, length, Option, Some, None}
+use Rattle.std.specs.Prelude.{◌≡◌, ◌≤◌, ◌<◌, ◌^◌, ℕ, List, Option, Some, None}
 use Rattle.plx_base.specs.declared.write_kind.WriteKind.TheVariants as kind
 use Rattle.plx_gate.specs.Leases.{read_lease}
 use Rattle.plx_geom.specs.Geometry.{image_lease, lease_at}
 use Rattle.plx_rules.specs.Part.{Part, Ends, ReadThen, WriteThen, ClockThen, UntilThen}
 use Rattle.plx_base.specs.declared.write_kind.WriteKind.{WriteKind}
-use Rattle.plx_worlds.specs.Claims.{ClaimEnd, ClaimHeld, ClaimBusy, ClaimLost, ClaimReadFault, ClaimWriteFault, ClaimDamaged}
-use Rattle.plx_worlds.specs.Holds.{Hold, Nothing, Seen, Wrote, Waited, Held, shown, timed, wrote}
+use Rattle.plx_worlds.specs.Claims.{ClaimEnd}
+use Rattle.plx_worlds.specs.Holds.{Hold, Nothing, shown, timed, wrote}
 use Rattle.plx_lease.specs.Claiming.{claim_rest}
 use Rattle.plx_lease.specs.Holding.{HoldsAtEnd}
 use Rattle.plx_boot.specs.declared.attach.Attach.{Attach}

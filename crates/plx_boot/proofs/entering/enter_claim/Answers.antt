@@ -1,4 +1,4 @@
-use Rattle.std.proofs.Common.{ℕ, [], ◌<◌, ◌^◌, arith}
+use Rattle.std.proofs.Common.{[], arith}
 use Rattle.plx_geom.specs.Geometry.{image_lease}
 use Rattle.std.specs.Prelude.{◌≡◌, nat_lt, true}
 use Rattle.plx_commands.specs.Limits.{last_claim}

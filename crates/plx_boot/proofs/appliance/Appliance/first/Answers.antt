@@ -9,7 +9,6 @@ use Rattle.plx_boot.specs.Holding.{HoldsAs}
 use Rattle.plx_boot.specs.Kept.{known_of}
 use Rattle.plx_boot.specs.Tokens.{leases_of}
 use Rattle.plx_boot.specs.declared.appliance.Stage.{Stage}
-use Rattle.plx_boot.specs.declared.appliance.Stage.TheVariants as stage
 use Rattle.plx_boot.specs.declared.setting.Setting.{Setting}
 use Rattle.plx_boot.proofs.Stood.{stood-in, stood-ends}
 use Rattle.plx_boot.proofs.appliance.Appliance.first.Goals as goal

@@ -1,5 +1,4 @@
-use Rattle.std.proofs.Common.{◌≡◌, ◌<◌, ◌≤◌, ℕ}
-use Rattle.plx_worlds.specs.Holds.{first_hold}
+use Rattle.std.proofs.Common.{◌≡◌}
 use Rattle.plx_boot.specs.Kept.{known_of}
 use Rattle.plx_boot.specs.Tokens.{leases_of}
 use Rattle.plx_boot.proofs.Dropping.{IsDropped}

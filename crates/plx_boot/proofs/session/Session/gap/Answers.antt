@@ -1,5 +1,5 @@
-use Rattle.std.proofs.Common.{◌<◌, length, ◌∙◌, sym, arith}
-use Rattle.plx_boot.proofs.Numbers.{gap-next, gap-here, gap-end}
+use Rattle.std.proofs.Common.{◌∙◌, arith}
+use Rattle.plx_boot.proofs.Numbers.{gap-next}
 use Rattle.plx_boot.proofs.session.Session.gap.Goals as goal
 
 pub loop-write-preserved : goal.loop-write-preserved

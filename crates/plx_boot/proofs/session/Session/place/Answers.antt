@@ -1,4 +1,4 @@
-use Rattle.std.proofs.Common.{◌≡◌, ◌<◌, ◌≤◌, length, ◌∙◌, sym, arith}
+use Rattle.std.proofs.Common.{◌≡◌, ◌<◌, ◌≤◌, length, ◌∙◌, arith}
 use Rattle.plx_boot.proofs.Numbers.{from-next, from-here, from-end}
 use Rattle.plx_boot.proofs.session.Session.place.Goals as goal
 

@@ -1,7 +1,6 @@
 use Rattle.std.proofs.Common.{◌≡◌}
 use Rattle.std.specs.Prelude.{ℕ, None, slice_index_or}
 use Rattle.std.specs.Vec.{vec_len}
-use Rattle.plx_worlds.specs.Session.{nothing_known}
 use Rattle.plx_boot.proofs.sessions.Sessions.new.Given as goal
 
 abbrev pub invariant-loop : goal.invariant-loop
