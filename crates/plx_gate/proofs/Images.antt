@@ -76,14 +76,14 @@ back : (a b : Bool) → (a && b) ≡ true → b ≡ true
 back true b h = h
 back false b h = cc
 
-is_image-true : (r : ImageRecord) → IsImage r → is_image r ≡ true
+pub is_image-true : (r : ImageRecord) → IsImage r → is_image r ≡ true
 is_image-true (Free generation) h = grind (arith, nat_tests)
 is_image-true (Live generation size taken root applied label) h =
     all_three (are_within generation size taken applied) (is_pointer root) (is_label label)
     (are_within-true generation size taken applied h.generation_low h.generation_high h.size_low h.size_high h.taken_high h.applied_high)
     (is_pointer-true root h.root_pointer) (is_label-true label h.label_is)
 
-true-is_image : (r : ImageRecord) → is_image r ≡ true → IsImage r
+pub true-is_image : (r : ImageRecord) → is_image r ≡ true → IsImage r
 true-is_image (Free generation) h = grind (arith, nat_tests)
 true-is_image (Live generation size taken root applied label) h =
     let a = true-are_within generation size taken applied (front (are_within generation size taken applied) (is_pointer root && is_label label) h) in

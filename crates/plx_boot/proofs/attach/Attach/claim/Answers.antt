@@ -1,0 +1,8 @@
+use Rattle.std.proofs.Common.{refl}
+use Rattle.plx_geom.specs.Geometry.{image_lease}
+use Rattle.plx_boot.proofs.attach.Attach.claim.Goals as goal
+
+pub returns-clause-rest : goal.returns-clause-rest
+returns-clause-rest c = λ known.
+    let claimed = c.begin.ensures.rest (image_lease c.args.slot.0) c.block-block.ensures.block in
+    rw (claimed, c.begin-2.ensures.image) refl

@@ -1,0 +1,9 @@
+use Rattle.std.proofs.Common.{◌∙◌, sym, replicate}
+use Rattle.plx_base.specs.Blocks.{zeros}
+use Rattle.plx_disk.proofs.Whole.{written-whole, length-zeros}
+use Rattle.plx_boot.proofs.session.clear.Goals as goal
+
+pub returns : goal.returns
+unfolding zeros
+returns c =
+    c.copy_from.ensures ∙ written-whole (replicate 4096 0) c.args.block.now (length-zeros ∙ sym c.as_slice-bytes.ensures.len)

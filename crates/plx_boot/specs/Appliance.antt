@@ -1,0 +1,63 @@
+-- An appliance, by the log of its boot.
+use Rattle.std.specs.Prelude.{◌≡◌, ℕ, List, Bool, true, false, is_some}
+use Rattle.plx_commands.specs.declared.command.Command.{Command}
+use Rattle.plx_worlds.specs.Boot.{Position, Idle, Begins, In, Happening, position}
+use Rattle.plx_worlds.specs.Commands.{command_part}
+use Rattle.plx_worlds.specs.Holds.{Hold}
+use Rattle.plx_worlds.specs.Session.{Known}
+use Rattle.plx_worlds.specs.Settings.{Setting}
+use Rattle.plx_boot.specs.Begins.{begun_part}
+use Rattle.plx_boot.specs.Giving.{given}
+use Rattle.plx_boot.specs.Holding.{HoldsAs}
+use Rattle.plx_boot.specs.Kept.{known_of}
+use Rattle.plx_boot.specs.Stands.{Inside}
+use Rattle.plx_boot.specs.Tokens.{leases_of}
+use Rattle.plx_boot.specs.Works.{work_rest}
+use Rattle.plx_boot.specs.declared.appliance.Appliance.{Appliance}
+use Rattle.plx_boot.specs.declared.appliance.Stage.{Stage}
+use Rattle.plx_boot.specs.declared.appliance.Stage.TheVariants as stage
+use Rattle.plx_boot.specs.declared.begun.Begun.{Begun}
+use Rattle.plx_boot.specs.declared.work.Work.{Work}
+
+-- what the boot is given
+abbrev pub setting_of : Appliance → Setting
+setting_of a = given a.holdings.setting
+
+-- a command has begun, and asks what its machine will ask
+pub record HasBegun (s : Setting) (known : Known) (begun : Begun) (p : Position) : Type 0 where
+  pub command : Command
+  pub place_is : p.place ≡ Begins known command
+  pub part_is : (holds : ℕ → Hold) (reading : ℕ) → begun_part s known holds reading begun ≡ command_part s known holds reading command
+
+-- a command has had its first reading, and its machine stands where its log does
+pub record IsIn (known : Known) (w : Work) (p : Position) : Type 0 where
+  pub before : Known
+  pub command : Command
+  pub place_is : p.place ≡ In before command (work_rest known w)
+  pub inside : Inside w p.holds p.sample
+
+abbrev pub StandsAt : Setting → Known → Stage → Position → Type 0
+StandsAt s known stage.Idle p = p.place ≡ Idle known
+StandsAt s known (stage.Begun begun) p = HasBegun s known begun p
+StandsAt s known (stage.In w) p = IsIn known w p
+
+-- an appliance stands for a log that leads to where it stands, and its tokens are what the log holds
+pub record StandsFor (a : Appliance) (log : List Happening) : Type 0 where
+  pub at : StandsAt (setting_of a) (known_of a.holdings) a.stage (position (setting_of a) log)
+  pub held : HoldsAs a.holdings.setting.geometry (leases_of a.holdings.leases.leases.items) (position (setting_of a) log).holds
+
+-- an appliance is in no command, or in one
+abbrev pub runs : Stage → Bool
+runs stage.Idle = false
+runs (stage.Begun begun) = true
+runs (stage.In w) = true
+
+abbrev pub IsIdle : Appliance → Type 0
+IsIdle a = runs a.stage ≡ false
+
+abbrev pub IsRunning : Appliance → Type 0
+IsRunning a = runs a.stage ≡ true
+
+-- the image in this slot has a session
+abbrev pub has_session : Appliance → ℕ → Bool
+has_session a image = is_some ((known_of a.holdings).sessions image)

@@ -1,0 +1,28 @@
+-- What an attach still asks, by where it stands and by what is known.
+use Rattle.plx_rules.specs.Part.{Part}
+use Rattle.plx_worlds.specs.Attaching.{after_claim}
+use Rattle.plx_worlds.specs.Ends.{End}
+use Rattle.plx_worlds.specs.Parts.{followed_by}
+use Rattle.plx_worlds.specs.Session.{Known}
+use Rattle.plx_lease.specs.Claiming.{claim_rest}
+use Rattle.plx_disk.specs.declared.ask.Ask.{Ask}
+use Rattle.plx_boot.specs.Asking.{IsSpare}
+use Rattle.plx_boot.specs.Giving.{given}
+use Rattle.plx_boot.specs.Loads.{load_rest}
+use Rattle.plx_boot.specs.declared.attach.Attach.{Attach}
+use Rattle.plx_boot.specs.declared.setting.Setting.{Setting}
+use Rattle.plx_boot.specs.declared.attach.AttachAt.{AttachAt}
+use Rattle.plx_boot.specs.declared.attach.AttachAt.TheVariants as attach
+
+abbrev pub attach_at : AttachAt → Known → Attach → Part End
+attach_at attach.Claim known a = followed_by (claim_rest a.claim) (after_claim (given a.load.image.setting) known a.load.image.slot.0)
+attach_at attach.Load known a = load_rest known a.load
+
+-- in the claim what is known counts it already
+abbrev pub attach_rest : Known → Attach → Part End
+attach_rest known a = attach_at a.at known a
+
+-- the load concerns no lease
+abbrev pub attach_spares : AttachAt → Setting → Ask → Type 0
+attach_spares attach.Claim setting ask = Unit {0}
+attach_spares attach.Load setting ask = IsSpare setting.geometry ask

@@ -1,0 +1,137 @@
+//! One boot of an appliance.
+ghost use Rattle.std.specs.Prelude.{◌≡◌, ◌<◌};
+ghost use Rattle.plx_boot.specs.Ties.{stage_setting, stage_slots};
+
+use crate::begun::Begun;
+use crate::entering::enter;
+use crate::holdings::Holdings;
+use crate::setting::Setting;
+use crate::work::Work;
+use plx_base::{NoMemory, SlotNo};
+use plx_commands::{Command, Reply};
+use plx_disk::{Answer, Ask};
+use std::alloc::Global;
+use std::mem;
+
+/// Where an appliance stands: in no command, at the first reading of one that has begun, or after it.
+#[derive(Drop)]
+pub enum Stage {
+    Idle,
+    Begun(Begun),
+    In(Work),
+}
+
+/// One boot of an appliance: what it keeps between commands, and the command that runs.
+#[derive(Drop)]
+pub struct Appliance {
+    holdings: Holdings,
+    stage: Stage,
+    ghost same: { stage_setting holdings.setting stage ≡ holdings.setting },
+    ghost room: { stage_slots holdings.setting.geometry.slots stage ≡ holdings.setting.geometry.slots },
+}
+
+impl Appliance {
+    ghost use Rattle.std.specs.Prelude.{ℕ, List, [], ◌∷◌, Some, None, true, false, IsTrue, IfOk, OnOk, OnErr};
+    ghost use Rattle.plx_disk.specs.declared.ask.Ask.{Ask};
+    ghost use Rattle.plx_worlds.specs.Boot.{Began, Asked, Fits, Happening, asks, position, replies, writes_out};
+    ghost use Rattle.plx_boot.specs.Appliance.{IsIdle, IsRunning, StandsFor, has_session, setting_of};
+    ghost use Rattle.plx_boot.specs.Begins.{IsServed};
+    ghost use Rattle.plx_boot.specs.declared.begun.Begun.{Begun as Started};
+
+    /// An appliance that was asked nothing yet.
+    pub fn fresh(alloc: Global, setting: Setting) -> Result<Appliance, NoMemory>
+        ensures log { IfOk result (λ a. StandsFor a []) }
+        ensures setting { IfOk result (λ a. a.holdings.setting ≡ setting) }
+        ensures idle { IfOk result IsIdle }
+    {
+        let holdings = Holdings::new(alloc, setting)?;
+        Ok(Appliance {
+            holdings,
+            stage: Stage::Idle,
+        })
+    }
+
+    /// Whether no command runs.
+    pub fn is_idle(&self) -> bool
+        ensures idle { IsTrue result → IsIdle self.now }
+        ensures running { result ≡ false → IsRunning self.now }
+    {
+        match &self.stage {
+            Stage::Idle => true,
+            Stage::Begun(_) | Stage::In(_) => false,
+        }
+    }
+
+    /// Whether the image in this slot has a session.
+    pub fn is_attached(&self, slot: SlotNo) -> bool
+        ensures { result ≡ has_session self.now slot.0 }
+    {
+        self.holdings.sessions.get(slot).is_some()
+    }
+
+    /// A command begins, with all the memory that it can need. Without memory nothing changes.
+    pub fn begin(&mut self, alloc: Global, command: Command) -> Result<(), NoMemory>
+        requires idle { IsIdle self.old }
+        requires served { IsServed command }
+        ensures ok { OnOk result ((log : List Happening) → StandsFor self.old log → StandsFor self.new (Began command ∷ log)) }
+        ensures running { OnOk result (IsRunning self.new) }
+        ensures err { OnErr result ((log : List Happening) → StandsFor self.old log → StandsFor self.new log) }
+        ensures idle { OnErr result (IsIdle self.new) }
+        ensures setting { self.new.holdings.setting ≡ self.old.holdings.setting }
+    {
+        let begun = Begun::begin(alloc, &self.holdings.setting, command)?;
+        self.stage = Stage::Begun(begun);
+        Ok(())
+    }
+
+    /// The ask that stands.
+    pub fn ask(&self) -> Ask
+        requires { IsRunning self.now }
+        ensures { (log : List Happening) → StandsFor self.now log → Some result ≡ asks (position (setting_of self.now) log).place }
+    {
+        match &self.stage {
+            Stage::Idle => Ask::Clock,
+            Stage::Begun(_) => Ask::Clock,
+            Stage::In(work) => work.ask(),
+        }
+    }
+
+    /// The bytes of the write that is asked for.
+    pub fn out(&self) -> &[u8]
+        requires { IsRunning self.now }
+        ensures { (log : List Happening) → StandsFor self.now log → result.now ≡ writes_out (position (setting_of self.now) log).place }
+    {
+        match &self.stage {
+            Stage::Idle => &[],
+            Stage::Begun(_) => &[],
+            Stage::In(work) => work.out(),
+        }
+    }
+
+    // The command that has begun has its first reading.
+    fn first(&mut self, reading: u64) -> Option<Reply>
+        ensures log { (log : List Happening) (begun : Started) → self.old.stage ≡ Stage.Begun begun → StandsFor self.old log → StandsFor self.new (Asked Ask.Clock [] (Answer.Reading reading) ∷ log) }
+        ensures reply { (log : List Happening) (begun : Started) → self.old.stage ≡ Stage.Begun begun → StandsFor self.old log → result ≡ replies (setting_of self.old) (Answer.Reading reading) (position (setting_of self.old) log) }
+        ensures setting { self.new.holdings.setting ≡ self.old.holdings.setting }
+    {
+        match mem::replace(&mut self.stage, Stage::Idle) {
+            Stage::Begun(begun) => {
+                self.holdings.drop_expired(reading);
+                match enter(begun, &mut self.holdings, reading) {
+                    Ok(work) => {
+                        self.stage = Stage::In(work);
+                        None
+                    }
+                    Err(reply) => {
+                        self.holdings.settle(&reply);
+                        Some(reply)
+                    }
+                }
+            }
+            other => {
+                self.stage = other;
+                None
+            }
+        }
+    }
+}

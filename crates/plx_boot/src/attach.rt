@@ -1,0 +1,203 @@
+//! An attach claims the image's lease, unless it is held already, and loads the image.
+ghost use Rattle.std.specs.Prelude.{◌≡◌, ◌<◌, ◌^◌, Some, None};
+ghost use Rattle.std.specs.Vec.{vec_len};
+
+use crate::lease::Leases;
+use crate::leased::Leased;
+use crate::load::Load;
+use crate::session::Session;
+use crate::sessions::Sessions;
+use crate::setting::Setting;
+use plx_base::{BlockNo, LeaseName, SlotNo};
+use plx_commands::Reply;
+use plx_disk::{Answer, Ask};
+use plx_geom::Place;
+use plx_lease::{ClaimEnd, LeaseClaim};
+use plx_token::Image;
+use std::alloc::Global;
+
+/// Where it stands: in the claim, or in the load.
+#[derive(Clone, Copy)]
+pub enum AttachAt {
+    Claim,
+    Load,
+}
+
+/// An attach with the machines of its claim and of its load.
+#[derive(Drop)]
+pub struct Attach {
+    pub at: AttachAt,
+    pub claim: LeaseClaim<Image>,
+    pub load: Load,
+}
+
+impl Attach {
+    ghost use Rattle.std.specs.Prelude.{ℕ, []};
+    ghost use Rattle.plx_geom.specs.Geometry.{block_count, image_lease, lease_at};
+    ghost use Rattle.plx_rules.specs.Part.{Part, answered, standing, bytes_out};
+    ghost use Rattle.plx_commands.specs.Limits.{last_claim};
+    ghost use Rattle.plx_worlds.specs.Attaching.{after_claim, load_image};
+    ghost use Rattle.plx_worlds.specs.Claims.{claim_part};
+    ghost use Rattle.plx_worlds.specs.Machines.{IsTimely};
+    ghost use Rattle.plx_worlds.specs.Parts.{followed_by};
+    ghost use Rattle.plx_worlds.specs.Session.{Known};
+    ghost use Rattle.plx_lease.specs.ClaimEnds.{claim_end};
+    ghost use Rattle.plx_lease.specs.Claiming.{claim_rest};
+    ghost use Rattle.plx_boot.specs.Attaches.{attach_rest, attach_spares};
+    ghost use Rattle.plx_boot.specs.Ending.{after_reply};
+    ghost use Rattle.plx_boot.specs.Giving.{given};
+    ghost use Rattle.plx_boot.specs.Kept.{known_by};
+
+    /// The lease is to be claimed, by a boot that began so many claims before.
+    pub fn claim(
+        alloc: Global,
+        setting: Setting,
+        slot: SlotNo,
+        number: u64,
+        session: Session,
+    ) -> Attach
+        requires within { slot.0 < setting.geometry.images }
+        requires number { number < last_claim }
+        requires slots { session.slots ≡ setting.geometry.slots }
+        requires empty { vec_len session.writes ≡ 0 }
+        ensures rest { (known : Known) → attach_rest known result ≡ followed_by (claim_part (given setting).boot [] (image_lease slot.0) number) (after_claim (given setting) known slot.0) }
+        ensures claim { claim_rest result.claim ≡ claim_part (given setting).boot [] (image_lease slot.0) number }
+        ensures at { result.at ≡ AttachAt.Claim }
+        ensures slot { result.load.image.slot ≡ slot }
+        ensures setting { result.load.image.setting ≡ setting }
+        ensures slots { result.load.slots ≡ setting.geometry.slots }
+    {
+        let block = setting.block(Place::ImageLease(slot));
+        Attach {
+            at: AttachAt::Claim,
+            claim: LeaseClaim::begin(Image(slot), block, setting.boot, number, None),
+            load: Load::begin(
+                alloc,
+                Leased {
+                    setting,
+                    slot,
+                    until: 0,
+                },
+                session,
+            ),
+        }
+    }
+
+    /// The lease is held up to this moment.
+    pub fn load(alloc: Global, image: Leased, session: Session) -> Attach
+        requires slots { session.slots ≡ image.setting.geometry.slots }
+        requires empty { vec_len session.writes ≡ 0 }
+        ensures rest { (known : Known) → attach_rest known result ≡ load_image (given image.setting) known image.slot.0 image.until }
+        ensures at { result.at ≡ AttachAt.Load }
+        ensures setting { result.load.image.setting ≡ image.setting }
+        ensures slots { result.load.slots ≡ image.setting.geometry.slots }
+    {
+        let block = image.setting.block(Place::ImageLease(image.slot));
+        Attach {
+            at: AttachAt::Load,
+            claim: LeaseClaim::begin(Image(image.slot), block, image.setting.boot, 0, None),
+            load: Load::begin(alloc, image, session),
+        }
+    }
+
+    /// The ask that stands.
+    pub fn ask(&self) -> Ask
+        requires { self.now.load.slots ≡ self.now.load.image.setting.geometry.slots }
+        ensures ask { (known : Known) → Some result ≡ standing (attach_rest known self.now) }
+        ensures spare { attach_spares self.now.at self.now.load.image.setting result }
+    {
+        match self.at {
+            AttachAt::Claim => self.claim.ask(),
+            AttachAt::Load => self.load.ask(),
+        }
+    }
+
+    /// The bytes of the write that is asked for.
+    pub fn out(&self) -> &[u8]
+        ensures { (known : Known) → result.now ≡ bytes_out (attach_rest known self.now) }
+    {
+        match self.at {
+            AttachAt::Claim => self.claim.out(),
+            AttachAt::Load => self.load.out(),
+        }
+    }
+
+    /// The ask is answered.
+    pub fn answer(
+        &mut self,
+        sessions: &mut Sessions,
+        leases: &mut Leases,
+        answer: &Answer,
+    ) -> Option<Reply>
+        requires own { self.old.load.slots ≡ self.old.load.image.setting.geometry.slots }
+        requires count { sessions.old.count ≡ self.old.load.image.setting.geometry.images }
+        requires slots { sessions.old.slots ≡ self.old.load.image.setting.geometry.slots }
+        requires leased { leases.old.count ≡ self.old.load.image.setting.geometry.images }
+        requires timely { IsTimely answer.now }
+        ensures rest { (claims : ℕ) → after_reply (attach_rest (known_by sessions.new claims) self.new) (known_by sessions.new claims) result ≡ answered (attach_rest (known_by sessions.old claims) self.old) answer.now }
+        ensures setting { self.new.load.image.setting ≡ self.old.load.image.setting }
+        ensures own { result ≡ None → self.new.load.slots ≡ self.old.load.slots }
+        ensures count { sessions.new.count ≡ sessions.old.count }
+        ensures slots { sessions.new.slots ≡ sessions.old.slots }
+        ensures leased { leases.new.count ≡ leases.old.count }
+    {
+        match self.at {
+            AttachAt::Claim => match self.claim.answer(answer) {
+                None => None,
+                Some(end) => self.claimed(leases, end),
+            },
+            AttachAt::Load => self.load.answer(sessions, answer),
+        }
+    }
+
+    // The claim has ended.
+    fn claimed(&mut self, leases: &mut Leases, end: ClaimEnd<Image>) -> Option<Reply>
+        requires own { self.old.load.slots ≡ self.old.load.image.setting.geometry.slots }
+        requires leased { leases.old.count ≡ self.old.load.image.setting.geometry.images }
+        ensures rest { (known : Known) → after_reply (attach_rest known self.new) known result ≡ after_claim (given self.old.load.image.setting) known self.old.load.image.slot.0 (claim_end end) }
+        ensures setting { self.new.load.image.setting ≡ self.old.load.image.setting }
+        ensures own { self.new.load.slots ≡ self.old.load.slots }
+        ensures leased { leases.new.count ≡ leases.old.count }
+    {
+        let image = self.load.image;
+        match end {
+            ClaimEnd::Held(held) => {
+                self.at = AttachAt::Load;
+                self.load.enter(Leased {
+                    setting: image.setting,
+                    slot: image.slot,
+                    until: held.until(),
+                });
+                leases.put(image.slot, held);
+                None
+            }
+            ClaimEnd::Busy { seen } => Some(Reply::Busy {
+                lease: LeaseName::Image(image.slot),
+                seen,
+            }),
+            ClaimEnd::Lost { due, reading } => Some(Reply::Lost {
+                lease: image.setting.lease_name(due.lease),
+                until: due.until,
+                reading,
+            }),
+            ClaimEnd::ReadFault => Some(Reply::ReadFault {
+                block: self.block(),
+            }),
+            ClaimEnd::WriteFault => Some(Reply::WriteFault {
+                block: self.block(),
+            }),
+            ClaimEnd::Damaged => Some(Reply::Damaged {
+                block: self.block(),
+            }),
+        }
+    }
+
+    // The block of the lease.
+    fn block(&self) -> BlockNo
+        ensures block { result.0 ≡ lease_at (image_lease self.now.load.image.slot.0) }
+        ensures within { result.0 < block_count self.now.load.image.setting.geometry }
+    {
+        let image = self.load.image;
+        image.setting.block(Place::ImageLease(image.slot))
+    }
+}

@@ -1,0 +1,39 @@
+//! One boot of an appliance under leases: a machine that asks, and is answered.
+#![tactic(auto)]
+
+mod appliance;
+mod attach;
+mod begun;
+mod detach;
+mod entering;
+mod finding;
+mod holdings;
+mod images;
+mod lease;
+mod leased;
+mod load;
+mod read;
+mod record;
+mod session;
+mod sessions;
+mod setting;
+mod spell;
+mod work;
+mod write;
+
+pub use appliance::{Appliance, Stage};
+pub use attach::{Attach, AttachAt};
+pub use begun::{Begun, Room};
+pub use detach::Detach;
+pub use entering::enter;
+pub use holdings::Holdings;
+pub use lease::Leases;
+pub use leased::Leased;
+pub use load::{Load, LoadAt};
+pub use read::Read;
+pub use record::{Done, Record, RecordAt};
+pub use session::Session;
+pub use sessions::Sessions;
+pub use setting::Setting;
+pub use work::Work;
+pub use write::{Write, WriteAt};

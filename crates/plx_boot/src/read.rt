@@ -1,0 +1,79 @@
+//! A read gives what the session knows.
+ghost use Rattle.std.specs.Prelude.{◌≡◌, Some};
+
+use crate::leased::Leased;
+use crate::session::Session;
+use plx_base::{Block, Payload};
+use plx_commands::Reply;
+use plx_disk::{Answer, Ask};
+use std::mem;
+
+/// A read that gives this payload, at its last reading of the clock.
+#[derive(Drop)]
+pub struct Read {
+    pub image: Leased,
+    pub payload: Payload,
+}
+
+impl Read {
+    ghost use Rattle.std.specs.Prelude.{Ok};
+    ghost use Rattle.plx_rules.specs.Part.{answered, standing, bytes_out};
+    ghost use Rattle.plx_worlds.specs.Commands.{read_part};
+    ghost use Rattle.plx_worlds.specs.Session.{Known};
+    ghost use Rattle.plx_boot.specs.Ending.{after_reply, entered};
+    ghost use Rattle.plx_boot.specs.Giving.{given};
+    ghost use Rattle.plx_boot.specs.Kept.{session_of};
+    ghost use Rattle.plx_boot.specs.Rests.{read_rest};
+
+    /// The read begins, with a block for what it gives, or is refused.
+    pub fn enter(image: Leased, session: &Session, vblock: u32, block: Block) -> Result<Read, Reply>
+        ensures part { (known : Known) → entered read_rest known result ≡ read_part (given image.setting) known image.slot.0 vblock (session_of session.now) image.until }
+        ensures image { (r : Read) → result ≡ Ok r → r.image ≡ image }
+    {
+        if !session.is_live() {
+            return Err(Reply::NoImage);
+        }
+        let size = session.size();
+        if vblock >= size {
+            return Err(Reply::OutOfRange { size });
+        }
+        let mut block = block;
+        session.read(vblock, &mut block);
+        Ok(Read {
+            image,
+            payload: Payload::holding(block),
+        })
+    }
+
+    /// The ask that stands.
+    pub fn ask(&self) -> Ask
+        ensures ask { (known : Known) → Some result ≡ standing (read_rest known self.now) }
+        ensures clock { result ≡ Ask.Clock }
+    {
+        Ask::Clock
+    }
+
+    /// The ask is answered.
+    pub fn answer(&mut self, answer: &Answer) -> Option<Reply>
+        ensures rest { (known : Known) → after_reply (read_rest known self.new) known result ≡ answered (read_rest known self.old) answer.now }
+        ensures image { self.new.image ≡ self.old.image }
+    {
+        match answer {
+            Answer::Reading(reading) => self.end(*reading),
+            _ => None,
+        }
+    }
+
+    // The read ends at this reading.
+    fn end(&mut self, reading: u64) -> Option<Reply>
+        ensures rest { (known : Known) → after_reply (read_rest known self.new) known result ≡ answered (read_rest known self.old) (Answer.Reading reading) }
+        ensures image { self.new.image ≡ self.old.image }
+    {
+        if let Some(reply) = self.image.reached(reading) {
+            return Some(reply);
+        }
+        Some(Reply::Data {
+            payload: mem::replace(&mut self.payload, Payload::All(0)),
+        })
+    }
+}

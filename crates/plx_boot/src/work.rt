@@ -1,0 +1,86 @@
+//! The command that runs, after its first reading of the clock.
+ghost use Rattle.std.specs.Prelude.{◌≡◌, Some, None};
+
+use crate::attach::Attach;
+use crate::detach::Detach;
+use crate::holdings::Holdings;
+use crate::read::Read;
+use crate::record::Record;
+use crate::write::Write;
+use plx_commands::Reply;
+use plx_disk::{Answer, Ask};
+
+/// The machine of the command that runs.
+#[derive(Drop)]
+pub enum Work {
+    Attach(Attach),
+    Detach(Detach),
+    Record(Record),
+    Read(Read),
+    Write(Write),
+}
+
+impl Work {
+    ghost use Rattle.std.specs.Prelude.{ℕ};
+    ghost use Rattle.plx_rules.specs.Part.{answered, standing, bytes_out};
+    ghost use Rattle.plx_worlds.specs.Machines.{IsTimely};
+    ghost use Rattle.plx_worlds.specs.Session.{Known};
+    ghost use Rattle.plx_boot.specs.Ending.{after_reply};
+    ghost use Rattle.plx_boot.specs.Kept.{known_of};
+    ghost use Rattle.plx_boot.specs.Works.{Spares, work_rest, work_setting, work_slots};
+
+    /// The ask that stands.
+    pub fn ask(&self) -> Ask
+        requires { work_slots self.now ≡ (work_setting self.now).geometry.slots }
+        ensures ask { (known : Known) → Some result ≡ standing (work_rest known self.now) }
+        ensures spare { Spares self.now result }
+    {
+        match self {
+            Work::Attach(attach) => attach.ask(),
+            Work::Detach(detach) => detach.ask(),
+            Work::Record(record) => record.ask(),
+            Work::Read(read) => read.ask(),
+            Work::Write(write) => write.ask(),
+        }
+    }
+
+    /// The bytes of the write that is asked for.
+    pub fn out(&self) -> &[u8]
+        ensures { (known : Known) → result.now ≡ bytes_out (work_rest known self.now) }
+    {
+        match self {
+            Work::Attach(attach) => attach.out(),
+            Work::Detach(detach) => detach.out(),
+            Work::Record(record) => record.out(),
+            Work::Read(_) => &[],
+            Work::Write(write) => write.out(),
+        }
+    }
+
+    /// The ask is answered.
+    pub fn answer(&mut self, holdings: &mut Holdings, answer: &Answer) -> Option<Reply>
+        requires own { work_slots self.old ≡ (work_setting self.old).geometry.slots }
+        requires setting { work_setting self.old ≡ holdings.old.setting }
+        requires timely { IsTimely answer.now }
+        ensures rest { after_reply (work_rest (known_of holdings.new) self.new) (known_of holdings.new) result ≡ answered (work_rest (known_of holdings.old) self.old) answer.now }
+        ensures own { result ≡ None → work_slots self.new ≡ work_slots self.old }
+        ensures kept { result ≡ None → work_setting self.new ≡ work_setting self.old }
+        ensures setting { holdings.new.setting ≡ holdings.old.setting }
+    {
+        match self {
+            Work::Attach(attach) => attach.answer(
+                &mut holdings.sessions,
+                &mut holdings.leases,
+                answer,
+            ),
+            Work::Detach(detach) => detach.answer(
+                &mut holdings.sessions,
+                &mut holdings.leases,
+                answer,
+            ),
+            Work::Record(record) => record.answer(&mut holdings.sessions, answer),
+            Work::Read(read) => read.answer(answer),
+            Work::Write(write) => write.answer(&mut holdings.sessions, answer),
+        }
+    }
+}

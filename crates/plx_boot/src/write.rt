@@ -1,0 +1,200 @@
+//! A write fills a slot of the journal, and commits it.
+ghost use Rattle.std.specs.Prelude.{◌≡◌, ◌<◌, Some};
+
+use crate::leased::Leased;
+use crate::session::Session;
+use crate::sessions::Sessions;
+use crate::spell::spell_descriptor;
+use plx_base::{Block, BlockNo, WriteKind};
+use plx_commands::Reply;
+use plx_disk::{Answer, Ask};
+use plx_gate::Descriptor;
+use plx_geom::Place;
+
+/// The number of an image's last write.
+const LAST_WRITE: u64 = (1 << 48) - 1;
+
+/// Where a write stands: at the write of its data or of its descriptor, or at its last reading of the clock.
+#[derive(Clone, Copy, PartialEq, Eq)]
+pub enum WriteAt {
+    Data,
+    Commit,
+    Last,
+}
+
+/// A write into a journal slot, with its data and the block that spells its descriptor.
+#[derive(Drop)]
+pub struct Write {
+    pub at: WriteAt,
+    pub image: Leased,
+    pub index: u32,
+    pub number: u64,
+    pub vblock: u32,
+    pub block: Block,
+    pub spelled: Block,
+    ghost placed: { index < image.setting.geometry.slots },
+}
+
+impl Write {
+    ghost use Rattle.std.specs.Prelude.{ℕ, Ok};
+    ghost use Rattle.plx_geom.specs.Geometry.{block_count, data_at, descriptor_at};
+    ghost use Rattle.plx_rules.specs.Part.{answered, standing, bytes_out};
+    ghost use Rattle.plx_worlds.specs.Commands.{write_part};
+    ghost use Rattle.plx_worlds.specs.Session.{Known};
+    ghost use Rattle.plx_boot.specs.Asking.{AreWhole, IsOnDevice, IsSpare};
+    ghost use Rattle.plx_boot.specs.Ending.{after_reply, entered};
+    ghost use Rattle.plx_boot.specs.Giving.{given};
+    ghost use Rattle.plx_boot.specs.Kept.{known_by, session_of};
+    ghost use Rattle.plx_boot.specs.Rests.{write_rest};
+
+    /// The write begins, with a block of what it writes and one for its descriptor, or is refused.
+    pub fn enter(
+        image: Leased,
+        session: &Session,
+        vblock: u32,
+        block: Block,
+        spelled: Block,
+    ) -> Result<Write, Reply>
+        requires { session.now.slots ≡ image.setting.geometry.slots }
+        ensures part { (known : Known) → known.sessions image.slot.0 ≡ Some (session_of session.now) → entered write_rest known result ≡ write_part (given image.setting) known image.slot.0 vblock block (session_of session.now) image.until }
+        ensures image { (w : Write) → result ≡ Ok w → w.image ≡ image }
+    {
+        if !session.is_live() {
+            return Err(Reply::NoImage);
+        }
+        let size = session.size();
+        if vblock >= size {
+            return Err(Reply::OutOfRange { size });
+        }
+        let count = session.count();
+        if count >= LAST_WRITE {
+            return Err(Reply::WornOut { count: LAST_WRITE });
+        }
+        let slots = image.setting.geometry.slots;
+        if session.writes.len() == slots as usize {
+            return Err(Reply::Full);
+        }
+        let number = count + 1;
+        let mut spelled = spelled;
+        spell_descriptor(
+            &Descriptor {
+                generation: session.generation(),
+                vblock,
+                number,
+            },
+            &mut spelled,
+        );
+        Ok(Write {
+            at: WriteAt::Data,
+            image,
+            index: ((number - 1) % u64::from(slots)) as u32,
+            number,
+            vblock,
+            block,
+            spelled,
+        })
+    }
+
+    /// The ask that stands.
+    pub fn ask(&self) -> Ask
+        ensures ask { (known : Known) → Some result ≡ standing (write_rest known self.now) }
+        ensures within { IsOnDevice self.now.image.setting.geometry result }
+        ensures spare { IsSpare self.now.image.setting.geometry result }
+    {
+        match self.at {
+            WriteAt::Data => Ask::Write {
+                kind: WriteKind::JData,
+                block: self.data_block(),
+                guard: self.image.until,
+            },
+            WriteAt::Commit => Ask::Write {
+                kind: WriteKind::JCommit,
+                block: self.descriptor_block(),
+                guard: self.image.until,
+            },
+            WriteAt::Last => Ask::Clock,
+        }
+    }
+
+    /// The bytes of the write that is asked for.
+    pub fn out(&self) -> &[u8]
+        ensures bytes { (known : Known) → result.now ≡ bytes_out (write_rest known self.now) }
+        ensures whole { (known : Known) → AreWhole (standing (write_rest known self.now)) result.now }
+    {
+        match self.at {
+            WriteAt::Data => self.block.as_slice(),
+            WriteAt::Commit => self.spelled.as_slice(),
+            WriteAt::Last => &[],
+        }
+    }
+
+    /// The ask is answered.
+    pub fn answer(&mut self, sessions: &mut Sessions, answer: &Answer) -> Option<Reply>
+        requires count { sessions.old.count ≡ self.old.image.setting.geometry.images }
+        requires slots { sessions.old.slots ≡ self.old.image.setting.geometry.slots }
+        ensures rest { (claims : ℕ) → after_reply (write_rest (known_by sessions.new claims) self.new) (known_by sessions.new claims) result ≡ answered (write_rest (known_by sessions.old claims) self.old) answer.now }
+        ensures image { self.new.image ≡ self.old.image }
+        ensures count { sessions.new.count ≡ sessions.old.count }
+        ensures slots { sessions.new.slots ≡ sessions.old.slots }
+    {
+        match (self.at, answer) {
+            (WriteAt::Data, Answer::Done) => {
+                self.at = WriteAt::Commit;
+                None
+            }
+            (WriteAt::Commit, Answer::Done) => {
+                self.at = WriteAt::Last;
+                None
+            }
+            (WriteAt::Data, Answer::Fault) => Some(Reply::WriteFault {
+                block: self.data_block(),
+            }),
+            (WriteAt::Commit, Answer::Fault) => Some(Reply::WriteFault {
+                block: self.descriptor_block(),
+            }),
+            (WriteAt::Data | WriteAt::Commit, Answer::Missed(reading)) => {
+                Some(self.image.lost(*reading))
+            }
+            (WriteAt::Last, Answer::Reading(reading)) => self.end(sessions, *reading),
+            _ => None,
+        }
+    }
+
+    // The write ends at this reading.
+    fn end(&self, sessions: &mut Sessions, reading: u64) -> Option<Reply>
+        requires at { self.now.at ≡ WriteAt.Last }
+        requires count { sessions.old.count ≡ self.now.image.setting.geometry.images }
+        requires slots { sessions.old.slots ≡ self.now.image.setting.geometry.slots }
+        ensures rest { (claims : ℕ) → after_reply (write_rest (known_by sessions.new claims) self.now) (known_by sessions.new claims) result ≡ answered (write_rest (known_by sessions.old claims) self.now) (Answer.Reading reading) }
+        ensures count { sessions.new.count ≡ sessions.old.count }
+        ensures slots { sessions.new.slots ≡ sessions.old.slots }
+    {
+        if let Some(reply) = self.image.reached(reading) {
+            return Some(reply);
+        }
+        sessions.push(self.image.slot, self.number, self.vblock, &self.block);
+        Some(Reply::Written {
+            number: self.number,
+        })
+    }
+
+    // The block of the data.
+    fn data_block(&self) -> BlockNo
+        ensures block { result.0 ≡ data_at self.now.image.setting.geometry self.now.image.slot.0 self.now.index }
+        ensures within { result.0 < block_count self.now.image.setting.geometry }
+    {
+        self.image
+            .setting
+            .block(Place::JData(self.image.slot, self.index))
+    }
+
+    // The block of the descriptor.
+    fn descriptor_block(&self) -> BlockNo
+        ensures block { result.0 ≡ descriptor_at self.now.image.setting.geometry self.now.image.slot.0 self.now.index }
+        ensures within { result.0 < block_count self.now.image.setting.geometry }
+    {
+        self.image
+            .setting
+            .block(Place::JDesc(self.image.slot, self.index))
+    }
+}
