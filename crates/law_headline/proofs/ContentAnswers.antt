@@ -47,7 +47,7 @@ use Rattle.law_lease.proofs.LawfulCommands.{first-rests, below-tested}
 use Rattle.law_lease.proofs.LeaseFrames.{grip-open}
 use Rattle.law_lease.proofs.LeaseGoes.{good-free}
 use Rattle.law_lease.proofs.LeaseLands.{first-set}
-use Rattle.law_lease.proofs.LeaseSteps.{not-waiting}
+use Rattle.law_lease.proofs.LeaseSteps.{not-waiting, placed-may}
 use Rattle.law_lease.proofs.Leased.{MayAsk, LawfulAt, IsOpen, Unlanded, Good, IsHeld, IsAskedAt, grip_while, grip_at, Leased}
 use Rattle.law_headline.proofs.Content.{appliance_no, stands_at, IsJournalled, PlaceFits, IsBegun, Has, OwnedAt, Grips, Minds, Content}
 use Rattle.law_headline.proofs.ContentGoes.{content-went, dropping-false, NoSession, went_to}
@@ -58,7 +58,8 @@ use Rattle.law_headline.proofs.Harmless as harmless
 use Rattle.law_headline.proofs.Held.{IsSpelled, attached_of, Regime, Without, With, IsRunning, Looks, IsOf, IsOn, HeldPart, IsBacking, Backs, IsDrop, is_below, are_below, is_some_slot, just_at, Fair}
 use Rattle.law_headline.proofs.HeldBegins.{begin-without, begin-with}
 use Rattle.law_headline.proofs.HeldCommands.{slot_no}
-use Rattle.law_headline.proofs.HeldFrames.{missing_of, held-same, of-lease, of-map}
+use Rattle.law_headline.proofs.HeldFrames.{missing_of, held-same}
+use Rattle.law_headline.proofs.ImageWrites.{held-image, held-or, placed-cases}
 use Rattle.law_headline.proofs.Journals.{Same}
 use Rattle.law_headline.proofs.ModelFacts.{Sound, sound-all}
 use Rattle.law_headline.proofs.Owners.{both-true}
@@ -508,7 +509,7 @@ module _ (w : World) (content : Content w) (a : ℕ) (below : a < w.appliances) 
                   inl (
                     s.regime,
                     s.looks,
-                    by_kind what refl i within names s.regime s.held
+                    done-held' i within s.regime s.held
                         (λ k. s.fills number landed.0 waited landed.1 (let Q : WriteKind → Type 0 = λ x. IsJournalled x in subst Q (sym asked.0) k)),
                     s.on,
                   )),
@@ -527,11 +528,8 @@ module _ (w : World) (content : Content w) (a : ℕ) (below : a < w.appliances) 
             closed kind.Release flags is missing = (let e : Some true ≡ Some false = sym (ap (λ (l : List Bool). slice_get l 0) is) ∙ missing in cc)
             closed other flags is missing = missing is
 
-            may : (k : WriteKind) → what ≡ k → MayAsk g s.boot p.holds (rests_on g command p.holds k block bytes) k block bytes guard
-            may k is =
-                let P : Place → Type 0 = λ q. LawfulAt g s.boot p.holds p.sample q in
-                let M : WriteKind → Type 0 = λ x. MayAsk g s.boot p.holds (rests_on g command p.holds x block bytes) x block bytes guard in
-                subst M is (subst P here (content.leased.seated a below).lawful).0
+            may : MayAsk g s.boot p.holds (rests_on g command p.holds what block bytes) what block bytes guard
+            may = let P : Place → Type 0 = λ q. LawfulAt g s.boot p.holds p.sample q in (subst P here (content.leased.seated a below).lawful).0
 
             full : (mixed (missing_of landed.0.landed) landed.0.bytes (device landed.0.block) ≡ landed.0.bytes) → device block ≡ bytes
             full fills =
@@ -539,24 +537,17 @@ module _ (w : World) (content : Content w) (a : ℕ) (below : a < w.appliances) 
                 ap (λ (l : List Bool). mixed (missing_of l) landed.0.bytes (device landed.0.block)) landed.2 ∙ mixed-none 8 landed.0.bytes (device landed.0.block) in
                 sym (ap device asked.1) ∙ (sym none ∙ (fills ∙ asked.2))
 
-            by_kind : (k : WriteKind) → what ≡ k → (i : ℕ) → i < g.images → Names command i → (regime : Regime) →
-                HeldPart g a i command known regime (WriteThen k block bytes guard done fault missed) device →
-                (IsJournalled k → mixed (missing_of landed.0.landed) landed.0.bytes (device landed.0.block) ≡ landed.0.bytes) → HeldPart g a i command known regime done device
-            by_kind kind.Record is i within names regime held fills = held-same g a i command known regime done (put device block bytes) device (whole (full (fills tt)) i) held.2
-            by_kind kind.JData is i within names regime held fills = held-same g a i command known regime done (put device block bytes) device (whole (full (fills tt)) i) held.2
-            by_kind kind.JCommit is i within names regime held fills = held-same g a i command known regime done (put device block bytes) device (whole (full (fills tt)) i) held.2
-            by_kind kind.Release is i within names regime held fills = held.1
-            by_kind kind.Claim is i within names regime held fills =
-                let t = may kind.Claim is in absurd (of-lease g i t.lease t.within (let P : ℕ → Type 0 = λ b. IsOf g i b in subst P t.at_lease held.0))
-            by_kind kind.Renew is i within names regime held fills =
-                let t = may kind.Renew is in absurd (of-lease g i t.lease t.within (let P : ℕ → Type 0 = λ b. IsOf g i b in subst P t.at_lease held.0))
-            by_kind kind.Take is i within names regime held fills = let t = may kind.Take is in absurd (of-map g i t.placed.0 within (let P : ℕ → Type 0 = λ b. IsOf g i b in subst P t.placed.2 held.0))
-            by_kind kind.Give is i within names regime held fills = let t = may kind.Give is in absurd (of-map g i t.placed.0 within (let P : ℕ → Type 0 = λ b. IsOf g i b in subst P t.placed.2 held.0))
-            by_kind kind.Sweep is i within names regime held fills = let t = may kind.Sweep is in absurd (of-map g i t.placed.0 within (let P : ℕ → Type 0 = λ b. IsOf g i b in subst P t.placed.2 held.0))
-            by_kind kind.Fresh is i within names regime held fills = absurd (may kind.Fresh is)
-            by_kind kind.Link is i within names regime held fills = absurd (may kind.Link is)
-            by_kind kind.Overwrite is i within names regime held fills = absurd (may kind.Overwrite is)
-            by_kind kind.Log is i within names regime held fills = absurd (may kind.Log is)
+            done-held' : (i : ℕ) → i < g.images → (regime : Regime) → HeldPart g a i command known regime (WriteThen what block bytes guard done fault missed) device →
+                (IsJournalled what → mixed (missing_of landed.0.landed) landed.0.bytes (device landed.0.block) ≡ landed.0.bytes) → HeldPart g a i command known regime done device
+            done-held' i within regime held fills = elim (held-or g a i command known regime block bytes guard done fault missed device what held) [
+              | inl released ↦ released
+              | inr of ↦ elim (placed-cases g content.leased.geometry what block bytes _ (placed-may g s.boot p.holds _ what block bytes guard may) i within) [
+                | inl mine ↦
+                    let write = held-image g a i command known regime block bytes guard done fault missed device what mine.1 held in
+                    held-same g a i command known regime done (put device block bytes) device (whole (full (fills mine.1)) i) write.follows
+                | inr away ↦ absurd (away of)
+              ]
+            ]
 
   -- ---- the first reading of a command
 

@@ -264,7 +264,7 @@ module _ (w : World) (leased : Leased w) (a : ℕ) (below : a < w.appliances) (t
 
 -- ---- a write is issued, or a sector of one lands
 
-placed-may : (g : Geometry) (b : ℕ) (holds : ℕ → Hold) (rests : List ℕ) (k : WriteKind) (block : ℕ) (bytes : List ℕ) (guard : ℕ) → MayAsk g b holds rests k block bytes guard → IsPlaced g k block bytes rests
+pub placed-may : (g : Geometry) (b : ℕ) (holds : ℕ → Hold) (rests : List ℕ) (k : WriteKind) (block : ℕ) (bytes : List ℕ) (guard : ℕ) → MayAsk g b holds rests k block bytes guard → IsPlaced g k block bytes rests
 placed-may g b holds rests kind.Claim block bytes guard may =
     (may.lease, may.within, may.at_lease, (Claimed (claim_of b may.number may.sample) (may.sample + term), may.spells), may.alone)
 placed-may g b holds rests kind.Renew block bytes guard may = (may.lease, may.within, may.at_lease, (Claimed may.claim may.next, may.spells), may.alone)

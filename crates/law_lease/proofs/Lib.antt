@@ -1,3 +1,4 @@
+pub mod Covers
 pub mod LawfulCommands
 pub mod LeaseSectors
 pub mod LeaseFrames

@@ -1,5 +1,5 @@
 -- At most one boot owns a lease, and what needed it changes nothing under another owner.
-use Rattle.std.proofs.Common.{◌≡◌, ℕ, zero, suc, ◌<◌, ◌⊎◌, inl, inr, List, Bool, true, false, Option, refl, ap, sym, subst, ◌∙◌, arith}
+use Rattle.std.proofs.Common.{◌≡◌, ℕ, zero, suc, ◌<◌, inl, inr, List, Bool, true, false, Option, refl, ap, sym, subst, ◌∙◌, arith}
 use Rattle.std.specs.Prelude.{slice_get, ◌==◌}
 use Rattle.plx_base.specs.Sectors.{Device, put, landed}
 use Rattle.plx_base.proofs.Devices.{put-again}
