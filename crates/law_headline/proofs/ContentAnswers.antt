@@ -23,7 +23,7 @@ use Rattle.plx_commands.specs.declared.event.Event.{Event}
 use Rattle.plx_commands.specs.declared.event.Event.TheVariants as event
 use Rattle.plx_commands.specs.declared.reply.Reply.{Reply}
 use Rattle.plx_commands.specs.declared.reply.Reply.TheVariants as reply
-use Rattle.plx_commands.proofs.Places.{at-same, at-other}
+use Rattle.plx_commands.proofs.Places.{at-all, at-same, at-other}
 use Rattle.plx_disk.specs.Writes.{Issued, all_sectors, HasLanded}
 use Rattle.plx_disk.specs.declared.ask.Ask.TheVariants as ask
 use Rattle.plx_disk.specs.declared.ask.Answer.TheVariants as answer
@@ -48,7 +48,8 @@ use Rattle.law_lease.proofs.LeaseFrames.{grip-open}
 use Rattle.law_lease.proofs.LeaseGoes.{good-free}
 use Rattle.law_lease.proofs.LeaseLands.{first-set}
 use Rattle.law_lease.proofs.LeaseSteps.{not-waiting, placed-may}
-use Rattle.law_lease.proofs.Leased.{MayAsk, LawfulAt, IsOpen, Unlanded, Good, IsHeld, IsAskedAt, grip_while, grip_at, Leased}
+use Rattle.law_lease.proofs.Open.{IsOpen, open-elsewhere, one-waits}
+use Rattle.law_lease.proofs.Leased.{MayAsk, LawfulAt, Unlanded, Good, IsHeld, IsAskedAt, grip_while, grip_at, Leased}
 use Rattle.law_headline.proofs.Content.{appliance_no, stands_at, IsJournalled, PlaceFits, IsBegun, Has, OwnedAt, Grips, Minds, Content}
 use Rattle.law_headline.proofs.ContentGoes.{content-went, dropping-false, NoSession, went_to}
 use Rattle.law_headline.proofs.FairCommands.{fair-command}
@@ -189,8 +190,10 @@ module _ (w : World) (content : Content w) (a : ℕ) (below : a < w.appliances) 
   minds-back i log back (inr mine) = inr mine
 
   -- nothing is open where no write is waited for
-  quiet-free : (w.seats a).pending ≡ None → (i : ℕ) → i < g.images → (k : ℕ) (x : Issued) → IsOpen w.rests time writes (image_lease i) k x → IsOf g i x.block → (m.slots i).owner ≡ Some a → ⊥
-  quiet-free free i within k x op of mine = none-other k (sym free ∙ content.whose i within k x op of a mine)
+  quiet-free : (log : List Happening) → (w.seats a).pending ≡ None → (i : ℕ) → i < g.images → (k : ℕ) (x : Issued) →
+      IsOpen g w.rests w.appliances time writes (at w.seats a (record { boots = (w.seats a).boots; log = log; pending = None })) (image_lease i) k x → IsOf g i x.block → (m.slots i).owner ≡ Some a → ⊥
+  quiet-free log free i within k x op of mine =
+      none-other k (sym free ∙ content.whose i within k x (open-elsewhere g w.rests w.appliances time writes w.seats (image_lease i) a _ refl k x op) of a mine)
 
   -- a session that isn't there
   is-none : (o : Option Session) → is_some o ≡ false → o ≡ None
@@ -261,7 +264,7 @@ module _ (w : World) (content : Content w) (a : ℕ) (below : a < w.appliances) 
       let mine = own i within (minds-back i log (λ claim until grips. grips-now free i claim until
       (timed-held reading (p.holds (lease_at (image_lease i))) claim until (seat-holds log known command h (Some reading) part leads i claim until grips)) grips.1) minds) in
       ((λ names. inl (mine.0 names)), mine.1))
-      (inl (quiet-free free))
+      (inl (quiet-free _ free))
       (λ e.
       let j = just-holds command h reading e is in
       let held = timed-held reading (p.holds (lease_at (image_lease j.0))) j.3.0 j.3.1 j.3.2 in
@@ -353,7 +356,7 @@ module _ (w : World) (content : Content w) (a : ℕ) (below : a < w.appliances) 
                 ])
             | inr owner ↦ (let mine = owned-at place here i within (inr owner) in ((λ names. let s = mine.0 names in inl (s.regime, s.looks, s.held.1, s.on)), mine.1))
           ])
-          (inl (quiet-free free))
+          (inl (quiet-free _ free))
           never
 
       pub fault-content : Leased (goes_on w (event.Fault (appliance_no a)) (appliance_no a) (ask.Read (record { 0 = block })) [] answer.Fault fault) →
@@ -368,7 +371,7 @@ module _ (w : World) (content : Content w) (a : ℕ) (below : a < w.appliances) 
           (λ i within minds.
           let mine = owned-at place here i within (minds-back i log (λ claim until grips. grips-now free i claim until (seat-holds log known command p.holds None fault leads i claim until grips) grips.1) minds) in
           ((λ names. let s = mine.0 names in inl (s.regime, s.looks, s.held.2, s.on)), mine.1))
-          (inl (quiet-free free))
+          (inl (quiet-free _ free))
           never
 
     -- ---- a write is answered
@@ -515,18 +518,32 @@ module _ (w : World) (content : Content w) (a : ℕ) (below : a < w.appliances) 
                   )),
               mine.1,
             ))
-            (inl (λ i within k x op of mine.
-            let n : Some number ≡ Some k = sym waited ∙ content.whose i within k x op of a mine in
-            let at' : number ≡ k = cc in
-            let Q : ℕ → Type 0 = λ j. slice_get writes j ≡ Some x in
-            let same : landed.0 ≡ x = (let e : Some landed.0 ≡ Some x = sym landed.1 ∙ subst Q (sym at') op.found in cc) in
-            closed x.kind x.landed (ap (λ (y : Issued). y.landed) (sym same) ∙ landed.2) op.missing))
+            (inl (λ i within k x op of mine. done-closed i within k x op of mine))
             unjust
           where
             closed : (k : WriteKind) (flags : List Bool) → flags ≡ all_sectors → Unlanded k flags → ⊥
             closed kind.Renew flags is missing = (let e : Some true ≡ Some false = sym (ap (λ (l : List Bool). slice_get l 0) is) ∙ missing in cc)
             closed kind.Release flags is missing = (let e : Some true ≡ Some false = sym (ap (λ (l : List Bool). slice_get l 0) is) ∙ missing in cc)
             closed other flags is missing = missing is
+
+            -- the write that is done is open no longer: it has landed whole, and no other boot waits for it
+            done-closed : (i : ℕ) → i < g.images → (k : ℕ) (x : Issued) → IsOpen g w.rests w.appliances time writes (at w.seats a (record { boots = (w.seats a).boots; log = Asked (ask.Write what (record { 0 = block }) guard) bytes answer.Done ∷ (w.seats a).log; pending = None })) (image_lease i) k x →
+                IsOf g i x.block → (m.slots i).owner ≡ Some a → ⊥
+            done-closed i within k x op of mine =
+                let n : Some number ≡ Some k = sym waited ∙ content.whose i within k x (open-elsewhere g w.rests w.appliances time writes w.seats (image_lease i) a _ refl k x op) of a mine in
+                let at' : number ≡ k = cc in
+                by_open at' op
+              where
+                by_open : number ≡ k → IsOpen g w.rests w.appliances time writes (at w.seats a (record { boots = (w.seats a).boots; log = Asked (ask.Write what (record { 0 = block }) guard) bytes answer.Done ∷ (w.seats a).log; pending = None })) (image_lease i) k x → ⊥
+                by_open at' (inl live) =
+                    let Q : ℕ → Type 0 = λ j. slice_get writes j ≡ Some x in
+                    let same : landed.0 ≡ x = (let e : Some landed.0 ≡ Some x = sym landed.1 ∙ subst Q (sym at') live.found in cc) in
+                    closed x.kind x.landed (ap (λ (y : Issued). y.landed) (sym same) ∙ landed.2) live.missing
+                by_open at' (inr o) =
+                    at-all (λ b s'. b < w.appliances → s'.pending ≡ Some k → ⊥) w.seats a _
+                    (λ under waits'. none-other k waits')
+                    (λ b ne under waits'. ne (one-waits w content.leased b a k under below waits' (waited ∙ ap Some at')))
+                    o.0 o.1 o.3
 
             may : MayAsk g s.boot p.holds (rests_on g command p.holds what block bytes) what block bytes guard
             may = let P : Place → Type 0 = λ q. LawfulAt g s.boot p.holds p.sample q in (subst P here (content.leased.seated a below).lawful).0
@@ -661,7 +678,7 @@ module _ (w : World) (content : Content w) (a : ℕ) (below : a < w.appliances) 
             let b = backed-by known h backs i (known.sessions i) refl some in
             own i within b.claim b.until b.held (inr mine)
       ])
-      (inl (quiet-free free))
+      (inl (quiet-free _ free))
       (λ e.
       let j = just-holds command h reading e is in
       let held = first-held (session_at g known (lease_at (image_lease j.0))) reading (p.holds (lease_at (image_lease j.0))) j.3.0 j.3.1 j.3.2 in

@@ -33,9 +33,10 @@ use Rattle.plx_worlds.specs.Session.{Known}
 use Rattle.plx_worlds.specs.Settings.{boot_number}
 use Rattle.plx_worlds.specs.World.{World, Seat, with_surface, after_issue}
 use Rattle.law_lease.proofs.LeaseSteps.{placed-may}
+use Rattle.law_lease.proofs.Open.{IsOpen, open-found, open-alone}
 use Rattle.law_lease.proofs.LeaseFrames.{grip-open, grip_while-open, grip_while-away}
-use Rattle.law_lease.proofs.LeaseLands.{MayBeAsked, asked-may, grip-asked, first-set, pending-other, not-whole, unlanded-before}
-use Rattle.law_lease.proofs.Leased.{MayAsk, LawfulAt, IsOpen, Unlanded, IsAskedAt, IsRight, grip_while, grip_at, Leased}
+use Rattle.law_lease.proofs.LeaseLands.{MayBeAsked, asked-may, grip-asked, first-set, pending-other, not-whole}
+use Rattle.law_lease.proofs.Leased.{MayAsk, LawfulAt, IsAskedAt, IsRight, grip_while, grip_at, Leased}
 use Rattle.law_headline.proofs.Content.{appliance_no, stands_at, IsJournalled, PlaceFits, OwnedAt, Grips, Minds, Whose, SeatFits, SeatOwns, Opens, Content}
 use Rattle.law_headline.proofs.ContentFrames.{owned-same, grip-only}
 use Rattle.law_headline.proofs.ContentGoes.{names-one}
@@ -134,14 +135,19 @@ module _ (w : World) (content : Content w) where
     leases = rests_on g command (p a).holds what block bytes
 
     -- whatever of the new write lands, its image is kept, which is the appliance's in the model
-    new-keeps : (i : ℕ) → i < g.images → IsOf g i block → time ≤ guard + 50 → is_in (image_lease i) leases ≡ true →
+    new-keeps : (i : ℕ) → i < g.images → IsOf g i block → is_in (image_lease i) leases ≡ true →
+        (time ≤ guard + 50) ⊎ ((claim : Claim) × (until : ℕ) × Grips g time writes a (w.seats a) i claim until) →
         ((flags : List Bool) → length flags ≡ 8 → Keeps g (put device block (mixed flags bytes (device block))) i (m.slots i)) × ((m.slots i).owner ≡ Some a)
-    new-keeps i within of live needs = elim (placed-cases g geometry what block bytes leases (placed-may g boot (p a).holds leases what block bytes guard may) i within) [
+    new-keeps i within of needs live = elim (placed-cases g geometry what block bytes leases (placed-may g boot (p a).holds leases what block bytes guard may) i within) [
       | inl mine ↦
           let grant = (use-image g boot (p a).holds leases block bytes guard what mine.1 may).grants (image_lease i) needs in
           let named = named-image g command block what mine.1 fits.1.0 in
           let names : Names command i = (let P : ℕ → Type 0 = λ j. Names command j in subst P (of-one g geometry named.0 i block named.1 within named.2 of) named.3) in
-          let s = (serving i within (inl (grant.claim, grant.until, grips-free i grant.claim grant.until grant.hold (let guarded = grant.guarded in omega arith)))).0 names in
+          let grips : (claim : Claim) × (until : ℕ) × Grips g time writes a (w.seats a) i claim until = elim live [
+            | inl early ↦ (grant.claim, grant.until, grips-free i grant.claim grant.until grant.hold (let guarded = grant.guarded in omega arith))
+            | inr held ↦ held
+          ] in
+          let s = (serving i within (inl grips)).0 names in
           let write = held-image g a i command known s.regime block bytes guard done fault missed device what mine.1 s.held in
           ((λ flags count. write.keeps flags count m s.looks), with-owner i s.regime s.looks write.changes)
       | inr away ↦ absurd (away of)
@@ -153,6 +159,63 @@ module _ (w : World) (content : Content w) where
     abbrev seat' : Seat
     seat' = record { boots = (w.seats a).boots; log = (w.seats a).log; pending = Some (length writes) }
 
+    abbrev since : ℕ → List ℕ
+    since = at w.rests (length writes) leases
+
+    pending-before : (b : ℕ) → b < w.appliances → (q : Option ℕ) → (w.seats b).pending ≡ q → pending_write now q ≡ pending_write writes q
+    pending-before b under None e = refl
+    pending-before b under (Some n) e =
+        let asked = (content.leased.seated b under).asked n e in push-before writes fresh asked.0 n asked.1 ∙ sym asked.1
+
+    -- what the boot holds once the write is issued it held before
+    grips-own : (i : ℕ) (claim : Claim) (until : ℕ) → Grips g time now a seat' i claim until → Grips g time writes a (w.seats a) i claim until
+    grips-own i claim until grips =
+        let held : (p a).holds (lease_at (image_lease i)) ≡ Held claim until =
+        sym (grip-open (p a).place (pending_write now (Some (length writes))) (lease_at (image_lease i)) ((p a).holds (lease_at (image_lease i)))
+        (ap (λ (o : Option Issued). first_landed o) (push-last writes fresh))) ∙ grips.0 in
+        grips-free i claim until held grips.1
+
+    grips-other : (i b : ℕ) → b < w.appliances → (claim : Claim) (until : ℕ) → Grips g time now b (w.seats b) i claim until → Grips g time writes b (w.seats b) i claim until
+    grips-other i b under claim until grips =
+        let G : Option Issued → Type 0 = λ o. grip_at (p b).place o (lease_at (image_lease i)) ((p b).holds (lease_at (image_lease i))) ≡ Held claim until in
+        (subst G (pending-before b under (w.seats b).pending refl) grips.0, grips.1)
+
+    -- what is open once the write is issued was open before, or is the new one
+    open-issued : (i : ℕ) → i < g.images → (n : ℕ) (x : Issued) → IsOpen g since w.appliances time now (at w.seats a seat') (image_lease i) n x →
+        (IsOpen g w.rests w.appliances time writes w.seats (image_lease i) n x)
+        ⊎ ((n ≡ length writes) × (fresh ≡ x) × (is_in (image_lease i) leases ≡ true) × ((time ≤ guard + 50) ⊎ ((claim : Claim) × (until : ℕ) × Grips g time writes a (w.seats a) i claim until)))
+    open-issued i within n x (inl op) = elim (push-cases writes fresh x n op.found) [
+      | inl old ↦ inl (inl (record { found = old; needs = needs-before w.rests writes leases n x (image_lease i) old op.needs; missing = op.missing; live = op.live }))
+      | inr is ↦ inr (
+        is.0,
+        is.1,
+        needs-last w.rests writes leases n (image_lease i) is.0 op.needs,
+        inl (let e = op.live in let f : x.guard ≡ guard = ap (λ (y : Issued). y.guard) (sym is.1) in omega (arith, e, f)),
+      )
+    ]
+    open-issued i within n x (inr o) = elim (push-cases writes fresh x n o.4) [
+      | inl old ↦
+          let needs = needs-before w.rests writes leases n x (image_lease i) old o.5 in
+          let less = slice_get_within writes n x old in
+          inl (at-all (λ b s. b < w.appliances → ((claim : Claim) × (until : ℕ) × Grips g time now b s i claim until) → s.pending ≡ Some n → IsOpen g w.rests w.appliances time writes w.seats (image_lease i) n x)
+          w.seats a seat'
+          (λ under grips waits. absurd (let e : Some (length writes) ≡ Some n = waits in let f : length writes ≡ n = cc in omega (arith, less, f)))
+          (λ b ne under grips waits. inr (b, under, (grips.0, grips.1, grips-other i b under grips.0 grips.1 grips.2), waits, old, needs))
+          o.0 o.1 o.2 o.3)
+      | inr is ↦
+          let needs = needs-last w.rests writes leases n (image_lease i) is.0 o.5 in
+          at-all (λ b s. b < w.appliances → ((claim : Claim) × (until : ℕ) × Grips g time now b s i claim until) → s.pending ≡ Some n →
+          (IsOpen g w.rests w.appliances time writes w.seats (image_lease i) n x)
+          ⊎ ((n ≡ length writes) × (fresh ≡ x) × (is_in (image_lease i) leases ≡ true) × ((time ≤ guard + 50) ⊎ ((claim : Claim) × (until : ℕ) × Grips g time writes a (w.seats a) i claim until))))
+          w.seats a seat'
+          (λ under grips waits. inr (is.0, is.1, needs, inr (grips.0, grips.1, grips-own i grips.0 grips.1 grips.2)))
+          (λ b ne under grips waits.
+          let asked = (content.leased.seated b under).asked n waits in
+          let less = slice_get_within writes n asked.0 asked.1 in
+          absurd (let f = is.0 in omega (arith, less, f)))
+          o.0 o.1 o.2 o.3
+    ]
+
     pub issue-content : Leased (after_issue w (appliance_no a) command what block bytes guard) → Content (after_issue w (appliance_no a) command what block bytes guard)
     issue-content leased = record {
       leased = leased;
@@ -160,25 +223,21 @@ module _ (w : World) (content : Content w) where
       permitted = content.permitted;
       undamaged = content.undamaged;
       stored = content.stored;
-      opens = λ i within n x op of flags count. elim (push-cases writes fresh x n op.found) [
-        | inl old ↦ content.opens i within n x (record { found = old; needs = needs-before w.rests writes leases n x (image_lease i) old op.needs; missing = op.missing; live = op.live }) of flags count
+      opens = λ i within n x op of flags count. elim (open-issued i within n x op) [
+        | inl was ↦ content.opens i within n x was of flags count
         | inr is ↦
             let P : Issued → Type 0 = λ y. Keeps g (put device y.block (mixed flags y.bytes (device y.block))) i (m.slots i) in
             let Q : Issued → Type 0 = λ y. IsOf g i y.block in
-            let live : time ≤ guard + 50 = (let e = op.live in let f : x.guard ≡ guard = ap (λ (y : Issued). y.guard) (sym is.1) in omega (arith, e, f)) in
-            subst P is.1 ((new-keeps i within (subst Q (sym is.1) of) live (needs-last w.rests writes leases n (image_lease i) is.0 op.needs)).0 flags count)
+            subst P is.1 ((new-keeps i within (subst Q (sym is.1) of) is.2 is.3).0 flags count)
       ];
-      whose = λ i within n x op of b mine. elim (push-cases writes fresh x n op.found) [
-        | inl old ↦
-            let was : IsOpen w.rests time writes (image_lease i) n x = record { found = old; needs = needs-before w.rests writes leases n x (image_lease i) old op.needs; missing = op.missing; live = op.live } in
-            elim (eqb_tells b a) [
-              | inl same ↦ absurd (let e : None ≡ Some n = sym free ∙ content.whose i within n x was of a (mine ∙ ap Some same.1) in let P : ⊥ = cc in P)
-              | inr away ↦ ap (λ (s : Seat). s.pending) (at-other w.seats a b seat' away.1) ∙ content.whose i within n x was of b mine
-            ]
+      whose = λ i within n x op of b mine. elim (open-issued i within n x op) [
+        | inl was ↦ elim (eqb_tells b a) [
+          | inl same ↦ absurd (let e : None ≡ Some n = sym free ∙ content.whose i within n x was of a (mine ∙ ap Some same.1) in let P : ⊥ = cc in P)
+          | inr away ↦ ap (λ (s : Seat). s.pending) (at-other w.seats a b seat' away.1) ∙ content.whose i within n x was of b mine
+        ]
         | inr is ↦
             let Q : Issued → Type 0 = λ y. IsOf g i y.block in
-            let live : time ≤ guard + 50 = (let e = op.live in let f : x.guard ≡ guard = ap (λ (y : Issued). y.guard) (sym is.1) in omega (arith, e, f)) in
-            let owner = (new-keeps i within (subst Q (sym is.1) of) live (needs-last w.rests writes leases n (image_lease i) is.0 op.needs)).1 in
+            let owner = (new-keeps i within (subst Q (sym is.1) of) is.2 is.3).1 in
             let same : a ≡ b = (let e : Some a ≡ Some b = sym owner ∙ mine in cc) in
             let S : ℕ → Type 0 = λ j. (at w.seats a seat' j).pending ≡ Some n in
             subst S same (ap (λ (s : Seat). s.pending) (at-same w.seats a seat') ∙ ap Some (sym is.0))
@@ -262,13 +321,13 @@ module _ (w : World) (content : Content w) where
       | inr away ↦ inr (away.1, sym (set-other writes number n (with_sector write sector) away.1) ∙ there)
     ]
 
-    this-open : (i : ℕ) → IsJournalled write.kind → IsUnder w.rests number (image_lease i) → IsOpen w.rests time writes (image_lease i) number write
-    this-open i journalled needs = record {
+    this-open : (i : ℕ) → IsJournalled write.kind → IsUnder w.rests number (image_lease i) → IsOpen g w.rests w.appliances time writes w.seats (image_lease i) number write
+    this-open i journalled needs = inl (record {
       found = may.found;
       needs = needs;
       missing = unlanded-image write.kind write.landed journalled (not-whole write.landed sector may.missing);
       live = may.early;
-    }
+    })
 
     -- the device, as an image sees it
     same-after : (i : ℕ) → (IsOf g i write.block → ⊥) → Same g i device after
@@ -301,50 +360,6 @@ module _ (w : World) (content : Content w) where
     stored-after i within = elim (cases i within) [
       | inl mine ↦ keeps-after i (m.slots i) (λ flags count. content.opens i within number write (this-open i mine.1 mine.2) mine.0 flags count)
       | inr no' ↦ Keeps-same g device after i (m.slots i) (same-after i no') (content.stored i within)
-    ]
-
-    opens-after : (i : ℕ) → i < g.images → Opens g w.rests time after now' i (m.slots i)
-    opens-after i within n x op of flags count = elim (landed-or n x op.found) [
-      | inl here' ↦
-          let N : ℕ → Type 0 = λ k. IsUnder w.rests k (image_lease i) in
-          let U : Issued → Type 0 = λ y. Unlanded y.kind y.landed in
-          let Q : Issued → Type 0 = λ y. IsOf g i y.block in
-          let P : Issued → Type 0 = λ y. Keeps g (put after y.block (mixed flags y.bytes (after y.block))) i (m.slots i) in
-          let was : IsOpen w.rests time writes (image_lease i) number write = record {
-            found = may.found;
-            needs = subst N here'.0 op.needs;
-            missing = unlanded-before write.kind write.landed sector may.missing (subst U here'.1 op.missing);
-            live = may.early;
-          } in
-          subst P (sym here'.1) (keeps-landed g i write.block sector write.bytes device (m.slots i) below-8 bytes-long (content.leased.long write.block)
-          (λ f c. content.opens i within number write was (subst Q here'.1 of) f c) flags count)
-      | inr away ↦
-          let was : IsOpen w.rests time writes (image_lease i) n x = record { found = away.1; needs = op.needs; missing = op.missing; live = op.live } in
-          elim (cases i within) [
-            | inl mine ↦ absurd (away.0 ((content.leased.on (image_lease i) (image-below g i within)).alone n number x write was (this-open i mine.1 mine.2)))
-            | inr no' ↦
-                let same = same-after i no' in
-                let P : List ℕ → Type 0 = λ y. Keeps g (put after x.block (mixed flags x.bytes y)) i (m.slots i) in
-                subst P (sym (same-at g i x.block device after of same))
-                (Keeps-same g (put device x.block (mixed flags x.bytes (device x.block))) (put after x.block (mixed flags x.bytes (device x.block))) i (m.slots i)
-                (same-put g i x.block (mixed flags x.bytes (device x.block)) device after same) (content.opens i within n x was of flags count))
-          ]
-    ]
-
-    whose-after : (i : ℕ) → i < g.images → Whose g w.rests time now' w.seats i (m.slots i)
-    whose-after i within n x op of b mine = elim (landed-or n x op.found) [
-      | inl here' ↦
-          let N : ℕ → Type 0 = λ k. IsUnder w.rests k (image_lease i) in
-          let U : Issued → Type 0 = λ y. Unlanded y.kind y.landed in
-          let Q : Issued → Type 0 = λ y. IsOf g i y.block in
-          let was : IsOpen w.rests time writes (image_lease i) number write = record {
-            found = may.found;
-            needs = subst N here'.0 op.needs;
-            missing = unlanded-before write.kind write.landed sector may.missing (subst U here'.1 op.missing);
-            live = may.early;
-          } in
-          content.whose i within number write was (subst Q here'.1 of) b mine ∙ ap Some (sym here'.0)
-      | inr away ↦ content.whose i within n x (record { found = away.1; needs = op.needs; missing = op.missing; live = op.live }) of b mine
     ]
 
     -- what is held after the landing was held before
@@ -432,6 +447,46 @@ module _ (w : World) (content : Content w) where
             ap (λ (x : WriteKind). grip_while x (lease_at (image_lease i) == write.block) (first_landed (Some write)) write.bytes hold) is
             ∙ sym (ap (λ (x : WriteKind). grip_while x (lease_at (image_lease i) == write.block) (first_landed (Some (with_sector write sector))) write.bytes hold) is) in
             (claim, until, same ∙ e, (λ l. l))
+
+    -- another write that is open after the landing was open before
+    open-landed : (i : ℕ) → i < g.images → (n : ℕ) (x : Issued) → n ≢ number → slice_get writes n ≡ Some x → IsOpen g w.rests w.appliances time now' w.seats (image_lease i) n x →
+        IsOpen g w.rests w.appliances time writes w.seats (image_lease i) n x
+    open-landed i within n x ne found (inl op) = inl (record { found = found; needs = op.needs; missing = op.missing; live = op.live })
+    open-landed i within n x ne found (inr o) = inr (o.0, o.1, grips-before i within o.0 o.1 o.2.0 o.2.1 o.2.2, o.3, found, o.5)
+
+    opens-after : (i : ℕ) → i < g.images → Opens g w.rests w.appliances time after now' w.seats i (m.slots i)
+    opens-after i within n x op of flags count = elim (landed-or n x (open-found g w.rests w.appliances time now' w.seats (image_lease i) n x op)) [
+      | inl here' ↦
+          let Q : Issued → Type 0 = λ y. IsOf g i y.block in
+          let P : Issued → Type 0 = λ y. Keeps g (put after y.block (mixed flags y.bytes (after y.block))) i (m.slots i) in
+          elim (cases i within) [
+            | inl mine ↦ subst P (sym here'.1) (keeps-landed g i write.block sector write.bytes device (m.slots i) below-8 bytes-long (content.leased.long write.block)
+                (λ f c. content.opens i within number write (this-open i mine.1 mine.2) mine.0 f c) flags count)
+            | inr no' ↦ absurd (no' (subst Q here'.1 of))
+          ]
+      | inr away ↦
+          let was = open-landed i within n x away.0 away.1 op in
+          elim (cases i within) [
+            | inl mine ↦ absurd (away.0 (open-alone w content.leased (image_lease i) (image-below g i within) n number x write was (this-open i mine.1 mine.2)))
+            | inr no' ↦
+                let same = same-after i no' in
+                let P : List ℕ → Type 0 = λ y. Keeps g (put after x.block (mixed flags x.bytes y)) i (m.slots i) in
+                subst P (sym (same-at g i x.block device after of same))
+                (Keeps-same g (put device x.block (mixed flags x.bytes (device x.block))) (put after x.block (mixed flags x.bytes (device x.block))) i (m.slots i)
+                (same-put g i x.block (mixed flags x.bytes (device x.block)) device after same) (content.opens i within n x was of flags count))
+          ]
+    ]
+
+    whose-after : (i : ℕ) → i < g.images → Whose g w.rests w.appliances time now' w.seats i (m.slots i)
+    whose-after i within n x op of b mine' = elim (landed-or n x (open-found g w.rests w.appliances time now' w.seats (image_lease i) n x op)) [
+      | inl here' ↦
+          let Q : Issued → Type 0 = λ y. IsOf g i y.block in
+          elim (cases i within) [
+            | inl mine ↦ content.whose i within number write (this-open i mine.1 mine.2) mine.0 b mine' ∙ ap Some (sym here'.0)
+            | inr no' ↦ absurd (no' (subst Q here'.1 of))
+          ]
+      | inr away ↦ content.whose i within n x (open-landed i within n x away.0 away.1 op) of b mine'
+    ]
 
     -- what is right at a write stays right while it lands
     held-lands : (b i : ℕ) (command : Command) (known : Known) (regime : Regime) (part : Part End) (boot : ℕ) → IsAskedAt (In known command part) boot write → IsJournalled write.kind →

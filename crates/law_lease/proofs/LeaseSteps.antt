@@ -42,7 +42,7 @@ use Rattle.law_lease.proofs.LeaseFrames.{Shrinks, good-shrinks}
 use Rattle.law_lease.proofs.LeaseGoes.{good-part, good-timed, good-first, lease-log, good-free, good-read, good-written}
 use Rattle.law_lease.proofs.LeaseIssues.{lease-issued}
 use Rattle.law_lease.proofs.LeaseLands.{lease-lands}
-use Rattle.law_lease.proofs.Leased.{MayAsk, LawfulRest, LawfulAt, IsOpen, Good, GoodSeat, LeaseOn, IsPlaced, IsRight, IsAskedAt, IsSeat, Leased}
+use Rattle.law_lease.proofs.Leased.{MayAsk, LawfulRest, LawfulAt, IsLive, Good, GoodSeat, LeaseOn, IsPlaced, IsRight, IsAskedAt, IsSeat, Leased}
 use Rattle.law_lease.proofs.Lists.{push-cases, none-some}
 
 -- ---- time passes
@@ -50,7 +50,7 @@ use Rattle.law_lease.proofs.Lists.{push-cases, none-some}
 lease-ticks : (g : Geometry) (rests : ℕ → List ℕ) (appliances time later : ℕ) (device : Device) (writes : List Issued) (seats : ℕ → Seat) (lease : ℕ) → time ≤ later →
     LeaseOn g rests appliances time device writes seats lease → LeaseOn g rests appliances later device writes seats lease
 lease-ticks g rests appliances time later device writes seats lease passed on =
-    let old : (m : ℕ) (x : Issued) → IsOpen rests later writes lease m x → IsOpen rests time writes lease m x =
+    let old : (m : ℕ) (x : Issued) → IsLive rests later writes lease m x → IsLive rests time writes lease m x =
     λ m x is. record { found = is.found; needs = is.needs; missing = is.missing; live = (let l = is.live in omega arith) } in
     let shrinks : Shrinks rests rests time later writes writes lease = λ m x is. (x, old m x is) in
     record {

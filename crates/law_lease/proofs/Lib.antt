@@ -8,6 +8,7 @@ pub mod LeaseLands
 pub mod LeaseSteps
 pub mod Leased
 pub mod Lists
+pub mod Open
 pub mod Owners
 pub mod Rests
 pub mod Runs
