@@ -30,7 +30,7 @@ use Rattle.plx_disk.specs.declared.ask.Answer.TheVariants as answer
 use Rattle.plx_gate.specs.Leases.{lease_bytes, read_lease, IsClaimed}
 use Rattle.plx_geom.specs.Geometry.{Geometry, image_lease, lease_at}
 use Rattle.plx_geom.proofs.Places.{image-below}
-use Rattle.plx_headline.proofs.Lists.{none-other}
+use Rattle.law_lease.proofs.Lists.{none-some}
 use Rattle.plx_rules.specs.Part.{Part, Ends, ReadThen, WriteThen, ClockThen, UntilThen}
 use Rattle.plx_worlds.specs.Boot.{Happening, Asked, Place, Begins, In, Position, position, place_of, after_part, goes_to, went_on}
 use Rattle.plx_worlds.specs.Commands.{IsBuilt, IsWellFormed, attached_part, of_attached, detach_part, create_part, delete_part, read_part, write_part, command_part}
@@ -193,7 +193,7 @@ module _ (w : World) (content : Content w) (a : ℕ) (below : a < w.appliances) 
   quiet-free : (log : List Happening) → (w.seats a).pending ≡ None → (i : ℕ) → i < g.images → (k : ℕ) (x : Issued) →
       IsOpen g w.rests w.appliances time writes (at w.seats a (record { boots = (w.seats a).boots; log = log; pending = None })) (image_lease i) k x → IsOf g i x.block → (m.slots i).owner ≡ Some a → ⊥
   quiet-free log free i within k x op of mine =
-      none-other k (sym free ∙ content.whose i within k x (open-elsewhere g w.rests w.appliances time writes w.seats (image_lease i) a _ refl k x op) of a mine)
+      none-some k (sym free ∙ content.whose i within k x (open-elsewhere g w.rests w.appliances time writes w.seats (image_lease i) a _ refl k x op) of a mine)
 
   -- a session that isn't there
   is-none : (o : Option Session) → is_some o ≡ false → o ≡ None
@@ -541,7 +541,7 @@ module _ (w : World) (content : Content w) (a : ℕ) (below : a < w.appliances) 
                     closed x.kind x.landed (ap (λ (y : Issued). y.landed) (sym same) ∙ landed.2) live.missing
                 by_open at' (inr o) =
                     at-all (λ b s'. b < w.appliances → s'.pending ≡ Some k → ⊥) w.seats a _
-                    (λ under waits'. none-other k waits')
+                    (λ under waits'. none-some k waits')
                     (λ b ne under waits'. ne (one-waits w content.leased b a k under below waits' (waited ∙ ap Some at')))
                     o.0 o.1 o.3
 

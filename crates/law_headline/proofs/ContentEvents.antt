@@ -16,8 +16,8 @@ use Rattle.plx_commands.proofs.Accepted.{accepts-start, accepts-crash}
 use Rattle.plx_commands.proofs.Places.{at-all, at-same, at-other}
 use Rattle.plx_disk.specs.Writes.{Issued, passed}
 use Rattle.plx_geom.specs.Geometry.{image_lease, lease_at}
-use Rattle.plx_headline.proofs.Lists.{none-other}
-use Rattle.plx_headline.proofs.Tests.{nat_lt-true, nat_le-false}
+use Rattle.law_lease.proofs.Lists.{none-some}
+use Rattle.plx_base.proofs.Tests.{nat_lt-true, nat_le-false}
 use Rattle.plx_worlds.specs.Boot.{Began, Place, Idle, begun}
 use Rattle.plx_worlds.specs.Commands.{IsBuilt, IsWellFormed}
 use Rattle.plx_worlds.specs.Headline.{model_before, model_in}
@@ -250,5 +250,5 @@ start-content w a command known below here well built content leased =
             (λ away s is. let Q : Slot → Type 0 = λ t. HasImage g i a s w.surface.device t in subst Q (sym (started-away m a command i (changed command) refl away)) (has s is)),
           ));
       whose = foreign-whose w content a below n unmoved foreign sound' seat refl
-          (λ i within k x op of mine. none-other k (sym free ∙ content.whose i within k x op of a ((foreign i).owner a mine)));
+          (λ i within k x op of mine. none-some k (sym free ∙ content.whose i within k x op of a ((foreign i).owner a mine)));
     }

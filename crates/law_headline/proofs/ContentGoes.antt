@@ -21,7 +21,7 @@ use Rattle.plx_commands.proofs.Accepted.{Answers, accepts-reply}
 use Rattle.plx_commands.proofs.Places.{at-all, at-other}
 use Rattle.plx_disk.specs.Writes.{Issued}
 use Rattle.plx_geom.specs.Geometry.{Geometry, image_lease}
-use Rattle.plx_headline.proofs.Lists.{none-other}
+use Rattle.law_lease.proofs.Lists.{none-some}
 use Rattle.plx_rules.specs.Part.{Part, Ends, ReadThen, WriteThen, ClockThen, UntilThen}
 use Rattle.plx_worlds.specs.Boot.{Happening, In, Position, position, goes_to}
 use Rattle.plx_worlds.specs.Ends.{End}
@@ -180,7 +180,7 @@ module _ (w : World) (content : Content w) (a : ℕ) (below : a < w.appliances) 
           let mine = own i within minds in
           let P : Position → Type 0 = λ q. OwnedAt g a i device writes None m q.place in
           subst P (sym leads) (
-            (λ names. (let s = mine.0 names in record { regime = s.0; looks = s.1; held = s.2; on = s.3; fills = λ n x e. absurd (none-other n e) })),
+            (λ names. (let s = mine.0 names in record { regime = s.0; looks = s.1; held = s.2; on = s.3; fills = λ n x e. absurd (none-some n e) })),
             mine.1,
           ))
           (λ b ne under. content.owned i within b under);
@@ -247,7 +247,7 @@ module _ (w : World) (content : Content w) (a : ℕ) (below : a < w.appliances) 
                 let same : owner.0 ≡ j = names-one command owner.0 j owner.2 names in
                 let P : ℕ → Type 0 = λ k. (IsHeldBy (Ends end) k) × IsGripped k in
                 let o = subst P same (owner.3, owner.4) in
-                inr (o.0, (λ k x op of. none-other k (sym owner.5 ∙ grip-only w content.leased j a within below o.1.0 o.1.1 o.1.2 k x (open-before j k x op))), inl o.1)
+                inr (o.0, (λ k x op of. none-some k (sym owner.5 ∙ grip-only w content.leased j a within below o.1.0 o.1.1 o.1.2 k x (open-before j k x op))), inl o.1)
             | inr away ↦ inl (away-foreign m a command end.reply j away)
           ]
           | inr yields ↦ elim (owner-cases (m.slots j).owner a) [

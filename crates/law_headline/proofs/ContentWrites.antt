@@ -18,8 +18,8 @@ use Rattle.plx_commands.proofs.Places.{at-all, at-same, at-other}
 use Rattle.plx_disk.specs.Writes.{Issued, with_sector, no_sectors, fresh_write, MayLand, after_landing}
 use Rattle.plx_geom.specs.Geometry.{Geometry, IsGeometry, image_lease, lease_at}
 use Rattle.plx_geom.proofs.Places.{lease-lease, image-below}
-use Rattle.plx_disk.proofs.Lists.{push-last, push-before, set-same, set-other}
-use Rattle.law_lease.proofs.Lists.{push-cases, pending-is}
+use Rattle.plx_disk.proofs.Lists.{push-before, push-last, set-other, set-same}
+use Rattle.law_lease.proofs.Lists.{pending-is, push-cases}
 use Rattle.plx_rules.specs.Part.{Part, Ends, ReadThen, WriteThen, ClockThen, UntilThen}
 use Rattle.plx_worlds.specs.Boot.{Place, Idle, Begins, In, Position}
 use Rattle.plx_worlds.specs.Ends.{End}

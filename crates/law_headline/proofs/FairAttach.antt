@@ -18,7 +18,7 @@ use Rattle.plx_gate.specs.Leases.{lease_bytes, read_lease, IsClaimed}
 use Rattle.plx_gate.specs.declared.image.ImageRecord.{ImageRecord}
 use Rattle.plx_geom.specs.Geometry.{IsGeometry, image_lease, lease_at, record_at, descriptor_at, data_at}
 use Rattle.plx_geom.proofs.Places.{image-below, lease-record, lease-data, lease-descriptor}
-use Rattle.plx_headline.proofs.Tests.{nat_lt-true, nat_le-true}
+use Rattle.plx_base.proofs.Tests.{nat_lt-true, nat_le-true}
 use Rattle.plx_rules.specs.Part.{Part, Ends, UntilThen}
 use Rattle.plx_rules.specs.declared.journaled.Journaled.{Journaled}
 use Rattle.plx_worlds.specs.Attaching.{image_use, attach_ends, after_load, load_journal, after_record, load_image, after_claim, claim_image, attach_held}

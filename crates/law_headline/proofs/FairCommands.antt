@@ -27,7 +27,7 @@ use Rattle.plx_gate.specs.declared.image.ImageRecord.TheVariants as image_is
 use Rattle.plx_gate.proofs.Descriptors.{length-descriptor}
 use Rattle.plx_geom.specs.Geometry.{IsGeometry, lease_count, image_lease, lease_at, record_at}
 use Rattle.plx_geom.proofs.Places.{lease-lease}
-use Rattle.plx_headline.proofs.Tests.{nat_lt-true}
+use Rattle.plx_base.proofs.Tests.{nat_lt-true}
 use Rattle.plx_rules.specs.Part.{Part}
 use Rattle.plx_worlds.specs.Attaching.{image_use, attach_part}
 use Rattle.plx_worlds.specs.Commands.{IsBuilt, IsWellFormed, unless, attached_part, of_attached, detach_part, record_part, create_part, delete_part, read_part, next_write, next_slot, journal_part, write_part, later_of, renewal, renew_part, attached_uses, command_part}

@@ -11,7 +11,7 @@ use Rattle.plx_commands.specs.declared.reply.Reply.{Reply}
 use Rattle.plx_commands.proofs.Places.{at-same, at-other}
 use Rattle.plx_geom.specs.Geometry.{Geometry, image_lease, lease_at}
 use Rattle.plx_geom.proofs.Places.{lease-lease, image-image}
-use Rattle.plx_headline.proofs.Tests.{nat_lt-true, nat_le-true}
+use Rattle.plx_base.proofs.Tests.{nat_lt-true, nat_le-true}
 use Rattle.plx_rules.specs.Part.{Part}
 use Rattle.plx_worlds.specs.Attaching.{image_use}
 use Rattle.plx_worlds.specs.Ends.{End, ends, lost, write_failed, in_time, ends_in_time}

@@ -13,7 +13,7 @@ use Rattle.plx_commands.specs.declared.command.Command.TheVariants.{Attach, Deta
 use Rattle.plx_commands.specs.declared.reply.Reply.{Reply}
 use Rattle.plx_commands.specs.declared.reply.Reply.TheVariants.{Detached, Reserved, Renewed, Retired, Reclaimed, NotAttached, AlreadyAttached, NoImage, WornOut}
 use Rattle.plx_commands.proofs.Accepted.{Answers, ok-answers, other-answers, founded-answers, among-more}
-use Rattle.plx_headline.proofs.Tests.{nat_le-true}
+use Rattle.plx_base.proofs.Tests.{nat_le-true}
 use Rattle.law_headline.proofs.Foreign.{Foreign, foreign-same, foreign-back, refused-foreign, back-at}
 use Rattle.law_headline.proofs.ModelFacts.{Sound}
 use Rattle.law_headline.proofs.Owners.{owns-is}

@@ -25,7 +25,7 @@ use Rattle.plx_gate.specs.Images.{read_image}
 use Rattle.plx_gate.specs.declared.descriptor.Descriptor.{Descriptor}
 use Rattle.plx_gate.specs.declared.image.ImageRecord.{ImageRecord}
 use Rattle.plx_geom.specs.Geometry.{record_at, descriptor_at, data_at}
-use Rattle.plx_headline.proofs.Tests.{eqb-true, nat_lt-false, nat_le-false}
+use Rattle.plx_base.proofs.Tests.{eqb-true, nat_lt-false, nat_le-false}
 use Rattle.plx_rules.specs.Part.{Part}
 use Rattle.plx_rules.specs.declared.journaled.Journaled.{Journaled}
 use Rattle.plx_worlds.specs.Attaching.{image_use, attach_ends, after_load, load_journal, after_record, load_image}
@@ -205,10 +205,6 @@ size-tells size e = let b = both-true (nat_lt 0 size) (nat_le size (2 ^ 27)) (po
 pub not-false : (x : Bool) → not x ≡ false → x ≡ true
 not-false true e = refl
 not-false false e = absurd (let P : ⊥ = cc in P)
-
-pub not-true : (x : Bool) → not x ≡ true → x ≡ false
-not-true false e = refl
-not-true true e = absurd (let P : ⊥ = cc in P)
 
 module _ (s : Setting) (a i : ℕ) (within : i < s.geometry.images) (few : s.geometry.slots ≤ 64) (known : Known) where
   -- ---- an attach

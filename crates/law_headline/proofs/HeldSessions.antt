@@ -31,8 +31,8 @@ use Rattle.plx_gate.specs.declared.image.ImageRecord.{ImageRecord}
 use Rattle.plx_gate.specs.declared.image.ImageRecord.TheVariants as image_is
 use Rattle.plx_gate.proofs.Descriptors.{descriptor-back}
 use Rattle.plx_geom.specs.Geometry.{record_at, descriptor_at, data_at}
-use Rattle.plx_headline.proofs.JournalFacts.{journal_slot-next}
-use Rattle.plx_headline.proofs.Tests.{nat_lt-true}
+use Rattle.law_headline.proofs.JournalFacts.{journal_slot-next}
+use Rattle.plx_base.proofs.Tests.{nat_lt-true}
 use Rattle.plx_rules.specs.Part.{Part}
 use Rattle.plx_rules.specs.declared.journaled.Journaled.{Journaled}
 use Rattle.plx_worlds.specs.Attaching.{image_use}

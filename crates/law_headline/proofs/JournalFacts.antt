@@ -1,5 +1,6 @@
 -- The journal on a device that changes, and what its descriptors say.
-use Rattle.std.proofs.Common.{◌≡◌, ◌≢◌, ℕ, ◌+◌, ◌≤◌, ◌<◌, ◌^◌, List, [], ◌∷◌, ◌++◌, length, refl, ap, sym, subst, ◌∙◌, Bool, true, false, Option, Some, None, arith, length-append, inl, inr}
+use Rattle.std.proofs.Common.{◌≡◌, ◌≢◌, ℕ, ◌+◌, ◌-◌, ◌%◌, ◌≤◌, ◌<◌, ◌^◌, List, [], ◌∷◌, ◌++◌, length, refl, ap, sym, subst, ◌∙◌, Bool, true, false, Option, Some, None, arith, length-append, inl, inr}
+use Rattle.std.proofs.Math.Nat.{mod-eq_of_lt}
 use Rattle.std.specs.Prelude.{slice_get, if◌then◌else◌, ◌==◌, ◌&&◌, nat_lt}
 use Rattle.std.proofs.lemmas.Bool.Decides.{eqb_tells}
 use Rattle.std.proofs.lemmas.Option.{slice_get_within}
@@ -15,13 +16,16 @@ use Rattle.plx_gate.proofs.Descriptors.{read-descriptor, read-zeros}
 use Rattle.plx_geom.specs.Geometry.{Geometry, record_at, descriptor_at, data_at}
 use Rattle.plx_geom.proofs.Places.{record-data, record-descriptor}
 use Rattle.plx_rules.specs.declared.journaled.Journaled.{Journaled}
-use Rattle.plx_headline.proofs.JournalFacts.{journal_slot-next}
-use Rattle.plx_headline.proofs.Lists.{at_push}
-use Rattle.plx_headline.proofs.Tests.{eqb-true, eqb-false, nat_lt-true}
+use Rattle.law_lease.proofs.Lists.{push-cases}
+use Rattle.plx_base.proofs.Tests.{eqb-true, eqb-false, nat_lt-true}
 use Rattle.plx_worlds.specs.Journal.{journal_slot, is_unapplied, is_placed, counted, counted_of, Outside, Unused, Counts, finding, finding_of}
 use Rattle.plx_worlds.specs.Records.{is_live, is_plain, generation_of, size_of, applied_of}
 use Rattle.law_headline.proofs.Owners.{both-true}
 use Rattle.law_headline.proofs.Journals.{descriptor_of, IsOld, IsJournal, Keeps, Same}
+
+-- the write after so many stands in the slot of that number
+pub journal_slot-next : (slots n : ℕ) → n < slots → journal_slot slots (n + 1) ≡ n
+journal_slot-next slots n below = let e : n + 1 - 1 ≡ n = omega arith in ap (λ m. m % slots) e ∙ mod-eq_of_lt below
 
 -- the limits of a record, of either kind
 pub record KeptLimits (kept : ImageRecord) : Type 0 where
@@ -100,19 +104,19 @@ IsJournal-more g device image kept writes write below few j live room number wit
       unapplied = j.unapplied;
       free = λ dead. absurd (let e : true ≡ false = sym live ∙ dead in let P : ⊥ = cc in P);
       fits = simp length-append (omega arith);
-      numbers = λ k w at. elim (at_push writes write w k at) [
+      numbers = λ k w at. elim (push-cases writes write w k at) [
         | inl old ↦ j.numbers k w old
         | inr new ↦ rw new.0 (ap (λ (x : Journaled). x.number) (sym new.1) ∙ number)
       ];
-      within = λ k w at. elim (at_push writes write w k at) [
+      within = λ k w at. elim (push-cases writes write w k at) [
         | inl old ↦ j.within k w old
         | inr new ↦ subst (λ (x : Journaled). x.vblock < size_of kept) new.1 within
       ];
-      commits = λ k w at. elim (at_push writes write w k at) [
+      commits = λ k w at. elim (push-cases writes write w k at) [
         | inl old ↦ put-other device block bytes (descriptor_at g image k) (let less = slice_get_within writes k w old in omega arith) ∙ j.commits k w old
         | inr new ↦ rw new.0 (put-same device block bytes ∙ ap (λ (x : Journaled). descriptor_bytes (descriptor_of kept x)) new.1)
       ];
-      blocks = λ k w at. put-other device block bytes (data_at g image k) (omega arith) ∙ (elim (at_push writes write w k at) [
+      blocks = λ k w at. put-other device block bytes (data_at g image k) (omega arith) ∙ (elim (push-cases writes write w k at) [
         | inl old ↦ j.blocks k w old
         | inr new ↦ rw new.0 (held ∙ ap (λ (x : Journaled). x.block) new.1)
       ]);

@@ -21,7 +21,7 @@ use Rattle.plx_commands.specs.declared.entry.Entry.{Entry}
 use Rattle.plx_commands.specs.declared.entry.Entry.TheVariants as entry
 use Rattle.plx_commands.proofs.Accepted.{Answers, answers-of}
 use Rattle.plx_commands.proofs.Places.{at-same, at-other, at-all}
-use Rattle.plx_headline.proofs.Tests.{eqb-false, nat_lt-true, and-false}
+use Rattle.plx_base.proofs.Tests.{eqb-false, nat_lt-true, and-false}
 use Rattle.law_headline.proofs.Owners.{both-true, owner-cases, disowned-not, disowned-other, changed-owned}
 
 -- a change under way is reported otherwise than its image

@@ -37,12 +37,12 @@ by_tests g false false false true = empty_map
 by_tests g false false false false = zeros
 
 -- whether a block is the map of an extent
-abbrev is_map : Geometry → (block : ℕ) → Bool
-is_map g block = nat_le (extents_start g) block && ((block - extents_start g) % g.extent_blocks == 0)
+abbrev begins_extent : Geometry → (block : ℕ) → Bool
+begins_extent g block = nat_le (extents_start g) block && ((block - extents_start g) % g.extent_blocks == 0)
 
 -- the formatted device of a geometry
 abbrev pub formatted : Geometry → Device
-formatted g = λ block. by_tests g (block == 0) (nat_lt block (record_at g 0)) (nat_lt block (log_at g 0)) (is_map g block)
+formatted g = λ block. by_tests g (block == 0) (nat_lt block (record_at g 0)) (nat_lt block (log_at g 0)) (begins_extent g block)
 
 length-tests : (g : Geometry) (super lease image map : Bool) → length (by_tests g super lease image map) ≡ 4096
 length-tests g true lease image map = length-superblock g
@@ -66,16 +66,16 @@ least-off a b past = elim (leb_tells a b) [ inl on ↦ absurd (omega (arith, on.
 
 module _ (g : Geometry) (geometry : IsGeometry g) where
   at-lease : (b : ℕ) → 1 ≤ b → b < record_at g 0 → formatted g b ≡ lease_bytes lease_is.Free
-  at-lease b some under = λ i. by_tests g (eqb-off b 0 (λ e. omega (arith, e, some)) i) (least-on (suc b) (record_at g 0) under i) (nat_lt b (log_at g 0)) (is_map g b)
+  at-lease b some under = λ i. by_tests g (eqb-off b 0 (λ e. omega (arith, e, some)) i) (least-on (suc b) (record_at g 0) under i) (nat_lt b (log_at g 0)) (begins_extent g b)
 
   at-record : (b : ℕ) → record_at g 0 ≤ b → b < log_at g 0 → formatted g b ≡ image_bytes (image_is.Free 0)
   at-record b past under =
-      λ i. by_tests g (eqb-off b 0 (λ e. omega (arith, e, past)) i) (least-off (suc b) (record_at g 0) (omega (arith, past)) i) (least-on (suc b) (log_at g 0) under i) (is_map g b)
+      λ i. by_tests g (eqb-off b 0 (λ e. omega (arith, e, past)) i) (least-off (suc b) (record_at g 0) (omega (arith, past)) i) (least-on (suc b) (log_at g 0) under i) (begins_extent g b)
 
   -- past the records the map's test decides
-  at-rest : (b : ℕ) → log_at g 0 ≤ b → formatted g b ≡ by_tests g false false false (is_map g b)
+  at-rest : (b : ℕ) → log_at g 0 ≤ b → formatted g b ≡ by_tests g false false false (begins_extent g b)
   at-rest b past =
-      λ i. by_tests g (eqb-off b 0 (λ e. omega (arith, e, past)) i) (least-off (suc b) (record_at g 0) (omega (arith, past)) i) (least-off (suc b) (log_at g 0) (omega (arith, past)) i) (is_map g b)
+      λ i. by_tests g (eqb-off b 0 (λ e. omega (arith, e, past)) i) (least-off (suc b) (record_at g 0) (omega (arith, past)) i) (least-off (suc b) (log_at g 0) (omega (arith, past)) i) (begins_extent g b)
 
   -- below the extents there are zeros
   at-zeros : (b : ℕ) → log_at g 0 ≤ b → b < extents_start g → formatted g b ≡ zeros
@@ -83,7 +83,7 @@ module _ (g : Geometry) (geometry : IsGeometry g) where
       at-rest b past ∙ ap (λ (low : Bool). by_tests g false false false (low && ((b - extents_start g) % g.extent_blocks == 0))) (least-off (extents_start g) b under)
 
   -- a block of an extent
-  in-extent : (d bit : ℕ) → bit < g.extent_blocks → is_map g (pool_at g d bit) ≡ (bit == 0)
+  in-extent : (d bit : ℕ) → bit < g.extent_blocks → begins_extent g (pool_at g d bit) ≡ (bit == 0)
   in-extent d bit below =
       let back : pool_at g d bit - extents_start g ≡ d * g.extent_blocks + bit = omega arith in
       let rest : (pool_at g d bit - extents_start g) % g.extent_blocks ≡ bit = ap (λ n. n % g.extent_blocks) back ∙ mod-mul-add d g.extent_blocks bit below in
@@ -110,7 +110,7 @@ module _ (g : Geometry) (geometry : IsGeometry g) where
   -- it is formatted
   pub formatted-is : IsFormatted g (formatted g)
   formatted-is = record {
-    whole = λ block. length-tests g (block == 0) (nat_lt block (record_at g 0)) (nat_lt block (log_at g 0)) (is_map g block);
+    whole = λ block. length-tests g (block == 0) (nat_lt block (record_at g 0)) (nat_lt block (log_at g 0)) (begins_extent g block);
     places = at-place;
   }
 

@@ -15,7 +15,7 @@ use Rattle.plx_worlds.specs.Commands.{detach_part, command_part}
 use Rattle.plx_worlds.specs.Ends.{ends}
 use Rattle.plx_worlds.specs.Session.{Session, Known, with_session}
 use Rattle.plx_worlds.specs.Settings.{Setting}
-use Rattle.law_run.specs.AllowedAsks.{release}
+use Rattle.law_run.specs.AllowedAsks.{release_of_lease}
 use Rattle.law_run.specs.CommandLogs.{Finished}
 use Rattle.law_run.specs.Refusals.{NamesBlock, of_read, of_write, NeedsImage, of_delete, of_block}
 use Rattle.law_run.proofs.Asking.{IsFine, replied-fine, asks-write}
@@ -67,7 +67,7 @@ right-detach s before known slot reading rests session claim until ready =
     let next = with_session known slot.0 None in
     asks-write s before known command reading fine (clock reading ∷ []) lease until kind.Release (lease_at lease) (lease_bytes lease_is.Free) (ends reply.Detached next) 0
     refl (let a = rests.claims in omega arith) (λ y is. rw is refl) within refl (tt, tt)
-    (release lease claim within refl ready.now refl) (
+    (release_of_lease lease claim within refl ready.now refl) (
       replied-fine s before command reading fine (x ∷ clock reading ∷ []) refl reply.Detached (record { slot = slot; command = refl; guard = until; released = (clock reading ∷ [], refl) }),
       rests-by s before command (x ∷ clock reading ∷ []) reply.Detached known next slot.0 (names-other command slot.0 on.named)
           (λ other apart. at-other known.sessions slot.0 other None apart) (λ other b apart. rw (names-other command slot.0 on.named other apart) refl) (λ h. refl)

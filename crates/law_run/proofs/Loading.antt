@@ -3,12 +3,10 @@ use Rattle.std.proofs.Common.{◌≡◌, ◌≢◌, ℕ, ◌+◌, ◌≤◌, ◌
 use Rattle.std.specs.Prelude.{if◌then◌else◌, ◌&&◌, nat_lt}
 use Rattle.std.proofs.lemmas.Bool.Decides.{eqb_tells}
 use Rattle.plx_base.specs.Blocks.{zeros}
-use Rattle.plx_disk.specs.declared.ask.Ask.TheVariants as ask
-use Rattle.plx_disk.specs.declared.ask.Answer.TheVariants as answer
 use Rattle.plx_gate.specs.Descriptors.{read_descriptor}
 use Rattle.plx_gate.specs.declared.descriptor.Descriptor.{Descriptor}
 use Rattle.plx_gate.specs.declared.image.ImageRecord.{ImageRecord}
-use Rattle.plx_gate.proofs.Descriptors.{descriptor-back, read-only, read-empty}
+use Rattle.plx_gate.proofs.Descriptors.{descriptor-back, descriptor-only, read-empty}
 use Rattle.plx_geom.specs.Geometry.{Geometry, record_at, descriptor_at, data_at}
 use Rattle.plx_geom.proofs.Places.{record-descriptor, record-data, data-descriptor}
 use Rattle.plx_rules.specs.declared.journaled.Journaled.{Journaled}
@@ -21,9 +19,10 @@ use Rattle.law_run.specs.CommandLogs.{Exchange, IsIn}
 use Rattle.law_run.specs.KnownBytes.{with_block}
 use Rattle.law_run.proofs.Counted.{Tells, counted-tells, no-count}
 use Rattle.law_run.proofs.Grown.{with-same, with-other, counts-same, data-one, descriptor-one}
+use Rattle.law_run.proofs.Inside.{IsSound, AllInside, inside-descriptor, inside-data}
 use Rattle.law_run.proofs.Inserted.{Has, has-inserted, inserted-new, inserted-old, length-inserted, Ascending, ascending-inserted, numbered}
-use Rattle.law_run.proofs.Meets.{exchange}
-use Rattle.law_run.proofs.Right.{descriptor_of, Fits}
+use Rattle.law_run.proofs.Right.{read_of, descriptor_of, Fits}
+use Rattle.law_run.proofs.Tests.{clash}
 
 -- ---- what is found in a slot
 
@@ -31,12 +30,21 @@ use Rattle.law_run.proofs.Right.{descriptor_of, Fits}
 abbrev pub Says : ImageRecord → (slots slot : ℕ) → Option (Option Descriptor) → Finding → Type 0
 Says kept slots slot found Outside =
     (found ≡ None) ⊎ ((d : Descriptor) × (found ≡ Some (Some d)) × (is_unapplied kept d ≡ true) × ((is_placed slots slot d ≡ false) ⊎ (nat_lt d.vblock (size_of kept) ≡ false)))
-Says kept slots slot found Unused = (counted_of kept slots slot found ≡ None) × ((o : Option Descriptor) × (found ≡ Some o))
-Says kept slots slot found (Counts d) = (counted_of kept slots slot found ≡ Some d) × (found ≡ Some (Some d))
+Says kept slots slot found Unused = (counted_of kept slots slot found ≡ None) × ((o : Option Descriptor) × (found ≡ Some o)) × IsSound kept slots slot found
+Says kept slots slot found (Counts d) = (counted_of kept slots slot found ≡ Some d) × (found ≡ Some (Some d)) × IsSound kept slots slot found
 
 says-placed : (kept : ImageRecord) (slots slot : ℕ) (d : Descriptor) (w : Bool) → nat_lt d.vblock (size_of kept) ≡ w → is_unapplied kept d ≡ true → is_placed slots slot d ≡ true →
     Says kept slots slot (Some (Some d)) (if w then Counts d else Outside)
-says-placed kept slots slot d true hw hu hp = (ap (λ (t : Bool). if t && is_placed slots slot d then Some d else None) hu ∙ ap (λ (t : Bool). if t then Some d else None) hp, refl)
+says-placed kept slots slot d true hw hu hp = (
+  ap (λ (t : Bool). if t && is_placed slots slot d then Some d else None) hu ∙ ap (λ (t : Bool). if t then Some d else None) hp,
+  refl,
+  (
+    λ e. (let P : ⊥ = cc in P),
+    λ other is u. (
+        let same : other ≡ d = cc in
+        (ap (is_placed slots slot) same ∙ hp, ap (λ (x : Descriptor). nat_lt x.vblock (size_of kept)) same ∙ hw)),
+  ),
+)
 says-placed kept slots slot d false hw hu hp = inr (d, refl, hu, inr hw)
 
 says-unapplied : (kept : ImageRecord) (slots slot : ℕ) (d : Descriptor) (p : Bool) → is_placed slots slot d ≡ p → is_unapplied kept d ≡ true →
@@ -47,17 +55,21 @@ says-unapplied kept slots slot d false hp hu = inr (d, refl, hu, inl hp)
 says-descriptor : (kept : ImageRecord) (slots slot : ℕ) (d : Descriptor) (u : Bool) → is_unapplied kept d ≡ u →
     Says kept slots slot (Some (Some d)) (if u then (if is_placed slots slot d && nat_lt d.vblock (size_of kept) then Counts d else Outside) else Unused)
 says-descriptor kept slots slot d true hu = says-unapplied kept slots slot d (is_placed slots slot d) refl hu
-says-descriptor kept slots slot d false hu = (ap (λ (t : Bool). if t && is_placed slots slot d then Some d else None) hu, (Some d, refl))
+says-descriptor kept slots slot d false hu = (
+  ap (λ (t : Bool). if t && is_placed slots slot d then Some d else None) hu,
+  (Some d, refl),
+  (λ e. (let P : ⊥ = cc in P), λ other is u. (let same : other ≡ d = cc in absurd (clash (is_unapplied kept d) (ap (is_unapplied kept) (sym same) ∙ u) hu))),
+)
 
 pub says : (kept : ImageRecord) (slots slot : ℕ) (found : Option (Option Descriptor)) → Says kept slots slot found (finding_of kept slots slot found)
 says kept slots slot None = inl refl
-says kept slots slot (Some None) = (refl, (None, refl))
+says kept slots slot (Some None) = (refl, (None, refl), (λ e. (let P : ⊥ = cc in P), λ d is u. (let P : ⊥ = cc in absurd P)))
 says kept slots slot (Some (Some d)) = says-descriptor kept slots slot d (is_unapplied kept d) refl
 
 -- bytes that spell a descriptor, or none, are zeros past the first sector
 pub whole-spelled : (bytes : List ℕ) (found : Option Descriptor) → read_descriptor bytes ≡ Some found → drop 512 bytes ≡ drop 512 zeros
 whole-spelled bytes None is = ap (drop 512) (read-empty bytes is)
-whole-spelled bytes (Some d) is = ap (drop 512) (read-only bytes d is).0 ∙ descriptor-back d
+whole-spelled bytes (Some d) is = ap (drop 512) (descriptor-only bytes d is).0 ∙ descriptor-back d
 
 -- ---- the descriptors that were read so far
 
@@ -72,11 +84,13 @@ pub record Loading (g : Geometry) (given : Given) (image : ℕ) (kept : ImageRec
   pub only : (slot : ℕ) (d : Descriptor) → IsCounted g given image kept slot d → (write : Journaled) × Has writes write × (d ≡ descriptor_of kept write)
   pub later : (slot : ℕ) → place ≤ slot → given (descriptor_at g image slot) ≡ None
   pub whole : (slot : ℕ) → slot < place → drop 512 (last_known (given (descriptor_at g image slot))) ≡ drop 512 zeros
-  pub was_read : (slot : ℕ) → slot < place → (bytes : List ℕ) × IsIn (exchange (ask.Read (record { 0 = descriptor_at g image slot })) [] (answer.Bytes bytes)) done
+  pub was_read : (slot : ℕ) → slot < place → (bytes : List ℕ) × IsIn (read_of (descriptor_at g image slot) bytes) done
+  pub inside : AllInside g image kept done
 
 pub loads-first : (g : Geometry) (given : Given) (image : ℕ) (kept : ImageRecord) (done : List Exchange) → record_on g given image ≡ Some kept →
-    ((slot : ℕ) → given (descriptor_at g image slot) ≡ None) → Loading g given image kept 0 [] done
-loads-first g given image kept done found unknown = record {
+    ((slot : ℕ) → given (descriptor_at g image slot) ≡ None) → AllInside g image kept done → Loading g given image kept 0 [] done
+loads-first g given image kept done found unknown inside = record {
+  inside = inside;
   found = found;
   room = omega arith;
   ascending = tt;
@@ -106,7 +120,7 @@ loaded-fits g given image kept writes done within plain l follows = record {
 
 -- one more descriptor is read
 module _ (g : Geometry) (given : Given) (image : ℕ) (kept : ImageRecord) (place : ℕ) (writes : List Journaled) (done : List Exchange) (l : Loading g given image kept place writes done)
-    (image_within : image < g.images) (within : place < g.slots) (bytes : List ℕ) (whole : drop 512 bytes ≡ drop 512 zeros) where
+    (image_within : image < g.images) (within : place < g.slots) (bytes : List ℕ) (whole : drop 512 bytes ≡ drop 512 zeros) (sound : IsSound kept g.slots place (read_descriptor bytes)) where
   elsewhere : (slot : ℕ) → slot ≢ place → with_block given (descriptor_at g image place) bytes (descriptor_at g image slot) ≡ given (descriptor_at g image slot)
   elsewhere slot other = with-other given (descriptor_at g image place) bytes (descriptor_at g image slot) (λ e. other (descriptor-one g image slot place e))
 
@@ -139,17 +153,17 @@ module _ (g : Geometry) (given : Given) (image : ℕ) (kept : ImageRecord) (plac
     | inr other ↦ ap (λ o. drop 512 (last_known o)) (elsewhere slot other.1) ∙ l.whole slot (let ne = other.1 in omega arith)
   ]
 
-  more-read : (slot : ℕ) → slot < place + 1 → (read : List ℕ) × IsIn (exchange (ask.Read (record { 0 = descriptor_at g image slot })) [] (answer.Bytes read))
-      (exchange (ask.Read (record { 0 = descriptor_at g image place })) [] (answer.Bytes bytes) ∷ done)
+  more-read : (slot : ℕ) → slot < place + 1 → (read : List ℕ) × IsIn (read_of (descriptor_at g image slot) read)
+      (read_of (descriptor_at g image place) bytes ∷ done)
   more-read slot below = elim (eqb_tells slot place) [
-    | inl same ↦ subst (λ n. (read : List ℕ) × IsIn (exchange (ask.Read (record { 0 = descriptor_at g image n })) [] (answer.Bytes read))
-        (exchange (ask.Read (record { 0 = descriptor_at g image place })) [] (answer.Bytes bytes) ∷ done)) (sym same.1) (bytes, inl refl)
+    | inl same ↦ subst (λ n. (read : List ℕ) × IsIn (read_of (descriptor_at g image n) read)
+        (read_of (descriptor_at g image place) bytes ∷ done)) (sym same.1) (bytes, inl refl)
     | inr other ↦ (let old = l.was_read slot (let ne = other.1 in omega arith) in (old.0, inr old.1))
   ]
 
   -- it doesn't count
   pub loads-none : counted kept g.slots place bytes ≡ None →
-      Loading g (with_block given (descriptor_at g image place) bytes) image kept (place + 1) writes (exchange (ask.Read (record { 0 = descriptor_at g image place })) [] (answer.Bytes bytes) ∷ done)
+      Loading g (with_block given (descriptor_at g image place) bytes) image kept (place + 1) writes (read_of (descriptor_at g image place) bytes ∷ done)
   loads-none none = record {
     found = old-record;
     room = (let r = l.room in omega arith);
@@ -167,6 +181,7 @@ module _ (g : Geometry) (given : Given) (image : ℕ) (kept : ImageRecord) (plac
     later = old-later;
     whole = more-whole;
     was_read = more-read;
+    inside = (inside-descriptor g image kept place bytes image_within sound, l.inside);
   }
 
   -- it counts, and its data is read
@@ -202,8 +217,8 @@ module _ (g : Geometry) (given : Given) (image : ℕ) (kept : ImageRecord) (plac
 
     pub loads-write : Loading g (with_block (with_block given (descriptor_at g image place) bytes) (data_at g image place) block) image kept (place + 1)
         (inserted (record { number = d.number; vblock = d.vblock; block = block }) writes)
-        (exchange (ask.Read (record { 0 = data_at g image place })) [] (answer.Bytes block)
-        ∷ exchange (ask.Read (record { 0 = descriptor_at g image place })) [] (answer.Bytes bytes) ∷ done)
+        (read_of (data_at g image place) block
+        ∷ read_of (descriptor_at g image place) bytes ∷ done)
     loads-write = record {
       found = ap record_in (with-other (with_block given (descriptor_at g image place) bytes) (data_at g image place) block (record_at g image) (record-data g image image place image_within)) ∙ old-record;
       room = (let r = l.room in let e = length-inserted (record { number = d.number; vblock = d.vblock; block = block }) writes in omega arith);
@@ -237,4 +252,5 @@ module _ (g : Geometry) (given : Given) (image : ℕ) (kept : ImageRecord) (plac
       later = λ slot past. beside slot ∙ old-later slot past;
       whole = λ slot below. ap (λ o. drop 512 (last_known o)) (beside slot) ∙ more-whole slot below;
       was_read = λ slot below. (let old = more-read slot below in (old.0, inr old.1));
+      inside = (inside-data g image kept place block image_within, (inside-descriptor g image kept place bytes image_within sound, l.inside));
     }

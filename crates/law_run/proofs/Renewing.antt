@@ -22,7 +22,7 @@ use Rattle.plx_worlds.specs.InUse.{InUse, lease_name, first_reached, unless_reac
 use Rattle.plx_worlds.specs.Session.{Session, Known, nothing_known}
 use Rattle.plx_worlds.specs.Settings.{Setting}
 use Rattle.plx_worlds.specs.Times.{term}
-use Rattle.law_run.specs.AllowedAsks.{renew, WentOn}
+use Rattle.law_run.specs.AllowedAsks.{WentOn, renewal_of_lease}
 use Rattle.law_run.specs.Bounds.{one_held, count_held}
 use Rattle.law_run.specs.CommandLogs.{Exchange, Finished, IsIn, first_reading}
 use Rattle.law_run.specs.Holdings.{at_first, holds_along, holds_after, hold_of, claims_in}
@@ -233,7 +233,7 @@ module _ (s : Setting) (before : List Finished) (known : Known) (reading : ℕ) 
           asks-write s before known Renew reading fine done lease until kind.Renew (lease_at lease) (lease_bytes (lease_is.Claimed claim (later_of until (reading + term))))
           (renew_part s known (start s before reading) reading left (lease + 1)) (renewals (start s before reading) left (lease + 1)) r.first
           (let c = rests.claims in let b = r.begun in omega arith) (λ y e. claims-more s.geometry done y r.has (rw e refl)) (omega arith) refl r.went
-          (renew lease claim reading (omega arith) refl held r.first refl)
+          (renewal_of_lease lease claim reading (omega arith) refl held r.first refl)
           (rest _ (one-renewal done lease claim until (omega arith) r held))
       by-hold Nothing held rest = rest done (none-held done lease r (λ claim until h. (let P : ⊥ = cc in P)))
       by-hold (Seen sample) held rest = rest done (none-held done lease r (λ claim until h. (let P : ⊥ = cc in P)))

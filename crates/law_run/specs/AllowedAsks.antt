@@ -30,7 +30,7 @@ use Rattle.plx_worlds.specs.Settings.{Setting}
 use Rattle.plx_worlds.specs.Stored.{Given, record_on, IsCounted, IsWriteCount}
 use Rattle.plx_worlds.specs.Times.{window, wait, term, is_expired}
 use Rattle.law_run.specs.CommandLogs.{Exchange, CommandLog, WasAnswered, first_reading}
-use Rattle.law_run.specs.Holdings.{hold_of, Holds, HoldsImage, claims_in, claims_begun}
+use Rattle.law_run.specs.Holdings.{hold_of, Holds, HoldsImage, claims_in, claims_begun, IsNotHeld}
 use Rattle.law_run.specs.KnownBytes.{known_in}
 use Rattle.law_run.specs.Sessions.{is_attached}
 
@@ -62,16 +62,16 @@ IsFirstSector given block bytes = drop 512 bytes ≡ drop 512 (last_known (given
 
 -- a write may be asked for, by its kind, with its block, its bytes and its guard
 pub data MayWrite (s : Setting) (log : CommandLog) : WriteKind → (block : ℕ) → (bytes : List ℕ) → (guard : ℕ) → Type 0 where
-  claim : {block : ℕ} {bytes : List ℕ} {guard : ℕ} (lease : ℕ) (claim : Claim) (seen : LeaseRecord) (read : List ℕ) (older : List Exchange) →
-      lease < lease_count s.geometry → block ≡ lease_at lease → HasSampled log lease claim.sample read older →
-      read_lease read ≡ Some seen → is_expired seen claim.sample ≡ true →
+  claim_of_lease : {block : ℕ} {bytes : List ℕ} {guard : ℕ} (lease : ℕ) (claim : Claim) (seen : LeaseRecord) (read : List ℕ) (older : List Exchange) →
+      lease < lease_count s.geometry → block ≡ lease_at lease → IsNotHeld (hold_of s log.before log.exchanges lease) →
+      HasSampled log lease claim.sample read older → read_lease read ≡ Some seen → is_expired seen claim.sample ≡ true →
       claim.boot.0 ≡ s.boot → claim.number ≡ claims_in s.geometry older + claims_begun s.geometry log.before →
       bytes ≡ lease_bytes (lease_is.Claimed claim (claim.sample + term)) → drop 512 bytes ≡ drop 512 read → guard ≡ claim.sample + window →
       MayWrite s log kind.Claim block bytes guard
-  renew : {block : ℕ} {bytes : List ℕ} {guard : ℕ} (lease : ℕ) (claim : Claim) (reading : ℕ) →
+  renewal_of_lease : {block : ℕ} {bytes : List ℕ} {guard : ℕ} (lease : ℕ) (claim : Claim) (reading : ℕ) →
       lease < lease_count s.geometry → block ≡ lease_at lease → Holds s log lease claim guard → first_reading log.exchanges ≡ Some reading →
       bytes ≡ lease_bytes (lease_is.Claimed claim (later_of guard (reading + term))) → MayWrite s log kind.Renew block bytes guard
-  release : {block : ℕ} {bytes : List ℕ} {guard : ℕ} (lease : ℕ) (claim : Claim) →
+  release_of_lease : {block : ℕ} {bytes : List ℕ} {guard : ℕ} (lease : ℕ) (claim : Claim) →
       lease < lease_count s.geometry → block ≡ lease_at lease → Holds s log lease claim guard →
       bytes ≡ lease_bytes lease_is.Free → MayWrite s log kind.Release block bytes guard
   record_of_create : {block : ℕ} {bytes : List ℕ} {guard : ℕ} (slot : SlotNo) (size : ℕ) (label : Label) (generation : ℕ) →

@@ -51,6 +51,10 @@ Holds s log lease claim until = hold_of s log.before log.exchanges lease ≡ Hel
 abbrev pub HoldsImage : Setting → CommandLog → (image until : ℕ) → Type 0
 HoldsImage s log image until = (claim : Claim) × Holds s log (image_lease image) claim until
 
+-- a lease isn't held
+abbrev pub IsNotHeld : Hold → Type 0
+IsNotHeld hold = (claim : Claim) (until : ℕ) → ¬ (hold ≡ Held claim until)
+
 -- a claim was written, which may have waited, or the lease is held
 pub data IsUntil (until : ℕ) : Hold → Type 0 where
   wrote : {hold : Hold} (claim : Claim) → hold ≡ Wrote claim until → IsUntil until hold

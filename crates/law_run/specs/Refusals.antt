@@ -13,12 +13,12 @@ use Rattle.plx_commands.specs.declared.reply.Reply.{Reply}
 use Rattle.plx_commands.specs.declared.reply.Reply.TheVariants as reply
 use Rattle.plx_gate.specs.declared.image.ImageRecord.{ImageRecord}
 use Rattle.plx_geom.specs.Geometry.{image_lease, lease_at}
-use Rattle.plx_worlds.specs.Holds.{Hold, Held}
+use Rattle.plx_worlds.specs.Holds.{Held}
 use Rattle.plx_worlds.specs.Records.{is_live, generation_of, size_of, applied_of}
 use Rattle.plx_worlds.specs.Settings.{Setting}
 use Rattle.plx_worlds.specs.Stored.{IsWriteCount}
 use Rattle.law_run.specs.CommandLogs.{CommandLog, first_reading}
-use Rattle.law_run.specs.Holdings.{at_first, holds_after, claims_begun}
+use Rattle.law_run.specs.Holdings.{at_first, holds_after, claims_begun, IsNotHeld}
 use Rattle.law_run.specs.KnownBytes.{known_from, record_known}
 use Rattle.law_run.specs.Sessions.{uses, needs, is_attached}
 
@@ -34,10 +34,6 @@ pub record IsExpired (s : Setting) (log : CommandLog) (image until reading : ℕ
 -- of two leases one is named: the one that ends first, of two that end together the first in order
 abbrev pub IsNamedFirst : (lease until other other_until : ℕ) → Type 0
 IsNamedFirst lease until other other_until = (until < other_until) ⊎ ((until ≡ other_until) × (lease ≤ other))
-
--- a hold that is no lease held
-abbrev pub IsNotHeld : Hold → Type 0
-IsNotHeld hold = (claim : Claim) (until : ℕ) → ¬ (hold ≡ Held claim until)
 
 -- an attach needs a claim: after its first reading the lease of its image isn't held
 abbrev pub NeedsClaim : Setting → CommandLog → (image : ℕ) → Type 0

@@ -1,5 +1,5 @@
 -- The test of a label.
-use Rattle.std.proofs.Common.{◌≡◌, ℕ, Bool, true, false, List, [], ◌∷◌, length, refl, sym, ◌∙◌, arith}
+use Rattle.std.proofs.Common.{◌≡◌, ℕ, Bool, true, false, List, [], ◌∷◌, length, refl, ap, sym, ◌∙◌, arith}
 use Rattle.std.proofs.lemmas.Bool.Decides.{nat_tests}
 use Rattle.std.proofs.lemmas.List.Sums.{AllPass-from_list_all, list_all-from_AllPass}
 use Rattle.std.proofs.lemmas.Slice.Eq.{bytes_eq-Decides}
@@ -7,13 +7,7 @@ use Rattle.std.specs.List.{list_all}
 use Rattle.std.specs.Prelude.{◌&&◌, not, nat_le}
 use Rattle.std.specs.Str.{bytes_eq}
 use Rattle.plx_base.specs.Labels.{IsLabel, is_label, is_label_byte}
-
-three : (a b c : Bool) → a ≡ true → b ≡ true → c ≡ false → (a && (b && not c)) ≡ true
-three a b c x y z = rw (x, y, z) refl
-
-not-true : (b : Bool) → ¬ (b ≡ true) → b ≡ false
-not-true true h = absurd (h refl)
-not-true false h = refl
+use Rattle.plx_base.proofs.Tests.{all_three, not-true}
 
 first : (a b c : Bool) → (a && (b && not c)) ≡ true → a ≡ true
 first true b c h = refl
@@ -34,9 +28,9 @@ third false b c h = cc
 pub is_label-true : (bytes : List ℕ) → IsLabel bytes → is_label bytes ≡ true
 is_label-true bytes h =
     let short = h.short in
-    three (nat_le (length bytes) 32) (list_all is_label_byte bytes) (bytes_eq bytes (45 ∷ [])) (grind (arith, nat_tests))
+    all_three (nat_le (length bytes) 32) (list_all is_label_byte bytes) (not (bytes_eq bytes (45 ∷ []))) (grind (arith, nat_tests))
     (list_all-from_AllPass is_label_byte bytes h.printable)
-    (not-true (bytes_eq bytes (45 ∷ [])) (λ e. h.no_hyphen ((bytes_eq-Decides bytes (45 ∷ [])).0 e)))
+    (ap not (not-true (bytes_eq bytes (45 ∷ [])) (λ e. h.no_hyphen ((bytes_eq-Decides bytes (45 ∷ [])).0 e))))
 
 -- what passes the test is a label
 pub true-is_label : (bytes : List ℕ) → is_label bytes ≡ true → IsLabel bytes

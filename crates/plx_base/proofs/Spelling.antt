@@ -1,26 +1,28 @@
 -- Records as blocks: each is read back as itself, is spelled in one way, and differs from another in its first sector alone.
 use Rattle.std.proofs.Common.{◌≡◌, ◌≢◌, ◌⊎◌, ℕ, zero, suc, ◌+◌, ◌-◌, ◌*◌, ◌^◌, ◌<◌, ◌≤◌, List, [], ◌∷◌, ◌++◌, length, take, drop, replicate, get_or, refl, ap, sym, ◌∙◌, arith, inl, inr, subst, append_assoc, length-append, Bool, true, false, Option, Some, None}
 use Rattle.std.proofs.Math.Seq.{take-add}
-use Rattle.std.proofs.lemmas.List.{drop-drop, drop_at, take_at, drop-replicate, length-replicate, length-drop, length-take-le, take-append-drop, append-nil, drop_all, get_or_append_left, get_or-append_right}
+use Rattle.std.proofs.lemmas.List.{drop-drop, drop_at, take_at, drop-replicate, length-replicate, length-drop, length-take-le, take-append-drop, append-nil, drop_all, get_or_append_left, get_or-append_right, replicate-append-replicate}
 use Rattle.std.proofs.lemmas.Slice.Eq.{bytes_eq-Decides}
 use Rattle.std.specs.Prelude.{slice_index, slice_index_or, ◌&&◌, if◌then◌else◌}
+use Rattle.std.specs.List.{All}
 use Rattle.std.specs.Str.{bytes_eq}
 use Rattle.plx_base.specs.Blocks.{zeros, written}
 use Rattle.plx_base.specs.Fields.{little, number_at}
 use Rattle.plx_base.specs.Sectors.{landed}
 use Rattle.plx_base.specs.declared.stored.Field.{Field}
 use Rattle.plx_base.specs.declared.stored.Field.TheVariants.{U32, U64, U128}
-use Rattle.plx_base.specs.Spelling.{width_of, number_of, with_number, fields_width, fields_bytes, fields_at, padded, spelled, read_by, IsReading, OnlySector}
+use Rattle.plx_base.specs.Spelling.{width_of, field_number, with_number, fields_width, fields_bytes, fields_at, head_of, padded, spelled, read_by, IsReading, OnlySector}
 use Rattle.plx_base.proofs.Written.{length-written, drop-written, written-past}
+use Rattle.plx_base.proofs.Uniform.{All-replicate, replicate-All}
 use Rattle.plx_base.proofs.Fields.{length-little, number_at-along, number_at-little, little-number_at}
 
 -- each field is a number of its width
 abbrev pub AreFields : List Field → Type 0
 AreFields [] = Unit {0}
-AreFields (field ∷ fields) = (number_of field < 256 ^ width_of field) × AreFields fields
+AreFields (field ∷ fields) = (field_number field < 256 ^ width_of field) × AreFields fields
 
 -- a field with its own number is the same
-with-same : (field : Field) → with_number field (number_of field) ≡ field
+with-same : (field : Field) → with_number field (field_number field) ≡ field
 with-same (U32 number) = refl
 with-same (U64 number) = refl
 with-same (U128 number) = refl
@@ -32,7 +34,7 @@ width-with (U64 number) n = refl
 width-with (U128 number) n = refl
 
 -- and has that number
-number-with : (field : Field) (n : ℕ) → number_of (with_number field n) ≡ n
+number-with : (field : Field) (n : ℕ) → field_number (with_number field n) ≡ n
 number-with (U32 number) n = refl
 number-with (U64 number) n = refl
 number-with (U128 number) n = refl
@@ -41,8 +43,8 @@ number-with (U128 number) n = refl
 pub length-fields : (fields : List Field) → length (fields_bytes fields) ≡ fields_width fields
 length-fields [] = refl
 length-fields (field ∷ fields) =
-    length-append (little (width_of field) (number_of field)) (fields_bytes fields)
-    ∙ (ap (λ n. n + length (fields_bytes fields)) (length-little (width_of field) (number_of field)) ∙ ap (λ n. width_of field + n) (length-fields fields))
+    length-append (little (width_of field) (field_number field)) (fields_bytes fields)
+    ∙ (ap (λ n. n + length (fields_bytes fields)) (length-little (width_of field) (field_number field)) ∙ ap (λ n. width_of field + n) (length-fields fields))
 
 -- a number that stands between other bytes
 pub number_at-between : (width number place : ℕ) (front back : List ℕ) → length front ≡ place → number < 256 ^ width →
@@ -63,13 +65,13 @@ pub fields-back : (fields : List Field) (place : ℕ) (front back : List ℕ) �
     fields_at fields place (front ++ (fields_bytes fields ++ back)) ≡ fields
 fields-back [] place front back long small = refl
 fields-back (field ∷ fields) place front back long small =
-    let here = little (width_of field) (number_of field) in
+    let here = little (width_of field) (field_number field) in
     let bytes = front ++ ((here ++ fields_bytes fields) ++ back) in
-    let first : number_at (width_of field) place bytes ≡ number_of field =
+    let first : number_at (width_of field) place bytes ≡ field_number field =
     ap (λ xs. number_at (width_of field) place (front ++ xs)) (append_assoc here (fields_bytes fields) back)
-    ∙ number_at-between (width_of field) (number_of field) place front (fields_bytes fields ++ back) long small.0 in
+    ∙ number_at-between (width_of field) (field_number field) place front (fields_bytes fields ++ back) long small.0 in
     let longer : length (front ++ here) ≡ place + width_of field =
-    let a = length-append front here in let b = length-little (width_of field) (number_of field) in omega (arith, a, b, long) in
+    let a = length-append front here in let b = length-little (width_of field) (field_number field) in omega (arith, a, b, long) in
     let regrouped : bytes ≡ (front ++ here) ++ (fields_bytes fields ++ back) =
     ap (λ xs. front ++ xs) (append_assoc here (fields_bytes fields) back) ∙ sym (append_assoc front here (fields_bytes fields ++ back)) in
     let rest : fields_at fields (place + width_of field) bytes ≡ fields =
@@ -337,7 +339,7 @@ fields-left (field ∷ fields) (suc index) other below =
 -- what is still to be written makes the whole, also after one more field was written
 pub put-next : (fields : List Field) (index place end : ℕ) (other : Field) (bytes new whole : List ℕ) → index < length fields → end ≤ length bytes →
     place + fields_width (drop index fields) ≡ end → written place (fields_bytes (drop index fields)) bytes ≡ whole →
-    new ≡ written place (little (width_of (slice_index_or fields index other)) (number_of (slice_index_or fields index other))) bytes →
+    new ≡ written place (little (width_of (slice_index_or fields index other)) (field_number (slice_index_or fields index other))) bytes →
     (length new ≡ length bytes)
     × (place + width_of (slice_index_or fields index other) + fields_width (drop (index + 1) fields) ≡ end)
     × (written (place + width_of (slice_index_or fields index other)) (fields_bytes (drop (index + 1) fields)) new ≡ whole)
@@ -345,17 +347,17 @@ put-next fields index place end other bytes new whole below within width is made
     go (slice_index_or fields index other) (drop index fields) (drop (index + 1) fields) (fields-left fields index other below) width is made
   where
     go : (field : Field) (left rest : List Field) → left ≡ field ∷ rest → place + fields_width left ≡ end → written place (fields_bytes left) bytes ≡ whole →
-        new ≡ written place (little (width_of field) (number_of field)) bytes →
+        new ≡ written place (little (width_of field) (field_number field)) bytes →
         (length new ≡ length bytes) × (place + width_of field + fields_width rest ≡ end) × (written (place + width_of field) (fields_bytes rest) new ≡ whole)
     go field left rest same width is made =
-        let long = length-little (width_of field) (number_of field) in
+        let long = length-little (width_of field) (field_number field) in
         let wide : place + (width_of field + fields_width rest) ≡ end = ap (λ xs. place + fields_width xs) (sym same) ∙ width in
-        let here : place + length (little (width_of field) (number_of field)) ≤ length bytes = omega (arith, long, wide, within) in (
-          ap length made ∙ length-written place (little (width_of field) (number_of field)) bytes here,
+        let here : place + length (little (width_of field) (field_number field)) ≤ length bytes = omega (arith, long, wide, within) in (
+          ap length made ∙ length-written place (little (width_of field) (field_number field)) bytes here,
           omega (arith, wide),
           ap (λ n. written (place + n) (fields_bytes rest) new) (sym long)
-              ∙ (ap (written (place + length (little (width_of field) (number_of field))) (fields_bytes rest)) made
-              ∙ (written-next place (little (width_of field) (number_of field)) (fields_bytes rest) bytes here
+              ∙ (ap (written (place + length (little (width_of field) (field_number field))) (fields_bytes rest)) made
+              ∙ (written-next place (little (width_of field) (field_number field)) (fields_bytes rest) bytes here
               ∙ (ap (λ xs. written place (fields_bytes xs) bytes) (sym same) ∙ is))),
         )
 
@@ -379,23 +381,61 @@ pub zeros-is : (bytes : List ℕ) (n : ℕ) → n ≡ 4096 → bytes ≡ replica
 unfolding zeros
 zeros-is bytes n full is = is ∙ ap (λ m. replicate m 0) full
 
--- a record is written over zeros: the magic, the fields and the last bytes, each after the one before
-pub record-written : (magic : List ℕ) (fields : List Field) (last : List ℕ) (end : ℕ) → length magic + (fields_width fields + length last) ≤ 4096 →
+-- the magic, the fields and the last bytes are written, each after the one before
+pub head-written : (magic : List ℕ) (fields : List Field) (last old : List ℕ) (end : ℕ) → length magic + (fields_width fields + length last) ≤ length old →
     length magic + fields_width fields ≡ end →
-    written end last (written (length magic) (fields_bytes fields) (written 0 magic zeros)) ≡ spelled magic fields last
-unfolding spelled
-record-written magic fields last end short here =
-    let full = length-zeros in
+    written end last (written (length magic) (fields_bytes fields) (written 0 magic old)) ≡ written 0 (head_of magic fields last) old
+head-written magic fields last old end short here =
     let long = length-fields fields in
     let both = length-append magic (fields_bytes fields) in
     let a : 0 + length magic ≡ length magic = omega arith in
     let b : 0 + length (magic ++ fields_bytes fields) ≡ end = omega (arith, both, long, here) in
-    let one : written (length magic) (fields_bytes fields) (written 0 magic zeros) ≡ written 0 (magic ++ fields_bytes fields) zeros =
-    ap (λ n. written n (fields_bytes fields) (written 0 magic zeros)) (sym a) ∙ written-next 0 magic (fields_bytes fields) zeros (omega (arith, full, short)) in
+    let one : written (length magic) (fields_bytes fields) (written 0 magic old) ≡ written 0 (magic ++ fields_bytes fields) old =
+    ap (λ n. written n (fields_bytes fields) (written 0 magic old)) (sym a) ∙ written-next 0 magic (fields_bytes fields) old (omega (arith, short)) in
     ap (written end last) one
-    ∙ (ap (λ n. written n last (written 0 (magic ++ fields_bytes fields) zeros)) (sym b)
-    ∙ (written-next 0 (magic ++ fields_bytes fields) last zeros (omega (arith, full, short, both, long))
-    ∙ (written-zeros ((magic ++ fields_bytes fields) ++ last) ∙ ap padded (append_assoc magic (fields_bytes fields) last))))
+    ∙ (ap (λ n. written n last (written 0 (magic ++ fields_bytes fields) old)) (sym b)
+    ∙ (written-next 0 (magic ++ fields_bytes fields) last old (omega (arith, short, both, long))
+    ∙ ap (λ xs. written 0 xs old) (append_assoc magic (fields_bytes fields) last)))
+
+-- a record is its head, and zeros
+pub spelled-head : (magic : List ℕ) (fields : List Field) (last : List ℕ) → spelled magic fields last ≡ padded (head_of magic fields last)
+unfolding spelled
+spelled-head magic fields last = refl
+
+-- over zeros that makes a record
+pub record-written : (magic : List ℕ) (fields : List Field) (last : List ℕ) → written 0 (head_of magic fields last) zeros ≡ spelled magic fields last
+unfolding spelled
+record-written magic fields last = written-zeros (head_of magic fields last)
+
+-- a short head over a sector of zeros, and the zeros of all other sectors, are the whole record
+padded-sectors : (head : List ℕ) → length head ≤ 512 → padded head ≡ written 0 head (replicate 512 0) ++ replicate 3584 0
+unfolding padded written
+padded-sectors head short =
+    let n = length head in
+    let e : 0 + n ≡ n = omega arith in
+    let cut : drop (0 + n) (replicate 512 0) ≡ replicate (512 - n) 0 = ap (λ m. drop m (replicate 512 0)) e ∙ drop-replicate n 512 0 in
+    let all : replicate (512 - n) 0 ++ replicate 3584 0 ≡ replicate (4096 - n) 0 =
+    replicate-append-replicate (512 - n) 3584 0 ∙ ap (λ m. replicate m 0) (let x : 512 - n + 3584 ≡ 4096 - n = omega (arith, short) in x) in
+    ap (λ xs. head ++ xs) (sym all)
+    ∙ (sym (append_assoc head (replicate (512 - n) 0) (replicate 3584 0)) ∙ ap (λ xs. (head ++ xs) ++ replicate 3584 0) (sym cut))
+
+-- so a block whose first sector is that, and whose others are zeros, is the record
+pub sectors-record : (bytes head sector : List ℕ) → length bytes ≡ 4096 → length head ≤ 512 → sector ≡ written 0 head (replicate 512 0) → take 512 bytes ≡ sector →
+    All (λ b. b ≡ 0) (drop 512 bytes) → bytes ≡ padded head
+sectors-record bytes head sector long short is first others =
+    let rest : drop 512 bytes ≡ replicate 3584 0 = replicate-All 0 3584 (drop 512 bytes) (length-drop 512 bytes ∙ (let x : length bytes - 512 ≡ 3584 = omega (arith, long) in x)) others in
+    sym (take-append-drop 512 bytes) ∙ (ap (λ xs. xs ++ drop 512 bytes) (first ∙ is) ∙ (ap (λ xs. written 0 head (replicate 512 0) ++ xs) rest ∙ sym (padded-sectors head short)))
+
+-- and the other way round
+pub record-sectors : (bytes head sector : List ℕ) → length head ≤ 512 → sector ≡ written 0 head (replicate 512 0) → bytes ≡ padded head →
+    (take 512 bytes ≡ sector) × All (λ b. b ≡ 0) (drop 512 bytes)
+record-sectors bytes head sector short is same =
+    let zeros' : List ℕ = replicate 512 0 in
+    let full : length zeros' ≡ 512 = length-replicate {A = ℕ} 512 0 in
+    let long : length sector ≡ 512 = ap length is ∙ (length-written 0 head zeros' (omega (arith, short, full)) ∙ full) in
+    let parts : bytes ≡ sector ++ replicate 3584 0 = same ∙ (padded-sectors head short ∙ ap (λ xs. xs ++ replicate 3584 0) (sym is)) in
+    let rest : drop 512 bytes ≡ replicate 3584 0 = ap (drop 512) parts ∙ drop_at sector (replicate 3584 0) 512 long in
+    (ap (take 512) parts ∙ take_at sector (replicate 3584 0) 512 long, subst (All (λ b. b ≡ 0)) (sym rest) (All-replicate 0 3584))
 
 -- the same of equal blocks
 pub only-of : (sector : ℕ) (new old other other_old : List ℕ) → new ≡ other → old ≡ other_old → OnlySector sector other other_old → OnlySector sector new old

@@ -9,7 +9,7 @@ use Rattle.plx_base.specs.Blocks.{filled}
 use Rattle.plx_base.specs.Payload.{IsUniform}
 
 -- a list whose elements are all one byte
-replicate-All : (byte n : ℕ) (xs : List ℕ) → length xs ≡ n → All (λ b. b ≡ byte) xs → xs ≡ replicate n byte
+pub replicate-All : (byte n : ℕ) (xs : List ℕ) → length xs ≡ n → All (λ b. b ≡ byte) xs → xs ≡ replicate n byte
 replicate-All byte zero [] e h = refl
 replicate-All byte (suc n) [] e h = absurd (omega arith)
 replicate-All byte zero (x ∷ xs) e h = absurd (omega arith)
@@ -19,7 +19,7 @@ replicate-All byte (suc n) (x ∷ xs) e h =
     rw first (ap (λ ys. byte ∷ ys) rest)
 
 -- each of so many copies
-All-replicate : (byte n : ℕ) → All (λ b. b ≡ byte) (replicate n byte)
+pub All-replicate : (byte n : ℕ) → All (λ b. b ≡ byte) (replicate n byte)
 All-replicate byte zero k d below = absurd (omega arith)
 All-replicate byte (suc n) zero d below = refl
 All-replicate byte (suc n) (suc k) d below = All-replicate byte n k d (omega arith)

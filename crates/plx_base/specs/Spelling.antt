@@ -13,10 +13,10 @@ width_of (U64 number) = 8
 width_of (U128 number) = 16
 
 -- the number that a field is
-abbrev pub number_of : Field → ℕ
-number_of (U32 number) = number
-number_of (U64 number) = number
-number_of (U128 number) = number
+abbrev pub field_number : Field → ℕ
+field_number (U32 number) = number
+field_number (U64 number) = number
+field_number (U128 number) = number
 
 -- a field of the same kind with this number
 abbrev pub with_number : Field → ℕ → Field
@@ -32,7 +32,7 @@ fields_width (field ∷ fields) = width_of field + fields_width fields
 -- the bytes of fields, one after another
 abbrev pub fields_bytes : List Field → List ℕ
 fields_bytes [] = []
-fields_bytes (field ∷ fields) = little (width_of field) (number_of field) ++ fields_bytes fields
+fields_bytes (field ∷ fields) = little (width_of field) (field_number field) ++ fields_bytes fields
 
 -- the fields of these kinds that stand one after another from that place on
 abbrev pub fields_at : (kinds : List Field) (place : ℕ) → List ℕ → List Field
@@ -43,9 +43,13 @@ fields_at (field ∷ fields) place bytes = with_number field (number_at (width_o
 unfoldable pub padded : List ℕ → List ℕ
 padded bytes = bytes ++ replicate (4096 - length bytes) 0
 
+-- what a record has before its zeros: the magic, the fields and the last bytes, one after another
+abbrev pub head_of : (magic : List ℕ) (fields : List Field) (last : List ℕ) → List ℕ
+head_of magic fields last = magic ++ (fields_bytes fields ++ last)
+
 -- the block that begins with the magic, and goes on with the fields and the last bytes
 unfoldable pub spelled : (magic : List ℕ) (fields : List Field) (last : List ℕ) → List ℕ
-spelled magic fields last = padded (magic ++ (fields_bytes fields ++ last))
+spelled magic fields last = padded (head_of magic fields last)
 
 -- what bytes say, by what was found at its places: that, where it is within its limits and is spelled by these bytes, else nothing
 abbrev pub read_by : {A : Type 0} → (is_within : A → Bool) → (spelling : A → List ℕ) → (found : A) → List ℕ → Option A

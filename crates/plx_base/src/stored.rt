@@ -2,9 +2,9 @@
 ghost use Rattle.std.specs.Prelude.{◌≡◌, ◌↔◌, ◌+◌, ◌≤◌, length, IsTrue};
 ghost use Rattle.plx_base.specs.Blocks.{written};
 ghost use Rattle.plx_base.specs.Fields.{little};
-ghost use Rattle.plx_base.specs.Spelling.{fields_bytes, fields_width, number_of, spelled, width_of};
+ghost use Rattle.plx_base.specs.Spelling.{fields_bytes, fields_width, head_of, field_number, spelled, width_of};
 
-use crate::block::{BLOCK_LEN, copy_at};
+use crate::block::{BLOCK_LEN, SECTOR_LEN, are_all, copy_at};
 use crate::field::{put_u32, put_u64, put_u128};
 
 /// A number as it is stored.
@@ -31,7 +31,7 @@ pub fn put_fields(bytes: &mut [u8], at: usize, fields: &[Field]) -> usize
 // Writes one field, and gives the place after it.
 fn put_field(bytes: &mut [u8], at: usize, field: Field) -> usize
     requires { at + width_of field ≤ length bytes.old }
-    ensures same { bytes.new ≡ written at (little (width_of field) (number_of field)) bytes.old }
+    ensures same { bytes.new ≡ written at (little (width_of field) (field_number field)) bytes.old }
     ensures next { result ≡ at + width_of field }
 {
     match field {
@@ -58,17 +58,29 @@ pub fn put_record(bytes: &mut [u8], magic: &[u8], fields: &[Field], last: &[u8])
     ensures { bytes.new ≡ spelled magic.now fields.now last.now }
 {
     bytes.fill(0);
+    put_head(bytes, magic, fields, last);
+}
+
+/// Whether a block is this record, of which all but zeros lies in the first sector.
+pub fn is_record(bytes: &[u8], magic: &[u8], fields: &[Field], last: &[u8]) -> bool
+    requires { length magic.now + (fields_width fields.now + length last.now) ≤ 512 }
+    ensures { IsTrue result ↔ (bytes.now ≡ spelled magic.now fields.now last.now) }
+{
+    if bytes.len() != BLOCK_LEN {
+        return false;
+    }
+    let mut sector = [0; SECTOR_LEN];
+    put_head(&mut sector, magic, fields, last);
+    let (first, others) = bytes.split_at(SECTOR_LEN);
+    first == sector.as_slice() && are_all(others, 0)
+}
+
+// Writes the magic, the fields and the last bytes one after another, from the first byte on.
+fn put_head(bytes: &mut [u8], magic: &[u8], fields: &[Field], last: &[u8])
+    requires { length magic.now + (fields_width fields.now + length last.now) ≤ length bytes.old }
+    ensures { bytes.new ≡ written 0 (head_of magic.now fields.now last.now) bytes.old }
+{
     copy_at(bytes, 0, magic);
     let end = put_fields(bytes, magic.len(), fields);
     copy_at(bytes, end, last);
-}
-
-/// Whether a block is this record.
-pub fn is_record(bytes: &[u8], magic: &[u8], fields: &[Field], last: &[u8]) -> bool
-    requires { length magic.now + (fields_width fields.now + length last.now) ≤ 4096 }
-    ensures { IsTrue result ↔ (bytes.now ≡ spelled magic.now fields.now last.now) }
-{
-    let mut spelled = [0; BLOCK_LEN];
-    put_record(&mut spelled, magic, fields, last);
-    bytes == spelled.as_slice()
 }

@@ -13,10 +13,10 @@ use Rattle.plx_cli.specs.Program.{IsTold, ToldOnce}
 use Rattle.plx_headline.proofs.Reaching.{reached-plays}
 
 -- the world that the program has stands for one that was reached
-pub told : HeadlineOfAll → (slots : ℕ) (events : List Event) (text : List ℕ) (entries : List Entry) (reachable allocated : ℕ) (first last : World) →
-    2 ≤ slots → slots ≤ 64 → Stands first (first_world slots) → PlaysAll first last events → entries ≡ last.trace → reachable ≡ 0 → allocated ≡ 0 →
+pub world-told : HeadlineOfAll → (slots : ℕ) (events : List Event) (text : List ℕ) (entries : List Entry) (reachable allocated : ℕ) (first last : World) →
+    2 ≤ slots → slots ≤ 64 → Stands first (first_world slots) → PlaysAll first last events → entries ≡ last.trace.items → reachable ≡ 0 → allocated ≡ 0 →
     text ≡ trace_text slots entries reachable allocated → LinesTell (trace_lines slots entries reachable allocated) → IsTold slots events text
-told law slots events text entries reachable allocated first last low high stands plays same none nothing is tells =
+world-told law slots events text entries reachable allocated first last low high stands plays same none nothing is tells =
     let found = plays (first_world slots) stands in
     let reached = reached-plays (Reached.first low high) found.1 in
     record {

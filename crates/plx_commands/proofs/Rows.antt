@@ -19,14 +19,17 @@ use Rattle.plx_commands.specs.declared.reply.Reply.TheVariants.{Attached, Create
 use Rattle.plx_commands.specs.declared.entry.Entry.{Entry}
 use Rattle.plx_commands.specs.declared.entry.Entry.TheVariants as entry
 
-abbrev slot : SlotNo
-slot = record { 0 = 0 }
+-- the one slot
+abbrev only_slot : SlotNo
+only_slot = record { 0 = 0 }
 
-abbrev one : ApplianceNo
-one = record { 0 = 0 }
+-- the first appliance
+abbrev appliance_one : ApplianceNo
+appliance_one = record { 0 = 0 }
 
-abbrev two : ApplianceNo
-two = record { 0 = 1 }
+-- the second appliance
+abbrev appliance_two : ApplianceNo
+appliance_two = record { 0 = 1 }
 
 zero-filled : filled 0 ≡ zeros
 unfolding filled zeros
@@ -35,47 +38,48 @@ zero-filled = refl
 -- an appliance attaches a free slot and makes an image of eight blocks in it
 abbrev opened : List Entry
 opened =
-    entry.Reply one Created ∷ entry.Start one (Create slot 8 (97 ∷ []))
-    ∷ entry.Reply one (Attached (report_of (free_image 0))) ∷ entry.Start one (Attach slot) ∷ []
+    entry.Reply appliance_one Created ∷ entry.Start appliance_one (Create only_slot 8 (97 ∷ []))
+    ∷ entry.Reply appliance_one (Attached (report_of (free_image 0))) ∷ entry.Start appliance_one (Attach only_slot) ∷ []
 
 -- the image as it is made, and the block that is written first
 abbrev image : Image
 image = new_image 1 8 (97 ∷ [])
 
+-- the image with its first block filled
 abbrev first_block : ℕ → Image
 first_block byte = written image 0 (filled byte)
 
 opened-permitted : (appliances : ℕ) → 0 < appliances → Permitted (first_model 1 appliances) opened
 opened-permitted appliances some = (
-  accepts-reply _ one (Create slot 8 (97 ∷ [])) Created some refl (ok-answers _ 0 (Create slot 8 (97 ∷ [])) Created refl refl refl (omega arith) refl),
+  accepts-reply _ appliance_one (Create only_slot 8 (97 ∷ [])) Created some refl (ok-answers _ 0 (Create only_slot 8 (97 ∷ [])) Created refl refl refl (omega arith) refl),
   (
-    accepts-start _ one (Create slot 8 (97 ∷ [])) some refl,
+    accepts-start _ appliance_one (Create only_slot 8 (97 ∷ [])) some refl,
     (
-      accepts-reply _ one (Attach slot) (Attached (report_of (free_image 0))) some refl (ok-answers _ 0 (Attach slot) (Attached (report_of (free_image 0))) refl refl refl (omega arith, inl refl) refl),
-      (accepts-start _ one (Attach slot) some refl, tt),
+      accepts-reply _ appliance_one (Attach only_slot) (Attached (report_of (free_image 0))) some refl (ok-answers _ 0 (Attach only_slot) (Attached (report_of (free_image 0))) refl refl refl (omega arith, inl refl) refl),
+      (accepts-start _ appliance_one (Attach only_slot) some refl, tt),
     ),
   ),
 )
 
 -- a written block is read as it was written, another one as zeros
-abbrev plain : List Entry
-plain =
-    entry.Reply one (Data (All 0)) ∷ entry.Start one (Read slot 1)
-    ∷ entry.Reply one (Data (All 90)) ∷ entry.Start one (Read slot 0)
-    ∷ entry.Reply one (Written 1) ∷ entry.Start one (Write slot 0 (All 90)) ∷ opened
+abbrev plain_trace : List Entry
+plain_trace =
+    entry.Reply appliance_one (Data (All 0)) ∷ entry.Start appliance_one (Read only_slot 1)
+    ∷ entry.Reply appliance_one (Data (All 90)) ∷ entry.Start appliance_one (Read only_slot 0)
+    ∷ entry.Reply appliance_one (Written 1) ∷ entry.Start appliance_one (Write only_slot 0 (All 90)) ∷ opened
 
-plain-permitted : Permitted (first_model 1 1) plain
+plain-permitted : Permitted (first_model 1 1) plain_trace
 plain-permitted = (
-  accepts-reply _ one (Read slot 1) (Data (All 0)) (omega arith) refl (ok-answers _ 0 (Read slot 1) (Data (All 0)) refl refl refl (omega arith, zero-filled) refl),
+  accepts-reply _ appliance_one (Read only_slot 1) (Data (All 0)) (omega arith) refl (ok-answers _ 0 (Read only_slot 1) (Data (All 0)) refl refl refl (omega arith, zero-filled) refl),
   (
-    accepts-start _ one (Read slot 1) (omega arith) refl,
+    accepts-start _ appliance_one (Read only_slot 1) (omega arith) refl,
     (
-      accepts-reply _ one (Read slot 0) (Data (All 90)) (omega arith) refl (ok-answers _ 0 (Read slot 0) (Data (All 90)) refl refl refl (omega arith, refl) refl),
+      accepts-reply _ appliance_one (Read only_slot 0) (Data (All 90)) (omega arith) refl (ok-answers _ 0 (Read only_slot 0) (Data (All 90)) refl refl refl (omega arith, refl) refl),
       (
-        accepts-start _ one (Read slot 0) (omega arith) refl,
+        accepts-start _ appliance_one (Read only_slot 0) (omega arith) refl,
         (
-          accepts-reply _ one (Write slot 0 (All 90)) (Written 1) (omega arith) refl (ok-answers _ 0 (Write slot 0 (All 90)) (Written 1) refl refl refl (omega arith, refl) refl),
-          (accepts-start _ one (Write slot 0 (All 90)) (omega arith) refl, opened-permitted 1 (omega arith)),
+          accepts-reply _ appliance_one (Write only_slot 0 (All 90)) (Written 1) (omega arith) refl (ok-answers _ 0 (Write only_slot 0 (All 90)) (Written 1) refl refl refl (omega arith, refl) refl),
+          (accepts-start _ appliance_one (Write only_slot 0 (All 90)) (omega arith) refl, opened-permitted 1 (omega arith)),
         ),
       ),
     ),
@@ -85,19 +89,19 @@ plain-permitted = (
 -- a write that a crash cut off is reported as done or as not done
 abbrev crashed : List Entry
 crashed =
-    entry.Start one (Attach slot) ∷ entry.Crash one ∷ entry.Start one (Write slot 0 (All 187))
-    ∷ entry.Reply one (Written 1) ∷ entry.Start one (Write slot 0 (All 170)) ∷ opened
+    entry.Start appliance_one (Attach only_slot) ∷ entry.Crash appliance_one ∷ entry.Start appliance_one (Write only_slot 0 (All 187))
+    ∷ entry.Reply appliance_one (Written 1) ∷ entry.Start appliance_one (Write only_slot 0 (All 170)) ∷ opened
 
 crashed-permitted : Permitted (first_model 1 1) crashed
 crashed-permitted = (
-  accepts-start _ one (Attach slot) (omega arith) refl,
+  accepts-start _ appliance_one (Attach only_slot) (omega arith) refl,
   (
-    accepts-crash _ one (omega arith),
+    accepts-crash _ appliance_one (omega arith),
     (
-      accepts-start _ one (Write slot 0 (All 187)) (omega arith) refl,
+      accepts-start _ appliance_one (Write only_slot 0 (All 187)) (omega arith) refl,
       (
-        accepts-reply _ one (Write slot 0 (All 170)) (Written 1) (omega arith) refl (ok-answers _ 0 (Write slot 0 (All 170)) (Written 1) refl refl refl (omega arith, refl) refl),
-        (accepts-start _ one (Write slot 0 (All 170)) (omega arith) refl, opened-permitted 1 (omega arith)),
+        accepts-reply _ appliance_one (Write only_slot 0 (All 170)) (Written 1) (omega arith) refl (ok-answers _ 0 (Write only_slot 0 (All 170)) (Written 1) refl refl refl (omega arith, refl) refl),
+        (accepts-start _ appliance_one (Write only_slot 0 (All 170)) (omega arith) refl, opened-permitted 1 (omega arith)),
       ),
     ),
   ),
@@ -105,52 +109,54 @@ crashed-permitted = (
 
 -- once the report says that it wasn't done, the block is the old one; once it says that it was, the new one
 abbrev not_done : List Entry
-not_done = entry.Reply one (Data (All 170)) ∷ entry.Start one (Read slot 0) ∷ entry.Reply one (Attached (report_of (first_block 170))) ∷ crashed
+not_done = entry.Reply appliance_one (Data (All 170)) ∷ entry.Start appliance_one (Read only_slot 0) ∷ entry.Reply appliance_one (Attached (report_of (first_block 170))) ∷ crashed
 
 not-done-permitted : Permitted (first_model 1 1) not_done
 not-done-permitted = (
-  accepts-reply _ one (Read slot 0) (Data (All 170)) (omega arith) refl (ok-answers _ 0 (Read slot 0) (Data (All 170)) refl refl refl (omega arith, refl) refl),
+  accepts-reply _ appliance_one (Read only_slot 0) (Data (All 170)) (omega arith) refl (ok-answers _ 0 (Read only_slot 0) (Data (All 170)) refl refl refl (omega arith, refl) refl),
   (
-    accepts-start _ one (Read slot 0) (omega arith) refl,
+    accepts-start _ appliance_one (Read only_slot 0) (omega arith) refl,
     (
-      accepts-reply _ one (Attach slot) (Attached (report_of (first_block 170))) (omega arith) refl (ok-answers _ 0 (Attach slot) (Attached (report_of (first_block 170))) refl refl refl (omega arith, inl refl) refl),
+      accepts-reply _ appliance_one (Attach only_slot) (Attached (report_of (first_block 170))) (omega arith) refl (ok-answers _ 0 (Attach only_slot) (Attached (report_of (first_block 170))) refl refl refl (omega arith, inl refl) refl),
       crashed-permitted,
     ),
   ),
 )
 
+-- the image with its first block filled twice
 abbrev second_block : Image
 second_block = written (first_block 170) 0 (filled 187)
 
+-- after a crash within a write its data is read, as the write may have been done
 abbrev was_done : List Entry
-was_done = entry.Reply one (Data (All 187)) ∷ entry.Start one (Read slot 0) ∷ entry.Reply one (Attached (report_of second_block)) ∷ crashed
+was_done = entry.Reply appliance_one (Data (All 187)) ∷ entry.Start appliance_one (Read only_slot 0) ∷ entry.Reply appliance_one (Attached (report_of second_block)) ∷ crashed
 
 was-done-permitted : Permitted (first_model 1 1) was_done
 was-done-permitted = (
-  accepts-reply _ one (Read slot 0) (Data (All 187)) (omega arith) refl (ok-answers _ 0 (Read slot 0) (Data (All 187)) refl refl refl (omega arith, refl) refl),
+  accepts-reply _ appliance_one (Read only_slot 0) (Data (All 187)) (omega arith) refl (ok-answers _ 0 (Read only_slot 0) (Data (All 187)) refl refl refl (omega arith, refl) refl),
   (
-    accepts-start _ one (Read slot 0) (omega arith) refl,
+    accepts-start _ appliance_one (Read only_slot 0) (omega arith) refl,
     (
-      accepts-reply _ one (Attach slot) (Attached (report_of second_block)) (omega arith) refl (ok-answers _ 0 (Attach slot) (Attached (report_of second_block)) refl refl refl (omega arith, inr (second_block, refl, refl)) refl),
+      accepts-reply _ appliance_one (Attach only_slot) (Attached (report_of second_block)) (omega arith) refl (ok-answers _ 0 (Attach only_slot) (Attached (report_of second_block)) refl refl refl (omega arith, inr (second_block, refl, refl)) refl),
       crashed-permitted,
     ),
   ),
 )
 
 -- after a lost lease the appliance has no session
-abbrev lost : List Entry
-lost =
-    entry.Reply one NotAttached ∷ entry.Start one (Read slot 0)
-    ∷ entry.Reply one (Lost (lease.Image slot) 11000 11000) ∷ entry.Start one (Read slot 0) ∷ opened
+abbrev lost_trace : List Entry
+lost_trace =
+    entry.Reply appliance_one NotAttached ∷ entry.Start appliance_one (Read only_slot 0)
+    ∷ entry.Reply appliance_one (Lost (lease.Image only_slot) 11000 11000) ∷ entry.Start appliance_one (Read only_slot 0) ∷ opened
 
-lost-permitted : Permitted (first_model 1 1) lost
+lost-permitted : Permitted (first_model 1 1) lost_trace
 lost-permitted = (
-  accepts-reply _ one (Read slot 0) NotAttached (omega arith) refl (founded-answers _ 0 (Read slot 0) NotAttached refl refl (inl refl)),
+  accepts-reply _ appliance_one (Read only_slot 0) NotAttached (omega arith) refl (founded-answers _ 0 (Read only_slot 0) NotAttached refl refl (inl refl)),
   (
-    accepts-start _ one (Read slot 0) (omega arith) refl,
+    accepts-start _ appliance_one (Read only_slot 0) (omega arith) refl,
     (
-      accepts-reply _ one (Read slot 0) (Lost (lease.Image slot) 11000 11000) (omega arith) refl (other-answers _ 0 (Read slot 0) (Lost (lease.Image slot) 11000 11000) refl refl refl),
-      (accepts-start _ one (Read slot 0) (omega arith) refl, opened-permitted 1 (omega arith)),
+      accepts-reply _ appliance_one (Read only_slot 0) (Lost (lease.Image only_slot) 11000 11000) (omega arith) refl (other-answers _ 0 (Read only_slot 0) (Lost (lease.Image only_slot) 11000 11000) refl refl refl),
+      (accepts-start _ appliance_one (Read only_slot 0) (omega arith) refl, opened-permitted 1 (omega arith)),
     ),
   ),
 )
@@ -158,37 +164,38 @@ lost-permitted = (
 -- while one appliance is in a write, another takes the image over: it reports that this write wasn't done, and writes itself
 abbrev taken_over : List Entry
 taken_over =
-    entry.Reply two (Written 1) ∷ entry.Start two (Write slot 0 (All 187))
-    ∷ entry.Reply two (Attached (report_of image)) ∷ entry.Start two (Attach slot)
-    ∷ entry.Start one (Write slot 0 (All 170)) ∷ opened
+    entry.Reply appliance_two (Written 1) ∷ entry.Start appliance_two (Write only_slot 0 (All 187))
+    ∷ entry.Reply appliance_two (Attached (report_of image)) ∷ entry.Start appliance_two (Attach only_slot)
+    ∷ entry.Start appliance_one (Write only_slot 0 (All 170)) ∷ opened
 
 taken-over-permitted : Permitted (first_model 1 2) taken_over
 taken-over-permitted = (
-  accepts-reply _ two (Write slot 0 (All 187)) (Written 1) (omega arith) refl (ok-answers _ 1 (Write slot 0 (All 187)) (Written 1) refl refl refl (omega arith, refl) refl),
+  accepts-reply _ appliance_two (Write only_slot 0 (All 187)) (Written 1) (omega arith) refl (ok-answers _ 1 (Write only_slot 0 (All 187)) (Written 1) refl refl refl (omega arith, refl) refl),
   (
-    accepts-start _ two (Write slot 0 (All 187)) (omega arith) refl,
+    accepts-start _ appliance_two (Write only_slot 0 (All 187)) (omega arith) refl,
     (
-      accepts-reply _ two (Attach slot) (Attached (report_of image)) (omega arith) refl (ok-answers _ 1 (Attach slot) (Attached (report_of image)) refl refl refl (omega arith, inl refl) refl),
+      accepts-reply _ appliance_two (Attach only_slot) (Attached (report_of image)) (omega arith) refl (ok-answers _ 1 (Attach only_slot) (Attached (report_of image)) refl refl refl (omega arith, inl refl) refl),
       (
-        accepts-start _ two (Attach slot) (omega arith) refl,
-        (accepts-start _ one (Write slot 0 (All 170)) (omega arith) refl, opened-permitted 2 (omega arith)),
+        accepts-start _ appliance_two (Attach only_slot) (omega arith) refl,
+        (accepts-start _ appliance_one (Write only_slot 0 (All 170)) (omega arith) refl, opened-permitted 2 (omega arith)),
       ),
     ),
   ),
 )
 
+-- the first appliance loses the image that the second has taken over, and the second reads
 abbrev lost_over : List Entry
 lost_over =
-    entry.Reply two (Data (All 187)) ∷ entry.Start two (Read slot 0)
-    ∷ entry.Reply one (Lost (lease.Image slot) 11000 11702) ∷ taken_over
+    entry.Reply appliance_two (Data (All 187)) ∷ entry.Start appliance_two (Read only_slot 0)
+    ∷ entry.Reply appliance_one (Lost (lease.Image only_slot) 11000 11702) ∷ taken_over
 
 lost-over-permitted : Permitted (first_model 1 2) lost_over
 lost-over-permitted = (
-  accepts-reply _ two (Read slot 0) (Data (All 187)) (omega arith) refl (ok-answers _ 1 (Read slot 0) (Data (All 187)) refl refl refl (omega arith, refl) refl),
+  accepts-reply _ appliance_two (Read only_slot 0) (Data (All 187)) (omega arith) refl (ok-answers _ 1 (Read only_slot 0) (Data (All 187)) refl refl refl (omega arith, refl) refl),
   (
-    accepts-start _ two (Read slot 0) (omega arith) refl,
+    accepts-start _ appliance_two (Read only_slot 0) (omega arith) refl,
     (
-      accepts-reply _ one (Write slot 0 (All 170)) (Lost (lease.Image slot) 11000 11702) (omega arith) refl (other-answers _ 0 (Write slot 0 (All 170)) (Lost (lease.Image slot) 11000 11702) refl refl refl),
+      accepts-reply _ appliance_one (Write only_slot 0 (All 170)) (Lost (lease.Image only_slot) 11000 11702) (omega arith) refl (other-answers _ 0 (Write only_slot 0 (All 170)) (Lost (lease.Image only_slot) 11000 11702) refl refl refl),
       taken-over-permitted,
     ),
   ),
@@ -198,19 +205,19 @@ lost-over-permitted = (
 abbrev taken : Model
 taken = model_of (first_model 1 2) taken_over
 
-stranger : IsLeastBroken taken (entry.Reply one (Written 2)) 5
+stranger : IsLeastBroken taken (entry.Reply appliance_one (Written 2)) 5
 stranger = record { broken = owner foreign; least = earlier }
   where
-    foreign : ¬ InCommand IsByOwner taken (entry.Reply one (Written 2))
-    foreign keeps = let e : false ≡ true = keeps (Write slot 0 (All 170)) refl refl in let P : ⊥ = cc in P
+    foreign : ¬ InCommand IsByOwner taken (entry.Reply appliance_one (Written 2))
+    foreign keeps = let e : false ≡ true = keeps (Write only_slot 0 (All 170)) refl refl in let P : ⊥ = cc in P
 
     by_command : (command : Command) → taken.running 0 ≡ Some command → is_listed command (Written 2) ≡ true
     by_command command runs =
-        let e : Some (Write slot 0 (All 170)) ≡ Some command = runs in
-        let same : Write slot 0 (All 170) ≡ command = cc in
+        let e : Some (Write only_slot 0 (All 170)) ≡ Some command = runs in
+        let same : Write only_slot 0 (All 170) ≡ command = cc in
         subst (λ (c : Command). is_listed c (Written 2) ≡ true) same refl
 
-    earlier : (other : ℕ) → other < 5 → ¬ Breaks taken (entry.Reply one (Written 2)) other
+    earlier : (other : ℕ) → other < 5 → ¬ Breaks taken (entry.Reply appliance_one (Written 2)) other
     earlier other less (known breaks) = breaks (omega arith)
     earlier other less (idle breaks) = breaks tt
     earlier other less (running breaks) = breaks refl
@@ -221,12 +228,12 @@ stranger = record { broken = owner foreign; least = earlier }
     earlier other less (unrefused breaks) = absurd (omega (arith, less))
 
 -- a write of the owner that is answered with the Ok of a read breaks rule 4
-misplaced : ¬ (is_listed (Write slot 0 (All 170)) (Data (All 170)) ≡ true)
+misplaced : ¬ (is_listed (Write only_slot 0 (All 170)) (Data (All 170)) ≡ true)
 misplaced e = let P : ⊥ = cc in P
 
 -- a boot that has no claims left may say so of an attach and not of a create, of which the model knows how often it was done
-claims-worn : IsAmong (WornOut last_claim) (of_claims (Attach slot))
+claims-worn : IsAmong (WornOut last_claim) (of_claims (Attach only_slot))
 claims-worn = inl refl
 
-create-worn : ¬ IsAmong (WornOut last_claim) (of_claims (Create slot 8 []))
+create-worn : ¬ IsAmong (WornOut last_claim) (of_claims (Create only_slot 8 []))
 create-worn h = h

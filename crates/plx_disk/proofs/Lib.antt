@@ -5,4 +5,3 @@ pub mod Kept
 pub mod Landings
 pub mod Lists
 pub mod Told
-pub mod Whole

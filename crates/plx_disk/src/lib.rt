@@ -4,7 +4,9 @@
 mod ask;
 mod blocks;
 mod disk;
+mod turn;
 mod write;
 
 pub use ask::{Answer, Ask};
 pub use disk::Disk;
+pub use turn::Turn;

@@ -7,7 +7,7 @@ use Rattle.std.specs.List.{All}
 use Rattle.std.specs.Prelude.{slice_index}
 use Rattle.std.specs.Str.{bytes_eq}
 use Rattle.plx_base.specs.Blocks.{zeros, filled}
-use Rattle.plx_base.specs.Spelling.{IsReading, OnlySector, fields_bytes, number_of, read_by, spelled}
+use Rattle.plx_base.specs.Spelling.{IsReading, OnlySector, fields_bytes, field_number, read_by, spelled}
 use Rattle.plx_base.specs.declared.stored.Field.{Field}
 use Rattle.plx_base.proofs.Spelling.{AreFields, drop-padded, length-spelled, length-spelled_head, only-spelled, only-zeros, read-exact, read-past, read-some, read-unspelled, spelled-eq, spelled-fields}
 use Rattle.plx_base.proofs.Uniform.{filled-All, All-filled}
@@ -16,7 +16,7 @@ use Rattle.plx_gate.specs.declared.descriptor.Descriptor.{Descriptor}
 
 -- the descriptor of its fields
 abbrev of_fields : List Field → Descriptor
-of_fields (generation ∷ vblock ∷ number ∷ rest) = record { generation = number_of generation; vblock = number_of vblock; number = number_of number }
+of_fields (generation ∷ vblock ∷ number ∷ rest) = record { generation = field_number generation; vblock = field_number vblock; number = field_number number }
 of_fields rest = record { generation = 0; vblock = 0; number = 0 }
 
 -- each field is a number of its width
@@ -111,8 +111,8 @@ pub descriptor-same : (d e : Descriptor) → IsDescriptor d → IsDescriptor e �
 descriptor-same d e hd he same = sym (descriptor-found d hd) ∙ (ap found_descriptor same ∙ descriptor-found e he)
 
 -- a block that is read as a descriptor is the spelling of it
-pub read-only : (bytes : List ℕ) (d : Descriptor) → read_descriptor bytes ≡ Some (Some d) → (bytes ≡ descriptor_bytes d) × IsDescriptor d
-read-only bytes d e = let r : IsDescriptorReading bytes (Some (Some d)) = subst (IsDescriptorReading bytes) e (descriptor-reading bytes) in (r.1, r.0)
+pub descriptor-only : (bytes : List ℕ) (d : Descriptor) → read_descriptor bytes ≡ Some (Some d) → (bytes ≡ descriptor_bytes d) × IsDescriptor d
+descriptor-only bytes d e = let r : IsDescriptorReading bytes (Some (Some d)) = subst (IsDescriptorReading bytes) e (descriptor-reading bytes) in (r.1, r.0)
 
 -- a block that is read as an empty descriptor is zeros
 pub read-empty : (bytes : List ℕ) → read_descriptor bytes ≡ Some None → bytes ≡ zeros

@@ -4,10 +4,11 @@ use Rattle.std.proofs.lemmas.Bool.Decides.{nat_tests}
 use Rattle.std.proofs.lemmas.List.{append-nil, length-replicate}
 use Rattle.plx_base.specs.Blocks.{written}
 use Rattle.std.specs.Prelude.{◌&&◌, ◌==◌, not, nat_lt}
-use Rattle.plx_base.specs.Spelling.{IsReading, OnlySector, fields_bytes, number_of, read_by}
+use Rattle.plx_base.specs.Spelling.{IsReading, OnlySector, fields_bytes, field_number, read_by}
 use Rattle.plx_base.specs.declared.stored.Field.{Field}
 use Rattle.plx_base.proofs.Pointers.{is_pointer-true, true-is_pointer}
 use Rattle.plx_base.proofs.Spelling.{AreFields, fields-back, length-fields, only-written, read-exact, read-past, read-some, read-unspelled}
+use Rattle.plx_base.proofs.Tests.{all_three}
 use Rattle.plx_base.proofs.Written.{part-after, part-before, part-written, length-written, written-whole}
 use Rattle.plx_base.specs.Pointers.{is_pointer}
 use Rattle.plx_gate.specs.Entries.{IsEntry, entry_bytes, entry_fields, entry_of, entry_part, entry_sector, entry_start, flag_of, found_entry, is_entry, read_entry, with_entry}
@@ -15,7 +16,7 @@ use Rattle.plx_gate.specs.declared.entry.LogEntry.{LogEntry}
 
 -- the entry of its fields
 abbrev of_fields : List Field → LogEntry
-of_fields (root ∷ dropped ∷ unnamed ∷ stamp ∷ rest) = record { root = number_of root; dropped = not (number_of dropped == 0); stamp = number_of stamp }
+of_fields (root ∷ dropped ∷ unnamed ∷ stamp ∷ rest) = record { root = field_number root; dropped = not (field_number dropped == 0); stamp = field_number stamp }
 of_fields rest = record { root = 0; dropped = false; stamp = 0 }
 
 flag-lt : (b : Bool) → flag_of b < 2
@@ -44,9 +45,6 @@ entry-found e h =
 
 -- the test of the limits tells
 
-three : (a b c : Bool) → a ≡ true → b ≡ true → c ≡ true → (a && (b && c)) ≡ true
-three a b c x y z = rw (x, y, z) refl
-
 front : (a b : Bool) → (a && b) ≡ true → a ≡ true
 front true b h = refl
 front false b h = cc
@@ -63,7 +61,7 @@ true-lt a b h = grind (arith, nat_tests)
 
 is_entry-true : (e : LogEntry) → IsEntry e → is_entry e ≡ true
 is_entry-true e h =
-    three (is_pointer e.root) (nat_lt e.root (2 ^ 63)) (nat_lt e.stamp (2 ^ 64)) (is_pointer-true e.root h.root) (lt-true e.root (2 ^ 63) h.frozen) (lt-true e.stamp (2 ^ 64) h.stamp)
+    all_three (is_pointer e.root) (nat_lt e.root (2 ^ 63)) (nat_lt e.stamp (2 ^ 64)) (is_pointer-true e.root h.root) (lt-true e.root (2 ^ 63) h.frozen) (lt-true e.stamp (2 ^ 64) h.stamp)
 
 true-is_entry : (e : LogEntry) → is_entry e ≡ true → IsEntry e
 true-is_entry e h =

@@ -6,11 +6,12 @@ use Rattle.std.specs.Prelude.{◌&&◌}
 use Rattle.plx_base.specs.Fields.{number_at}
 use Rattle.plx_base.specs.Labels.{IsLabel, is_label}
 use Rattle.plx_base.specs.Pointers.{IsPointer, is_pointer}
-use Rattle.plx_base.specs.Spelling.{IsReading, OnlySector, fields_width, number_of, read_by, spelled}
+use Rattle.plx_base.specs.Spelling.{IsReading, OnlySector, fields_width, field_number, read_by, spelled}
 use Rattle.plx_base.specs.declared.stored.Field.{Field}
 use Rattle.plx_base.proofs.Labels.{is_label-true, true-is_label}
 use Rattle.plx_base.proofs.Pointers.{IsPointer-lt, is_pointer-true, true-is_pointer}
 use Rattle.plx_base.proofs.Spelling.{AreFields, length-spelled, only-spelled, read-exact, read-past, read-some, read-unspelled, spelled-fields, spelled-last}
+use Rattle.plx_base.proofs.Tests.{all_three, not-true}
 use Rattle.plx_gate.specs.Images.{IsImage, are_within, found_image, found_label, image_bytes, image_fields, image_magic, image_of, is_image, label_of, read_image}
 use Rattle.plx_gate.specs.declared.image.ImageRecord.{ImageRecord}
 use Rattle.plx_gate.specs.declared.image.ImageRecord.TheVariants.{Free, Live}
@@ -18,12 +19,12 @@ use Rattle.plx_gate.specs.declared.image.ImageRecord.TheVariants.{Free, Live}
 -- the image record of its fields and its label
 abbrev of_fields : List Field → List ℕ → ImageRecord
 of_fields (state ∷ generation ∷ size ∷ taken ∷ root ∷ applied ∷ label_len ∷ unnamed ∷ rest) label =
-    image_of (number_of state) (number_of generation) (number_of size) (number_of taken) (number_of root) (number_of applied) label
+    image_of (field_number state) (field_number generation) (field_number size) (field_number taken) (field_number root) (field_number applied) label
 of_fields rest label = Free 0
 
 -- the length of the label, in the fields
 abbrev len_in : List Field → ℕ
-len_in (state ∷ generation ∷ size ∷ taken ∷ root ∷ applied ∷ label_len ∷ unnamed ∷ rest) = number_of label_len
+len_in (state ∷ generation ∷ size ∷ taken ∷ root ∷ applied ∷ label_len ∷ unnamed ∷ rest) = field_number label_len
 len_in rest = 0
 
 -- the live image whose numbers and label stand at the places of the fields
@@ -67,9 +68,6 @@ true-are_within : (generation size taken applied : ℕ) → are_within generatio
 true-are_within generation size taken applied h =
     (grind (arith, nat_tests), grind (arith, nat_tests), grind (arith, nat_tests), grind (arith, nat_tests), grind (arith, nat_tests), grind (arith, nat_tests))
 
-three : (a b c : Bool) → a ≡ true → b ≡ true → c ≡ true → (a && (b && c)) ≡ true
-three a b c x y z = rw (x, y, z) refl
-
 front : (a b : Bool) → (a && b) ≡ true → a ≡ true
 front true b h = refl
 front false b h = cc
@@ -81,7 +79,7 @@ back false b h = cc
 is_image-true : (r : ImageRecord) → IsImage r → is_image r ≡ true
 is_image-true (Free generation) h = grind (arith, nat_tests)
 is_image-true (Live generation size taken root applied label) h =
-    three (are_within generation size taken applied) (is_pointer root) (is_label label)
+    all_three (are_within generation size taken applied) (is_pointer root) (is_label label)
     (are_within-true generation size taken applied h.generation_low h.generation_high h.size_low h.size_high h.taken_high h.applied_high)
     (is_pointer-true root h.root_pointer) (is_label-true label h.label_is)
 
@@ -106,10 +104,6 @@ true-is_image (Live generation size taken root applied label) h =
 live-is : (state generation size taken root applied : ℕ) (label : List ℕ) → state ≢ 0 →
     image_of state generation size taken root applied label ≡ Live generation size taken root applied label
 live-is state generation size taken root applied label h = elim (eqb_tells state 0) [ inl x ↦ absurd (h x.1) | inr x ↦ rw x.0 refl ]
-
-not-true : (b : Bool) → ¬ (b ≡ true) → b ≡ false
-not-true true h = absurd (h refl)
-not-true false h = refl
 
 pub past-limits : (bytes : List ℕ) → number_at 4 8 bytes ≢ 0 → ¬ (IsImage (live_at bytes)) → is_image (found_image bytes) ≡ false
 past-limits bytes live past =

@@ -1,7 +1,7 @@
 -- Leases as bytes: each is read back, is spelled in one way, and differs from another in its first sector alone.
 use Rattle.std.proofs.Common.{◌≡◌, ◌≢◌, ℕ, List, [], ◌∷◌, length, refl, ap, sym, ◌∙◌, subst, arith, true, false, Some, None}
 use Rattle.std.proofs.lemmas.Bool.Decides.{nat_tests}
-use Rattle.plx_base.specs.Spelling.{IsReading, OnlySector, fields_width, number_of, read_by, spelled}
+use Rattle.plx_base.specs.Spelling.{IsReading, OnlySector, fields_width, field_number, read_by, spelled}
 use Rattle.plx_base.specs.declared.lease.LeaseRecord.{LeaseRecord}
 use Rattle.plx_base.specs.declared.lease.LeaseRecord.TheVariants.{Free, Claimed}
 use Rattle.plx_base.specs.declared.stored.Field.{Field}
@@ -10,7 +10,7 @@ use Rattle.plx_gate.specs.Leases.{IsLease, found_lease, is_lease, lease_bytes, l
 
 -- the lease of its fields
 abbrev of_fields : List Field → LeaseRecord
-of_fields (state ∷ unnamed ∷ boot ∷ number ∷ sample ∷ until ∷ rest) = lease_of (number_of state) (number_of boot) (number_of number) (number_of sample) (number_of until)
+of_fields (state ∷ unnamed ∷ boot ∷ number ∷ sample ∷ until ∷ rest) = lease_of (field_number state) (field_number boot) (field_number number) (field_number sample) (field_number until)
 of_fields rest = Free
 
 -- each field is a number of its width

@@ -54,7 +54,8 @@ pub fn write_descriptor(value: &Descriptor, bytes: &mut [u8])
     requires long { length bytes.old ≡ 4096 }
     requires limits { IsDescriptor value.now }
     ensures spelled { bytes.new ≡ descriptor_bytes value.now }
-    ensures sector { (old : Descriptor) → bytes.old ≡ descriptor_bytes old → OnlySector 0 bytes.new bytes.old }
+    ensures sector { (old : Descriptor) → bytes.old ≡ descriptor_bytes old
+        → OnlySector 0 bytes.new bytes.old }
     ensures empty { bytes.old ≡ zeros → OnlySector 0 bytes.new bytes.old }
 {
     put_record(bytes, MAGIC, &fields(value), &[]);

@@ -40,7 +40,8 @@ pub fn write_entry(value: &LogEntry, index: u32, bytes: &mut [u8])
     requires limits { IsEntry value.now }
     ensures written { bytes.new ≡ with_entry index value.now bytes.old }
     ensures here { entry_in index bytes.new ≡ Some value.now }
-    ensures others { (other : ℕ) → other ≢ index → entry_in other bytes.new ≡ entry_in other bytes.old }
+    ensures others { (other : ℕ) → other ≢ index
+        → entry_in other bytes.new ≡ entry_in other bytes.old }
     ensures sector { OnlySector (entry_sector index) bytes.new bytes.old }
 {
     put_fields(bytes, ENTRY_LEN * index as usize, &fields(value));

@@ -72,7 +72,8 @@ pub fn write_image(value: &ImageRecord, bytes: &mut [u8])
     requires long { length bytes.old ≡ 4096 }
     requires limits { IsImage value.now }
     ensures spelled { bytes.new ≡ image_bytes value.now }
-    ensures sector { (old : ImageRecord) → IsImage old → bytes.old ≡ image_bytes old → OnlySector 0 bytes.new bytes.old }
+    ensures sector { (old : ImageRecord) → IsImage old → bytes.old ≡ image_bytes old
+        → OnlySector 0 bytes.new bytes.old }
 {
     put_record(bytes, MAGIC, &fields(value), label(value));
 }

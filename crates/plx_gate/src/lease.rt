@@ -45,7 +45,8 @@ pub fn write_lease(value: &LeaseRecord, bytes: &mut [u8])
     requires long { length bytes.old ≡ 4096 }
     requires limits { IsLease value.now }
     ensures spelled { bytes.new ≡ lease_bytes value.now }
-    ensures sector { (old : LeaseRecord) → bytes.old ≡ lease_bytes old → OnlySector 0 bytes.new bytes.old }
+    ensures sector { (old : LeaseRecord) → bytes.old ≡ lease_bytes old
+        → OnlySector 0 bytes.new bytes.old }
 {
     put_record(bytes, MAGIC, &fields(*value), &[]);
 }

@@ -1,7 +1,7 @@
 -- Superblocks as bytes: a geometry is read back from its own, and each geometry has one.
 use Rattle.std.proofs.Common.{◌≡◌, ◌≢◌, ℕ, List, [], ◌∷◌, length, refl, ap, sym, subst, ◌∙◌, arith}
 use Rattle.plx_base.specs.Fields.{number_at}
-use Rattle.plx_base.specs.Spelling.{number_of, spelled}
+use Rattle.plx_base.specs.Spelling.{field_number, spelled}
 use Rattle.plx_base.specs.declared.stored.Field.{Field}
 use Rattle.plx_base.proofs.Spelling.{AreFields, spelled-fields, length-spelled}
 use Rattle.plx_geom.specs.Geometry.{Geometry, IsGeometry, geometry_of}
@@ -12,16 +12,16 @@ abbrev pub found_geometry : List ℕ → Geometry
 found_geometry bytes = geometry_of (number_at 4 8 bytes) (number_at 4 12 bytes) (number_at 4 16 bytes) (number_at 4 20 bytes)
 
 -- the geometry of four fields
-abbrev of_fields : List Field → Geometry
-of_fields (a ∷ b ∷ c ∷ d ∷ rest) = geometry_of (number_of a) (number_of b) (number_of c) (number_of d)
-of_fields (a ∷ b ∷ c ∷ []) = geometry_of 0 0 0 0
-of_fields (a ∷ b ∷ []) = geometry_of 0 0 0 0
-of_fields (a ∷ []) = geometry_of 0 0 0 0
-of_fields [] = geometry_of 0 0 0 0
+abbrev geometry_in : List Field → Geometry
+geometry_in (a ∷ b ∷ c ∷ d ∷ rest) = geometry_of (field_number a) (field_number b) (field_number c) (field_number d)
+geometry_in (a ∷ b ∷ c ∷ []) = geometry_of 0 0 0 0
+geometry_in (a ∷ b ∷ []) = geometry_of 0 0 0 0
+geometry_in (a ∷ []) = geometry_of 0 0 0 0
+geometry_in [] = geometry_of 0 0 0 0
 
 -- each field is a number of four bytes
-small-fields : (g : Geometry) → IsGeometry g → AreFields (superblock_fields g)
-small-fields g h =
+small-geometry_fields : (g : Geometry) → IsGeometry g → AreFields (superblock_fields g)
+small-geometry_fields g h =
     let a = h.images_high in
     let b = h.extents_high in
     let c = h.blocks_high in
@@ -31,7 +31,7 @@ small-fields g h =
 -- a geometry is read back from its superblock
 pub superblock-back : (g : Geometry) → IsGeometry g → found_geometry (superblock_bytes g) ≡ g
 unfolding superblock_bytes
-superblock-back g h = ap of_fields (spelled-fields superblock_magic (superblock_fields g) [] (small-fields g h))
+superblock-back g h = ap geometry_in (spelled-fields superblock_magic (superblock_fields g) [] (small-geometry_fields g h))
 
 -- two geometries with one superblock are one
 pub superblock-same : (g h : Geometry) → IsGeometry g → IsGeometry h → superblock_bytes g ≡ superblock_bytes h → g ≡ h

@@ -28,7 +28,12 @@ impl Model for Geometry {
 
     ghost invariant = { λ g. IsGeometry (geometry_of g.images g.extents g.extent_blocks g.slots) };
 
-    ghost inverse = { λ g. record { images = g.images; extents = g.extents; extent_blocks = g.extent_blocks; slots = g.slots } };
+    ghost inverse = { λ g. record {
+      images = g.images;
+      extents = g.extents;
+      extent_blocks = g.extent_blocks;
+      slots = g.slots;
+    } };
 }
 
 /// Why numbers are no geometry.
@@ -49,7 +54,8 @@ impl Geometry {
     ) -> Result<Geometry, GeometryError>
         ensures limits { IsOk result ↔ IsGeometry (geometry_of images extents extent_blocks slots) }
         ensures same { IfOk result (λ g. g ≡ geometry_of images extents extent_blocks slots) }
-        ensures cause { IfErr result (λ error. IsCause error (geometry_of images extents extent_blocks slots)) }
+        ensures cause { IfErr result
+            (λ error. IsCause error (geometry_of images extents extent_blocks slots)) }
     {
         if !is_within(images, 1, 256) {
             return Err(GeometryError::OutOfLimit {

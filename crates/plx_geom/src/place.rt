@@ -36,7 +36,8 @@ impl Geometry {
     /// What stands in a block, or `None` past the device's end.
     pub fn place(&self, block: BlockNo) -> Option<Place>
         ensures stands { StandsIn self.now block.0 result }
-        ensures one { (p : Place) → IsPlace self.now p → block_of self.now p ≡ block.0 → result ≡ Some p }
+        ensures one { (p : Place) → IsPlace self.now p → block_of self.now p ≡ block.0
+            → result ≡ Some p }
     {
         let images = u64::from(self.images);
         let image_leases = 2;

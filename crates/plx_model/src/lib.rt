@@ -22,6 +22,6 @@ pub use command::Command;
 pub use entry::Entry;
 pub use event::{Event, Region, Stop};
 pub use judge::JudgeError;
-pub use list::{Entries, EventList};
+pub use list::EventList;
 pub use model::Model;
 pub use reply::{Reply, Report};

@@ -4,7 +4,7 @@ use plx_base::{
     ApplianceNo, Block, BlockNo, ExtentNo, Label, LeaseName, NoMemory, Payload, SlotNo,
 };
 use plx_cli::Status;
-use plx_model::{Command, Entries, Entry, Reply, Report};
+use plx_model::{Command, Entry, Reply, Report};
 use plx_text::{print_trace, read_schedule};
 use std::test::Fail;
 
@@ -43,7 +43,7 @@ fn attached(live: bool, label: Label) -> Entry {
 
 #[test]
 fn commands_and_their_replies_have_their_words(rt: HostRuntime) -> Result<(), NoMemory> {
-    let mut entries = Entries::new(rt.alloc());
+    let mut entries = Vec::new(rt.alloc());
     let label = Label::new(b"disk-1").unwrap_or(Label::empty());
     let list = [
         started(Command::Attach { slot: SLOT }),
@@ -69,7 +69,7 @@ fn commands_and_their_replies_have_their_words(rt: HostRuntime) -> Result<(), No
     for entry in list {
         entries.push(entry)?;
     }
-    let text = print_trace(rt.alloc(), 16, &entries, 20, 3)?;
+    let text = print_trace(rt.alloc(), 16, entries.as_slice(), 20, 3)?;
     let expected = b"world 1 1 16 16 1
 start 0 attach 3
 reply 4294967295 attached live=1 gen=1 size=8 writes=18446744073709551615 taken=2 dropped=0 label=disk-1
@@ -87,7 +87,7 @@ end reachable=20 allocated=3
 
 #[test]
 fn refusals_and_failures_have_their_words(rt: HostRuntime) -> Result<(), NoMemory> {
-    let mut entries = Entries::new(rt.alloc());
+    let mut entries = Vec::new(rt.alloc());
     let list = [
         replied(Reply::NotAttached),
         replied(Reply::AlreadyAttached),
@@ -103,7 +103,7 @@ fn refusals_and_failures_have_their_words(rt: HostRuntime) -> Result<(), NoMemor
     for entry in list {
         entries.push(entry)?;
     }
-    let text = print_trace(rt.alloc(), 64, &entries, 0, 0)?;
+    let text = print_trace(rt.alloc(), 64, entries.as_slice(), 0, 0)?;
     let expected = b"world 1 1 16 64 1
 reply 4294967295 not-attached
 reply 4294967295 already-attached
@@ -126,12 +126,12 @@ fn a_block_is_spelled_by_one_byte_or_by_all(rt: HostRuntime) -> Result<(), NoMem
     let alloc = rt.alloc();
     let mut block = Block::filled(alloc, 0xab)?;
     block.copy_from(4095, &[0x09]);
-    let mut entries = Entries::new(alloc);
+    let mut entries = Vec::new(alloc);
     for block in [Block::filled(alloc, 0xff)?, block] {
         let payload = Payload::Whole(block);
         entries.push(replied(Reply::Data { payload }))?;
     }
-    let text = print_trace(alloc, 2, &entries, 0, 0)?;
+    let text = print_trace(alloc, 2, entries.as_slice(), 0, 0)?;
     let start = b"world 1 1 16 2 1
 reply 4294967295 data all:ff
 reply 4294967295 data hex:ababab";

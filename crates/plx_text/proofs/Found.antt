@@ -20,10 +20,10 @@ use Rattle.plx_words.proofs.Clean.{all_bounded}
 use Rattle.plx_words.specs.Pieces.{Tells, all_spelled, spelled}
 use Rattle.plx_text.specs.Commands.{command_line, command_of}
 use Rattle.plx_text.specs.Events.{SpellsEvent, event_line, event_of}
-use Rattle.plx_text.specs.Replies.{lease_of, lease_piece, reply_line, reply_of}
+use Rattle.plx_text.specs.Replies.{lease_from, lease_piece, reply_line, reply_in}
 use Rattle.plx_text.specs.Stops.{stop_of, stop_piece}
 use Rattle.plx_text.specs.Schedules.{SpellsWorld, world_line, world_of}
-use Rattle.plx_text.specs.Traces.{entry_line, entry_of}
+use Rattle.plx_text.specs.Traces.{entry_line, entry_in}
 
 pub world-found : (slots : ℕ) (words : List (List ℕ)) → Tell (world_line slots) words → world_of words ≡ Some slots
 world-found slots words tells = grind (arith, value)
@@ -43,12 +43,12 @@ event-found (event.Start appliance command) words tells =
 event-found (event.Upto appliance at) words tells = rw (tells.1, value appliance.0 (omega arith), stop-found at tells.0.1.1.0) refl
 event-found other words tells = grind (arith, value)
 
-lease-found : (lease : LeaseName) → Tells (lease_piece lease) → lease_of (spelled (lease_piece lease)) ≡ lease
-lease-found Root tells = refl
-lease-found (Image slot) tells = grind (arith, value)
-lease-found (Extent extent) tells = grind (arith, value)
+lease_from-piece : (lease : LeaseName) → Tells (lease_piece lease) → lease_from (spelled (lease_piece lease)) ≡ lease
+lease_from-piece Root tells = refl
+lease_from-piece (Image slot) tells = grind (arith, value)
+lease_from-piece (Extent extent) tells = grind (arith, value)
 
-pub reply-found : (one : Reply) (words : List (List ℕ)) → Tell (reply_line one) words → reply_of words ≡ Some one
+pub reply-found : (one : Reply) (words : List (List ℕ)) → Tell (reply_line one) words → reply_in words ≡ Some one
 reply-found (Attached report) words tells =
     rw (
       tells.1,
@@ -61,15 +61,15 @@ reply-found (Attached report) words tells =
       label-value report.label tells.0.1.1.1.1.1.1.1.0,
     ) refl
 reply-found (Data payload) words tells = rw (tells.1, data-value payload tells.0.1.0) refl
-reply-found (Lost lease until reading) words tells = rw (tells.1, lease-found lease tells.0.1.0, value until (omega arith), value reading (omega arith)) refl
+reply-found (Lost lease until reading) words tells = rw (tells.1, lease_from-piece lease tells.0.1.0, value until (omega arith), value reading (omega arith)) refl
 reply-found other words tells = grind (arith, value)
 
-pub entry-found : (one : Entry) (words : List (List ℕ)) → Tell (entry_line one) words → entry_of words ≡ Some one
-entry-found (entry.Start appliance command) words tells =
+pub entry_in-line : (one : Entry) (words : List (List ℕ)) → Tell (entry_line one) words → entry_in words ≡ Some one
+entry_in-line (entry.Start appliance command) words tells =
     rw (tells.1, value appliance.0 (omega arith), command-found command (all_spelled (command_line command)) (tells.0.1.1, refl)) refl
-entry-found (entry.Reply appliance reply) words tells =
+entry_in-line (entry.Reply appliance reply) words tells =
     rw (tells.1, value appliance.0 (omega arith), reply-found reply (all_spelled (reply_line reply)) (tells.0.1.1, refl)) refl
-entry-found (entry.Crash appliance) words tells = grind (arith, value)
+entry_in-line (entry.Crash appliance) words tells = grind (arith, value)
 
 -- the numbers of a line of a schedule are bounded
 stop-bounded : (at : Stop) → all_bounded (stop_piece at ∷ []) ≡ true

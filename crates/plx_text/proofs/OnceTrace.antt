@@ -13,12 +13,12 @@ use Rattle.plx_words.specs.Pieces.{AllTell, Piece, all_spelled}
 use Rattle.plx_text.specs.Replies.{reply_line}
 use Rattle.plx_text.specs.Once.{TraceOnce}
 use Rattle.plx_words.specs.Texts.{LinesTell}
-use Rattle.plx_words.proofs.Once.{heads, none-some, some-same}
+use Rattle.plx_words.proofs.Once.{heads, none-absurd, some-same}
 use Rattle.plx_words.proofs.Values.{value}
 use Rattle.plx_text.specs.Schedules.{world_line, world_of}
-use Rattle.plx_text.specs.Traces.{end_line, entry_line, entry_of, plain_entry, trace_lines}
+use Rattle.plx_text.specs.Traces.{end_line, entry_line, entry_in, plain_entry, trace_lines}
 use Rattle.plx_words.proofs.Clean.{all_sound, clean-line}
-use Rattle.plx_text.proofs.Found.{entry-found, world-found}
+use Rattle.plx_text.proofs.Found.{entry_in-line, world-found}
 use Rattle.plx_words.proofs.SameWords.{Are-lines, Is-line, same-words}
 
 -- the words that are written out are clean
@@ -56,7 +56,7 @@ end-same reachable reachable' allocated allocated' tells tells' same = (
 )
 
 no-end : {X : Type 0} (reachable allocated : ℕ) (one : Entry) → AllTell (entry_line one) → all_spelled (end_line reachable allocated) ≡ all_spelled (entry_line one) → X
-no-end reachable allocated one tells same = none-some one (ap entry_of same ∙ entry-found one (all_spelled (entry_line one)) (tells, refl))
+no-end reachable allocated one tells same = none-absurd one (ap entry_in same ∙ entry_in-line one (all_spelled (entry_line one)) (tells, refl))
 
 rest-same : (entries entries' : List Entry) (reachable reachable' allocated allocated' : ℕ) → LinesTell (rest entries reachable allocated)
     → LinesTell (rest entries' reachable' allocated') → map all_spelled (rest entries reachable allocated) ≡ map all_spelled (rest entries' reachable' allocated')
@@ -72,7 +72,7 @@ rest-same (one ∷ entries) (other ∷ entries') reachable reachable' allocated 
     let parts = heads (all_spelled (entry_line (plain_entry one))) (all_spelled (entry_line (plain_entry other)))
     (map all_spelled (rest entries reachable allocated)) (map all_spelled (rest entries' reachable' allocated')) same in
     let first = some-same (plain_entry one) (plain_entry other)
-    (sym (entry-found (plain_entry one) _ (told.0, refl)) ∙ (ap entry_of parts.0 ∙ entry-found (plain_entry other) _ (told'.0, refl))) in
+    (sym (entry_in-line (plain_entry one) _ (told.0, refl)) ∙ (ap entry_in parts.0 ∙ entry_in-line (plain_entry other) _ (told'.0, refl))) in
     let others = rest-same entries entries' reachable reachable' allocated allocated' told.1 told'.1 parts.1 in
     (ap (λ (e : Entry). e ∷ map plain_entry entries) first ∙ ap (λ (es : List Entry). plain_entry other ∷ es) others.0, others.1, others.2)
 

@@ -16,9 +16,9 @@ no-world words none = λ some. no-value (world_of words) (λ slots. SpellsWorld 
 pub no-event : (words : List (List ℕ)) → IfSome (event_of words) (λ one. ¬ SpellsEvent one words) → ¬ ((one : Event) × SpellsEvent one words)
 no-event words none = λ some. no-value (event_of words) (λ one. SpellsEvent one words) (λ one is. event-spelled one words is) none some.0 some.1
 
-pub begins : (slots : ℕ) (events : List Event) (lines : List Numbered) → SpellSchedule slots events lines → Begins schedule_grammar lines
-begins slots events [] spell = absurd spell
-begins slots events (first ∷ lines) spell = λ good line more parts. begin slots events first lines spell good line more parts
+pub schedule-begins : (slots : ℕ) (events : List Event) (lines : List Numbered) → SpellSchedule slots events lines → Begins schedule_grammar lines
+schedule-begins slots events [] spell = absurd spell
+schedule-begins slots events (first ∷ lines) spell = λ good line more parts. begin slots events first lines spell good line more parts
   where
     begin : (slots : ℕ) (events : List Event) (first : Numbered) (lines : List Numbered) → SpellSchedule slots events (first ∷ lines)
         → (good : List Numbered) (line : Numbered) (more : List Numbered) → first ∷ lines ≡ good ++ line ∷ more → schedule_grammar.Goes good line.1
@@ -26,14 +26,14 @@ begins slots events (first ∷ lines) spell = λ good line more parts. begin slo
         let same : first ≡ line = cc in (slots, subst (λ (l : Numbered). SpellsWorld slots (words_of l.1)) same spell.0)
     begin slots events first lines spell (other ∷ good) line more parts = spelled-in (λ (one : Event) (line : Numbered). SpellsEvent one (words_of line.1)) events lines good line more spell.1 (cc)
 
-ends : (slots : ℕ) (events : List Event) (lines : List Numbered) → SpellSchedule slots events lines → schedule_grammar.Ends lines
-ends slots events [] spell = spell
-ends slots events (first ∷ lines) spell = tt
+schedule-ends : (slots : ℕ) (events : List Event) (lines : List Numbered) → SpellSchedule slots events lines → schedule_grammar.Ends lines
+schedule-ends slots events [] spell = spell
+schedule-ends slots events (first ∷ lines) spell = tt
 
 -- a schedule has no bad line
 pub no-schedule : (bytes : List ℕ) (number slots : ℕ) (events : List Event) → IsFirstBad schedule_grammar bytes number → ¬ IsSchedule bytes slots events
 no-schedule bytes number slots events bad = λ schedule.
-    none-bad schedule_grammar bytes number (begins slots events _ schedule.lines) schedule.whole (ends slots events _ schedule.lines) bad
+    none-bad schedule_grammar bytes number (schedule-begins slots events _ schedule.lines) schedule.whole (schedule-ends slots events _ schedule.lines) bad
 
 -- one more event
 pub schedule-more : (slots : ℕ) (events : List Event) (lines : List Numbered) (one : Event) (line : Numbered) → SpellSchedule slots events lines

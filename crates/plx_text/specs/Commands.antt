@@ -3,7 +3,7 @@ use Rattle.std.specs.Prelude.{ℕ, List, [], ◌∷◌, codes, Option, Some}
 use Rattle.plx_base.specs.declared.numbers.SlotNo.{SlotNo}
 use Rattle.plx_model.specs.declared.command.Command.{Command}
 use Rattle.plx_model.specs.declared.command.Command.TheVariants.{Attach, Read, Write}
-use Rattle.plx_words.specs.Candidates.{Reads, by_first, data_at, number_at}
+use Rattle.plx_words.specs.Candidates.{Reads, by_first, payload_at, number_at}
 use Rattle.plx_words.specs.Pieces.{Piece, word, small, data_word, Spell}
 
 -- the words of a command, by their pieces
@@ -25,7 +25,7 @@ abbrev pub command_of : List (List ℕ) → Option Command
 command_of words = by_first words (
     (codes "attach", Some (Attach (slot_at 1 words)))
     ∷ (codes "read", Some (Read (slot_at 1 words) (number_at 2 words)))
-    ∷ (codes "write", Some (Write (slot_at 1 words) (number_at 2 words) (data_at 3 words)))
+    ∷ (codes "write", Some (Write (slot_at 1 words) (number_at 2 words) (payload_at 3 words)))
     ∷ [])
 
 -- what a reader of a command's words gives

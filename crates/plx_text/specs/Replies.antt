@@ -8,7 +8,7 @@ use Rattle.plx_base.specs.declared.numbers.BlockNo.{BlockNo}
 use Rattle.plx_model.specs.declared.reply.Report.{Report}
 use Rattle.plx_model.specs.declared.reply.Reply.{Reply}
 use Rattle.plx_model.specs.declared.reply.Reply.TheVariants.{Attached, Data, Written, NotAttached, AlreadyAttached, NoImage, OutOfRange, Lost, ReadFault, WriteFault, Full}
-use Rattle.plx_words.specs.Candidates.{by_first, data_at, label_at, named_at, number_at}
+use Rattle.plx_words.specs.Candidates.{by_first, payload_at, label_at, named_at, number_at}
 use Rattle.plx_words.specs.Pieces.{Piece, word, number, named, label, data_word, flag}
 
 -- the word of a lease
@@ -18,8 +18,8 @@ lease_piece (Image slot) = named (codes "lease=image:") (2 ^ 32) slot.0
 lease_piece (Extent extent) = named (codes "lease=extent:") (2 ^ 32) extent.0
 
 -- the one lease that a word can name
-abbrev pub lease_of : List ℕ → LeaseName
-lease_of letters = if bytes_eq letters (codes "lease=root") then Root
+abbrev pub lease_from : List ℕ → LeaseName
+lease_from letters = if bytes_eq letters (codes "lease=root") then Root
     else if bytes_eq (take 12 letters) (codes "lease=image:") then Image (record { 0 = digits_value 10 (drop 12 letters) })
     else Extent (record { 0 = digits_value 10 (drop 13 letters) })
 
@@ -30,8 +30,8 @@ report_line report = named (codes "live=") 2 (flag report.live) ∷ named (codes
     ∷ label (codes "label=") report.label ∷ []
 
 -- the one report that words can spell
-abbrev pub report_of : List (List ℕ) → Report
-report_of words = record {
+abbrev pub report_in : List (List ℕ) → Report
+report_in words = record {
   live = nat_eq (named_at (codes "live=") 1 words) 1;
   generation = named_at (codes "gen=") 2 words;
   size = named_at (codes "size=") 3 words;
@@ -60,16 +60,16 @@ abbrev pub block_at : ℕ → List (List ℕ) → BlockNo
 block_at k words = record { 0 = named_at (codes "block=") k words }
 
 -- the one reply that words can spell
-abbrev pub reply_of : List (List ℕ) → Option Reply
-reply_of words = by_first words (
-    (codes "attached", Some (Attached (report_of words)))
-    ∷ (codes "data", Some (Data (data_at 1 words)))
+abbrev pub reply_in : List (List ℕ) → Option Reply
+reply_in words = by_first words (
+    (codes "attached", Some (Attached (report_in words)))
+    ∷ (codes "data", Some (Data (payload_at 1 words)))
     ∷ (codes "written", Some (Written (number_at 1 words)))
     ∷ (codes "not-attached", Some NotAttached)
     ∷ (codes "already-attached", Some AlreadyAttached)
     ∷ (codes "no-image", Some NoImage)
     ∷ (codes "out-of-range", Some (OutOfRange (named_at (codes "size=") 1 words)))
-    ∷ (codes "lost", Some (Lost (lease_of (get_or words 1 [])) (named_at (codes "until=") 2 words) (named_at (codes "reading=") 3 words)))
+    ∷ (codes "lost", Some (Lost (lease_from (get_or words 1 [])) (named_at (codes "until=") 2 words) (named_at (codes "reading=") 3 words)))
     ∷ (codes "read-fault", Some (ReadFault (block_at 1 words)))
     ∷ (codes "write-fault", Some (WriteFault (block_at 1 words)))
     ∷ (codes "full", Some Full)

@@ -5,7 +5,7 @@ use Rattle.plx_model.specs.declared.event.Region.TheVariants as region
 use Rattle.plx_model.specs.declared.event.Stop.{Stop}
 use Rattle.plx_model.specs.declared.event.Stop.TheVariants as stop
 use Rattle.plx_words.specs.Candidates.{Reads, by_word}
-use Rattle.plx_words.specs.Pieces.{Piece, Fits, spelled, unspelled, word}
+use Rattle.plx_words.specs.Pieces.{Piece, FitsPiece, spelled, unspelled, word}
 
 -- the word of a stop. A stop that isn't named here has none yet
 abbrev pub stop_piece : Stop → Piece
@@ -16,7 +16,7 @@ stop_piece other = unspelled
 
 -- this word spells a stop
 abbrev pub SpellsStop : Stop → List ℕ → Type 0
-SpellsStop stop text = Fits (stop_piece stop) × (text ≡ spelled (stop_piece stop))
+SpellsStop stop text = FitsPiece (stop_piece stop) × (text ≡ spelled (stop_piece stop))
 
 -- the one stop that a word can be
 abbrev pub stop_of : List ℕ → Option Stop

@@ -13,7 +13,7 @@ use Rattle.plx_words.specs.Candidates.{by_first}
 use Rattle.plx_text.specs.Commands.{command_line, command_of}
 use Rattle.plx_text.specs.Events.{appliance_at}
 use Rattle.plx_words.specs.Pieces.{Piece, word, number, small, named, all_spelled}
-use Rattle.plx_text.specs.Replies.{reply_line, reply_of}
+use Rattle.plx_text.specs.Replies.{reply_line, reply_in}
 use Rattle.plx_text.specs.Schedules.{world_line}
 use Rattle.plx_words.specs.Texts.{text_of}
 use Rattle.plx_words.specs.Words.{line_text}
@@ -25,10 +25,10 @@ entry_line (entry.Reply appliance reply) = word (codes "reply") ∷ small applia
 entry_line (entry.Crash appliance) = word (codes "crash") ∷ small appliance.0 ∷ []
 
 -- the one entry that words can spell
-abbrev pub entry_of : List (List ℕ) → Option Entry
-entry_of words = by_first words (
+abbrev pub entry_in : List (List ℕ) → Option Entry
+entry_in words = by_first words (
     (codes "start", option_map (λ command. entry.Start (appliance_at 1 words) command) (command_of (drop 2 words)))
-    ∷ (codes "reply", option_map (λ reply. entry.Reply (appliance_at 1 words) reply) (reply_of (drop 2 words)))
+    ∷ (codes "reply", option_map (λ reply. entry.Reply (appliance_at 1 words) reply) (reply_in (drop 2 words)))
     ∷ (codes "crash", Some (entry.Crash (appliance_at 1 words)))
     ∷ [])
 

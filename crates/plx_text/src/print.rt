@@ -8,7 +8,7 @@ ghost use Rattle.plx_words.specs.Written.{AddsLine, AddsLines, AddsWords};
 
 use crate::print_reply::push_reply;
 use plx_base::NoMemory;
-use plx_model::{Command, Entries, Entry};
+use plx_model::{Command, Entry};
 use plx_words::{Text, Word};
 use std::alloc::Global;
 
@@ -17,7 +17,7 @@ use std::alloc::Global;
 pub fn print_trace(
     alloc: Global,
     slots: u32,
-    entries: &Entries,
+    entries: &[Entry],
     reachable: u64,
     allocated: u64,
 ) -> Result<Text, NoMemory>
@@ -27,7 +27,7 @@ pub fn print_trace(
 {
     let mut text = Text::new(alloc);
     push_world(&mut text, slots)?;
-    push_entries(&mut text, entries.as_slice())?;
+    push_entries(&mut text, entries)?;
     push_end(&mut text, reachable, allocated)?;
     Ok(text)
 }

@@ -9,7 +9,7 @@ use Rattle.std.proofs.lemmas.List.Elements.{All-nil, All-cons, All-append}
 use Rattle.plx_base.specs.Labels.{IsLabel}
 use Rattle.plx_base.specs.declared.payload.Payload.{Payload}
 use Rattle.plx_base.specs.declared.payload.Payload.TheVariants.{All, Whole}
-use Rattle.plx_words.specs.Pieces.{AllFit, AllTell, Fits, Piece, Tells, all_spelled, data_spelled, data_word, hex_byte, hex_digit, label, label_spelled, named, number, spelled, unspelled, word}
+use Rattle.plx_words.specs.Pieces.{AllFit, AllTell, FitsPiece, Piece, Tells, all_spelled, data_spelled, data_word, hex_byte, hex_digit, label, label_spelled, named, number, spelled, unspelled, word}
 
 -- each byte is printable
 abbrev pub Is-clean : List ℕ → Type 0
@@ -70,6 +70,7 @@ sound (label name bytes) = clean name
 sound (data_word payload) = true
 sound unspelled = true
 
+-- whether each piece has only its letters
 abbrev pub all_sound : List Piece → Bool
 all_sound [] = true
 all_sound (piece ∷ pieces) = sound piece && all_sound pieces
@@ -82,6 +83,7 @@ clean-piece (label name bytes) test tells = clean-append name (label_spelled byt
 clean-piece (data_word payload) test tells = clean-data payload
 clean-piece unspelled test tells = absurd tells
 
+-- each of these words is clean
 abbrev pub All-clean : List (List ℕ) → Type 0
 All-clean [] = Unit {0}
 All-clean (text ∷ texts) = Is-clean text × All-clean texts
@@ -98,11 +100,12 @@ bounded (number least limit n) = leb limit (10 ^ 64)
 bounded (named name limit n) = leb limit (10 ^ 64)
 bounded other = true
 
+-- whether each piece is within its limits
 abbrev pub all_bounded : List Piece → Bool
 all_bounded [] = true
 all_bounded (piece ∷ pieces) = bounded piece && all_bounded pieces
 
-fits-tells : (piece : Piece) → bounded piece ≡ true → Fits piece → Tells piece
+fits-tells : (piece : Piece) → bounded piece ≡ true → FitsPiece piece → Tells piece
 fits-tells (word letters) test fits = tt
 fits-tells (number least limit n) test fits = let low = leb-true limit (10 ^ 64) test in omega arith
 fits-tells (named name limit n) test fits = let low = leb-true limit (10 ^ 64) test in omega arith

@@ -6,8 +6,8 @@ use Rattle.plx_words.specs.Files.{Numbered, SpellAll}
 pub some-same : {A : Type 0} (one other : A) → Some one ≡ Some other → one ≡ other
 some-same one other same = cc
 
-pub none-some : {A X : Type 0} (one : A) → None ≡ Some one → X
-none-some one same = absurd (cc)
+pub none-absurd : {A X : Type 0} (one : A) → None ≡ Some one → X
+none-absurd one same = absurd (cc)
 
 pub heads : {A : Type 0} (one other : A) (more others : List A) → one ∷ more ≡ other ∷ others → (one ≡ other) × (more ≡ others)
 heads one other more others same = ((cc), (cc))

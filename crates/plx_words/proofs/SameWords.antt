@@ -20,6 +20,7 @@ abbrev body : List (List ℕ) → List ℕ
 body [] = []
 body (first ∷ others) = first ++ spaced others
 
+-- each of these words may stand in a line
 abbrev pub Is-line : List (List ℕ) → Type 0
 Is-line [] = ⊥
 Is-line (first ∷ others) = Is-clean first × All-clean others
@@ -54,6 +55,7 @@ abbrev pub Are-lines : List (List Piece) → Type 0
 Are-lines [] = Unit {0}
 Are-lines (line ∷ lines) = Is-line (all_spelled line) × Are-lines lines
 
+-- the lines without their line feeds
 abbrev bodies : List (List Piece) → List (List ℕ)
 bodies lines = map (λ (line : List Piece). body (all_spelled line)) lines
 

@@ -1,6 +1,6 @@
 -- Lines that were taken from a text.
 use Rattle.std.proofs.Common.{◌≡◌, ◌≢◌, ◌+◌, ◌∙◌, ◌⊎◌, inl, inr, ℕ, List, [], ◌∷◌, ◌++◌, refl, ap, sym, subst, append-nil, append_assoc}
-use Rattle.plx_words.specs.Files.{Begins, Grammar, IsFirstBad, Numbered, SpellAll, contents, count, left}
+use Rattle.plx_words.specs.Files.{Begins, Grammar, IsFirstBad, Numbered, SpellAll, contents, count, last_part}
 use Rattle.plx_words.specs.Words.{split}
 
 -- these lines were taken from the front of a text, and this is left of it after so many lines
@@ -9,7 +9,7 @@ pub record Taken (bytes : List ℕ) (Are : List Numbered → Type 0) (number : �
   pub are : Are lines
   pub all : contents 0 (split 10 bytes) ≡ lines ++ contents number (split 10 rest)
   pub counted : count 0 (split 10 bytes) ≡ count number (split 10 rest)
-  pub ended : left (split 10 bytes) ≡ left (split 10 rest)
+  pub ended : last_part (split 10 bytes) ≡ last_part (split 10 rest)
 
 -- a file with a bad line
 pub bad-line : (grammar : Grammar) (bytes : List ℕ) (good : List Numbered) (number : ℕ) (line : List ℕ) (more : List Numbered) → Begins grammar good
@@ -18,11 +18,11 @@ bad-line grammar bytes good number line more begins parts bad = record { good = 
 
 -- a file whose end is bad
 pub bad-end : (grammar : Grammar) (bytes : List ℕ) (number : ℕ) → Begins grammar (contents 0 (split 10 bytes)) → number ≡ count 0 (split 10 bytes) + 1
-    → (left (split 10 bytes) ≢ []) ⊎ ¬ grammar.Ends (contents 0 (split 10 bytes)) → IsFirstBad grammar bytes number
+    → (last_part (split 10 bytes) ≢ []) ⊎ ¬ grammar.Ends (contents 0 (split 10 bytes)) → IsFirstBad grammar bytes number
 bad-end grammar bytes number begins is bad = record { good = contents 0 (split 10 bytes); begins = begins; bad = inr (refl, is, bad) }
 
 -- a file has no bad line where it is one of the grammar
-pub none-bad : (grammar : Grammar) (bytes : List ℕ) (number : ℕ) → Begins grammar (contents 0 (split 10 bytes)) → left (split 10 bytes) ≡ []
+pub none-bad : (grammar : Grammar) (bytes : List ℕ) (number : ℕ) → Begins grammar (contents 0 (split 10 bytes)) → last_part (split 10 bytes) ≡ []
     → grammar.Ends (contents 0 (split 10 bytes)) → ¬ IsFirstBad grammar bytes number
 none-bad grammar bytes number begins whole ends first = elim first.bad [
   | inl one ↦ one.3 (begins first.good (number, one.0) one.1 one.2)
@@ -39,7 +39,7 @@ begins-none grammar = λ good line more parts. nothing good line more parts
 -- one line more
 pub taken-more : (bytes : List ℕ) (Are More : List Numbered → Type 0) (number next : ℕ) (rest after : List ℕ) (line : Numbered) → (taken : Taken bytes Are number rest)
     → contents number (split 10 rest) ≡ line ∷ contents next (split 10 after) → count next (split 10 after) ≡ count number (split 10 rest)
-    → left (split 10 after) ≡ left (split 10 rest) → More (taken.lines ++ line ∷ []) → Taken bytes More next after
+    → last_part (split 10 after) ≡ last_part (split 10 rest) → More (taken.lines ++ line ∷ []) → Taken bytes More next after
 taken-more bytes Are More number next rest after line taken parts counts leaves are = record {
   lines = taken.lines ++ line ∷ [];
   are = are;

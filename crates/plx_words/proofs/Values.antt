@@ -12,7 +12,7 @@ use Rattle.plx_base.specs.Labels.{IsLabel}
 use Rattle.plx_base.specs.declared.payload.Payload.{Payload}
 use Rattle.plx_base.specs.declared.payload.Payload.TheVariants.{All, Whole}
 use Rattle.plx_words.proofs.Clean.{all_bounded, line-tells}
-use Rattle.plx_words.specs.Candidates.{data_of, digit_of, hex_bytes, label_of}
+use Rattle.plx_words.specs.Candidates.{data_of, digit_of, hex_bytes, label_in}
 use Rattle.plx_words.specs.Pieces.{AllTell, IsData, Piece, Spell, all_spelled, data_spelled, flag, hex_byte, hex_digit, label_spelled}
 
 -- a number
@@ -46,7 +46,7 @@ by_false true one other told = absurd (told refl)
 by_false false one other told = refl
 
 -- a label
-pub label-value : (bytes : List ℕ) → IsLabel bytes → label_of (label_spelled bytes) ≡ bytes
+pub label-value : (bytes : List ℕ) → IsLabel bytes → label_in (label_spelled bytes) ≡ bytes
 label-value [] fits = refl
 label-value (byte ∷ bytes) fits =
     by_false (bytes_eq (byte ∷ bytes) (codes "-")) [] (byte ∷ bytes) (λ told. fits.no_hyphen ((bytes_eq-Decides (byte ∷ bytes) (codes "-")).0 told))

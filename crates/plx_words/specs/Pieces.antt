@@ -48,13 +48,13 @@ label_spelled [] = codes "-"
 label_spelled (byte ∷ bytes) = byte ∷ bytes
 
 -- the limits of a piece
-abbrev pub Fits : Piece → Type 0
-Fits (word letters) = Unit {0}
-Fits (number least limit n) = (least ≤ n) × (n < limit)
-Fits (named name limit n) = n < limit
-Fits (label name bytes) = IsLabel bytes
-Fits (data_word payload) = IsData payload
-Fits unspelled = ⊥
+abbrev pub FitsPiece : Piece → Type 0
+FitsPiece (word letters) = Unit {0}
+FitsPiece (number least limit n) = (least ≤ n) × (n < limit)
+FitsPiece (named name limit n) = n < limit
+FitsPiece (label name bytes) = IsLabel bytes
+FitsPiece (data_word payload) = IsData payload
+FitsPiece unspelled = ⊥
 
 -- its word
 abbrev pub spelled : Piece → List ℕ
@@ -82,7 +82,7 @@ AllTell (piece ∷ pieces) = Tells piece × AllTell pieces
 -- all pieces are within their limits
 abbrev pub AllFit : List Piece → Type 0
 AllFit [] = Unit {0}
-AllFit (piece ∷ pieces) = Fits piece × AllFit pieces
+AllFit (piece ∷ pieces) = FitsPiece piece × AllFit pieces
 
 -- the words of the pieces
 abbrev pub all_spelled : List Piece → List (List ℕ)

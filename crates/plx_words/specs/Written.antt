@@ -15,6 +15,7 @@ piece_of (written.Number n) = number 0 (2 ^ 64) n
 piece_of (written.Small n) = number 0 (2 ^ 32) n
 piece_of (written.Named name n) = named name.now (2 ^ 64) n
 piece_of (written.NamedSmall name n) = named name.now (2 ^ 32) n
+piece_of (written.NamedWide name n) = named name.now (2 ^ 128) n
 piece_of (written.Flag name bit) = named name.now 2 (flag bit)
 piece_of (written.Label name label') = label name.now label'.now
 piece_of (written.Data payload) = data_word (payload_of (bytes_of payload.now))

@@ -20,6 +20,8 @@ pub enum Word<'a> {
     /// A name and a number.
     Named(&'a [u8], u64),
     NamedSmall(&'a [u8], u32),
+    /// A name and a number below 2^128.
+    NamedWide(&'a [u8], u128),
     /// A name and 1 or 0.
     Flag(&'a [u8], bool),
     /// A name and a label, or a hyphen where the label is empty.
@@ -113,6 +115,10 @@ impl Text {
             Word::Small(number) => self.push_number(u64::from(*number)),
             Word::Named(name, number) => self.push_field(name, *number),
             Word::NamedSmall(name, number) => self.push_field(name, u64::from(*number)),
+            Word::NamedWide(name, number) => {
+                self.push(name)?;
+                self.push_wide(*number)
+            }
             Word::Flag(name, flag) => self.push_field(name, u64::from(*flag)),
             Word::Label(name, label) => {
                 self.push(name)?;
@@ -124,6 +130,14 @@ impl Text {
 
     // The digits of a number at the end.
     fn push_number(&mut self, number: u64) -> Result<(), NoMemory>
+        ensures { OnOk result (self.new ≡ self.old ++ decimal number) }
+    {
+        let mut buffer = Buffer::new();
+        self.push(buffer.format(number).as_bytes())
+    }
+
+    // The same of a number below 2^128.
+    fn push_wide(&mut self, number: u128) -> Result<(), NoMemory>
         ensures { OnOk result (self.new ≡ self.old ++ decimal number) }
     {
         let mut buffer = Buffer::new();

@@ -38,12 +38,12 @@ one-more trace new old one is same = is ∙ ap (λ (xs : List Entry). xs ++ one 
 
 -- a command begins
 pub starts-command : (old new : World) (c told given : Command) → told ≡ c → given ≡ c → old.appliance.slots ≡ old.slots → IsIdle old.appliance → IsWhole c → new.slots ≡ old.slots → new.disk ≡ old.disk → new.boots ≡ old.boots →
-    new.pending ≡ None → new.trace ≡ old.trace ++ entry.Start the_first told ∷ [] →
+    new.pending ≡ None → new.trace.items ≡ old.trace.items ++ entry.Start the_first told ∷ [] →
     ((log : List Happening) → StandsFor old.appliance log → StandsFor new.appliance (Began given ∷ log)) → Steps old new (event.Start the_first c) true
 starts-command old new c told given told-is given-is same idle whole slots disk boots pending trace begins w h =
     let D : Disk → Type 0 = λ x. DiskStands x w.surface in
     let B : Command → Type 0 = λ x. StandsFor new.appliance (Began x ∷ (w.seats 0).log) in
-    let T : Command → Type 0 = λ x. new.trace ≡ old.trace ++ entry.Start the_first x ∷ [] in (
+    let T : Command → Type 0 = λ x. new.trace.items ≡ old.trace.items ++ entry.Start the_first x ∷ [] in (
       after_start w the_first c,
       starts (known_in old.appliance.state) (first-there h) (position-of old w same h ∙ idle) whole,
       record {
@@ -53,7 +53,7 @@ starts-command old new c told given told-is given-is same idle whole slots disk 
         boots = boots ∙ h.boots;
         log = subst B given-is (begins (w.seats 0).log h.log);
         pending = pending;
-        trace = one-more old.trace new.trace w.trace (entry.Start the_first c) (subst T told-is trace) h.trace;
+        trace = one-more old.trace.items new.trace.items w.trace (entry.Start the_first c) (subst T told-is trace) h.trace;
       },
     )
 
@@ -68,7 +68,7 @@ starts-none old c same running = impossible old old (event.Start the_first c) (�
 
 -- a boot is lost
 pub crashes-now : (old new : World) → old.boots + 1 < 2 ^ 32 → new.slots ≡ old.slots → Turns old.disk new.disk (λ s. without_pending s old.pending) →
-    new.boots ≡ old.boots + 1 → new.pending ≡ None → new.trace ≡ old.trace ++ entry.Crash the_first ∷ [] → StandsFor new.appliance [] →
+    new.boots ≡ old.boots + 1 → new.pending ≡ None → new.trace.items ≡ old.trace.items ++ entry.Crash the_first ∷ [] → StandsFor new.appliance [] →
     Steps old new (event.Crash the_first) true
 crashes-now old new few slots disk boots pending trace fresh w h =
     let D : Option ℕ → Type 0 = λ x. DiskStands new.disk (without_pending w.surface x) in
@@ -82,7 +82,7 @@ crashes-now old new few slots disk boots pending trace fresh w h =
         boots = boots ∙ ap (λ (n : ℕ). n + 1) h.boots;
         log = fresh;
         pending = pending;
-        trace = one-more old.trace new.trace w.trace (entry.Crash the_first) trace h.trace;
+        trace = one-more old.trace.items new.trace.items w.trace (entry.Crash the_first) trace h.trace;
       },
     )
 

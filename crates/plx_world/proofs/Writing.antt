@@ -30,7 +30,7 @@ pub record OnlyDisk (old new : World) : Type 0 where
   pub appliance : new.appliance ≡ old.appliance
   pub boots : new.boots ≡ old.boots
   pub pending : new.pending ≡ old.pending
-  pub trace : new.trace ≡ old.trace
+  pub trace : new.trace.items ≡ old.trace.items
 
 pub stands-disk : (old new : World) (w : rules.World) (one : Event) (s : Surface) → OnlyDisk old new → Stands old w → DiskStands new.disk s → Stands new (with_surface w one s)
 stands-disk old new w one s only h surface =
@@ -108,7 +108,7 @@ pub issues-write : (old new : World) (kind : WriteKind) (block : BlockNo) (guard
     Some (ask.Write kind block guard) ≡ asks (place old.appliance) → bytes ≡ writes_out (place old.appliance) → old.pending ≡ None → owner ≡ boot_number 0 old.boots →
     ((s : Surface) → DiskStands old.disk s → number ≡ length s.writes) →
     Turns old.disk new.disk (λ s. issued s (fresh_write owner kind block.0 bytes guard)) →
-    new.slots ≡ old.slots → new.appliance ≡ old.appliance → new.boots ≡ old.boots → new.trace ≡ old.trace → new.pending ≡ Some number →
+    new.slots ≡ old.slots → new.appliance ≡ old.appliance → new.boots ≡ old.boots → new.trace.items ≡ old.trace.items → new.pending ≡ Some number →
     Steps old new (event.Issue the_first) true
 issues-write old new kind block guard owner number bytes same asked out none owned counted turns slots appliance boots trace pending w h =
     let found = asked-write (place old.appliance) kind block guard (sym asked) in

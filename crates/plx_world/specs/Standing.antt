@@ -23,7 +23,7 @@ use Rattle.plx_world.specs.declared.world.World.{World}
 
 -- what was started, replied and lost, the oldest first
 abbrev pub entries_of : World → List Entry
-entries_of world = world.trace
+entries_of world = world.trace.items
 
 -- the one appliance
 abbrev pub the_first : ApplianceNo
@@ -37,7 +37,7 @@ pub record Stands (world : World) (w : rules.World) : Type 0 where
   pub boots : world.boots ≡ (w.seats 0).boots
   pub log : StandsFor world.appliance (w.seats 0).log
   pub pending : world.pending ≡ (w.seats 0).pending
-  pub trace : world.trace ≡ reverse w.trace
+  pub trace : world.trace.items ≡ reverse w.trace
 
 -- the new one stands for what the old one stood for
 abbrev pub Stays : World → World → Type 0

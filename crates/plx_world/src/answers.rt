@@ -1,12 +1,13 @@
 //! The ask that stands is answered.
-ghost use Rattle.std.specs.Prelude.{◌≡◌, ◌<◌, ◌-◌, ◌++◌, OnOk, length, take};
+ghost use Rattle.std.specs.Prelude.{◌≡◌, ◌<◌, ◌++◌, ◌∷◌, [], OnOk};
+ghost use Rattle.std.specs.Vec.{vec_capacity, vec_len};
 ghost use Rattle.plx_disk.specs.Standing.{device_size};
 ghost use Rattle.plx_world.specs.Standing.{GivesBlock, told_entries};
 
 use crate::world::{FIRST, World};
 use plx_base::{Block, BlockNo, NoMemory};
 use plx_disk::{Answer, Ask, Disk};
-use plx_model::{Entries, Entry, Reply};
+use plx_model::{Entry, Reply};
 use std::alloc::Global;
 
 /// How far a clock may be from the time, in milliseconds.
@@ -28,7 +29,7 @@ impl World {
             → OnOk result (asks_left self.new.appliance < asks_left self.old.appliance) }
         ensures err { OnErr result (Stays self.old self.new) }
     {
-        self.trace.push(Entry::Crash { appliance: FIRST })?;
+        self.trace.reserve(1)?;
         self.pending = None;
         let reply = self.appliance.answer(answer);
         tell(&mut self.trace, reply);
@@ -128,16 +129,29 @@ fn fetch(alloc: Global, disk: &Disk, block: BlockNo, buffer: &mut Answer) -> Res
     Ok(())
 }
 
-// The last entry gives way to the reply, if there is one.
-fn tell(trace: &mut Entries, reply: Option<Reply>)
-    requires { 0 < length trace.old }
-    ensures { trace.new ≡ take (length trace.old - 1) trace.old ++ told_entries reply }
+// The reply, if there is one, becomes the last entry.
+fn tell(trace: &mut Vec<Entry>, reply: Option<Reply>)
+    requires { vec_len trace.old < vec_capacity trace.old }
+    ensures { trace.new.items ≡ trace.old.items ++ told_entries reply }
 {
-    match reply {
-        Some(reply) => trace.replace_last(Entry::Reply {
-            appliance: FIRST,
-            reply,
-        }),
-        None => trace.pop(),
+    if let Some(reply) = reply {
+        add(
+            trace,
+            Entry::Reply {
+                appliance: FIRST,
+                reply,
+            },
+        );
+    }
+}
+
+// One more entry, for which there is room.
+pub(crate) fn add(trace: &mut Vec<Entry>, entry: Entry)
+    requires { vec_len trace.old < vec_capacity trace.old }
+    ensures { trace.new.items ≡ trace.old.items ++ entry ∷ [] }
+{
+    match trace.push(entry) {
+        Ok(()) => {}
+        Err(_) => unreachable!(),
     }
 }

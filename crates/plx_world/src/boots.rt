@@ -5,6 +5,7 @@ ghost use Rattle.plx_disk.specs.Standing.{Turns, device_size};
 ghost use Rattle.plx_rules.specs.Boot.{IsWhole};
 ghost use Rattle.plx_rules.specs.World.{without_pending};
 
+use crate::answers::add;
 use crate::world::{FIRST, World};
 use plx_appliance::Appliance;
 use plx_base::{NoMemory, Payload};
@@ -28,14 +29,15 @@ impl World {
         see_whole(command);
         let told = command.copy(self.alloc)?;
         let given = command.copy(self.alloc)?;
-        self.trace.push(Entry::Start {
-            appliance: FIRST,
-            command: told,
-        })?;
-        if let Err(error) = self.appliance.begin(self.alloc, given) {
-            self.trace.pop();
-            return Err(error);
-        }
+        self.trace.reserve(1)?;
+        self.appliance.begin(self.alloc, given)?;
+        add(
+            &mut self.trace,
+            Entry::Start {
+                appliance: FIRST,
+                command: told,
+            },
+        );
         self.pending = None;
         Ok(true)
     }

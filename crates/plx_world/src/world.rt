@@ -7,7 +7,7 @@ ghost use Rattle.plx_rules.specs.Journal.{block_count};
 use plx_appliance::Appliance;
 use plx_base::{ApplianceNo, NoMemory};
 use plx_disk::{Ask, Disk};
-use plx_model::Entries;
+use plx_model::Entry;
 use std::alloc::Global;
 
 /// The one appliance.
@@ -31,7 +31,7 @@ pub struct World {
     pub(crate) boots: u32,
     /// The number of the issued write that the standing ask waits for.
     pub(crate) pending: Option<u64>,
-    pub(crate) trace: Entries,
+    pub(crate) trace: Vec<Entry>,
     ghost low: { 2 ≤ slots },
     ghost high: { slots ≤ 64 },
     ghost same: { journal_slots appliance ≡ slots },
@@ -62,15 +62,15 @@ impl World {
             appliance: Appliance::fresh(slots),
             boots: 0,
             pending: None,
-            trace: Entries::new(alloc),
+            trace: Vec::new(alloc),
         })
     }
 
     /// What was started, replied and lost, the oldest first.
-    pub fn trace(&self) -> &Entries
+    pub fn trace(&self) -> &[Entry]
         ensures { result.now ≡ entries_of self.now }
     {
-        &self.trace
+        self.trace.as_slice()
     }
 
     /// The time, in milliseconds.

@@ -7,6 +7,7 @@ pub mod Holds
 pub mod InUse
 pub mod Journal
 pub mod Loading
+pub mod Machines
 pub mod Parts
 pub mod Records
 pub mod Rests

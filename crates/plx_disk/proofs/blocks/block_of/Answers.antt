@@ -1,5 +1,6 @@
 use Rattle.std.proofs.Common.{◌∙◌, sym, ap, length}
-use Rattle.plx_disk.proofs.Whole.{written-whole, length-zeros}
+use Rattle.plx_base.proofs.Spelling.{length-zeros}
+use Rattle.plx_base.proofs.Written.{written-whole}
 use Rattle.plx_disk.proofs.blocks.block_of.Goals as goal
 
 pub returns : goal.returns

@@ -4,11 +4,11 @@ use Rattle.plx_text.specs.Traces.{end_line, entry_lines}
 use Rattle.plx_text.proofs.print.print_trace.Goals as goal
 
 pub returns-clause-text : goal.returns-clause-text
-returns-clause-text c = rw (c.in_ok-push_end.ensures.text, c.in_ok-push_entries.ensures.text, c.as_slice.ensures, c.in_ok-push_world.ensures.text, c.new-text.ensures)
+returns-clause-text c = rw (c.in_ok-push_end.ensures.text, c.in_ok-push_entries.ensures.text, c.in_ok-push_world.ensures.text, c.new-text.ensures)
     (text-parts (world_line c.args.slots) (entry_lines c.args.entries.now) (end_line c.args.reachable c.args.allocated))
 
 pub returns-clause-tells : goal.returns-clause-tells
 returns-clause-tells c = (
   c.in_ok-push_world.ensures.tells,
-  rw (← c.as_slice.ensures) (lines-tell-append _ _ c.in_ok-push_entries.ensures.tells (c.in_ok-push_end.ensures.tells, tt)),
+  lines-tell-append _ _ c.in_ok-push_entries.ensures.tells (c.in_ok-push_end.ensures.tells, tt),
 )

@@ -2,7 +2,7 @@ use Rattle.std.proofs.Common.{◌≡◌, ◌∙◌, ℕ, List, [], ◌++◌, len
 use Rattle.std.proofs.lemmas.Bool.{false≢true}
 use Rattle.plx_words.specs.Files.{Begins, Numbered}
 use Rattle.plx_text.specs.Schedules.{schedule_grammar}
-use Rattle.plx_text.proofs.ScheduleFiles.{begins, goes-event, no-event, no-schedule, no-world, schedule-more}
+use Rattle.plx_text.proofs.ScheduleFiles.{schedule-begins, goes-event, no-event, no-schedule, no-world, schedule-more}
 use Rattle.plx_words.proofs.Taken.{bad-end, bad-line, begins-none, taken-all, taken-more, taken-none}
 use Rattle.plx_text.proofs.read.read_schedule.Goals as goal
 
@@ -29,7 +29,7 @@ pub returns-in_default-found-clause-bad : goal.returns-in_default-found-clause-b
 returns-in_default-found-clause-bad c =
     let taken = c.loop-line.invariant.taken in
     let none = rw c.in_default-found.is at c.in-Ok.ensures in
-    bad-line schedule_grammar c.args.bytes.now taken.lines c.in-Some-next.line.number c.in-Some-next.line.text.now _ (begins _ _ taken.lines taken.are)
+    bad-line schedule_grammar c.args.bytes.now taken.lines c.in-Some-next.line.number c.in-Some-next.line.text.now _ (schedule-begins _ _ taken.lines taken.are)
     (taken.all ∙ ap (λ (lines : List Numbered). taken.lines ++ lines) c.in-Some-next.ensures.line)
     (λ goes. no-event _ none (goes-event _ _ taken.lines _ taken.are goes))
 
@@ -54,6 +54,6 @@ returns-then-not-is_empty-clause-bad c =
     let all = taken-all c.args.bytes.now _ _ _ taken c.in_default-next.ensures.line in
     let ended = taken.ended ∙ (sym c.in_default-next.ensures.left ∙ c.in_default-next.ensures.end.0) in
     let counted = taken.counted ∙ (sym c.in_default-next.ensures.count ∙ c.in_default-next.ensures.end.1) in
-    bad-end schedule_grammar c.args.bytes.now _ (subst (λ (lines : List Numbered). Begins schedule_grammar lines) (sym all) (begins _ _ taken.lines taken.are))
+    bad-end schedule_grammar c.args.bytes.now _ (subst (λ (lines : List Numbered). Begins schedule_grammar lines) (sym all) (schedule-begins _ _ taken.lines taken.are))
     (omega arith)
     (inl (λ none. false≢true (sym c.if-not-is_empty.true ∙ (c.is_empty.ensures ∙ ap (λ (rest : List ℕ). nat_eq (length rest) 0) (sym ended ∙ none)))))

@@ -1,0 +1,126 @@
+-- Bytes that an attach read and that are within the format.
+use Rattle.std.proofs.Common.{◌≡◌, ◌≢◌, ℕ, zero, suc, ◌-◌, ◌<◌, List, [], ◌∷◌, length, true, Option, Some, None, refl, ap, sym, subst, ◌∙◌, arith, inl, inr}
+use Rattle.std.specs.Prelude.{slice_get, nat_lt}
+use Rattle.plx_disk.specs.declared.ask.Ask.{Ask}
+use Rattle.plx_disk.specs.declared.ask.Ask.TheVariants as ask
+use Rattle.plx_disk.specs.declared.ask.Answer.{Answer}
+use Rattle.plx_disk.specs.declared.ask.Answer.TheVariants as answer
+use Rattle.plx_gate.specs.Descriptors.{read_descriptor}
+use Rattle.plx_gate.specs.Images.{read_image}
+use Rattle.plx_gate.specs.Leases.{read_lease}
+use Rattle.plx_gate.specs.declared.descriptor.Descriptor.{Descriptor}
+use Rattle.plx_gate.specs.declared.image.ImageRecord.{ImageRecord}
+use Rattle.plx_geom.specs.Geometry.{Geometry, lease_count, lease_at, record_at, descriptor_at, data_at}
+use Rattle.plx_geom.proofs.Places.{lease-record, lease-descriptor, lease-data, record-descriptor, record-data, data-descriptor}
+use Rattle.plx_worlds.specs.Journal.{journal_slot, is_unapplied, is_placed}
+use Rattle.plx_worlds.specs.Records.{is_plain, size_of, applied_of}
+use Rattle.plx_worlds.specs.Session.{Session}
+use Rattle.plx_worlds.specs.Stored.{Given, IsCounted}
+use Rattle.law_run.specs.CommandLogs.{Exchange, IsIn}
+use Rattle.law_run.specs.Outside.{IsMissing, IsOutside, no_lease, no_record, not_plain, no_descriptor, misplaced, past_size, past_gap}
+use Rattle.law_run.proofs.Facts.{counts-number}
+use Rattle.law_run.proofs.Grown.{descriptor-one}
+use Rattle.law_run.proofs.Meets.{exchange}
+use Rattle.law_run.proofs.Right.{descriptor_of, Fits}
+use Rattle.law_run.proofs.Tests.{clash, eqb-is, lt-is}
+
+-- what a slot's block says is within the format
+abbrev pub IsSound : ImageRecord → (slots slot : ℕ) → Option (Option Descriptor) → Type 0
+IsSound kept slots slot found =
+    (found ≢ None) × ((d : Descriptor) → found ≡ Some (Some d) → is_unapplied kept d ≡ true → (is_placed slots slot d ≡ true) × (nat_lt d.vblock (size_of kept) ≡ true))
+
+-- the bytes of a block are, as a lease, as the record, or as a descriptor of the image
+pub record IsInside (g : Geometry) (image : ℕ) (kept : ImageRecord) (block : ℕ) (bytes : List ℕ) : Type 0 where
+  pub leases : (lease : ℕ) → lease < lease_count g → block ≡ lease_at lease → read_lease bytes ≢ None
+  pub records : block ≡ record_at g image → read_image bytes ≡ Some kept
+  pub descriptors : (slot : ℕ) → slot < g.slots → block ≡ descriptor_at g image slot → IsSound kept g.slots slot (read_descriptor bytes)
+
+-- of what an exchange read
+abbrev pub InsideOf : Geometry → (image : ℕ) → ImageRecord → Ask → Answer → Type 0
+InsideOf g image kept (ask.Read block) (answer.Bytes bytes) = IsInside g image kept block.0 bytes
+InsideOf g image kept a x = Unit {0}
+
+abbrev pub AllInside : Geometry → (image : ℕ) → ImageRecord → List Exchange → Type 0
+AllInside g image kept [] = Unit {0}
+AllInside g image kept (x ∷ older) = InsideOf g image kept x.ask x.answer × AllInside g image kept older
+
+pub inside-of : (g : Geometry) (image : ℕ) (kept : ImageRecord) (a : Ask) (x : Answer) (done : List Exchange) → AllInside g image kept done → IsIn (exchange a [] x) done → InsideOf g image kept a x
+inside-of g image kept a x [] all there = absurd there
+inside-of g image kept a x (y ∷ older) all (inl same) = subst (λ (z : Exchange). InsideOf g image kept z.ask z.answer) (sym same) all.0
+inside-of g image kept a x (y ∷ older) all (inr there) = inside-of g image kept a x older all.1 there
+
+-- ---- blocks of which only one thing is asked
+
+pub inside-lease : (g : Geometry) (image : ℕ) (kept : ImageRecord) (lease : ℕ) (bytes : List ℕ) → lease < lease_count g → read_lease bytes ≢ None → IsInside g image kept (lease_at lease) bytes
+inside-lease g image kept lease bytes within some = record {
+  leases = λ other less same. some;
+  records = λ same. absurd (lease-record g lease image within same);
+  descriptors = λ slot less same. absurd (lease-descriptor g lease image slot within same);
+}
+
+pub inside-record : (g : Geometry) (image : ℕ) (kept : ImageRecord) (bytes : List ℕ) → image < g.images → read_image bytes ≡ Some kept → IsInside g image kept (record_at g image) bytes
+inside-record g image kept bytes within found = record {
+  leases = λ lease less same. absurd (lease-record g lease image less (sym same));
+  records = λ same. found;
+  descriptors = λ slot less same. absurd (record-descriptor g image image slot within same);
+}
+
+pub inside-descriptor : (g : Geometry) (image : ℕ) (kept : ImageRecord) (slot : ℕ) (bytes : List ℕ) → image < g.images → IsSound kept g.slots slot (read_descriptor bytes) →
+    IsInside g image kept (descriptor_at g image slot) bytes
+inside-descriptor g image kept slot bytes within sound = record {
+  leases = λ lease less same. absurd (lease-descriptor g lease image slot less (sym same));
+  records = λ same. absurd (record-descriptor g image image slot within (sym same));
+  descriptors = λ other less same. subst (λ n. IsSound kept g.slots n (read_descriptor bytes)) (descriptor-one g image slot other same) sound;
+}
+
+pub inside-data : (g : Geometry) (image : ℕ) (kept : ImageRecord) (slot : ℕ) (bytes : List ℕ) → image < g.images → IsInside g image kept (data_at g image slot) bytes
+inside-data g image kept slot bytes within = record {
+  leases = λ lease less same. absurd (lease-data g lease image slot less (sym same));
+  records = λ same. absurd (record-data g image image slot within (sym same));
+  descriptors = λ other less same. absurd (data-descriptor g image image slot other same);
+}
+
+-- ---- no gap
+
+there-at : {X : Type 0} (xs : List X) (k : ℕ) → k < length xs → (x : X) × (slice_get xs k ≡ Some x)
+there-at [] k below = absurd (omega arith)
+there-at (x ∷ xs) zero below = (x, refl)
+there-at (x ∷ xs) (suc k) below = there-at xs k (omega (arith, below))
+
+-- a session that fits has no missing number below one of its own
+no-gap : (g : Geometry) (given : Given) (image : ℕ) (session : Session) → Fits g given image session → (slot : ℕ) (d : Descriptor) (missing : ℕ) → IsCounted g given image session.image slot d → IsMissing g given image session.image missing →
+    missing < d.number → ⊥
+no-gap g given image session fits slot d missing counts gone below =
+    let n = counts-number g given image session fits slot d counts in
+    let above = gone.above in
+    let k : ℕ = missing - applied_of session.image - 1 in
+    let within : missing - applied_of session.image - 1 < length session.writes = omega (arith, n.4, n.5) in
+    let w = there-at session.writes (missing - applied_of session.image - 1) within in
+    gone.absent (journal_slot g.slots w.0.number) (descriptor_of session.image w.0) (fits.counts (missing - applied_of session.image - 1) w.0 w.1)
+    (fits.numbers (missing - applied_of session.image - 1) w.0 w.1 ∙ (omega (arith, above)))
+
+-- bytes within the format aren't outside it
+pub not-outside : (g : Geometry) (given : Given) (image : ℕ) (session : Session) (block : ℕ) (bytes : List ℕ) → Fits g given image session → IsInside g image session.image block bytes →
+    ¬ IsOutside g given image block bytes
+not-outside g given image session block bytes fits inside (no_lease lease less same none) = inside.leases lease less same none
+not-outside g given image session block bytes fits inside (no_record same none) = let e = inside.records same in let P : ⊥ = cc in P
+not-outside g given image session block bytes fits inside (not_plain kept same found bad) =
+    let e : Some session.image ≡ Some kept = sym (inside.records same) ∙ found in
+    let is : session.image ≡ kept = cc in
+    clash (is_plain kept) (ap is_plain (sym is) ∙ fits.plain) bad
+not-outside g given image session block bytes fits inside (no_descriptor slot less same none) = (inside.descriptors slot less same).0 none
+not-outside g given image session block bytes fits inside (misplaced kept slot d less same found is unapplied elsewhere) =
+    let e : Some session.image ≡ Some kept = sym fits.found ∙ found in
+    let k : kept ≡ session.image = cc in
+    elsewhere (eqb-is (journal_slot g.slots d.number) slot ((inside.descriptors slot less same).1 d is (ap (λ (r : ImageRecord). is_unapplied r d) (sym k) ∙ unapplied)).0)
+not-outside g given image session block bytes fits inside (past_size kept slot d less same found is unapplied past) =
+    let e : Some session.image ≡ Some kept = sym fits.found ∙ found in
+    let k : kept ≡ session.image = cc in
+    let below = lt-is d.vblock (size_of session.image) ((inside.descriptors slot less same).1 d is (ap (λ (r : ImageRecord). is_unapplied r d) (sym k) ∙ unapplied)).1 in
+    let size = ap size_of k in
+    omega arith
+not-outside g given image session block bytes fits inside (past_gap kept slot d missing same found counts gone below least) =
+    let e : Some session.image ≡ Some kept = sym fits.found ∙ found in
+    let k : kept ≡ session.image = cc in
+    no-gap g given image session fits slot d missing (subst (λ (r : ImageRecord). IsCounted g given image r slot d) k counts)
+    (subst (λ (r : ImageRecord). IsMissing g given image r missing) k gone) below

@@ -1,0 +1,25 @@
+-- Renewals and releases in commands.
+use Rattle.std.proofs.Common.{◌≡◌, ◌+◌, ℕ, None, refl}
+use Rattle.plx_base.specs.declared.lease.Claim.{Claim}
+use Rattle.plx_commands.specs.declared.reply.Reply.TheVariants as reply
+use Rattle.plx_geom.specs.Geometry.{image_lease}
+use Rattle.plx_rules.specs.Part.{Part}
+use Rattle.plx_worlds.specs.Commands.{detach_part, later_of, renewal}
+use Rattle.plx_worlds.specs.Ends.{End, ends}
+use Rattle.plx_worlds.specs.Holds.{Held}
+use Rattle.plx_worlds.specs.Parts.{followed_by}
+use Rattle.plx_worlds.specs.Session.{Session, Known, with_session}
+use Rattle.plx_worlds.specs.Settings.{Setting}
+use Rattle.plx_worlds.specs.Times.{term}
+use Rattle.plx_lease.specs.Releases.{after_release, release_part}
+use Rattle.plx_lease.specs.Renewals.{after_renewal, renewal_part}
+
+-- a held lease is renewed, and the command goes on
+pub renewal-followed : (s : Setting) (known : Known) (reading lease : ℕ) (claim : Claim) (until : ℕ) (rest : Part End) →
+    renewal s known reading lease (Held claim until) rest ≡ followed_by (renewal_part lease claim until (later_of until (reading + term))) (after_renewal s known lease rest)
+renewal-followed s known reading lease claim until rest = refl
+
+-- a detach is a release
+pub detach-followed : (s : Setting) (known : Known) (image : ℕ) (session : Session) (until : ℕ) →
+    detach_part s known image session until ≡ followed_by (release_part (image_lease image) until) (after_release s known (image_lease image) (ends reply.Detached (with_session known image None)))
+detach-followed s known image session until = refl

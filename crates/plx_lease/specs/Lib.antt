@@ -1,0 +1,10 @@
+pub mod ClaimEnds
+pub mod Claiming
+pub mod Holding
+pub mod Releases
+pub mod Releasing
+pub mod Renewals
+pub mod Renewing
+pub mod Shells
+pub mod Tables
+pub mod Uses

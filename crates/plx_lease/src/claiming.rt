@@ -1,0 +1,95 @@
+//! A claim as a machine of five calls.
+ghost use Rattle.std.specs.Prelude.{◌≡◌, ◌≤◌, ◌<◌, ◌^◌, ℕ, Some, None, []};
+
+use crate::claim::LeaseClaim;
+use crate::claim_end::ClaimEnd;
+use plx_base::{BlockNo, Boot};
+use plx_disk::{Answer, Ask, Turn};
+use plx_token::LeaseKind;
+
+/// A claim of a lease, which asks until it has ended.
+#[derive(Drop)]
+pub struct Claiming<K> {
+    work: LeaseClaim<K>,
+    end: Option<ClaimEnd<K>>,
+}
+
+impl<K: LeaseKind> Claiming<K> {
+    ghost use Rattle.plx_disk.specs.declared.turn.Turn.{Turn};
+    ghost use Rattle.plx_geom.specs.Geometry.{lease_at};
+    ghost use Rattle.plx_rules.specs.Part.{Ends, answered, standing, bytes_out};
+    ghost use Rattle.plx_worlds.specs.Claims.{claim_part};
+    ghost use Rattle.plx_worlds.specs.Machines.{IsTimely, turn_of};
+    ghost use Rattle.plx_lease.specs.ClaimEnds.{claim_end};
+    ghost use Rattle.plx_lease.specs.Shells.{claiming_rest};
+
+    /// The claim of a lease in this block by a boot that began so many claims before.
+    pub fn begin(lease: K, block: BlockNo, boot: Boot, number: u64) -> Claiming<K>
+        requires low { 1 ≤ block.0 }
+        requires high { block.0 ≤ 2 ^ 32 }
+        requires number { number < 2 ^ 40 }
+        ensures { (place : ℕ) → block.0 ≡ lease_at place → claiming_rest result ≡ claim_part boot.0 [] place number }
+    {
+        Claiming {
+            work: LeaseClaim::begin(lease, block, boot, number, None),
+            end: None,
+        }
+    }
+
+    /// To the first ask.
+    pub fn turn(&mut self) -> Turn
+        ensures rest { claiming_rest self.new ≡ claiming_rest self.old }
+        ensures turn { result ≡ turn_of (claiming_rest self.new) }
+    {
+        self.stands()
+    }
+
+    /// The ask that stands.
+    pub fn ask(&self) -> Ask
+        requires { turn_of (claiming_rest self.now) ≡ Turn.Again }
+        ensures { Some result ≡ standing (claiming_rest self.now) }
+    {
+        self.work.ask()
+    }
+
+    /// The 4,096 bytes of the write that is asked for, else none.
+    pub fn out(&self) -> &[u8]
+        requires { turn_of (claiming_rest self.now) ≡ Turn.Again }
+        ensures { result.now ≡ bytes_out (claiming_rest self.now) }
+    {
+        self.work.out()
+    }
+
+    /// The ask is answered.
+    pub fn answer(&mut self, answer: &Answer) -> Turn
+        requires asks { turn_of (claiming_rest self.old) ≡ Turn.Again }
+        requires timely { IsTimely answer.now }
+        ensures rest { claiming_rest self.new ≡ answered (claiming_rest self.old) answer.now }
+        ensures turn { result ≡ turn_of (claiming_rest self.new) }
+    {
+        self.end = self.work.answer(answer);
+        self.stands()
+    }
+
+    /// Its end, once it has ended.
+    pub fn end(self) -> ClaimEnd<K>
+        requires { turn_of (claiming_rest self) ≡ Turn.Ended }
+        ensures { claiming_rest self ≡ Ends (claim_end result) }
+    {
+        match self.end {
+            Some(end) => end,
+            None => unreachable!(),
+        }
+    }
+
+    // Whether an ask stands.
+    fn stands(&self) -> Turn
+        ensures { result ≡ turn_of (claiming_rest self.now) }
+    {
+        let _ask = self.work.ask();
+        match &self.end {
+            None => Turn::Again,
+            Some(_) => Turn::Ended,
+        }
+    }
+}

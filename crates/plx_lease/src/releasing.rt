@@ -1,0 +1,94 @@
+//! A release as a machine of five calls.
+ghost use Rattle.std.specs.Prelude.{◌≡◌, ◌≤◌, ◌^◌, ℕ, Some, None};
+
+use crate::release::{LeaseRelease, ReleaseEnd};
+use plx_base::BlockNo;
+use plx_disk::{Answer, Ask, Turn};
+use plx_token::{Held, LeaseKind};
+use std::marker::PhantomData;
+
+/// The release of a lease, which asks until it has ended.
+#[derive(Drop)]
+pub struct Releasing<K> {
+    work: LeaseRelease,
+    end: Option<ReleaseEnd>,
+    kind: PhantomData<K>,
+}
+
+impl<K: LeaseKind> Releasing<K> {
+    ghost use Rattle.plx_disk.specs.declared.turn.Turn.{Turn};
+    ghost use Rattle.plx_geom.specs.Geometry.{lease_at};
+    ghost use Rattle.plx_rules.specs.Part.{Ends, answered, standing, bytes_out};
+    ghost use Rattle.plx_worlds.specs.Machines.{turn_of};
+    ghost use Rattle.plx_lease.specs.Releases.{release_part};
+    ghost use Rattle.plx_lease.specs.Releasing.{release_end};
+    ghost use Rattle.plx_lease.specs.Shells.{releasing_rest};
+
+    /// The release of a lease that is held, in this block: from here on it isn't.
+    pub fn begin(held: Held<K>, block: BlockNo) -> Releasing<K>
+        requires low { 1 ≤ block.0 }
+        requires high { block.0 ≤ 2 ^ 32 }
+        ensures { (place : ℕ) → block.0 ≡ lease_at place → releasing_rest result ≡ release_part place held.until }
+    {
+        Releasing {
+            work: LeaseRelease::begin(held, block),
+            end: None,
+            kind: PhantomData,
+        }
+    }
+
+    /// To the first ask.
+    pub fn turn(&mut self) -> Turn
+        ensures rest { releasing_rest self.new ≡ releasing_rest self.old }
+        ensures turn { result ≡ turn_of (releasing_rest self.new) }
+    {
+        self.stands()
+    }
+
+    /// The ask that stands.
+    pub fn ask(&self) -> Ask
+        requires { turn_of (releasing_rest self.now) ≡ Turn.Again }
+        ensures { Some result ≡ standing (releasing_rest self.now) }
+    {
+        self.work.ask()
+    }
+
+    /// The 4,096 bytes of the write that is asked for.
+    pub fn out(&self) -> &[u8]
+        requires { turn_of (releasing_rest self.now) ≡ Turn.Again }
+        ensures { result.now ≡ bytes_out (releasing_rest self.now) }
+    {
+        self.work.out()
+    }
+
+    /// The ask is answered.
+    pub fn answer(&mut self, answer: &Answer) -> Turn
+        requires { turn_of (releasing_rest self.old) ≡ Turn.Again }
+        ensures rest { releasing_rest self.new ≡ answered (releasing_rest self.old) answer.now }
+        ensures turn { result ≡ turn_of (releasing_rest self.new) }
+    {
+        self.end = self.work.answer(answer);
+        self.stands()
+    }
+
+    /// Its end, once it has ended.
+    pub fn end(self) -> ReleaseEnd
+        requires { turn_of (releasing_rest self) ≡ Turn.Ended }
+        ensures { releasing_rest self ≡ Ends (release_end result) }
+    {
+        match self.end {
+            Some(end) => end,
+            None => unreachable!(),
+        }
+    }
+
+    // Whether an ask stands.
+    fn stands(&self) -> Turn
+        ensures { result ≡ turn_of (releasing_rest self.now) }
+    {
+        match &self.end {
+            None => Turn::Again,
+            Some(_) => Turn::Ended,
+        }
+    }
+}

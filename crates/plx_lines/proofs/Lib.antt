@@ -1,0 +1,5 @@
+mod Found
+mod OnceSchedule
+mod OnceTrace
+pub mod ScheduleFiles
+pub mod Worlds

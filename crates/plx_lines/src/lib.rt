@@ -1,0 +1,17 @@
+//! The texts of schedules and traces.
+#![tactic(auto)]
+
+mod command;
+mod event;
+mod once;
+mod print;
+mod print_reply;
+mod read;
+mod schedule;
+mod stop;
+
+pub use once::{schedule_once, trace_once};
+pub use plx_words::Text;
+pub use print::{print_bad_line, print_trace};
+pub use read::read_schedule;
+pub use schedule::{Schedule, TextError};

@@ -1,0 +1,12 @@
+//! Leases as tokens: a lease is held by the one value that a confirmed claim gave.
+#![tactic(auto)]
+
+mod claimed;
+mod grant;
+mod held;
+mod kind;
+
+pub use claimed::{Claimed, Unconfirmed};
+pub use grant::Grant;
+pub use held::Held;
+pub use kind::{Image, LeaseKind, Root};
