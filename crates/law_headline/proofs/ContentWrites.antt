@@ -33,7 +33,7 @@ use Rattle.plx_worlds.specs.Session.{Known}
 use Rattle.plx_worlds.specs.Settings.{boot_number}
 use Rattle.plx_worlds.specs.World.{World, Seat, with_surface, after_issue}
 use Rattle.law_lease.proofs.LeaseSteps.{placed-may}
-use Rattle.law_lease.proofs.Open.{IsOpen, open-found, open-alone}
+use Rattle.law_lease.proofs.Open.{IsOpen, open-found, open-alone, lands-open}
 use Rattle.law_lease.proofs.LeaseFrames.{grip-open, grip_while-open, grip_while-away}
 use Rattle.law_lease.proofs.LeaseLands.{MayBeAsked, asked-may, grip-asked, first-set, pending-other, not-whole}
 use Rattle.law_lease.proofs.Leased.{MayAsk, LawfulAt, IsAskedAt, IsRight, grip_while, grip_at, Leased}
@@ -322,12 +322,8 @@ module _ (w : World) (content : Content w) where
     ]
 
     this-open : (i : ℕ) → IsJournalled write.kind → IsUnder w.rests number (image_lease i) → IsOpen g w.rests w.appliances time writes w.seats (image_lease i) number write
-    this-open i journalled needs = inl (record {
-      found = may.found;
-      needs = needs;
-      missing = unlanded-image write.kind write.landed journalled (not-whole write.landed sector may.missing);
-      live = may.early;
-    })
+    this-open i journalled =
+        lands-open w number sector write may (unlanded-image write.kind write.landed journalled (not-whole write.landed sector may.missing)) (image_lease i)
 
     -- the device, as an image sees it
     same-after : (i : ℕ) → (IsOf g i write.block → ⊥) → Same g i device after

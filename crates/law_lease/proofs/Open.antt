@@ -5,7 +5,7 @@ use Rattle.plx_base.specs.declared.lease.Claim.{Claim}
 use Rattle.plx_base.specs.declared.lease.LeaseRecord.TheVariants.{Claimed}
 use Rattle.plx_commands.proofs.Places.{at-all}
 use Rattle.plx_commands.specs.Places.{at}
-use Rattle.plx_disk.specs.Writes.{Issued}
+use Rattle.plx_disk.specs.Writes.{Issued, MayLand}
 use Rattle.plx_geom.specs.Geometry.{Geometry, lease_count, lease_at}
 use Rattle.plx_rules.specs.Part.{Ends, ReadThen, WriteThen, ClockThen, UntilThen}
 use Rattle.plx_worlds.specs.Boot.{Place, Idle, Begins, In, position}
@@ -16,7 +16,7 @@ use Rattle.plx_worlds.specs.Settings.{boot_number}
 use Rattle.plx_worlds.specs.World.{World, Seat, setting_at}
 use Rattle.law_lease.proofs.LeaseFrames.{one-claim}
 use Rattle.law_lease.proofs.LeaseIssues.{boots-apart}
-use Rattle.law_lease.proofs.Leased.{IsLive, IsHeld, Good, IsAskedAt, grip_at, Leased}
+use Rattle.law_lease.proofs.Leased.{IsLive, Unlanded, IsHeld, Good, IsAskedAt, grip_at, Leased}
 use Rattle.law_lease.proofs.Lists.{same-some}
 
 -- an appliance's boot holds a lease, in time
@@ -41,6 +41,11 @@ pub open-found : (g : Geometry) (rests : ℕ → List ℕ) (appliances time : �
     IsOpen g rests appliances time writes seats lease n x → slice_get writes n ≡ Some x
 open-found g rests appliances time writes seats lease n x (inl live) = live.found
 open-found g rests appliances time writes seats lease n x (inr awaited) = awaited.4
+
+-- while a sector that changes something may still land, the write is open under each lease on which it rests
+pub lands-open : (w : World) (number sector : ℕ) (write : Issued) → MayLand w.surface number sector write → Unlanded write.kind write.landed →
+    (lease : ℕ) → IsUnder w.rests number lease → IsOpen w.geometry w.rests w.appliances w.surface.time w.surface.writes w.seats lease number write
+lands-open w number sector write may missing lease under = inl (record { found = may.found; needs = under; missing = missing; live = may.early })
 
 -- where a seat comes to wait for no write, what is open was open before
 pub open-elsewhere : (g : Geometry) (rests : ℕ → List ℕ) (appliances time : ℕ) (writes : List Issued) (seats : ℕ → Seat) (lease a : ℕ) (seat : Seat) → seat.pending ≡ None →
