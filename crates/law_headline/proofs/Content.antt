@@ -1,5 +1,5 @@
 -- What holds in every world that events lead to.
-use Rattle.std.proofs.Common.{◌≡◌, ℕ, ◌+◌, ◌≤◌, ◌<◌, ◌⊎◌, List, length, Bool, false, Option, Some, None}
+use Rattle.std.proofs.Common.{◌≡◌, ℕ, ◌<◌, ◌⊎◌, List, length, Bool, false, Option, Some, None}
 use Rattle.std.specs.Prelude.{slice_get}
 use Rattle.plx_base.specs.Sectors.{Device, put, mixed}
 use Rattle.plx_base.specs.declared.lease.Claim.{Claim}
@@ -11,17 +11,16 @@ use Rattle.plx_commands.specs.Judge.{Permitted}
 use Rattle.plx_commands.specs.Model.{Model, Slot}
 use Rattle.plx_commands.specs.declared.command.Command.{Command}
 use Rattle.plx_disk.specs.Writes.{Issued}
-use Rattle.plx_geom.specs.Geometry.{Geometry, image_lease, lease_at}
+use Rattle.plx_geom.specs.Geometry.{Geometry, image_lease}
 use Rattle.plx_rules.specs.Part.{Part}
 use Rattle.plx_worlds.specs.Boot.{Place, Idle, Begins, In, Position, position}
 use Rattle.plx_worlds.specs.Commands.{IsBuilt, IsWellFormed}
 use Rattle.plx_worlds.specs.Ends.{End}
 use Rattle.plx_worlds.specs.Headline.{starts_and_crashes, events_told, AreUndamaged, model_before, model_in}
-use Rattle.plx_worlds.specs.Holds.{Held}
-use Rattle.plx_worlds.specs.Owners.{pending_write}
 use Rattle.plx_worlds.specs.Session.{Session, Known}
 use Rattle.plx_worlds.specs.World.{World, Seat, setting_at}
-use Rattle.law_lease.proofs.Leased.{IsOpen, grip_at, Leased}
+use Rattle.law_lease.proofs.Leased.{Leased}
+use Rattle.law_lease.proofs.Open.{GripsLease, IsOpen}
 use Rattle.law_headline.proofs.Held.{SameSessions, Regime, With, IsRunning, Looks, HasImage, IsOf, IsOn, HeldPart, Backs, Fair}
 use Rattle.law_headline.proofs.HeldBegins.{IsBegunChange}
 use Rattle.law_headline.proofs.HeldFrames.{missing_of}
@@ -84,8 +83,7 @@ OwnedAt g a i device writes pending m (In known command part) =
 
 -- a boot holds an image's lease, in time
 abbrev pub Grips : Geometry → ℕ → List Issued → ℕ → Seat → ℕ → Claim → ℕ → Type 0
-Grips g time writes a seat i claim until =
-    (grip_at (stands_at g a seat).place (pending_write writes seat.pending) (lease_at (image_lease i)) ((stands_at g a seat).holds (lease_at (image_lease i))) ≡ Held claim until) × (time ≤ until + 50)
+Grips g time writes a seat i claim until = GripsLease g time writes a seat (image_lease i) claim until
 
 -- a boot minds an image where it grips its lease, or where its appliance owns the image in the model
 abbrev pub Minds : Geometry → ℕ → List Issued → Model → ℕ → Seat → ℕ → Type 0
@@ -101,14 +99,14 @@ SeatOwns g time device writes m i a seat =
     Minds g time writes m a seat i → OwnedAt g a i device writes seat.pending m (stands_at g a seat).place
 
 -- whatever of an open write lands, the image is kept
-abbrev pub Opens : Geometry → (rests : ℕ → List ℕ) → ℕ → Device → List Issued → ℕ → Slot → Type 0
-Opens g rests time device writes i slot =
-    (n : ℕ) (x : Issued) → IsOpen rests time writes (image_lease i) n x → IsOf g i x.block → (flags : List Bool) → length flags ≡ 8 → Keeps g (put device x.block (mixed flags x.bytes (device x.block))) i slot
+abbrev pub Opens : Geometry → (rests : ℕ → List ℕ) → (appliances time : ℕ) → Device → List Issued → (ℕ → Seat) → ℕ → Slot → Type 0
+Opens g rests appliances time device writes seats i slot =
+    (n : ℕ) (x : Issued) → IsOpen g rests appliances time writes seats (image_lease i) n x → IsOf g i x.block → (flags : List Bool) → length flags ≡ 8 → Keeps g (put device x.block (mixed flags x.bytes (device x.block))) i slot
 
 -- while an appliance owns the image in the model, an open write of the image is what it waits for
-abbrev pub Whose : Geometry → (rests : ℕ → List ℕ) → ℕ → List Issued → (ℕ → Seat) → ℕ → Slot → Type 0
-Whose g rests time writes seats i slot =
-    (n : ℕ) (x : Issued) → IsOpen rests time writes (image_lease i) n x → IsOf g i x.block → (b : ℕ) → slot.owner ≡ Some b → (seats b).pending ≡ Some n
+abbrev pub Whose : Geometry → (rests : ℕ → List ℕ) → (appliances time : ℕ) → List Issued → (ℕ → Seat) → ℕ → Slot → Type 0
+Whose g rests appliances time writes seats i slot =
+    (n : ℕ) (x : Issued) → IsOpen g rests appliances time writes seats (image_lease i) n x → IsOf g i x.block → (b : ℕ) → slot.owner ≡ Some b → (seats b).pending ≡ Some n
 
 -- the invariant of the headline
 pub record Content (w : World) : Type 0 where
@@ -117,7 +115,7 @@ pub record Content (w : World) : Type 0 where
   pub permitted : Permitted (model_before w) w.trace
   pub undamaged : AreUndamaged w.trace
   pub stored : (i : ℕ) → i < w.geometry.images → Keeps w.geometry w.surface.device i ((model_in w).slots i)
-  pub opens : (i : ℕ) → i < w.geometry.images → Opens w.geometry w.rests w.surface.time w.surface.device w.surface.writes i ((model_in w).slots i)
-  pub whose : (i : ℕ) → i < w.geometry.images → Whose w.geometry w.rests w.surface.time w.surface.writes w.seats i ((model_in w).slots i)
+  pub opens : (i : ℕ) → i < w.geometry.images → Opens w.geometry w.rests w.appliances w.surface.time w.surface.device w.surface.writes w.seats i ((model_in w).slots i)
+  pub whose : (i : ℕ) → i < w.geometry.images → Whose w.geometry w.rests w.appliances w.surface.time w.surface.writes w.seats i ((model_in w).slots i)
   pub seats : (a : ℕ) → a < w.appliances → SeatFits w.geometry (model_in w) a (w.seats a)
   pub owned : (i : ℕ) → i < w.geometry.images → (a : ℕ) → a < w.appliances → SeatOwns w.geometry w.surface.time w.surface.device w.surface.writes (model_in w) i a (w.seats a)

@@ -23,7 +23,7 @@ use Rattle.plx_commands.specs.declared.event.Event.{Event}
 use Rattle.plx_commands.specs.declared.event.Event.TheVariants as event
 use Rattle.plx_commands.specs.declared.reply.Reply.{Reply}
 use Rattle.plx_commands.specs.declared.reply.Reply.TheVariants as reply
-use Rattle.plx_commands.proofs.Places.{at-same, at-other}
+use Rattle.plx_commands.proofs.Places.{at-all, at-same, at-other}
 use Rattle.plx_disk.specs.Writes.{Issued, all_sectors, HasLanded}
 use Rattle.plx_disk.specs.declared.ask.Ask.TheVariants as ask
 use Rattle.plx_disk.specs.declared.ask.Answer.TheVariants as answer
@@ -47,8 +47,9 @@ use Rattle.law_lease.proofs.LawfulCommands.{first-rests, below-tested}
 use Rattle.law_lease.proofs.LeaseFrames.{grip-open}
 use Rattle.law_lease.proofs.LeaseGoes.{good-free}
 use Rattle.law_lease.proofs.LeaseLands.{first-set}
-use Rattle.law_lease.proofs.LeaseSteps.{not-waiting}
-use Rattle.law_lease.proofs.Leased.{MayAsk, LawfulAt, IsOpen, Unlanded, Good, IsHeld, IsAskedAt, grip_while, grip_at, Leased}
+use Rattle.law_lease.proofs.LeaseSteps.{not-waiting, placed-may}
+use Rattle.law_lease.proofs.Open.{IsOpen, open-elsewhere, one-waits}
+use Rattle.law_lease.proofs.Leased.{MayAsk, LawfulAt, Unlanded, Good, IsHeld, IsAskedAt, grip_while, grip_at, Leased}
 use Rattle.law_headline.proofs.Content.{appliance_no, stands_at, IsJournalled, PlaceFits, IsBegun, Has, OwnedAt, Grips, Minds, Content}
 use Rattle.law_headline.proofs.ContentGoes.{content-went, dropping-false, NoSession, went_to}
 use Rattle.law_headline.proofs.FairCommands.{fair-command}
@@ -58,7 +59,8 @@ use Rattle.law_headline.proofs.Harmless as harmless
 use Rattle.law_headline.proofs.Held.{IsSpelled, attached_of, Regime, Without, With, IsRunning, Looks, IsOf, IsOn, HeldPart, IsBacking, Backs, IsDrop, is_below, are_below, is_some_slot, just_at, Fair}
 use Rattle.law_headline.proofs.HeldBegins.{begin-without, begin-with}
 use Rattle.law_headline.proofs.HeldCommands.{slot_no}
-use Rattle.law_headline.proofs.HeldFrames.{missing_of, held-same, of-lease, of-map}
+use Rattle.law_headline.proofs.HeldFrames.{missing_of, held-same}
+use Rattle.law_headline.proofs.ImageWrites.{held-image, held-or, placed-cases}
 use Rattle.law_headline.proofs.Journals.{Same}
 use Rattle.law_headline.proofs.ModelFacts.{Sound, sound-all}
 use Rattle.law_headline.proofs.Owners.{both-true}
@@ -188,8 +190,10 @@ module _ (w : World) (content : Content w) (a : ℕ) (below : a < w.appliances) 
   minds-back i log back (inr mine) = inr mine
 
   -- nothing is open where no write is waited for
-  quiet-free : (w.seats a).pending ≡ None → (i : ℕ) → i < g.images → (k : ℕ) (x : Issued) → IsOpen w.rests time writes (image_lease i) k x → IsOf g i x.block → (m.slots i).owner ≡ Some a → ⊥
-  quiet-free free i within k x op of mine = none-some k (sym free ∙ content.whose i within k x op of a mine)
+  quiet-free : (log : List Happening) → (w.seats a).pending ≡ None → (i : ℕ) → i < g.images → (k : ℕ) (x : Issued) →
+      IsOpen g w.rests w.appliances time writes (at w.seats a (record { boots = (w.seats a).boots; log = log; pending = None })) (image_lease i) k x → IsOf g i x.block → (m.slots i).owner ≡ Some a → ⊥
+  quiet-free log free i within k x op of mine =
+      none-some k (sym free ∙ content.whose i within k x (open-elsewhere g w.rests w.appliances time writes w.seats (image_lease i) a _ refl k x op) of a mine)
 
   -- a session that isn't there
   is-none : (o : Option Session) → is_some o ≡ false → o ≡ None
@@ -260,7 +264,7 @@ module _ (w : World) (content : Content w) (a : ℕ) (below : a < w.appliances) 
       let mine = own i within (minds-back i log (λ claim until grips. grips-now free i claim until
       (timed-held reading (p.holds (lease_at (image_lease i))) claim until (seat-holds log known command h (Some reading) part leads i claim until grips)) grips.1) minds) in
       ((λ names. inl (mine.0 names)), mine.1))
-      (inl (quiet-free free))
+      (inl (quiet-free _ free))
       (λ e.
       let j = just-holds command h reading e is in
       let held = timed-held reading (p.holds (lease_at (image_lease j.0))) j.3.0 j.3.1 j.3.2 in
@@ -352,7 +356,7 @@ module _ (w : World) (content : Content w) (a : ℕ) (below : a < w.appliances) 
                 ])
             | inr owner ↦ (let mine = owned-at place here i within (inr owner) in ((λ names. let s = mine.0 names in inl (s.regime, s.looks, s.held.1, s.on)), mine.1))
           ])
-          (inl (quiet-free free))
+          (inl (quiet-free _ free))
           never
 
       pub fault-content : Leased (goes_on w (event.Fault (appliance_no a)) (appliance_no a) (ask.Read (record { 0 = block })) [] answer.Fault fault) →
@@ -367,7 +371,7 @@ module _ (w : World) (content : Content w) (a : ℕ) (below : a < w.appliances) 
           (λ i within minds.
           let mine = owned-at place here i within (minds-back i log (λ claim until grips. grips-now free i claim until (seat-holds log known command p.holds None fault leads i claim until grips) grips.1) minds) in
           ((λ names. let s = mine.0 names in inl (s.regime, s.looks, s.held.2, s.on)), mine.1))
-          (inl (quiet-free free))
+          (inl (quiet-free _ free))
           never
 
     -- ---- a write is answered
@@ -508,18 +512,13 @@ module _ (w : World) (content : Content w) (a : ℕ) (below : a < w.appliances) 
                   inl (
                     s.regime,
                     s.looks,
-                    by_kind what refl i within names s.regime s.held
+                    done-held' i within s.regime s.held
                         (λ k. s.fills number landed.0 waited landed.1 (let Q : WriteKind → Type 0 = λ x. IsJournalled x in subst Q (sym asked.0) k)),
                     s.on,
                   )),
               mine.1,
             ))
-            (inl (λ i within k x op of mine.
-            let n : Some number ≡ Some k = sym waited ∙ content.whose i within k x op of a mine in
-            let at' : number ≡ k = cc in
-            let Q : ℕ → Type 0 = λ j. slice_get writes j ≡ Some x in
-            let same : landed.0 ≡ x = (let e : Some landed.0 ≡ Some x = sym landed.1 ∙ subst Q (sym at') op.found in cc) in
-            closed x.kind x.landed (ap (λ (y : Issued). y.landed) (sym same) ∙ landed.2) op.missing))
+            (inl (λ i within k x op of mine. done-closed i within k x op of mine))
             unjust
           where
             closed : (k : WriteKind) (flags : List Bool) → flags ≡ all_sectors → Unlanded k flags → ⊥
@@ -527,11 +526,27 @@ module _ (w : World) (content : Content w) (a : ℕ) (below : a < w.appliances) 
             closed kind.Release flags is missing = (let e : Some true ≡ Some false = sym (ap (λ (l : List Bool). slice_get l 0) is) ∙ missing in cc)
             closed other flags is missing = missing is
 
-            may : (k : WriteKind) → what ≡ k → MayAsk g s.boot p.holds (rests_on g command p.holds k block bytes) k block bytes guard
-            may k is =
-                let P : Place → Type 0 = λ q. LawfulAt g s.boot p.holds p.sample q in
-                let M : WriteKind → Type 0 = λ x. MayAsk g s.boot p.holds (rests_on g command p.holds x block bytes) x block bytes guard in
-                subst M is (subst P here (content.leased.seated a below).lawful).0
+            -- the write that is done is open no longer: it has landed whole, and no other boot waits for it
+            done-closed : (i : ℕ) → i < g.images → (k : ℕ) (x : Issued) → IsOpen g w.rests w.appliances time writes (at w.seats a (record { boots = (w.seats a).boots; log = Asked (ask.Write what (record { 0 = block }) guard) bytes answer.Done ∷ (w.seats a).log; pending = None })) (image_lease i) k x →
+                IsOf g i x.block → (m.slots i).owner ≡ Some a → ⊥
+            done-closed i within k x op of mine =
+                let n : Some number ≡ Some k = sym waited ∙ content.whose i within k x (open-elsewhere g w.rests w.appliances time writes w.seats (image_lease i) a _ refl k x op) of a mine in
+                let at' : number ≡ k = cc in
+                by_open at' op
+              where
+                by_open : number ≡ k → IsOpen g w.rests w.appliances time writes (at w.seats a (record { boots = (w.seats a).boots; log = Asked (ask.Write what (record { 0 = block }) guard) bytes answer.Done ∷ (w.seats a).log; pending = None })) (image_lease i) k x → ⊥
+                by_open at' (inl live) =
+                    let Q : ℕ → Type 0 = λ j. slice_get writes j ≡ Some x in
+                    let same : landed.0 ≡ x = (let e : Some landed.0 ≡ Some x = sym landed.1 ∙ subst Q (sym at') live.found in cc) in
+                    closed x.kind x.landed (ap (λ (y : Issued). y.landed) (sym same) ∙ landed.2) live.missing
+                by_open at' (inr o) =
+                    at-all (λ b s'. b < w.appliances → s'.pending ≡ Some k → ⊥) w.seats a _
+                    (λ under waits'. none-some k waits')
+                    (λ b ne under waits'. ne (one-waits w content.leased b a k under below waits' (waited ∙ ap Some at')))
+                    o.0 o.1 o.3
+
+            may : MayAsk g s.boot p.holds (rests_on g command p.holds what block bytes) what block bytes guard
+            may = let P : Place → Type 0 = λ q. LawfulAt g s.boot p.holds p.sample q in (subst P here (content.leased.seated a below).lawful).0
 
             full : (mixed (missing_of landed.0.landed) landed.0.bytes (device landed.0.block) ≡ landed.0.bytes) → device block ≡ bytes
             full fills =
@@ -539,24 +554,17 @@ module _ (w : World) (content : Content w) (a : ℕ) (below : a < w.appliances) 
                 ap (λ (l : List Bool). mixed (missing_of l) landed.0.bytes (device landed.0.block)) landed.2 ∙ mixed-none 8 landed.0.bytes (device landed.0.block) in
                 sym (ap device asked.1) ∙ (sym none ∙ (fills ∙ asked.2))
 
-            by_kind : (k : WriteKind) → what ≡ k → (i : ℕ) → i < g.images → Names command i → (regime : Regime) →
-                HeldPart g a i command known regime (WriteThen k block bytes guard done fault missed) device →
-                (IsJournalled k → mixed (missing_of landed.0.landed) landed.0.bytes (device landed.0.block) ≡ landed.0.bytes) → HeldPart g a i command known regime done device
-            by_kind kind.Record is i within names regime held fills = held-same g a i command known regime done (put device block bytes) device (whole (full (fills tt)) i) held.2
-            by_kind kind.JData is i within names regime held fills = held-same g a i command known regime done (put device block bytes) device (whole (full (fills tt)) i) held.2
-            by_kind kind.JCommit is i within names regime held fills = held-same g a i command known regime done (put device block bytes) device (whole (full (fills tt)) i) held.2
-            by_kind kind.Release is i within names regime held fills = held.1
-            by_kind kind.Claim is i within names regime held fills =
-                let t = may kind.Claim is in absurd (of-lease g i t.lease t.within (let P : ℕ → Type 0 = λ b. IsOf g i b in subst P t.at_lease held.0))
-            by_kind kind.Renew is i within names regime held fills =
-                let t = may kind.Renew is in absurd (of-lease g i t.lease t.within (let P : ℕ → Type 0 = λ b. IsOf g i b in subst P t.at_lease held.0))
-            by_kind kind.Take is i within names regime held fills = let t = may kind.Take is in absurd (of-map g i t.placed.0 within (let P : ℕ → Type 0 = λ b. IsOf g i b in subst P t.placed.2 held.0))
-            by_kind kind.Give is i within names regime held fills = let t = may kind.Give is in absurd (of-map g i t.placed.0 within (let P : ℕ → Type 0 = λ b. IsOf g i b in subst P t.placed.2 held.0))
-            by_kind kind.Sweep is i within names regime held fills = let t = may kind.Sweep is in absurd (of-map g i t.placed.0 within (let P : ℕ → Type 0 = λ b. IsOf g i b in subst P t.placed.2 held.0))
-            by_kind kind.Fresh is i within names regime held fills = absurd (may kind.Fresh is)
-            by_kind kind.Link is i within names regime held fills = absurd (may kind.Link is)
-            by_kind kind.Overwrite is i within names regime held fills = absurd (may kind.Overwrite is)
-            by_kind kind.Log is i within names regime held fills = absurd (may kind.Log is)
+            done-held' : (i : ℕ) → i < g.images → (regime : Regime) → HeldPart g a i command known regime (WriteThen what block bytes guard done fault missed) device →
+                (IsJournalled what → mixed (missing_of landed.0.landed) landed.0.bytes (device landed.0.block) ≡ landed.0.bytes) → HeldPart g a i command known regime done device
+            done-held' i within regime held fills = elim (held-or g a i command known regime block bytes guard done fault missed device what held) [
+              | inl released ↦ released
+              | inr of ↦ elim (placed-cases g content.leased.geometry what block bytes _ (placed-may g s.boot p.holds _ what block bytes guard may) i within) [
+                | inl mine ↦
+                    let write = held-image g a i command known regime block bytes guard done fault missed device what mine.1 held in
+                    held-same g a i command known regime done (put device block bytes) device (whole (full (fills mine.1)) i) write.follows
+                | inr away ↦ absurd (away of)
+              ]
+            ]
 
   -- ---- the first reading of a command
 
@@ -670,7 +678,7 @@ module _ (w : World) (content : Content w) (a : ℕ) (below : a < w.appliances) 
             let b = backed-by known h backs i (known.sessions i) refl some in
             own i within b.claim b.until b.held (inr mine)
       ])
-      (inl (quiet-free free))
+      (inl (quiet-free _ free))
       (λ e.
       let j = just-holds command h reading e is in
       let held = first-held (session_at g known (lease_at (image_lease j.0))) reading (p.holds (lease_at (image_lease j.0))) j.3.0 j.3.1 j.3.2 in

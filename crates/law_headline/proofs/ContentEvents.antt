@@ -27,7 +27,8 @@ use Rattle.plx_worlds.specs.Session.{Session, Known}
 use Rattle.plx_worlds.specs.World.{World, Seat, with_surface, after_start, after_crash}
 use Rattle.law_lease.proofs.LeaseFrames.{grip-open}
 use Rattle.law_lease.proofs.LeaseSteps.{not-waiting}
-use Rattle.law_lease.proofs.Leased.{IsOpen, grip_at, Leased}
+use Rattle.law_lease.proofs.Leased.{grip_at, Leased}
+use Rattle.law_lease.proofs.Open.{IsOpen, open-elsewhere}
 use Rattle.law_headline.proofs.Content.{appliance_no, stands_at, PlaceFits, Has, OwnedAt, Minds, Whose, SeatFits, SeatOwns, Opens, Content}
 use Rattle.law_headline.proofs.ContentFrames.{place-unmoved, owned-foreign}
 use Rattle.law_headline.proofs.Foreign.{Foreign, foreign-start, foreign-back}
@@ -49,24 +50,34 @@ tick-content w by content leased = record {
   permitted = content.permitted;
   undamaged = content.undamaged;
   stored = content.stored;
-  opens = λ i within n x op of flags count. content.opens i within n x
-      (record { found = op.found; needs = op.needs; missing = op.missing; live = (let l = op.live in omega arith) }) of flags count;
-  whose = λ i within n x op of. content.whose i within n x (record { found = op.found; needs = op.needs; missing = op.missing; live = (let l = op.live in omega arith) }) of;
+  opens = λ i within n x op of flags count. content.opens i within n x (sooner i n x op) of flags count;
+  whose = λ i within n x op of. content.whose i within n x (sooner i n x op) of;
   seats = content.seats;
   owned = λ i within a below minds. content.owned i within a below (elim minds [
     | inl grips ↦ inl (grips.0, grips.1, (grips.2.0, (let l = grips.2.1 in omega arith)))
     | inr mine ↦ inr mine
   ]);
 }
+  where
+    -- what is open later was open before
+    sooner : (i n : ℕ) (x : Issued) → IsOpen w.geometry w.rests w.appliances (w.surface.time + by) w.surface.writes w.seats (image_lease i) n x →
+        IsOpen w.geometry w.rests w.appliances w.surface.time w.surface.writes w.seats (image_lease i) n x
+    sooner i n x (inl op) = inl (record { found = op.found; needs = op.needs; missing = op.missing; live = (let l = op.live in omega arith) })
+    sooner i n x (inr o) = inr (o.0, o.1, (o.2.0, o.2.1, (o.2.2.0, (let l = o.2.2.1 in omega arith))), o.3, o.4, o.5)
 
 -- ---- the model moves, and no write of the appliance is waited for
 
-module _ (w : World) (content : Content w) (a : ℕ) (below : a < w.appliances) (n : Model) (unmoved : Unmoved a (model_in w) n) (foreign : (j : ℕ) → Foreign a ((model_in w).slots j) (n.slots j)) (sound : Sound n) (seat : Seat) where
+module _ (w : World) (content : Content w) (a : ℕ) (below : a < w.appliances) (n : Model) (unmoved : Unmoved a (model_in w) n) (foreign : (j : ℕ) → Foreign a ((model_in w).slots j) (n.slots j)) (sound : Sound n) (seat : Seat) (free : seat.pending ≡ None) where
+  -- what is open was open before
+  open-before : (i k : ℕ) (x : Issued) → IsOpen w.geometry w.rests w.appliances w.surface.time w.surface.writes (at w.seats a seat) (image_lease i) k x →
+      IsOpen w.geometry w.rests w.appliances w.surface.time w.surface.writes w.seats (image_lease i) k x
+  open-before i = open-elsewhere w.geometry w.rests w.appliances w.surface.time w.surface.writes w.seats (image_lease i) a seat free
+
   foreign-stored : (i : ℕ) → i < w.geometry.images → Keeps w.geometry w.surface.device i (n.slots i)
   foreign-stored i within = keeps-foreign w.geometry i a w.surface.device ((model_in w).slots i) (n.slots i) (foreign i) (content.stored i within)
 
-  foreign-opens : (i : ℕ) → i < w.geometry.images → Opens w.geometry w.rests w.surface.time w.surface.device w.surface.writes i (n.slots i)
-  foreign-opens i within k x op of flags count = keeps-foreign w.geometry i a _ ((model_in w).slots i) (n.slots i) (foreign i) (content.opens i within k x op of flags count)
+  foreign-opens : (i : ℕ) → i < w.geometry.images → Opens w.geometry w.rests w.appliances w.surface.time w.surface.device w.surface.writes (at w.seats a seat) i (n.slots i)
+  foreign-opens i within k x op of flags count = keeps-foreign w.geometry i a _ ((model_in w).slots i) (n.slots i) (foreign i) (content.opens i within k x (open-before i k x op) of flags count)
 
   foreign-seats : SeatFits w.geometry n a seat → (b : ℕ) → b < w.appliances → SeatFits w.geometry n b (at w.seats a seat b)
   foreign-seats mine = at-all (λ b s. b < w.appliances → SeatFits w.geometry n b s) w.seats a seat (λ under. mine)
@@ -78,11 +89,11 @@ module _ (w : World) (content : Content w) (a : ℕ) (below : a < w.appliances) 
       (λ b ne under minds. owned-foreign w.geometry a b i w.surface.device w.surface.writes (w.seats b).pending (model_in w) n ne unmoved (foreign i) (sound.differs i) _
       (content.owned i within b under (elim minds [ inl grips ↦ inl grips | inr theirs ↦ inr ((foreign i).owner b theirs) ])))
 
-  foreign-whose : ((i : ℕ) → i < w.geometry.images → (k : ℕ) (x : Issued) → IsOpen w.rests w.surface.time w.surface.writes (image_lease i) k x → IsOf w.geometry i x.block → (n.slots i).owner ≡ Some a → ⊥) →
-      (i : ℕ) → i < w.geometry.images → Whose w.geometry w.rests w.surface.time w.surface.writes (at w.seats a seat) i (n.slots i)
+  foreign-whose : ((i : ℕ) → i < w.geometry.images → (k : ℕ) (x : Issued) → IsOpen w.geometry w.rests w.appliances w.surface.time w.surface.writes w.seats (image_lease i) k x → IsOf w.geometry i x.block → (n.slots i).owner ≡ Some a → ⊥) →
+      (i : ℕ) → i < w.geometry.images → Whose w.geometry w.rests w.appliances w.surface.time w.surface.writes (at w.seats a seat) i (n.slots i)
   foreign-whose quiet i within k x op of b owns' = elim (eqb_tells b a) [
-    | inl same ↦ absurd (quiet i within k x op of (owns' ∙ ap Some same.1))
-    | inr away ↦ ap (λ (s : Seat). s.pending) (at-other w.seats a b seat away.1) ∙ content.whose i within k x op of b ((foreign i).owner b owns')
+    | inl same ↦ absurd (quiet i within k x (open-before i k x op) of (owns' ∙ ap Some same.1))
+    | inr away ↦ ap (λ (s : Seat). s.pending) (at-other w.seats a b seat away.1) ∙ content.whose i within k x (open-before i k x op) of b ((foreign i).owner b owns')
   ]
 
 known-below : (w : World) (a : ℕ) → a < w.appliances → a < (model_in w).appliances
@@ -104,13 +115,13 @@ crash-content w a below content leased =
       told = ap (λ es. entry.Crash (appliance_no a) ∷ es) content.told;
       permitted = permitted;
       undamaged = content.undamaged;
-      stored = foreign-stored w content a below n unmoved foreign sound' seat;
-      opens = foreign-opens w content a below n unmoved foreign sound' seat;
-      seats = foreign-seats w content a below n unmoved foreign sound' seat
+      stored = foreign-stored w content a below n unmoved foreign sound' seat refl;
+      opens = foreign-opens w content a below n unmoved foreign sound' seat refl;
+      seats = foreign-seats w content a below n unmoved foreign sound' seat refl
           (at-same m.running a None, (λ j. ap (λ (f : ℕ → Bool). f j) (at-same m.sessions a (λ k. false))), (λ k s is. absurd (let P : ⊥ = cc in P)));
-      owned = foreign-owned w content a below n unmoved foreign sound' seat
+      owned = foreign-owned w content a below n unmoved foreign sound' seat refl
           (λ i within minds. elim minds [ inl grips ↦ absurd (let e = grips.2.0 in let P : ⊥ = cc in P) | inr mine ↦ absurd (disowned-not (m.slots i).owner a mine) ]);
-      whose = foreign-whose w content a below n unmoved foreign sound' seat (λ i within k x op of mine. disowned-not (m.slots i).owner a mine);
+      whose = foreign-whose w content a below n unmoved foreign sound' seat refl (λ i within k x op of mine. disowned-not (m.slots i).owner a mine);
     }
 
 -- ---- a command starts
@@ -205,12 +216,12 @@ start-content w a command known below here well built content leased =
       told = ap (λ es. entry.Start (appliance_no a) command ∷ es) content.told;
       permitted = permitted;
       undamaged = content.undamaged;
-      stored = foreign-stored w content a below n unmoved foreign sound' seat;
-      opens = foreign-opens w content a below n unmoved foreign sound' seat;
-      seats = foreign-seats w content a below n unmoved foreign sound' seat
+      stored = foreign-stored w content a below n unmoved foreign sound' seat refl;
+      opens = foreign-opens w content a below n unmoved foreign sound' seat refl;
+      seats = foreign-seats w content a below n unmoved foreign sound' seat refl
           (let P : Place → Type 0 = λ q. PlaceFits g a n (record { holds = p.holds; sample = None; place = begun command q }) (begun command q) in
           subst P (sym here) (running, fits.2, well, built));
-      owned = foreign-owned w content a below n unmoved foreign sound' seat
+      owned = foreign-owned w content a below n unmoved foreign sound' seat refl
           (λ i within minds.
           let old : Minds g w.surface.time w.surface.writes m a (w.seats a) i = elim minds [
             | inl grips ↦
@@ -238,6 +249,6 @@ start-content w a command known below here well built content leased =
                 }),
             (λ away s is. let Q : Slot → Type 0 = λ t. HasImage g i a s w.surface.device t in subst Q (sym (started-away m a command i (changed command) refl away)) (has s is)),
           ));
-      whose = foreign-whose w content a below n unmoved foreign sound' seat
+      whose = foreign-whose w content a below n unmoved foreign sound' seat refl
           (λ i within k x op of mine. none-some k (sym free ∙ content.whose i within k x op of a ((foreign i).owner a mine)));
     }

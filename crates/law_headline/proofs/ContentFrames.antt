@@ -1,5 +1,5 @@
 -- What an appliance knows and owns stays, while others change the model or the device elsewhere.
-use Rattle.std.proofs.Common.{◌≡◌, ◌≢◌, ℕ, ◌≤◌, ◌<◌, List, Option, Some, refl, ap, sym, subst, ◌∙◌, arith}
+use Rattle.std.proofs.Common.{◌≡◌, ◌≢◌, ℕ, ◌≤◌, ◌<◌, List, Option, Some, refl, sym, subst, ◌∙◌, arith}
 use Rattle.std.specs.Prelude.{slice_get}
 use Rattle.plx_base.specs.Sectors.{Device, mixed}
 use Rattle.plx_base.specs.declared.lease.Claim.{Claim}
@@ -11,13 +11,10 @@ use Rattle.plx_geom.proofs.Places.{image-below}
 use Rattle.plx_rules.specs.Part.{Part}
 use Rattle.plx_worlds.specs.Boot.{Place, Idle, Begins, In, Position}
 use Rattle.plx_worlds.specs.Ends.{End}
-use Rattle.plx_worlds.specs.Holds.{Hold}
 use Rattle.plx_worlds.specs.Session.{Known}
-use Rattle.plx_worlds.specs.Settings.{boot_number}
 use Rattle.plx_worlds.specs.World.{World}
-use Rattle.law_lease.proofs.LeaseFrames.{one-claim}
-use Rattle.law_lease.proofs.LeaseIssues.{boots-apart}
-use Rattle.law_lease.proofs.Leased.{Good, IsHeld, Leased, IsOpen}
+use Rattle.law_lease.proofs.Leased.{Leased}
+use Rattle.law_lease.proofs.Open.{IsOpen, grips-one, grips-only}
 use Rattle.law_headline.proofs.Content.{IsJournalled, PlaceFits, IsServing, Has, OwnedAt, Grips}
 use Rattle.law_headline.proofs.Foreign.{Foreign}
 use Rattle.law_headline.proofs.Held.{Regime, Without, With, IsRunning, Looks, IsOf, IsOn, HeldPart}
@@ -140,20 +137,9 @@ module _ (g : Geometry) (h i : ℕ) (d e : Device) (writes now : List Issued) (p
 
 pub one-grip : (w : World) → Leased w → (i a b : ℕ) → i < w.geometry.images → a < w.appliances → b < w.appliances → (c d : Claim) (u v : ℕ) →
     Grips w.geometry w.surface.time w.surface.writes a (w.seats a) i c u → Grips w.geometry w.surface.time w.surface.writes b (w.seats b) i d v → a ≡ b
-one-grip w leased i a b within one other c d u v grip grip' =
-    let on = leased.on (image_lease i) (image-below w.geometry i within) in
-    let few = leased.few in
-    let P : ℕ → Hold → Type 0 = λ n h. Good w.rests w.surface.time w.surface.writes (image_lease i) on.standing (boot_number n (w.seats n).boots) (w.seats n).pending h in
-    let mine : IsHeld w.rests w.surface.time w.surface.writes (image_lease i) on.standing (boot_number a (w.seats a).boots) (w.seats a).pending c u = subst (P a) grip.0 (on.each a one) in
-    let its : IsHeld w.rests w.surface.time w.surface.writes (image_lease i) on.standing (boot_number b (w.seats b).boots) (w.seats b).pending d v = subst (P b) grip'.0 (on.each b other) in
-    boots-apart a b (w.seats a).boots (w.seats b).boots (omega arith) (omega arith)
-    (sym mine.own ∙ (ap (λ (x : Claim). x.boot.0) (one-claim on.standing c d u v (mine.there grip.1) (its.there grip'.1)).0 ∙ its.own))
+one-grip w leased i a b within = grips-one w leased (image_lease i) (image-below w.geometry i within) a b
 
 -- what is open under a held lease is what its boot waits for
 pub grip-only : (w : World) → Leased w → (i a : ℕ) → i < w.geometry.images → a < w.appliances → (c : Claim) (u : ℕ) →
-    Grips w.geometry w.surface.time w.surface.writes a (w.seats a) i c u → (n : ℕ) (x : Issued) → IsOpen w.rests w.surface.time w.surface.writes (image_lease i) n x → (w.seats a).pending ≡ Some n
-grip-only w leased i a within below c u grip n x is =
-    let on = leased.on (image_lease i) (image-below w.geometry i within) in
-    let P : Hold → Type 0 = λ h. Good w.rests w.surface.time w.surface.writes (image_lease i) on.standing (boot_number a (w.seats a).boots) (w.seats a).pending h in
-    let mine : IsHeld w.rests w.surface.time w.surface.writes (image_lease i) on.standing (boot_number a (w.seats a).boots) (w.seats a).pending c u = subst P grip.0 (on.each a below) in
-    mine.only grip.1 n x is
+    Grips w.geometry w.surface.time w.surface.writes a (w.seats a) i c u → (n : ℕ) (x : Issued) → IsOpen w.geometry w.rests w.appliances w.surface.time w.surface.writes w.seats (image_lease i) n x → (w.seats a).pending ≡ Some n
+grip-only w leased i a within = grips-only w leased (image_lease i) (image-below w.geometry i within) a

@@ -29,7 +29,8 @@ use Rattle.plx_worlds.specs.Headline.{starts_and_crashes, events_told, IsUndamag
 use Rattle.plx_worlds.specs.Holds.{Hold}
 use Rattle.plx_worlds.specs.Session.{Session, Known}
 use Rattle.plx_worlds.specs.World.{World, Seat, setting_at, told}
-use Rattle.law_lease.proofs.Leased.{Leased, IsOpen}
+use Rattle.law_lease.proofs.Leased.{Leased}
+use Rattle.law_lease.proofs.Open.{IsOpen, open-elsewhere}
 use Rattle.law_headline.proofs.Content.{appliance_no, stands_at, PlaceFits, Has, OwnedAt, Grips, Minds, Whose, SeatFits, SeatOwns, Opens, Content}
 use Rattle.law_headline.proofs.ContentFrames.{place-unmoved, owned-foreign, owned-taken, one-grip, grip-only}
 use Rattle.law_headline.proofs.Foreign.{Foreign}
@@ -134,9 +135,13 @@ module _ (w : World) (content : Content w) (a : ℕ) (below : a < w.appliances) 
   Owned part = (i : ℕ) → i < g.images → Minds g time writes m a seat' i →
       (Names command i → Serves part i) × ((Names command i → ⊥) → Has g a i known device m)
 
-  -- nothing of what the boot's appliance owns in the model is open
+  -- what is open after the answer was open before
+  open-before : (i k : ℕ) (x : Issued) → IsOpen g w.rests w.appliances time writes (at w.seats a seat') (image_lease i) k x → IsOpen g w.rests w.appliances time writes w.seats (image_lease i) k x
+  open-before i = open-elsewhere g w.rests w.appliances time writes w.seats (image_lease i) a seat' refl
+
+  -- nothing of what the boot's appliance owns in the model is open after the answer
   abbrev pub IsQuiet : Type 0
-  IsQuiet = (i : ℕ) → i < g.images → (k : ℕ) (x : Issued) → IsOpen w.rests time writes (image_lease i) k x → IsOf g i x.block → (m.slots i).owner ≡ Some a → ⊥
+  IsQuiet = (i : ℕ) → i < g.images → (k : ℕ) (x : Issued) → IsOpen g w.rests w.appliances time writes (at w.seats a seat') (image_lease i) k x → IsOf g i x.block → (m.slots i).owner ≡ Some a → ⊥
 
   -- directly after a reading below the end of the named image's lease
   pub record IsJust (part : Part End) : Type 0 where
@@ -162,10 +167,10 @@ module _ (w : World) (content : Content w) (a : ℕ) (below : a < w.appliances) 
       permitted = content.permitted;
       undamaged = content.undamaged;
       stored = content.stored;
-      opens = content.opens;
+      opens = λ i within k x op of flags count. content.opens i within k x (open-before i k x op) of flags count;
       whose = λ i within k x op of b owns'. elim (eqb_tells b a) [
         | inl same ↦ absurd (quiet i within k x op of (owns' ∙ ap Some same.1))
-        | inr away ↦ ap (λ (s : Seat). s.pending) (at-other w.seats a b seat' away.1) ∙ content.whose i within k x op of b owns'
+        | inr away ↦ ap (λ (s : Seat). s.pending) (at-other w.seats a b seat' away.1) ∙ content.whose i within k x (open-before i k x op) of b owns'
       ];
       seats = at-all (λ b s. b < w.appliances → SeatFits g m b s) w.seats a seat'
           (λ under. let P : Position → Type 0 = λ q. PlaceFits g a m q q.place in subst P (sym leads) (running, fair))
@@ -231,7 +236,7 @@ module _ (w : World) (content : Content w) (a : ℕ) (below : a < w.appliances) 
       IsGripped j = (claim : Claim) × (until : ℕ) × Grips g time writes a (w.seats a) j claim until
 
       abbrev IsClosed : ℕ → Type 0
-      IsClosed j = (k : ℕ) (x : Issued) → IsOpen w.rests time writes (image_lease j) k x → IsOf g j x.block → ⊥
+      IsClosed j = (k : ℕ) (x : Issued) → IsOpen g w.rests w.appliances time writes (at w.seats a seat') (image_lease j) k x → IsOf g j x.block → ⊥
 
       foreign-or : (j : ℕ) → j < g.images → (Foreign a (m.slots j) (n.slots j)) ⊎ ((IsHeldBy (Ends end) j) × IsClosed j × (IsGripped j ⊎ ((m.slots j).owner ≡ Some a)))
       foreign-or j within = elim replies-how [
@@ -242,7 +247,7 @@ module _ (w : World) (content : Content w) (a : ℕ) (below : a < w.appliances) 
                 let same : owner.0 ≡ j = names-one command owner.0 j owner.2 names in
                 let P : ℕ → Type 0 = λ k. (IsHeldBy (Ends end) k) × IsGripped k in
                 let o = subst P same (owner.3, owner.4) in
-                inr (o.0, (λ k x op of. none-some k (sym owner.5 ∙ grip-only w content.leased j a within below o.1.0 o.1.1 o.1.2 k x op)), inl o.1)
+                inr (o.0, (λ k x op of. none-some k (sym owner.5 ∙ grip-only w content.leased j a within below o.1.0 o.1.1 o.1.2 k x (open-before j k x op))), inl o.1)
             | inr away ↦ inl (away-foreign m a command end.reply j away)
           ]
           | inr yields ↦ elim (owner-cases (m.slots j).owner a) [
@@ -348,13 +353,13 @@ module _ (w : World) (content : Content w) (a : ℕ) (below : a < w.appliances) 
                   | inr owner ↦ (owner.0.2 m owner.0.1).1
                 ]);
             opens = λ i within.
-                let P : Model → Type 0 = λ x. Opens g w.rests time device writes i (x.slots i) in
+                let P : Model → Type 0 = λ x. Opens g w.rests w.appliances time device writes (at w.seats a seat') i (x.slots i) in
                 subst P (sym is-model) (λ k x op of flags count. elim (foreign-or i within) [
-                  | inl foreign ↦ keeps-foreign g i a _ (m.slots i) (n.slots i) foreign (content.opens i within k x op of flags count)
+                  | inl foreign ↦ keeps-foreign g i a _ (m.slots i) (n.slots i) foreign (content.opens i within k x (open-before i k x op) of flags count)
                   | inr owner ↦ absurd (owner.1 k x op of)
                 ]);
             whose = λ i within.
-                let P : Model → Type 0 = λ x. Whose g w.rests time writes (at w.seats a seat') i (x.slots i) in
+                let P : Model → Type 0 = λ x. Whose g w.rests w.appliances time writes (at w.seats a seat') i (x.slots i) in
                 subst P (sym is-model) (λ k x op of b owns'. elim (foreign-or i within) [
                   | inl foreign ↦
                       let before = foreign.owner b owns' in
@@ -363,7 +368,7 @@ module _ (w : World) (content : Content w) (a : ℕ) (below : a < w.appliances) 
                           | inl still ↦ absurd (still i within k x op of (before ∙ ap Some same.1))
                           | inr drops ↦ absurd (dropping-disowned m a command end.reply drops i (owns' ∙ ap Some same.1))
                         ]
-                        | inr away ↦ ap (λ (s : Seat). s.pending) (at-other w.seats a b seat' away.1) ∙ content.whose i within k x op of b before
+                        | inr away ↦ ap (λ (s : Seat). s.pending) (at-other w.seats a b seat' away.1) ∙ content.whose i within k x (open-before i k x op) of b before
                       ]
                   | inr owner ↦ absurd (owner.1 k x op of)
                 ]);

@@ -16,7 +16,7 @@ use Rattle.plx_commands.specs.declared.command.Command.{Command}
 use Rattle.plx_commands.specs.declared.event.Event.TheVariants as event
 use Rattle.plx_commands.proofs.Places.{at-all, at-same, at-other}
 use Rattle.plx_disk.specs.Writes.{Issued, with_sector, no_sectors, fresh_write, MayLand, after_landing}
-use Rattle.plx_geom.specs.Geometry.{Geometry, image_lease, lease_at}
+use Rattle.plx_geom.specs.Geometry.{Geometry, IsGeometry, image_lease, lease_at}
 use Rattle.plx_geom.proofs.Places.{lease-lease, image-below}
 use Rattle.plx_disk.proofs.Lists.{push-before, push-last, set-other, set-same}
 use Rattle.law_lease.proofs.Lists.{pending-is, push-cases}
@@ -28,67 +28,32 @@ use Rattle.plx_worlds.specs.Holds.{Hold, Held}
 use Rattle.plx_worlds.specs.Owners.{is_set, pending_write, first_landed}
 use Rattle.plx_worlds.specs.Rests.{IsUnder, rests_on}
 use Rattle.plx_commands.specs.Replies.{is_in}
-use Rattle.law_lease.proofs.Rests.{rests-alone, needs-before, needs-last}
+use Rattle.law_lease.proofs.Rests.{needs-before, needs-last}
 use Rattle.plx_worlds.specs.Session.{Known}
 use Rattle.plx_worlds.specs.Settings.{boot_number}
 use Rattle.plx_worlds.specs.World.{World, Seat, with_surface, after_issue}
+use Rattle.law_lease.proofs.LeaseSteps.{placed-may}
+use Rattle.law_lease.proofs.Open.{IsOpen, open-found, open-alone, lands-open}
 use Rattle.law_lease.proofs.LeaseFrames.{grip-open, grip_while-open, grip_while-away}
-use Rattle.law_lease.proofs.LeaseLands.{MayBeAsked, asked-may, grip-asked, first-set, pending-other, not-whole, unlanded-before}
-use Rattle.law_lease.proofs.Leased.{MayAsk, LawfulAt, IsOpen, Unlanded, IsAskedAt, IsPlaced, IsRight, grip_while, grip_at, Leased}
+use Rattle.law_lease.proofs.LeaseLands.{MayBeAsked, asked-may, grip-asked, first-set, pending-other, not-whole}
+use Rattle.law_lease.proofs.Leased.{MayAsk, LawfulAt, IsAskedAt, IsRight, grip_while, grip_at, Leased}
 use Rattle.law_headline.proofs.Content.{appliance_no, stands_at, IsJournalled, PlaceFits, OwnedAt, Grips, Minds, Whose, SeatFits, SeatOwns, Opens, Content}
 use Rattle.law_headline.proofs.ContentFrames.{owned-same, grip-only}
 use Rattle.law_headline.proofs.ContentGoes.{names-one}
 use Rattle.law_headline.proofs.Held.{Regime, Without, With, IsWith, IsOn, Looks, IsOf, HeldPart, IsNamed, Fair}
-use Rattle.law_headline.proofs.HeldFrames.{missing_of, missing-landed, same-refl, same-at, same-put, same-over, same-elsewhere, of-apart, of-lease, of-map, held-same, keeps-landed}
+use Rattle.law_headline.proofs.HeldFrames.{missing_of, missing-landed, same-refl, same-at, same-put, same-over, same-elsewhere, held-same, keeps-landed}
+use Rattle.law_headline.proofs.ImageWrites.{named-image, use-image, unlanded-image, held-image, image-held, of-one, placed-cases}
 use Rattle.law_headline.proofs.JournalFacts.{Keeps-same}
 use Rattle.law_headline.proofs.Journals.{Keeps, Same}
 use Rattle.law_headline.proofs.Replied.{Names}
-
--- a block of two images' journals is one image's
-of-one : (g : Geometry) (i j block : ℕ) → i < g.images → j < g.images → IsOf g i block → IsOf g j block → i ≡ j
-of-one g i j block wi wj one two = elim (eqb_tells i j) [ inl same ↦ same.1 | inr away ↦ absurd (of-apart g i j block wi wj away.1 one two) ]
-
--- where a write stands, as an image sees it
-placed-cases : (g : Geometry) (k : WriteKind) (block : ℕ) (bytes : List ℕ) (leases : List ℕ) → IsPlaced g k block bytes leases → (i : ℕ) → i < g.images →
-    (IsOf g i block × IsJournalled k × (is_in (image_lease i) leases ≡ true)) ⊎ (IsOf g i block → ⊥)
-placed-cases g kind.Claim block bytes leases placed i within = inr (λ of. of-lease g i placed.0 placed.1 (let P : ℕ → Type 0 = λ b. IsOf g i b in subst P placed.2 of))
-placed-cases g kind.Renew block bytes leases placed i within = inr (λ of. of-lease g i placed.0 placed.1 (let P : ℕ → Type 0 = λ b. IsOf g i b in subst P placed.2 of))
-placed-cases g kind.Release block bytes leases placed i within = inr (λ of. of-lease g i placed.0 placed.1 (let P : ℕ → Type 0 = λ b. IsOf g i b in subst P placed.2 of))
-placed-cases g kind.Take block bytes leases placed i within = inr (λ of. of-map g i placed.0 within (let P : ℕ → Type 0 = λ b. IsOf g i b in subst P placed.2 of))
-placed-cases g kind.Give block bytes leases placed i within = inr (λ of. of-map g i placed.0 within (let P : ℕ → Type 0 = λ b. IsOf g i b in subst P placed.2 of))
-placed-cases g kind.Sweep block bytes leases placed i within = inr (λ of. of-map g i placed.0 within (let P : ℕ → Type 0 = λ b. IsOf g i b in subst P placed.2 of))
-placed-cases g kind.Record block bytes leases placed i within = elim (eqb_tells placed.0 i) [
-  | inl same ↦
-      let P : ℕ → Type 0 = λ n. IsOf g n block × Unit {0} × (is_in (image_lease n) leases ≡ true) in
-      inl (subst P same.1 (inl placed.2, tt, rests-alone (image_lease placed.0) (image_lease placed.0) leases placed.3 refl))
-  | inr away ↦ inr (λ of. of-apart g placed.0 i block placed.1 within away.1 (inl placed.2) of)
-]
-placed-cases g kind.JData block bytes leases placed i within = elim (eqb_tells placed.0 i) [
-  | inl same ↦
-      let P : ℕ → Type 0 = λ n. IsOf g n block × Unit {0} × (is_in (image_lease n) leases ≡ true) in
-      inl (subst P same.1 (inr (placed.1, placed.3, inr placed.4), tt, rests-alone (image_lease placed.0) (image_lease placed.0) leases placed.5 refl))
-  | inr away ↦ inr (λ of. of-apart g placed.0 i block placed.2 within away.1 (inr (placed.1, placed.3, inr placed.4)) of)
-]
-placed-cases g kind.JCommit block bytes leases placed i within = elim (eqb_tells placed.0 i) [
-  | inl same ↦
-      let P : ℕ → Type 0 = λ n. IsOf g n block × Unit {0} × (is_in (image_lease n) leases ≡ true) in
-      inl (subst P same.1 (inr (placed.1, placed.3, inl placed.4), tt, rests-alone (image_lease placed.0) (image_lease placed.0) leases placed.5 refl))
-  | inr away ↦ inr (λ of. of-apart g placed.0 i block placed.2 within away.1 (inr (placed.1, placed.3, inl placed.4)) of)
-]
-placed-cases g other block bytes leases placed i within = absurd placed
 
 -- a journal's write that is waited for is one of the named image
 named-of : (g : Geometry) (a i : ℕ) (command : Command) (known : Known) (holds : ℕ → Hold) (sample : Option ℕ) (part : Part End) (boot : ℕ) (x : Issued) →
     Fair g a command known holds sample false part → IsAskedAt (In known command part) boot x → IsJournalled x.kind → (j : ℕ) × (j < g.images) × (IsOf g j x.block) × Names command j
 named-of g a i command known holds sample (WriteThen what block bytes guard done fault missed) boot x fair asked journalled =
     let N : WriteKind → Type 0 = λ k. IsNamed g command k block in
-    by_kind x.kind journalled (subst N (sym asked.0) fair.0)
-  where
-    by_kind : (k : WriteKind) → IsJournalled k → IsNamed g command k block → (j : ℕ) × (j < g.images) × (IsOf g j x.block) × Names command j
-    by_kind kind.Record is named = (named.0, named.1, (let P : ℕ → Type 0 = λ b. IsOf g named.0 b in subst P (sym asked.1) named.2), named.3)
-    by_kind kind.JData is named = (named.0, named.1, (let P : ℕ → Type 0 = λ b. IsOf g named.0 b in subst P (sym asked.1) named.2), named.3)
-    by_kind kind.JCommit is named = (named.0, named.1, (let P : ℕ → Type 0 = λ b. IsOf g named.0 b in subst P (sym asked.1) named.2), named.3)
-    by_kind other is named = absurd is
+    let P : ℕ → Type 0 = λ b. (j : ℕ) × (j < g.images) × (IsOf g j b) × Names command j in
+    subst P (sym asked.1) (named-image g command block x.kind journalled (subst N (sym asked.0) fair.0))
 named-of g a i command known holds sample (Ends end) boot x fair asked journalled = absurd asked
 named-of g a i command known holds sample (ReadThen block rest fault) boot x fair asked journalled = absurd asked
 named-of g a i command known holds sample (ClockThen rest) boot x fair asked journalled = absurd asked
@@ -101,6 +66,9 @@ of-named g command i block named names = let P : ℕ → Type 0 = λ j. IsOf g j
 module _ (w : World) (content : Content w) where
   abbrev g : Geometry
   g = w.geometry
+
+  geometry : IsGeometry g
+  geometry = content.leased.geometry
 
   abbrev time : ℕ
   time = w.surface.time
@@ -162,61 +130,91 @@ module _ (w : World) (content : Content w) where
     with-owner i (With image change) looks is = looks.slot.0
     with-owner i (Without kept ws) looks is = absurd is
 
-    -- on what it rests, as a write of its kind
-    abbrev leases : WriteKind → List ℕ
-    leases k = rests_on g command (p a).holds k block bytes
+    -- on what it rests
+    abbrev leases : List ℕ
+    leases = rests_on g command (p a).holds what block bytes
 
     -- whatever of the new write lands, its image is kept, which is the appliance's in the model
-    new-keeps : (i : ℕ) → i < g.images → IsOf g i block → time ≤ guard + 50 → (k : WriteKind) → what ≡ k → is_in (image_lease i) (leases k) ≡ true →
+    new-keeps : (i : ℕ) → i < g.images → IsOf g i block → is_in (image_lease i) leases ≡ true →
+        (time ≤ guard + 50) ⊎ ((claim : Claim) × (until : ℕ) × Grips g time writes a (w.seats a) i claim until) →
         ((flags : List Bool) → length flags ≡ 8 → Keeps g (put device block (mixed flags bytes (device block))) i (m.slots i)) × ((m.slots i).owner ≡ Some a)
-    new-keeps i within of live k is needs = by_kind k is (may k is) (named k is) (held k is) needs
+    new-keeps i within of needs live = elim (placed-cases g geometry what block bytes leases (placed-may g boot (p a).holds leases what block bytes guard may) i within) [
+      | inl mine ↦
+          let grant = (use-image g boot (p a).holds leases block bytes guard what mine.1 may).grants (image_lease i) needs in
+          let named = named-image g command block what mine.1 fits.1.0 in
+          let names : Names command i = (let P : ℕ → Type 0 = λ j. Names command j in subst P (of-one g geometry named.0 i block named.1 within named.2 of) named.3) in
+          let grips : (claim : Claim) × (until : ℕ) × Grips g time writes a (w.seats a) i claim until = elim live [
+            | inl early ↦ (grant.claim, grant.until, grips-free i grant.claim grant.until grant.hold (let guarded = grant.guarded in omega arith))
+            | inr held ↦ held
+          ] in
+          let s = (serving i within (inl grips)).0 names in
+          let write = held-image g a i command known s.regime block bytes guard done fault missed device what mine.1 s.held in
+          ((λ flags count. write.keeps flags count m s.looks), with-owner i s.regime s.looks write.changes)
+      | inr away ↦ absurd (away of)
+    ]
       where
-        may : (k : WriteKind) → what ≡ k → MayAsk g boot (p a).holds (leases k) k block bytes guard
-        may k is =
-            let P : Place → Type 0 = λ q. LawfulAt g boot (p a).holds (p a).sample q in
-            let M : WriteKind → Type 0 = λ x. MayAsk g boot (p a).holds (leases x) x block bytes guard in
-            subst M is (subst P here (content.leased.seated a below).lawful).0
-
-        named : (k : WriteKind) → what ≡ k → IsNamed g command k block
-        named k is = let N : WriteKind → Type 0 = λ x. IsNamed g command x block in subst N is fits.1.0
-
-        held : (k : WriteKind) → what ≡ k → (claim : Claim) (until : ℕ) → (p a).holds (lease_at (image_lease i)) ≡ Held claim until → guard ≤ until → Names command i →
-            (regime : Regime) × Looks g a i command known regime m × HeldPart g a i command known regime (WriteThen k block bytes guard done fault missed) device
-        held k is claim until holds guarded names =
-            let s = (serving i within (inl (claim, until, grips-free i claim until holds (omega (arith, live, guarded))))).0 names in
-            let H : WriteKind → Type 0 = λ x. HeldPart g a i command known s.regime (WriteThen x block bytes guard done fault missed) device in
-            (s.regime, s.looks, subst H is s.held)
-
-        by_kind : (k : WriteKind) → what ≡ k → MayAsk g boot (p a).holds (leases k) k block bytes guard → IsNamed g command k block →
-            ((claim : Claim) (until : ℕ) → (p a).holds (lease_at (image_lease i)) ≡ Held claim until → guard ≤ until → Names command i →
-            (regime : Regime) × Looks g a i command known regime m × HeldPart g a i command known regime (WriteThen k block bytes guard done fault missed) device) →
-            is_in (image_lease i) (leases k) ≡ true →
-            ((flags : List Bool) → length flags ≡ 8 → Keeps g (put device block (mixed flags bytes (device block))) i (m.slots i)) × ((m.slots i).owner ≡ Some a)
-        by_kind kind.Record is t n h needs =
-            let grant = t.grants (image_lease i) needs in
-            let names : Names command i = (let P : ℕ → Type 0 = λ j. Names command j in subst P (of-one g n.0 i block n.1 within n.2 of) n.3) in
-            let s = h grant.claim grant.until grant.hold grant.guarded names in
-            ((λ flags count. s.2.1 flags count m s.1), with-owner i s.0 s.1 s.2.3)
-        by_kind kind.JData is t n h needs =
-            let grant = t.grants (image_lease i) needs in
-            let names : Names command i = (let P : ℕ → Type 0 = λ j. Names command j in subst P (of-one g n.0 i block n.1 within n.2 of) n.3) in
-            let s = h grant.claim grant.until grant.hold grant.guarded names in
-            ((λ flags count. s.2.1 flags count m s.1), with-owner i s.0 s.1 s.2.3)
-        by_kind kind.JCommit is t n h needs =
-            let grant = t.grants (image_lease i) needs in
-            let names : Names command i = (let P : ℕ → Type 0 = λ j. Names command j in subst P (of-one g n.0 i block n.1 within n.2 of) n.3) in
-            let s = h grant.claim grant.until grant.hold grant.guarded names in
-            ((λ flags count. s.2.1 flags count m s.1), with-owner i s.0 s.1 s.2.3)
-        by_kind kind.Renew is t n h needs = absurd (of-lease g i t.lease t.within (let P : ℕ → Type 0 = λ b. IsOf g i b in subst P t.at_lease of))
-        by_kind kind.Release is t n h needs = absurd (of-lease g i t.lease t.within (let P : ℕ → Type 0 = λ b. IsOf g i b in subst P t.at_lease of))
-        by_kind kind.Take is t n h needs = absurd (of-map g i t.placed.0 within (let P : ℕ → Type 0 = λ b. IsOf g i b in subst P t.placed.2 of))
-        by_kind kind.Give is t n h needs = absurd (of-map g i t.placed.0 within (let P : ℕ → Type 0 = λ b. IsOf g i b in subst P t.placed.2 of))
-        by_kind kind.Sweep is t n h needs = absurd (of-map g i t.placed.0 within (let P : ℕ → Type 0 = λ b. IsOf g i b in subst P t.placed.2 of))
-        by_kind kind.Claim is t n h needs = absurd (of-lease g i t.lease t.within (let P : ℕ → Type 0 = λ b. IsOf g i b in subst P t.at_lease of))
-        by_kind other is t n h needs = absurd t
+        may : MayAsk g boot (p a).holds leases what block bytes guard
+        may = let P : Place → Type 0 = λ q. LawfulAt g boot (p a).holds (p a).sample q in (subst P here (content.leased.seated a below).lawful).0
 
     abbrev seat' : Seat
     seat' = record { boots = (w.seats a).boots; log = (w.seats a).log; pending = Some (length writes) }
+
+    abbrev since : ℕ → List ℕ
+    since = at w.rests (length writes) leases
+
+    pending-before : (b : ℕ) → b < w.appliances → (q : Option ℕ) → (w.seats b).pending ≡ q → pending_write now q ≡ pending_write writes q
+    pending-before b under None e = refl
+    pending-before b under (Some n) e =
+        let asked = (content.leased.seated b under).asked n e in push-before writes fresh asked.0 n asked.1 ∙ sym asked.1
+
+    -- what the boot holds once the write is issued it held before
+    grips-own : (i : ℕ) (claim : Claim) (until : ℕ) → Grips g time now a seat' i claim until → Grips g time writes a (w.seats a) i claim until
+    grips-own i claim until grips =
+        let held : (p a).holds (lease_at (image_lease i)) ≡ Held claim until =
+        sym (grip-open (p a).place (pending_write now (Some (length writes))) (lease_at (image_lease i)) ((p a).holds (lease_at (image_lease i)))
+        (ap (λ (o : Option Issued). first_landed o) (push-last writes fresh))) ∙ grips.0 in
+        grips-free i claim until held grips.1
+
+    grips-other : (i b : ℕ) → b < w.appliances → (claim : Claim) (until : ℕ) → Grips g time now b (w.seats b) i claim until → Grips g time writes b (w.seats b) i claim until
+    grips-other i b under claim until grips =
+        let G : Option Issued → Type 0 = λ o. grip_at (p b).place o (lease_at (image_lease i)) ((p b).holds (lease_at (image_lease i))) ≡ Held claim until in
+        (subst G (pending-before b under (w.seats b).pending refl) grips.0, grips.1)
+
+    -- what is open once the write is issued was open before, or is the new one
+    open-issued : (i : ℕ) → i < g.images → (n : ℕ) (x : Issued) → IsOpen g since w.appliances time now (at w.seats a seat') (image_lease i) n x →
+        (IsOpen g w.rests w.appliances time writes w.seats (image_lease i) n x)
+        ⊎ ((n ≡ length writes) × (fresh ≡ x) × (is_in (image_lease i) leases ≡ true) × ((time ≤ guard + 50) ⊎ ((claim : Claim) × (until : ℕ) × Grips g time writes a (w.seats a) i claim until)))
+    open-issued i within n x (inl op) = elim (push-cases writes fresh x n op.found) [
+      | inl old ↦ inl (inl (record { found = old; needs = needs-before w.rests writes leases n x (image_lease i) old op.needs; missing = op.missing; live = op.live }))
+      | inr is ↦ inr (
+        is.0,
+        is.1,
+        needs-last w.rests writes leases n (image_lease i) is.0 op.needs,
+        inl (let e = op.live in let f : x.guard ≡ guard = ap (λ (y : Issued). y.guard) (sym is.1) in omega (arith, e, f)),
+      )
+    ]
+    open-issued i within n x (inr o) = elim (push-cases writes fresh x n o.4) [
+      | inl old ↦
+          let needs = needs-before w.rests writes leases n x (image_lease i) old o.5 in
+          let less = slice_get_within writes n x old in
+          inl (at-all (λ b s. b < w.appliances → ((claim : Claim) × (until : ℕ) × Grips g time now b s i claim until) → s.pending ≡ Some n → IsOpen g w.rests w.appliances time writes w.seats (image_lease i) n x)
+          w.seats a seat'
+          (λ under grips waits. absurd (let e : Some (length writes) ≡ Some n = waits in let f : length writes ≡ n = cc in omega (arith, less, f)))
+          (λ b ne under grips waits. inr (b, under, (grips.0, grips.1, grips-other i b under grips.0 grips.1 grips.2), waits, old, needs))
+          o.0 o.1 o.2 o.3)
+      | inr is ↦
+          let needs = needs-last w.rests writes leases n (image_lease i) is.0 o.5 in
+          at-all (λ b s. b < w.appliances → ((claim : Claim) × (until : ℕ) × Grips g time now b s i claim until) → s.pending ≡ Some n →
+          (IsOpen g w.rests w.appliances time writes w.seats (image_lease i) n x)
+          ⊎ ((n ≡ length writes) × (fresh ≡ x) × (is_in (image_lease i) leases ≡ true) × ((time ≤ guard + 50) ⊎ ((claim : Claim) × (until : ℕ) × Grips g time writes a (w.seats a) i claim until))))
+          w.seats a seat'
+          (λ under grips waits. inr (is.0, is.1, needs, inr (grips.0, grips.1, grips-own i grips.0 grips.1 grips.2)))
+          (λ b ne under grips waits.
+          let asked = (content.leased.seated b under).asked n waits in
+          let less = slice_get_within writes n asked.0 asked.1 in
+          absurd (let f = is.0 in omega (arith, less, f)))
+          o.0 o.1 o.2 o.3
+    ]
 
     pub issue-content : Leased (after_issue w (appliance_no a) command what block bytes guard) → Content (after_issue w (appliance_no a) command what block bytes guard)
     issue-content leased = record {
@@ -225,25 +223,21 @@ module _ (w : World) (content : Content w) where
       permitted = content.permitted;
       undamaged = content.undamaged;
       stored = content.stored;
-      opens = λ i within n x op of flags count. elim (push-cases writes fresh x n op.found) [
-        | inl old ↦ content.opens i within n x (record { found = old; needs = needs-before w.rests writes (leases what) n x (image_lease i) old op.needs; missing = op.missing; live = op.live }) of flags count
+      opens = λ i within n x op of flags count. elim (open-issued i within n x op) [
+        | inl was ↦ content.opens i within n x was of flags count
         | inr is ↦
             let P : Issued → Type 0 = λ y. Keeps g (put device y.block (mixed flags y.bytes (device y.block))) i (m.slots i) in
             let Q : Issued → Type 0 = λ y. IsOf g i y.block in
-            let live : time ≤ guard + 50 = (let e = op.live in let f : x.guard ≡ guard = ap (λ (y : Issued). y.guard) (sym is.1) in omega (arith, e, f)) in
-            subst P is.1 ((new-keeps i within (subst Q (sym is.1) of) live what refl (needs-last w.rests writes (leases what) n (image_lease i) is.0 op.needs)).0 flags count)
+            subst P is.1 ((new-keeps i within (subst Q (sym is.1) of) is.2 is.3).0 flags count)
       ];
-      whose = λ i within n x op of b mine. elim (push-cases writes fresh x n op.found) [
-        | inl old ↦
-            let was : IsOpen w.rests time writes (image_lease i) n x = record { found = old; needs = needs-before w.rests writes (leases what) n x (image_lease i) old op.needs; missing = op.missing; live = op.live } in
-            elim (eqb_tells b a) [
-              | inl same ↦ absurd (let e : None ≡ Some n = sym free ∙ content.whose i within n x was of a (mine ∙ ap Some same.1) in let P : ⊥ = cc in P)
-              | inr away ↦ ap (λ (s : Seat). s.pending) (at-other w.seats a b seat' away.1) ∙ content.whose i within n x was of b mine
-            ]
+      whose = λ i within n x op of b mine. elim (open-issued i within n x op) [
+        | inl was ↦ elim (eqb_tells b a) [
+          | inl same ↦ absurd (let e : None ≡ Some n = sym free ∙ content.whose i within n x was of a (mine ∙ ap Some same.1) in let P : ⊥ = cc in P)
+          | inr away ↦ ap (λ (s : Seat). s.pending) (at-other w.seats a b seat' away.1) ∙ content.whose i within n x was of b mine
+        ]
         | inr is ↦
             let Q : Issued → Type 0 = λ y. IsOf g i y.block in
-            let live : time ≤ guard + 50 = (let e = op.live in let f : x.guard ≡ guard = ap (λ (y : Issued). y.guard) (sym is.1) in omega (arith, e, f)) in
-            let owner = (new-keeps i within (subst Q (sym is.1) of) live what refl (needs-last w.rests writes (leases what) n (image_lease i) is.0 op.needs)).1 in
+            let owner = (new-keeps i within (subst Q (sym is.1) of) is.2 is.3).1 in
             let same : a ≡ b = (let e : Some a ≡ Some b = sym owner ∙ mine in cc) in
             let S : ℕ → Type 0 = λ j. (at w.seats a seat' j).pending ≡ Some n in
             subst S same (ap (λ (s : Seat). s.pending) (at-same w.seats a seat') ∙ ap Some (sym is.0))
@@ -327,14 +321,9 @@ module _ (w : World) (content : Content w) where
       | inr away ↦ inr (away.1, sym (set-other writes number n (with_sector write sector) away.1) ∙ there)
     ]
 
-    this-open : (i : ℕ) → IsJournalled write.kind → IsUnder w.rests number (image_lease i) → IsOpen w.rests time writes (image_lease i) number write
-    this-open i journalled needs = record { found = may.found; needs = needs; missing = unlanded write.kind journalled; live = may.early }
-      where
-        unlanded : (k : WriteKind) → IsJournalled k → Unlanded k write.landed
-        unlanded kind.Record is = not-whole write.landed sector may.missing
-        unlanded kind.JData is = not-whole write.landed sector may.missing
-        unlanded kind.JCommit is = not-whole write.landed sector may.missing
-        unlanded other is = absurd is
+    this-open : (i : ℕ) → IsJournalled write.kind → IsUnder w.rests number (image_lease i) → IsOpen g w.rests w.appliances time writes w.seats (image_lease i) number write
+    this-open i journalled =
+        lands-open w number sector write may (unlanded-image write.kind write.landed journalled (not-whole write.landed sector may.missing)) (image_lease i)
 
     -- the device, as an image sees it
     same-after : (i : ℕ) → (IsOf g i write.block → ⊥) → Same g i device after
@@ -361,56 +350,12 @@ module _ (w : World) (content : Content w) where
         no-sector (suc (suc (suc (suc (suc (suc (suc (suc k)))))))) less = absurd (omega (arith, less))
 
     cases : (i : ℕ) → i < g.images → (IsOf g i write.block × IsJournalled write.kind × IsUnder w.rests number (image_lease i)) ⊎ (IsOf g i write.block → ⊥)
-    cases i within = placed-cases g write.kind write.block write.bytes (w.rests number) right.placed i within
+    cases i within = placed-cases g geometry write.kind write.block write.bytes (w.rests number) right.placed i within
 
     stored-after : (i : ℕ) → i < g.images → Keeps g after i (m.slots i)
     stored-after i within = elim (cases i within) [
       | inl mine ↦ keeps-after i (m.slots i) (λ flags count. content.opens i within number write (this-open i mine.1 mine.2) mine.0 flags count)
       | inr no' ↦ Keeps-same g device after i (m.slots i) (same-after i no') (content.stored i within)
-    ]
-
-    opens-after : (i : ℕ) → i < g.images → Opens g w.rests time after now' i (m.slots i)
-    opens-after i within n x op of flags count = elim (landed-or n x op.found) [
-      | inl here' ↦
-          let N : ℕ → Type 0 = λ k. IsUnder w.rests k (image_lease i) in
-          let U : Issued → Type 0 = λ y. Unlanded y.kind y.landed in
-          let Q : Issued → Type 0 = λ y. IsOf g i y.block in
-          let P : Issued → Type 0 = λ y. Keeps g (put after y.block (mixed flags y.bytes (after y.block))) i (m.slots i) in
-          let was : IsOpen w.rests time writes (image_lease i) number write = record {
-            found = may.found;
-            needs = subst N here'.0 op.needs;
-            missing = unlanded-before write.kind write.landed sector may.missing (subst U here'.1 op.missing);
-            live = may.early;
-          } in
-          subst P (sym here'.1) (keeps-landed g i write.block sector write.bytes device (m.slots i) below-8 bytes-long (content.leased.long write.block)
-          (λ f c. content.opens i within number write was (subst Q here'.1 of) f c) flags count)
-      | inr away ↦
-          let was : IsOpen w.rests time writes (image_lease i) n x = record { found = away.1; needs = op.needs; missing = op.missing; live = op.live } in
-          elim (cases i within) [
-            | inl mine ↦ absurd (away.0 ((content.leased.on (image_lease i) (image-below g i within)).alone n number x write was (this-open i mine.1 mine.2)))
-            | inr no' ↦
-                let same = same-after i no' in
-                let P : List ℕ → Type 0 = λ y. Keeps g (put after x.block (mixed flags x.bytes y)) i (m.slots i) in
-                subst P (sym (same-at g i x.block device after of same))
-                (Keeps-same g (put device x.block (mixed flags x.bytes (device x.block))) (put after x.block (mixed flags x.bytes (device x.block))) i (m.slots i)
-                (same-put g i x.block (mixed flags x.bytes (device x.block)) device after same) (content.opens i within n x was of flags count))
-          ]
-    ]
-
-    whose-after : (i : ℕ) → i < g.images → Whose g w.rests time now' w.seats i (m.slots i)
-    whose-after i within n x op of b mine = elim (landed-or n x op.found) [
-      | inl here' ↦
-          let N : ℕ → Type 0 = λ k. IsUnder w.rests k (image_lease i) in
-          let U : Issued → Type 0 = λ y. Unlanded y.kind y.landed in
-          let Q : Issued → Type 0 = λ y. IsOf g i y.block in
-          let was : IsOpen w.rests time writes (image_lease i) number write = record {
-            found = may.found;
-            needs = subst N here'.0 op.needs;
-            missing = unlanded-before write.kind write.landed sector may.missing (subst U here'.1 op.missing);
-            live = may.early;
-          } in
-          content.whose i within number write was (subst Q here'.1 of) b mine ∙ ap Some (sym here'.0)
-      | inr away ↦ content.whose i within n x (record { found = away.1; needs = op.needs; missing = op.missing; live = op.live }) of b mine
     ]
 
     -- what is held after the landing was held before
@@ -499,6 +444,46 @@ module _ (w : World) (content : Content w) where
             ∙ sym (ap (λ (x : WriteKind). grip_while x (lease_at (image_lease i) == write.block) (first_landed (Some (with_sector write sector))) write.bytes hold) is) in
             (claim, until, same ∙ e, (λ l. l))
 
+    -- another write that is open after the landing was open before
+    open-landed : (i : ℕ) → i < g.images → (n : ℕ) (x : Issued) → n ≢ number → slice_get writes n ≡ Some x → IsOpen g w.rests w.appliances time now' w.seats (image_lease i) n x →
+        IsOpen g w.rests w.appliances time writes w.seats (image_lease i) n x
+    open-landed i within n x ne found (inl op) = inl (record { found = found; needs = op.needs; missing = op.missing; live = op.live })
+    open-landed i within n x ne found (inr o) = inr (o.0, o.1, grips-before i within o.0 o.1 o.2.0 o.2.1 o.2.2, o.3, found, o.5)
+
+    opens-after : (i : ℕ) → i < g.images → Opens g w.rests w.appliances time after now' w.seats i (m.slots i)
+    opens-after i within n x op of flags count = elim (landed-or n x (open-found g w.rests w.appliances time now' w.seats (image_lease i) n x op)) [
+      | inl here' ↦
+          let Q : Issued → Type 0 = λ y. IsOf g i y.block in
+          let P : Issued → Type 0 = λ y. Keeps g (put after y.block (mixed flags y.bytes (after y.block))) i (m.slots i) in
+          elim (cases i within) [
+            | inl mine ↦ subst P (sym here'.1) (keeps-landed g i write.block sector write.bytes device (m.slots i) below-8 bytes-long (content.leased.long write.block)
+                (λ f c. content.opens i within number write (this-open i mine.1 mine.2) mine.0 f c) flags count)
+            | inr no' ↦ absurd (no' (subst Q here'.1 of))
+          ]
+      | inr away ↦
+          let was = open-landed i within n x away.0 away.1 op in
+          elim (cases i within) [
+            | inl mine ↦ absurd (away.0 (open-alone w content.leased (image_lease i) (image-below g i within) n number x write was (this-open i mine.1 mine.2)))
+            | inr no' ↦
+                let same = same-after i no' in
+                let P : List ℕ → Type 0 = λ y. Keeps g (put after x.block (mixed flags x.bytes y)) i (m.slots i) in
+                subst P (sym (same-at g i x.block device after of same))
+                (Keeps-same g (put device x.block (mixed flags x.bytes (device x.block))) (put after x.block (mixed flags x.bytes (device x.block))) i (m.slots i)
+                (same-put g i x.block (mixed flags x.bytes (device x.block)) device after same) (content.opens i within n x was of flags count))
+          ]
+    ]
+
+    whose-after : (i : ℕ) → i < g.images → Whose g w.rests w.appliances time now' w.seats i (m.slots i)
+    whose-after i within n x op of b mine' = elim (landed-or n x (open-found g w.rests w.appliances time now' w.seats (image_lease i) n x op)) [
+      | inl here' ↦
+          let Q : Issued → Type 0 = λ y. IsOf g i y.block in
+          elim (cases i within) [
+            | inl mine ↦ content.whose i within number write (this-open i mine.1 mine.2) mine.0 b mine' ∙ ap Some (sym here'.0)
+            | inr no' ↦ absurd (no' (subst Q here'.1 of))
+          ]
+      | inr away ↦ content.whose i within n x (open-landed i within n x away.0 away.1 op) of b mine'
+    ]
+
     -- what is right at a write stays right while it lands
     held-lands : (b i : ℕ) (command : Command) (known : Known) (regime : Regime) (part : Part End) (boot : ℕ) → IsAskedAt (In known command part) boot write → IsJournalled write.kind →
         HeldPart g b i command known regime part device → HeldPart g b i command known regime part after
@@ -512,28 +497,15 @@ module _ (w : World) (content : Content w) where
       where
         by_kind : (k : WriteKind) → IsJournalled k → length bytes ≡ 4096 → HeldPart g b i command known regime (WriteThen k block bytes guard done fault missed) device →
             HeldPart g b i command known regime (WriteThen k block bytes guard done fault missed) (put device block (landed sector bytes (device block)))
-        by_kind kind.Record is long held = (
-          held.0,
-          (λ flags count x looks. keeps-landed g i block sector bytes device (x.slots i) below-8 long (content.leased.long block) (λ f c. held.1 f c x looks) flags count),
-          held-same g b i command known regime done (put device block bytes) (put (put device block (landed sector bytes (device block))) block bytes)
-              (same-over g i block bytes (landed sector bytes (device block)) device) held.2,
-          held.3,
-        )
-        by_kind kind.JData is long held = (
-          held.0,
-          (λ flags count x looks. keeps-landed g i block sector bytes device (x.slots i) below-8 long (content.leased.long block) (λ f c. held.1 f c x looks) flags count),
-          held-same g b i command known regime done (put device block bytes) (put (put device block (landed sector bytes (device block))) block bytes)
-              (same-over g i block bytes (landed sector bytes (device block)) device) held.2,
-          held.3,
-        )
-        by_kind kind.JCommit is long held = (
-          held.0,
-          (λ flags count x looks. keeps-landed g i block sector bytes device (x.slots i) below-8 long (content.leased.long block) (λ f c. held.1 f c x looks) flags count),
-          held-same g b i command known regime done (put device block bytes) (put (put device block (landed sector bytes (device block))) block bytes)
-              (same-over g i block bytes (landed sector bytes (device block)) device) held.2,
-          held.3,
-        )
-        by_kind other is long held = absurd is
+        by_kind k is long held =
+            let write' = held-image g b i command known regime block bytes guard done fault missed device k is held in
+            let made = put device block (landed sector bytes (device block)) in
+            image-held g b i command known regime block bytes guard done fault missed made k is (record {
+              of = write'.of;
+              keeps = λ flags count x looks. keeps-landed g i block sector bytes device (x.slots i) below-8 long (content.leased.long block) (λ f c. write'.keeps f c x looks) flags count;
+              follows = held-same g b i command known regime done (put device block bytes) (put made block bytes) (same-over g i block bytes (landed sector bytes (device block)) device) write'.follows;
+              changes = write'.changes;
+            })
     held-lands b i command known regime (Ends end) number_of_boot asked journalled held = absurd asked
     held-lands b i command known regime (ReadThen block rest fault) number_of_boot asked journalled held = absurd asked
     held-lands b i command known regime (ClockThen rest) number_of_boot asked journalled held = absurd asked
@@ -543,13 +515,7 @@ module _ (w : World) (content : Content w) where
     held-with : (b i : ℕ) (command : Command) (known : Known) (regime : Regime) (part : Part End) (boot : ℕ) → IsAskedAt (In known command part) boot write → IsJournalled write.kind →
         HeldPart g b i command known regime part device → IsWith regime
     held-with b i command known regime (WriteThen what block bytes guard done fault missed) number_of_boot asked journalled held =
-        let K : WriteKind → Type 0 = λ k. IsJournalled k in by_kind what (subst K asked.0 journalled) held
-      where
-        by_kind : (k : WriteKind) → IsJournalled k → HeldPart g b i command known regime (WriteThen k block bytes guard done fault missed) device → IsWith regime
-        by_kind kind.Record is held = held.3
-        by_kind kind.JData is held = held.3
-        by_kind kind.JCommit is held = held.3
-        by_kind other is held = absurd is
+        let K : WriteKind → Type 0 = λ k. IsJournalled k in (held-image g b i command known regime block bytes guard done fault missed device what (subst K asked.0 journalled) held).changes
     held-with b i command known regime (Ends end) number_of_boot asked journalled held = absurd asked
     held-with b i command known regime (ReadThen block rest fault) number_of_boot asked journalled held = absurd asked
     held-with b i command known regime (ClockThen rest) number_of_boot asked journalled held = absurd asked
@@ -594,7 +560,7 @@ module _ (w : World) (content : Content w) where
         by_place (In known command part) waits mine asked fits owned =
             let named = named-of g b i command known (p b).holds (p b).sample part (boot_number b (w.seats b).boots) write fits.1 asked mine.1 in
             let N : ℕ → Type 0 = λ j. Names command j in
-            let names : Names command i = subst N (of-one g named.0 i write.block named.1 within named.2 mine.0) named.3 in
+            let names : Names command i = subst N (of-one g geometry named.0 i write.block named.1 within named.2 mine.0) named.3 in
             let s = owned.0 names in (
               λ names'. record {
                 regime = s.regime;

@@ -5,15 +5,16 @@ use Rattle.plx_commands.specs.Model.{first_slot}
 use Rattle.plx_commands.specs.declared.event.Event.{Event}
 use Rattle.plx_gate.specs.declared.image.ImageRecord.TheVariants.{Free}
 use Rattle.plx_gate.proofs.Descriptors.{read-zeros}
-use Rattle.plx_geom.specs.Geometry.{Geometry, IsGeometry}
+use Rattle.plx_geom.specs.Geometry.{Geometry, IsGeometry, image_lease}
 use Rattle.plx_geom.specs.declared.place.Place.TheVariants.{Record, JDesc}
 use Rattle.plx_worlds.specs.Formatted.{IsFormatted}
 use Rattle.plx_worlds.specs.Headline.{HeadlineOfAll, NeverDamaged, model_in}
 use Rattle.plx_worlds.specs.Journal.{finding, finding_of}
 use Rattle.plx_worlds.specs.World as world
-use Rattle.plx_worlds.specs.World.{World, Step, Reached, first_world}
+use Rattle.plx_worlds.specs.World.{World, Step, Reached, first_seat, first_world}
 use Rattle.law_lease.proofs.LeaseSteps.{keeps-leases, first-leased}
 use Rattle.law_lease.proofs.Leased.{Leased}
+use Rattle.law_lease.proofs.Open.{open-found}
 use Rattle.law_headline.proofs.Content.{Content}
 use Rattle.law_headline.proofs.ContentAnswers.{begin-content, clock-content, wait-content, read-content, fault-content, write-fault-content, miss-content, done-content}
 use Rattle.law_headline.proofs.ContentEvents.{tick-content, crash-content, start-content}
@@ -71,8 +72,8 @@ first-content g appliances device geometry few formatted = record {
   permitted = tt;
   undamaged = tt;
   stored = λ i within. keeps-first g device formatted i within;
-  opens = λ i within n x op of flags count. absurd (let e = op.found in let P : ⊥ = cc in P);
-  whose = λ i within n x op of b mine. absurd (let e = op.found in let P : ⊥ = cc in P);
+  opens = λ i within n x op of flags count. absurd (let e = open-found g (λ number. []) appliances 1000 [] (λ b. first_seat) (image_lease i) n x op in let P : ⊥ = cc in P);
+  whose = λ i within n x op of b mine. absurd (let e = open-found g (λ number. []) appliances 1000 [] (λ b'. first_seat) (image_lease i) n x op in let P : ⊥ = cc in P);
   seats = λ a below. (refl, (λ j. refl), (λ k s is. absurd (let P : ⊥ = cc in P)));
   owned = λ i within a below minds. elim minds [ inl grips ↦ absurd (let e = grips.2.0 in let P : ⊥ = cc in P) | inr mine ↦ absurd (let P : ⊥ = cc in P) ];
 }

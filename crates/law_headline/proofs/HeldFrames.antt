@@ -11,8 +11,7 @@ use Rattle.plx_commands.specs.Images.{Image}
 use Rattle.plx_commands.specs.Model.{Model, Slot}
 use Rattle.plx_commands.specs.declared.command.Command.{Command}
 use Rattle.plx_gate.specs.declared.image.ImageRecord.{ImageRecord}
-use Rattle.plx_geom.specs.Geometry.{Geometry, lease_count, lease_at, map_at, record_at, descriptor_at, data_at}
-use Rattle.plx_geom.proofs.Places.{data-data, descriptor-descriptor, data-descriptor, lease-data, lease-descriptor, lease-record, record-record, record-data, record-descriptor, record-map, map-data, map-descriptor}
+use Rattle.plx_geom.specs.Geometry.{Geometry, record_at, descriptor_at, data_at}
 use Rattle.plx_rules.specs.Part.{Part, Ends, ReadThen, WriteThen, ClockThen, UntilThen}
 use Rattle.plx_rules.specs.declared.journaled.Journaled.{Journaled}
 use Rattle.plx_worlds.specs.Ends.{End}
@@ -134,27 +133,6 @@ same-over g i block bytes x d = same-all g i (put d block bytes) (put (put d blo
   where
     at : (b : ℕ) → put (put d block x) block bytes b ≡ put d block bytes b
     at b = elim (eqb_tells b block) [ inl here ↦ rw here.0 refl | inr away ↦ rw (away.0) refl ]
-
-pub of-apart : (g : Geometry) (i j block : ℕ) → i < g.images → j < g.images → i ≢ j → IsOf g i block → IsOf g j block → ⊥
-of-apart g i j block wi wj ne (inl a) (inl b) = ne (record-record g i j (sym a ∙ b))
-of-apart g i j block wi wj ne (inl a) (inr (t, two, inl b)) = record-descriptor g i j t wi (sym a ∙ b)
-of-apart g i j block wi wj ne (inl a) (inr (t, two, inr b)) = record-data g i j t wi (sym a ∙ b)
-of-apart g i j block wi wj ne (inr (s, one, inl a)) (inl b) = record-descriptor g j i s wj (sym b ∙ a)
-of-apart g i j block wi wj ne (inr (s, one, inr a)) (inl b) = record-data g j i s wj (sym b ∙ a)
-of-apart g i j block wi wj ne (inr (s, one, inl a)) (inr (t, two, inl b)) = ne (descriptor-descriptor g i j s t one two (sym a ∙ b))
-of-apart g i j block wi wj ne (inr (s, one, inl a)) (inr (t, two, inr b)) = data-descriptor g j i t s (sym b ∙ a)
-of-apart g i j block wi wj ne (inr (s, one, inr a)) (inr (t, two, inl b)) = data-descriptor g i j s t (sym a ∙ b)
-of-apart g i j block wi wj ne (inr (s, one, inr a)) (inr (t, two, inr b)) = ne (data-data g i j s t one two (sym a ∙ b))
-
-pub of-lease : (g : Geometry) (i j : ℕ) → j < lease_count g → IsOf g i (lease_at j) → ⊥
-of-lease g i j within (inl a) = lease-record g j i within a
-of-lease g i j within (inr (s, below, inl a)) = lease-descriptor g j i s within a
-of-lease g i j within (inr (s, below, inr a)) = lease-data g j i s within a
-
-pub of-map : (g : Geometry) (i e : ℕ) → i < g.images → IsOf g i (map_at g e) → ⊥
-of-map g i e within (inl a) = record-map g i e within (sym a)
-of-map g i e within (inr (s, below, inl a)) = map-descriptor g e i s within below a
-of-map g i e within (inr (s, below, inr a)) = map-data g e i s within below a
 
 pub has-same : (g : Geometry) (i a : ℕ) (s : Session) (d e : Device) (slot : Slot) → Same g i d e → HasImage g i a s d slot → HasImage g i a s e slot
 has-same g i a s d e slot same has = record {

@@ -17,6 +17,7 @@ pub mod HeldCommands
 pub mod HeldFrames
 pub mod HeldSessions
 pub mod ImageFacts
+pub mod ImageWrites
 pub mod JournalFacts
 pub mod JournalOne
 pub mod Journals

@@ -12,19 +12,19 @@ use Rattle.plx_worlds.specs.Boot.{Place, Idle, Begins, In}
 use Rattle.plx_worlds.specs.Holds.{Hold, Nothing, Seen, Wrote, Waited, Held}
 use Rattle.plx_worlds.specs.Owners.{first_landed}
 use Rattle.plx_worlds.specs.Times.{window}
-use Rattle.law_lease.proofs.Leased.{IsOpen, NoneOpen, OpenOnly, Clear, Waits, Mine, IsWritten, Good, grip_while, grip_at}
+use Rattle.law_lease.proofs.Leased.{IsLive, NoneLive, LiveOnly, Clear, Waits, Mine, IsWritten, Good, grip_while, grip_at}
 
--- every write that is open later was open before
+-- every write that is live later was live before
 abbrev pub Shrinks : (rests since : ℕ → List ℕ) → ℕ → ℕ → List Issued → List Issued → ℕ → Type 0
 Shrinks rests since time later writes now lease =
-    (n : ℕ) (x : Issued) → IsOpen since later now lease n x → (y : Issued) × IsOpen rests time writes lease n y
+    (n : ℕ) (x : Issued) → IsLive since later now lease n x → (y : Issued) × IsLive rests time writes lease n y
 
 pub none-shrinks : (rests since : ℕ → List ℕ) (time later : ℕ) (writes now : List Issued) (lease : ℕ) → Shrinks rests since time later writes now lease →
-    NoneOpen rests time writes lease → NoneOpen since later now lease
+    NoneLive rests time writes lease → NoneLive since later now lease
 none-shrinks rests since time later writes now lease shrinks none = λ n x is. let was = shrinks n x is in none n was.0 was.1
 
 pub only-shrinks : (rests since : ℕ → List ℕ) (time later : ℕ) (writes now : List Issued) (lease : ℕ) (pending : Option ℕ) → Shrinks rests since time later writes now lease →
-    OpenOnly rests time writes lease pending → OpenOnly since later now lease pending
+    LiveOnly rests time writes lease pending → LiveOnly since later now lease pending
 only-shrinks rests since time later writes now lease pending shrinks only = λ n x is. let was = shrinks n x is in only n was.0 was.1
 
 module _ (rests since : ℕ → List ℕ) (time later : ℕ) (writes now : List Issued) (lease : ℕ) (standing : LeaseRecord) (boot : ℕ) (pending : Option ℕ)
@@ -35,7 +35,7 @@ module _ (rests since : ℕ → List ℕ) (time later : ℕ) (writes now : List 
   written-shrinks : (claim : Claim) (until : ℕ) → IsWritten rests time writes lease standing boot claim until → IsWritten since later now lease standing boot claim until
   written-shrinks claim until is = record { own = is.own; ends = is.ends; limits = is.limits; mine = mine-shrinks claim.sample is.mine }
 
-  -- the record stays, and no more writes are open
+  -- the record stays, and no more writes are live
   pub good-shrinks : (hold : Hold) → Good rests time writes lease standing boot pending hold → Good since later now lease standing boot pending hold
   good-shrinks Nothing is = tt
   good-shrinks (Seen sample) is = record {
@@ -53,9 +53,9 @@ module _ (rests since : ℕ → List ℕ) (time later : ℕ) (writes now : List 
   }
 
 module _ (rests : ℕ → List ℕ) (time : ℕ) (writes now : List Issued) (lease : ℕ) (standing changed : LeaseRecord) (boot : ℕ) (pending : Option ℕ)
-    (none : NoneOpen rests time now lease) (clears : (sample : ℕ) → sample ≤ time + 50 → Clear standing sample → Clear changed sample) where
+    (none : NoneLive rests time now lease) (clears : (sample : ℕ) → sample ≤ time + 50 → Clear standing sample → Clear changed sample) where
   -- the record changes, where no other boot holds the lease
-  pub good-changed : ((claim : Claim) (until : ℕ) → claim.sample + 551 ≤ time → time ≤ until + 50 → standing ≡ Claimed claim until → OpenOnly rests time writes lease pending → ⊥) →
+  pub good-changed : ((claim : Claim) (until : ℕ) → claim.sample + 551 ≤ time → time ≤ until + 50 → standing ≡ Claimed claim until → LiveOnly rests time writes lease pending → ⊥) →
       (hold : Hold) → Good rests time writes lease standing boot pending hold → Good rests time now lease changed boot pending hold
   good-changed unheld Nothing is = tt
   good-changed unheld (Seen sample) is = record {

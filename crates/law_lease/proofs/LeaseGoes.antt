@@ -31,7 +31,7 @@ use Rattle.plx_worlds.specs.World.{Seat, setting_at}
 use Rattle.plx_gate.proofs.Leases.{lease-back, lease-same}
 use Rattle.law_lease.proofs.LeaseFrames.{grip-open}
 use Rattle.law_lease.proofs.LeaseLands.{asked-may, grip-asked, first-set}
-use Rattle.law_lease.proofs.Leased.{MayAsk, LawfulAt, IsOpen, Unlanded, Clear, Good, grip_while, grip_at, GoodSeat, LeaseOn, IsAskedAt}
+use Rattle.law_lease.proofs.Leased.{MayAsk, LawfulAt, IsLive, Unlanded, Clear, Good, grip_while, grip_at, GoodSeat, LeaseOn, IsAskedAt}
 use Rattle.plx_geom.proofs.Places.{lease-lease}
 
 module _ (rests : ℕ → List ℕ) (time : ℕ) (writes : List Issued) (lease : ℕ) (standing : LeaseRecord) (boot : ℕ) where
@@ -130,9 +130,9 @@ module _ (rests : ℕ → List ℕ) (time : ℕ) (writes : List Issued) (lease :
               only = λ live m x is. absurd (good.0.mine claim until there good.0.own refl m x is);
             }
 
--- a write that has landed whole isn't open
+-- a write that has landed whole isn't live
 pub whole-closed : (rests : ℕ → List ℕ) (time : ℕ) (writes : List Issued) (lease n : ℕ) (write : Issued) → slice_get writes n ≡ Some write → write.landed ≡ all_sectors →
-    (x : Issued) → IsOpen rests time writes lease n x → ⊥
+    (x : Issued) → IsLive rests time writes lease n x → ⊥
 whole-closed rests time writes lease n write found all x is =
     let same : x ≡ write = (let e : Some x ≡ Some write = sym is.found ∙ found in cc) in
     no' x.kind x.landed (ap (λ (y : Issued). y.landed) same ∙ all) is.missing
@@ -142,7 +142,7 @@ whole-closed rests time writes lease n write found all x is =
     no' kind.Release flags whole missing = let e : Some true ≡ Some false = sym (ap (λ (l : List Bool). slice_get l 0) whole) ∙ missing in let P : ⊥ = cc in P
     no' other flags whole missing = missing whole
 
-pub good-done : (rests : ℕ → List ℕ) (time : ℕ) (writes : List Issued) (lease : ℕ) (standing : LeaseRecord) (boot n : ℕ) → ((x : Issued) → IsOpen rests time writes lease n x → ⊥) → (hold : Hold) →
+pub good-done : (rests : ℕ → List ℕ) (time : ℕ) (writes : List Issued) (lease : ℕ) (standing : LeaseRecord) (boot n : ℕ) → ((x : Issued) → IsLive rests time writes lease n x → ⊥) → (hold : Hold) →
     Good rests time writes lease standing boot (Some n) hold → Good rests time writes lease standing boot None hold
 good-done rests time writes lease standing boot n closed Nothing is = tt
 good-done rests time writes lease standing boot n closed (Seen sample) is = is
@@ -154,7 +154,7 @@ good-done rests time writes lease standing boot n closed (Held claim until) is =
   waited = is.waited;
   there = is.there;
   only = λ live m x op. absurd (let e : Some n ≡ Some m = is.only live m x op in
-      let f : n ≡ m = cc in closed x (let P : ℕ → Type 0 = λ k. IsOpen rests time writes lease k x in subst P (sym f) op));
+      let f : n ≡ m = cc in closed x (let P : ℕ → Type 0 = λ k. IsLive rests time writes lease k x in subst P (sym f) op));
 }
 
 -- ---- an appliance's boot goes on

@@ -24,15 +24,15 @@ use Rattle.law_lease.proofs.Rests.{rests-or, rests-home, needs-before, needs-las
 use Rattle.plx_worlds.specs.Settings.{boot_number}
 use Rattle.plx_worlds.specs.World.{Seat, setting_at}
 use Rattle.law_lease.proofs.LeaseFrames.{Shrinks, good-shrinks, one-claim, grip-open}
-use Rattle.law_lease.proofs.Leased.{MayAsk, MayUse, IsOpen, NoneOpen, OpenOnly, IsBacked, IsOfKind, IsClaiming, Good, grip_at, GoodSeat, LeaseOn}
+use Rattle.law_lease.proofs.Leased.{MayAsk, MayUse, IsLive, NoneLive, LiveOnly, IsBacked, IsOfKind, IsClaiming, Good, grip_at, GoodSeat, LeaseOn}
 use Rattle.plx_geom.proofs.Places.{lease-lease}
 
 -- boots of two appliances have two numbers
 pub boots-apart : (a b k l : ℕ) → a < 8 → b < 8 → boot_number a k ≡ boot_number b l → a ≡ b
 boots-apart a b k l one other e = omega (arith, one, other, e)
 
--- while it waits for no write, nothing is open under what a boot holds
-pub none-of-only : (rests : ℕ → List ℕ) (time : ℕ) (writes : List Issued) (lease : ℕ) → OpenOnly rests time writes lease None → NoneOpen rests time writes lease
+-- while it waits for no write, nothing is live under what a boot holds
+pub none-of-only : (rests : ℕ → List ℕ) (time : ℕ) (writes : List Issued) (lease : ℕ) → LiveOnly rests time writes lease None → NoneLive rests time writes lease
 none-of-only rests time writes lease only = λ m x is. (let e : None ≡ Some m = only m x is in let P : ⊥ = cc in P)
 
 pub good-pending : (rests : ℕ → List ℕ) (time : ℕ) (writes : List Issued) (lease : ℕ) (standing : LeaseRecord) (boot : ℕ) (pending : Option ℕ) (hold : Hold) →
@@ -119,7 +119,7 @@ module _ (g : Geometry) (rests : ℕ → List ℕ) (appliances time : ℕ) (devi
     issue-still : (is_in lease leases ≡ true → ⊥) → (what ≡ kind.Claim → block ≡ lease_at lease → IsClaiming time on.standing write) →
         LeaseOn g since appliances time device now seats' lease
     issue-still unneeded new =
-        let old : (m : ℕ) (x : Issued) → IsOpen since time now lease m x → IsOpen rests time writes lease m x =
+        let old : (m : ℕ) (x : Issued) → IsLive since time now lease m x → IsLive rests time writes lease m x =
         λ m x is. elim (push-cases writes write x m is.found) [
           | inl there ↦ record { found = there; needs = needs-before rests writes leases m x lease there is.needs; missing = is.missing; live = is.live }
           | inr fresh ↦ absurd (unneeded (needs-last rests writes leases m lease fresh.0 is.needs))
@@ -144,13 +144,13 @@ module _ (g : Geometry) (rests : ℕ → List ℕ) (appliances time : ℕ) (devi
     issue-needed claim until is guarded of_kind unclaimed =
         let H : Hold → Type 0 = λ h. Good rests time writes lease on.standing boot None h in
         let held = subst H is good-before in
-        let split : (m : ℕ) (x : Issued) → IsOpen since time now lease m x →
-        (IsOpen rests time writes lease m x) ⊎ ((m ≡ length writes) × (write ≡ x) × (time ≤ until + 50)) =
+        let split : (m : ℕ) (x : Issued) → IsLive since time now lease m x →
+        (IsLive rests time writes lease m x) ⊎ ((m ≡ length writes) × (write ≡ x) × (time ≤ until + 50)) =
         λ m x is'. elim (push-cases writes write x m is'.found) [
           | inl there ↦ inl (record { found = there; needs = needs-before rests writes leases m x lease there is'.needs; missing = is'.missing; live = is'.live })
           | inr fresh ↦ inr (fresh.0, fresh.1, (let e = is'.live in let f : x.guard ≡ guard = ap (λ (y : Issued). y.guard) (sym fresh.1) in omega (arith, e, f, guarded)))
         ] in
-        let none : time ≤ until + 50 → NoneOpen rests time writes lease = λ live. none-of-only rests time writes lease (held.only live) in
+        let none : time ≤ until + 50 → NoneLive rests time writes lease = λ live. none-of-only rests time writes lease (held.only live) in
         record {
           standing = on.standing;
           limits = on.limits;
@@ -190,7 +190,7 @@ module _ (g : Geometry) (rests : ℕ → List ℕ) (appliances time : ℕ) (devi
       where
         others : (b : ℕ) → b < appliances → b ≢ a → (h : Hold) →
             (time ≤ until + 50 → (c : Claim) (u : ℕ) → on.standing ≡ Claimed c u → c.boot.0 ≡ boot_number b (seats b).boots → ⊥) →
-            ((m : ℕ) (x : Issued) → IsOpen since time now lease m x → (IsOpen rests time writes lease m x) ⊎ ((m ≡ length writes) × (write ≡ x) × (time ≤ until + 50))) →
+            ((m : ℕ) (x : Issued) → IsLive since time now lease m x → (IsLive rests time writes lease m x) ⊎ ((m ≡ length writes) × (write ≡ x) × (time ≤ until + 50))) →
             Good rests time writes lease on.standing (boot_number b (seats b).boots) (seats b).pending h →
             Good since time now lease on.standing (boot_number b (seats b).boots) (seats b).pending h
         others b under ne Nothing foreign split good = tt

@@ -26,7 +26,7 @@ use Rattle.plx_worlds.specs.World.{Seat, setting_at}
 use Rattle.plx_gate.proofs.Leases.{lease-back, lease-same}
 use Rattle.law_lease.proofs.LeaseSectors.{sector-first, sector-past}
 use Rattle.law_lease.proofs.LeaseFrames.{Shrinks, good-shrinks, good-changed, claim-alone, claim-clears, renew-clears, grip_while-open, grip_while-away}
-use Rattle.law_lease.proofs.Leased.{MayAsk, LawfulAt, Unlanded, IsOpen, NoneOpen, IsBacked, IsOfKind, Clear, IsClaiming, Good, grip_while, grip_at, GoodSeat, LeaseOn, IsPlaced, IsRight, IsAskedAt, IsSeat}
+use Rattle.law_lease.proofs.Leased.{MayAsk, LawfulAt, Unlanded, IsLive, NoneLive, IsBacked, IsOfKind, Clear, IsClaiming, Good, grip_while, grip_at, GoodSeat, LeaseOn, IsPlaced, IsRight, IsAskedAt, IsSeat}
 use Rattle.plx_geom.proofs.Places.{lease-lease, lease-data, lease-descriptor, lease-map, lease-record}
 
 -- a missing flag of a write on which one more sector has landed was missing before
@@ -121,12 +121,12 @@ module _ (g : Geometry) (rests : ℕ → List ℕ) (appliances time : ℕ) (devi
     | inr away ↦ inr (away.1, sym (set-other writes number m (with_sector write sector) away.1) ∙ there)
   ]
 
-  open-landed : (m : ℕ) (x : Issued) → IsOpen rests time now lease m x →
-      ((m ≡ number) × (x ≡ with_sector write sector) × IsOpen rests time writes lease number write) ⊎ ((m ≢ number) × IsOpen rests time writes lease m x)
+  open-landed : (m : ℕ) (x : Issued) → IsLive rests time now lease m x →
+      ((m ≡ number) × (x ≡ with_sector write sector) × IsLive rests time writes lease number write) ⊎ ((m ≢ number) × IsLive rests time writes lease m x)
   open-landed m x is = elim (landed-is m x is.found) [
     | inl here ↦
-        let P : Issued → Type 0 = λ y. IsOpen rests time now lease m y in
-        let is' : IsOpen rests time now lease m (with_sector write sector) = subst P here.1 is in
+        let P : Issued → Type 0 = λ y. IsLive rests time now lease m y in
+        let is' : IsLive rests time now lease m (with_sector write sector) = subst P here.1 is in
         let needs : IsUnder rests number lease = (let Q : ℕ → Type 0 = λ k. IsUnder rests k lease in subst Q here.0 is'.needs) in
         inl (here.0, here.1, record { found = found; needs = needs; missing = unlanded-before write.kind write.landed sector missing is'.missing; live = early })
     | inr away ↦ inr (away.0, record { found = away.1; needs = is.needs; missing = is.missing; live = is.live })
@@ -134,7 +134,7 @@ module _ (g : Geometry) (rests : ℕ → List ℕ) (appliances time : ℕ) (devi
 
   shrinks : Shrinks rests rests time time writes now lease
   shrinks m x is = elim (open-landed m x is) [
-    | inl here ↦ (write, (let P : ℕ → Type 0 = λ k. IsOpen rests time writes lease k write in subst P (sym here.0) here.2))
+    | inl here ↦ (write, (let P : ℕ → Type 0 = λ k. IsLive rests time writes lease k write in subst P (sym here.0) here.2))
     | inr away ↦ (x, away.1)
   ]
 
@@ -265,8 +265,8 @@ module _ (g : Geometry) (rests : ℕ → List ℕ) (appliances time : ℕ) (devi
       ∙ (ap (λ (s : ℕ). landed s write.bytes (device write.block)) is
       ∙ (ap (λ (b : List ℕ). landed 0 b (device write.block)) spells ∙ (ap (landed 0 (lease_bytes r)) at ∙ sector-first on.standing r))))
 
-  -- where the record changes no write is open
-  land-changed : (changed : LeaseRecord) → IsLease changed → after (lease_at lease) ≡ lease_bytes changed → NoneOpen rests time now lease →
+  -- where the record changes no write is live
+  land-changed : (changed : LeaseRecord) → IsLease changed → after (lease_at lease) ≡ lease_bytes changed → NoneLive rests time now lease →
       ((sample : ℕ) → sample ≤ time + 50 → Clear on.standing sample → Clear changed sample) →
       ((a : ℕ) → a < appliances → GoodSeat g rests time now lease changed a (seats a)) → LeaseOn g rests appliances time after now seats lease
   land-changed changed limits spells none clears each = record {
@@ -287,12 +287,12 @@ module _ (g : Geometry) (rests : ℕ → List ℕ) (appliances time : ℕ) (devi
       let s = claim.sample in
       let live : time ≤ (s + window) + 50 = omega (arith, early, claiming.guarded) in
       let waits = claiming.waits (ap (slice_get write.landed) (sym first) ∙ missing) early in
-      let none : NoneOpen rests time writes lease = λ m x op.
+      let none : NoneLive rests time writes lease = λ m x op.
       (let b = on.backed m x op in
       let e = op.live in
       let h = b.guarded in
       claim-alone time on.standing s live waits b.claim b.until b.waited (omega (arith, e, h)) b.there) in
-      let none' : NoneOpen rests time now lease = λ m x op. (let w = shrinks m x op in none m w.0 w.1) in
+      let none' : NoneLive rests time now lease = λ m x op. (let w = shrinks m x op in none m w.0 w.1) in
       let changed = Claimed claim (s + term) in
       let clears : (sample : ℕ) → sample ≤ time + 50 → Clear on.standing sample → Clear changed sample =
       λ sample sampled clear. claim-clears time s sample on.standing claim (s + term) refl live sampled clear in
@@ -317,10 +317,10 @@ module _ (g : Geometry) (rests : ℕ → List ℕ) (appliances time : ℕ) (devi
   -- the first sector of a write that needs the lease
   module _ (here : lease_at lease ≡ write.block) (first : sector ≡ 0) (needs : IsUnder rests number lease) (unlanded : Unlanded write.kind write.landed)
       (landed-now : Unlanded write.kind (slice_set write.landed sector true) → ⊥) where
-    this-open : IsOpen rests time writes lease number write
+    this-open : IsLive rests time writes lease number write
     this-open = record { found = found; needs = needs; missing = unlanded; live = early }
 
-    none-now : NoneOpen rests time now lease
+    none-now : NoneLive rests time now lease
     none-now m x op = elim (open-landed m x op) [
       | inl same ↦ landed-now (let P : Issued → Type 0 = λ y. Unlanded y.kind y.landed in subst P same.1 op.missing)
       | inr away ↦ away.0 (on.alone m number x write away.1 this-open)

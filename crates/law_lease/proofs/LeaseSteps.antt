@@ -42,7 +42,7 @@ use Rattle.law_lease.proofs.LeaseFrames.{Shrinks, good-shrinks}
 use Rattle.law_lease.proofs.LeaseGoes.{good-part, good-timed, good-first, lease-log, good-free, good-read, good-written}
 use Rattle.law_lease.proofs.LeaseIssues.{lease-issued}
 use Rattle.law_lease.proofs.LeaseLands.{lease-lands}
-use Rattle.law_lease.proofs.Leased.{MayAsk, LawfulRest, LawfulAt, IsOpen, Good, GoodSeat, LeaseOn, IsPlaced, IsRight, IsAskedAt, IsSeat, Leased}
+use Rattle.law_lease.proofs.Leased.{MayAsk, LawfulRest, LawfulAt, IsLive, Good, GoodSeat, LeaseOn, IsPlaced, IsRight, IsAskedAt, IsSeat, Leased}
 use Rattle.law_lease.proofs.Lists.{push-cases, none-some}
 
 -- ---- time passes
@@ -50,7 +50,7 @@ use Rattle.law_lease.proofs.Lists.{push-cases, none-some}
 lease-ticks : (g : Geometry) (rests : ℕ → List ℕ) (appliances time later : ℕ) (device : Device) (writes : List Issued) (seats : ℕ → Seat) (lease : ℕ) → time ≤ later →
     LeaseOn g rests appliances time device writes seats lease → LeaseOn g rests appliances later device writes seats lease
 lease-ticks g rests appliances time later device writes seats lease passed on =
-    let old : (m : ℕ) (x : Issued) → IsOpen rests later writes lease m x → IsOpen rests time writes lease m x =
+    let old : (m : ℕ) (x : Issued) → IsLive rests later writes lease m x → IsLive rests time writes lease m x =
     λ m x is. record { found = is.found; needs = is.needs; missing = is.missing; live = (let l = is.live in omega arith) } in
     let shrinks : Shrinks rests rests time later writes writes lease = λ m x is. (x, old m x is) in
     record {
@@ -264,7 +264,7 @@ module _ (w : World) (leased : Leased w) (a : ℕ) (below : a < w.appliances) (t
 
 -- ---- a write is issued, or a sector of one lands
 
-placed-may : (g : Geometry) (b : ℕ) (holds : ℕ → Hold) (rests : List ℕ) (k : WriteKind) (block : ℕ) (bytes : List ℕ) (guard : ℕ) → MayAsk g b holds rests k block bytes guard → IsPlaced g k block bytes rests
+pub placed-may : (g : Geometry) (b : ℕ) (holds : ℕ → Hold) (rests : List ℕ) (k : WriteKind) (block : ℕ) (bytes : List ℕ) (guard : ℕ) → MayAsk g b holds rests k block bytes guard → IsPlaced g k block bytes rests
 placed-may g b holds rests kind.Claim block bytes guard may =
     (may.lease, may.within, may.at_lease, (Claimed (claim_of b may.number may.sample) (may.sample + term), may.spells), may.alone)
 placed-may g b holds rests kind.Renew block bytes guard may = (may.lease, may.within, may.at_lease, (Claimed may.claim may.next, may.spells), may.alone)

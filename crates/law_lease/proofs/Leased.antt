@@ -143,22 +143,22 @@ Unlanded kind.Renew landed = slice_get landed 0 ≡ Some false
 Unlanded kind.Release landed = slice_get landed 0 ≡ Some false
 Unlanded other landed = landed ≢ all_sectors
 
--- an open write: it needs the lease, may still change something, and isn't too late to land
-pub record IsOpen (rests : ℕ → List ℕ) (time : ℕ) (writes : List Issued) (lease number : ℕ) (write : Issued) : Type 0 where
+-- a live write: it rests on the lease, may still change something, and isn't too late to land
+pub record IsLive (rests : ℕ → List ℕ) (time : ℕ) (writes : List Issued) (lease number : ℕ) (write : Issued) : Type 0 where
   pub found : slice_get writes number ≡ Some write
   pub needs : IsUnder rests number lease
   pub missing : Unlanded write.kind write.landed
   pub live : time ≤ write.guard + 50
 
--- no write is open
-abbrev pub NoneOpen : (rests : ℕ → List ℕ) → ℕ → List Issued → ℕ → Type 0
-NoneOpen rests time writes lease = (number : ℕ) (write : Issued) → IsOpen rests time writes lease number write → ⊥
+-- no write is live
+abbrev pub NoneLive : (rests : ℕ → List ℕ) → ℕ → List Issued → ℕ → Type 0
+NoneLive rests time writes lease = (number : ℕ) (write : Issued) → IsLive rests time writes lease number write → ⊥
 
--- only the write that a boot waits for is open
-abbrev pub OpenOnly : (rests : ℕ → List ℕ) → ℕ → List Issued → ℕ → Option ℕ → Type 0
-OpenOnly rests time writes lease pending = (number : ℕ) (write : Issued) → IsOpen rests time writes lease number write → pending ≡ Some number
+-- only the write that a boot waits for is live
+abbrev pub LiveOnly : (rests : ℕ → List ℕ) → ℕ → List Issued → ℕ → Option ℕ → Type 0
+LiveOnly rests time writes lease pending = (number : ℕ) (write : Issued) → IsLive rests time writes lease number write → pending ≡ Some number
 
--- what the record says where an open write stands
+-- what the record says where a live write stands
 abbrev pub IsOfKind : WriteKind → Claim → ℕ → ℕ → List ℕ → Type 0
 IsOfKind kind.Renew claim until guard bytes = (guard ≡ until) × ((next : ℕ) × (bytes ≡ lease_bytes (Claimed claim next)) × (until ≤ next) × IsClaimed claim next)
 IsOfKind kind.Release claim until guard bytes = (guard ≡ until) × (bytes ≡ lease_bytes Free)
@@ -200,7 +200,7 @@ pub record IsClaiming (time : ℕ) (standing : LeaseRecord) (write : Issued) : T
 -- a record of the boot's own claim stands before nothing rests on it
 abbrev pub Mine : (rests : ℕ → List ℕ) → ℕ → List Issued → ℕ → LeaseRecord → ℕ → ℕ → Type 0
 Mine rests time writes lease standing boot sample =
-    (claim : Claim) (until : ℕ) → standing ≡ Claimed claim until → claim.boot.0 ≡ boot → claim.sample ≡ sample → NoneOpen rests time writes lease
+    (claim : Claim) (until : ℕ) → standing ≡ Claimed claim until → claim.boot.0 ≡ boot → claim.sample ≡ sample → NoneLive rests time writes lease
 
 -- a lease was seen to be free or expired
 pub record IsSeen (rests : ℕ → List ℕ) (time : ℕ) (writes : List Issued) (lease : ℕ) (standing : LeaseRecord) (boot sample : ℕ) : Type 0 where
@@ -220,7 +220,7 @@ pub record IsHeld (rests : ℕ → List ℕ) (time : ℕ) (writes : List Issued)
   pub limits : IsClaimed claim until
   pub waited : claim.sample + 551 ≤ time
   pub there : time ≤ until + 50 → standing ≡ Claimed claim until
-  pub only : time ≤ until + 50 → OpenOnly rests time writes lease pending
+  pub only : time ≤ until + 50 → LiveOnly rests time writes lease pending
 
 -- what a boot holds is right
 abbrev pub Good : (rests : ℕ → List ℕ) → ℕ → List Issued → ℕ → LeaseRecord → ℕ → Option ℕ → Hold → Type 0
@@ -257,8 +257,8 @@ pub record LeaseOn (g : Geometry) (rests : ℕ → List ℕ) (appliances time : 
   pub standing : LeaseRecord
   pub limits : IsLease standing
   pub spells : device (lease_at lease) ≡ lease_bytes standing
-  pub alone : (m n : ℕ) (x y : Issued) → IsOpen rests time writes lease m x → IsOpen rests time writes lease n y → m ≡ n
-  pub backed : (n : ℕ) (x : Issued) → IsOpen rests time writes lease n x → IsBacked time standing x
+  pub alone : (m n : ℕ) (x y : Issued) → IsLive rests time writes lease m x → IsLive rests time writes lease n y → m ≡ n
+  pub backed : (n : ℕ) (x : Issued) → IsLive rests time writes lease n x → IsBacked time standing x
   pub claims : (n : ℕ) (x : Issued) → slice_get writes n ≡ Some x → x.kind ≡ kind.Claim → x.block ≡ lease_at lease → IsClaiming time standing x
   pub each : (a : ℕ) → a < appliances → GoodSeat g rests time writes lease standing a (seats a)
 

@@ -1,3 +1,4 @@
+pub mod Covers
 pub mod LawfulCommands
 pub mod LeaseSectors
 pub mod LeaseFrames
@@ -7,6 +8,7 @@ pub mod LeaseLands
 pub mod LeaseSteps
 pub mod Leased
 pub mod Lists
+pub mod Open
 pub mod Owners
 pub mod Rests
 pub mod Runs

@@ -1,5 +1,5 @@
 -- At most one boot owns a lease, and what needed it changes nothing under another owner.
-use Rattle.std.proofs.Common.{◌≡◌, ℕ, zero, suc, ◌<◌, ◌⊎◌, inl, inr, List, Bool, true, false, Option, refl, ap, sym, subst, ◌∙◌, arith}
+use Rattle.std.proofs.Common.{◌≡◌, ℕ, zero, suc, ◌<◌, inl, inr, List, Bool, true, false, Option, refl, ap, sym, subst, ◌∙◌, arith}
 use Rattle.std.specs.Prelude.{slice_get, ◌==◌}
 use Rattle.plx_base.specs.Sectors.{Device, put, landed}
 use Rattle.plx_base.proofs.Devices.{put-again}
@@ -24,7 +24,7 @@ use Rattle.law_lease.proofs.LeaseFrames.{one-claim}
 use Rattle.law_lease.proofs.LeaseIssues.{boots-apart}
 use Rattle.law_lease.proofs.LeaseLands.{not-whole}
 use Rattle.law_lease.proofs.LeaseSteps.{reached-leased}
-use Rattle.law_lease.proofs.Leased.{IsOpen, Unlanded, Good, IsHeld, grip_while, grip_at, IsPlaced, Leased}
+use Rattle.law_lease.proofs.Leased.{IsLive, Unlanded, Good, IsHeld, grip_while, grip_at, IsPlaced, Leased}
 
 -- what a boot owns is what it holds
 grip_while-held : (k : WriteKind) (here landed : Bool) (bytes : List ℕ) (hold : Hold) (claim : Claim) (until : ℕ) → held_while k here landed bytes hold ≡ Held claim until →
@@ -84,10 +84,10 @@ guarding w reached number sector write lease b within needs may below owns apart
     its : IsHeld w.rests w.surface.time w.surface.writes lease (leased.on lease within).standing ((setting_of w b).boot) (w.seats b).pending owns.claim owns.until
     its = owner-held w leased b lease within below owns
 
-    -- an open write is the owner's
+    -- a live write is the owner's
     closed : Unlanded write.kind write.landed → ⊥
     closed unlanded =
-        let op : IsOpen w.rests w.surface.time w.surface.writes lease number write = record { found = may.found; needs = needs; missing = unlanded; live = may.early } in
+        let op : IsLive w.rests w.surface.time w.surface.writes lease number write = record { found = may.found; needs = needs; missing = unlanded; live = may.early } in
         let backed = (leased.on lease within).backed number write op in
         apart (sym its.own ∙ (ap (λ (c : Claim). c.boot.0)
         (one-claim (leased.on lease within).standing owns.claim backed.claim owns.until backed.until (its.there owns.time) backed.there).0 ∙ backed.owner))

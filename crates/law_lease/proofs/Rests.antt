@@ -9,7 +9,7 @@ use Rattle.std.proofs.lemmas.Bool.Decides.{eqb_tells}
 use Rattle.std.proofs.lemmas.Nat.{div-mul-add}
 use Rattle.plx_commands.specs.Replies.{is_in}
 use Rattle.plx_geom.specs.Geometry.{Geometry, lease_at, record_at, journal_start, descriptor_at, data_at, map_at}
-use Rattle.plx_worlds.specs.Rests.{IsUnder, lease_in, image_of_record, image_of_journal, extent_of}
+use Rattle.plx_worlds.specs.Rests.{IsUnder, home_of, lease_in, image_of_record, image_of_journal, extent_of}
 
 -- a write rests on a lease, or doesn't
 pub rests-or : (lease : ℕ) (rests : List ℕ) → (is_in lease rests ≡ true) ⊎ (is_in lease rests ≡ true → ⊥)
@@ -46,6 +46,14 @@ pub either-in : (lease home other : ℕ) → is_in lease (home ∷ other ∷ [])
 either-in lease home other is = elim (eqb_tells lease home) [
   | inl same ↦ inl same.1
   | inr away ↦ inr (one-in lease other (subst (λ (b : Bool). (b || is_in lease (other ∷ [])) ≡ true) away.0 is))
+]
+
+-- a write rests on its home
+pub home-in : (home : ℕ) (leases : List ℕ) → home_of leases ≡ Some home → is_in home leases ≡ true
+home-in home [] is = absurd (let P : ⊥ = cc in P)
+home-in home (lease ∷ others) is = elim (eqb_tells home lease) [
+  | inl same ↦ rw same.0 refl
+  | inr away ↦ absurd (away.1 (let e : Some lease ≡ Some home = is in cc))
 ]
 
 -- what an older write needs, once one more is issued

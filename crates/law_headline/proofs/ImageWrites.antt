@@ -1,0 +1,120 @@
+-- Writes of an image's record and journal: what a kind owes, in one lemma each, so that the invariant asks for no kind.
+use Rattle.std.proofs.Common.{◌≡◌, ◌≢◌, ℕ, ◌<◌, ◌⊎◌, inl, inr, List, [], ◌∷◌, Bool, true, Some, refl, ap, sym, subst, ◌∙◌, length}
+use Rattle.std.proofs.lemmas.Bool.Decides.{eqb_tells}
+use Rattle.plx_base.specs.Sectors.{Device, put, mixed}
+use Rattle.plx_base.specs.declared.write_kind.WriteKind.{WriteKind}
+use Rattle.plx_base.specs.declared.write_kind.WriteKind.TheVariants as kind
+use Rattle.plx_commands.specs.Model.{Model}
+use Rattle.plx_commands.specs.Replies.{is_in}
+use Rattle.plx_commands.specs.declared.command.Command.{Command}
+use Rattle.plx_disk.specs.Writes.{all_sectors}
+use Rattle.plx_geom.proofs.Places.{image-extent, image-image}
+use Rattle.plx_geom.specs.Geometry.{Geometry, IsGeometry, image_lease, extent_lease}
+use Rattle.plx_geom.specs.declared.place.Place.TheVariants as place
+use Rattle.plx_rules.specs.Part.{Part, WriteThen}
+use Rattle.plx_worlds.specs.Ends.{End}
+use Rattle.plx_worlds.specs.Holds.{Hold}
+use Rattle.plx_worlds.specs.Rests.{home_of}
+use Rattle.plx_worlds.specs.Session.{Known}
+use Rattle.law_lease.proofs.Covers.{Covers, one-cover, lease-uncovered, home-covers, write-covered}
+use Rattle.law_lease.proofs.Leased.{MayAsk, MayUse, IsPlaced, Unlanded}
+use Rattle.law_lease.proofs.Lists.{same-some}
+use Rattle.law_lease.proofs.Rests.{home-in}
+use Rattle.law_headline.proofs.Content.{IsJournalled}
+use Rattle.law_headline.proofs.Held.{Regime, IsWith, Looks, IsOf, HeldPart, IsNamed}
+use Rattle.law_headline.proofs.Journals.{Keeps}
+use Rattle.law_headline.proofs.Replied.{Names}
+
+-- ---- by kind
+
+-- a write whose home is an image's lease is of that image
+of-image : (g : Geometry) (i j block : ℕ) (rests : List ℕ) → home_of rests ≡ Some (image_lease i) → rests ≡ image_lease j ∷ [] → IsOf g j block → IsOf g i block
+of-image g i j block rests home all of = subst (λ (n : ℕ). IsOf g n block) (image-image j i (same-some (image_lease j) (image_lease i) (sym (ap home_of all) ∙ home))) of
+
+-- a write that its image's lease covers is one of its record or journal
+image-write : (g : Geometry) (i block : ℕ) (bytes rests : List ℕ) → i < g.images → Covers g (image_lease i) block → home_of rests ≡ Some (image_lease i) →
+    (k : WriteKind) → IsPlaced g k block bytes rests → IsOf g i block × IsJournalled k
+image-write g i block bytes rests within covers home kind.Claim placed = absurd (lease-uncovered g (image_lease i) block placed.0 placed.1 placed.2 covers)
+image-write g i block bytes rests within covers home kind.Renew placed = absurd (lease-uncovered g (image_lease i) block placed.0 placed.1 placed.2 covers)
+image-write g i block bytes rests within covers home kind.Release placed = absurd (lease-uncovered g (image_lease i) block placed.0 placed.1 placed.2 covers)
+image-write g i block bytes rests within covers home kind.Take placed = absurd (image-extent g i placed.0 within (same-some (image_lease i) (extent_lease g placed.0) (sym home ∙ ap home_of placed.3)))
+image-write g i block bytes rests within covers home kind.Give placed = absurd (image-extent g i placed.0 within (same-some (image_lease i) (extent_lease g placed.0) (sym home ∙ ap home_of placed.3)))
+image-write g i block bytes rests within covers home kind.Sweep placed = absurd (image-extent g i placed.0 within (same-some (image_lease i) (extent_lease g placed.0) (sym home ∙ ap home_of placed.3)))
+image-write g i block bytes rests within covers home kind.Record placed = (of-image g i placed.0 block rests home placed.3 (inl placed.2), tt)
+image-write g i block bytes rests within covers home kind.JData placed = (of-image g i placed.0 block rests home placed.5 (inr (placed.1, placed.3, inr placed.4)), tt)
+image-write g i block bytes rests within covers home kind.JCommit placed = (of-image g i placed.0 block rests home placed.5 (inr (placed.1, placed.3, inl placed.4)), tt)
+image-write g i block bytes rests within covers home other placed = absurd placed
+
+-- it is of an image that its command names
+pub named-image : (g : Geometry) (command : Command) (block : ℕ) (k : WriteKind) → IsJournalled k → IsNamed g command k block → (i : ℕ) × (i < g.images) × IsOf g i block × Names command i
+named-image g command block kind.Record is named = named
+named-image g command block kind.JData is named = named
+named-image g command block kind.JCommit is named = named
+named-image g command block other is named = absurd is
+
+-- it uses leases that are held
+pub use-image : (g : Geometry) (boot : ℕ) (holds : ℕ → Hold) (rests : List ℕ) (block : ℕ) (bytes : List ℕ) (guard : ℕ) (k : WriteKind) → IsJournalled k →
+    MayAsk g boot holds rests k block bytes guard → MayUse g holds rests k block bytes guard
+use-image g boot holds rests block bytes guard kind.Record is may = may
+use-image g boot holds rests block bytes guard kind.JData is may = may
+use-image g boot holds rests block bytes guard kind.JCommit is may = may
+use-image g boot holds rests block bytes guard other is may = absurd is
+
+-- each of its sectors may change something
+pub unlanded-image : (k : WriteKind) (flags : List Bool) → IsJournalled k → flags ≢ all_sectors → Unlanded k flags
+unlanded-image kind.Record flags is missing = missing
+unlanded-image kind.JData flags is missing = missing
+unlanded-image kind.JCommit flags is missing = missing
+unlanded-image other flags is missing = absurd is
+
+module _ (g : Geometry) (a i : ℕ) (command : Command) (known : Known) (regime : Regime) (block : ℕ) (bytes : List ℕ) (guard : ℕ) (done fault : Part End) (missed : ℕ → Part End) (device : Device) where
+  -- what an owner owes where it asks for a write of its image: whatever of it lands the image is kept, and what follows is right on the device with all of it landed
+  pub record IsImageWrite : Type 0 where
+    pub of : IsOf g i block
+    pub keeps : (flags : List Bool) → length flags ≡ 8 → (m : Model) → Looks g a i command known regime m → Keeps g (put device block (mixed flags bytes (device block))) i (m.slots i)
+    pub follows : HeldPart g a i command known regime done (put device block bytes)
+    pub changes : IsWith regime
+
+  pub held-image : (k : WriteKind) → IsJournalled k → HeldPart g a i command known regime (WriteThen k block bytes guard done fault missed) device → IsImageWrite
+  held-image kind.Record is held = record { of = held.0; keeps = held.1; follows = held.2; changes = held.3 }
+  held-image kind.JData is held = record { of = held.0; keeps = held.1; follows = held.2; changes = held.3 }
+  held-image kind.JCommit is held = record { of = held.0; keeps = held.1; follows = held.2; changes = held.3 }
+  held-image other is held = absurd is
+
+  pub image-held : (k : WriteKind) → IsJournalled k → IsImageWrite → HeldPart g a i command known regime (WriteThen k block bytes guard done fault missed) device
+  image-held kind.Record is write = (write.of, write.keeps, write.follows, write.changes)
+  image-held kind.JData is write = (write.of, write.keeps, write.follows, write.changes)
+  image-held kind.JCommit is write = (write.of, write.keeps, write.follows, write.changes)
+  image-held other is write = absurd is
+
+  -- an owner asks for the release of its lease, or for a write of its image
+  pub held-or : (k : WriteKind) → HeldPart g a i command known regime (WriteThen k block bytes guard done fault missed) device →
+      (HeldPart g a i command known regime done device) ⊎ (IsOf g i block)
+  held-or kind.Release held = inl held.1
+  held-or other held = inr held.0
+
+-- ---- by the lease that covers the block
+
+-- what an image's lease covers of it
+pub of-covers : (g : Geometry) (i block : ℕ) → i < g.images → IsOf g i block → Covers g (image_lease i) block
+of-covers g i block within (inl at) = record { place = place.Record (record { 0 = i }); is = within; here = sym at; under = refl }
+of-covers g i block within (inr (slot, below, inl at)) = record { place = place.JDesc (record { 0 = i }) slot; is = (within, below); here = sym at; under = refl }
+of-covers g i block within (inr (slot, below, inr at)) = record { place = place.JData (record { 0 = i }) slot; is = (within, below); here = sym at; under = refl }
+
+-- a block of two images is one image's
+pub of-one : (g : Geometry) → IsGeometry g → (i j block : ℕ) → i < g.images → j < g.images → IsOf g i block → IsOf g j block → i ≡ j
+of-one g geometry i j block wi wj one two = image-image i j (one-cover g geometry (image_lease i) (image_lease j) block (of-covers g i block wi one) (of-covers g j block wj two))
+
+-- a write is one of the image, and rests on its lease; or its block is none of the image's
+pub placed-cases : (g : Geometry) → IsGeometry g → (k : WriteKind) (block : ℕ) (bytes rests : List ℕ) → IsPlaced g k block bytes rests → (i : ℕ) → i < g.images →
+    (IsOf g i block × IsJournalled k × (is_in (image_lease i) rests ≡ true)) ⊎ (IsOf g i block → ⊥)
+placed-cases g geometry k block bytes rests placed i within = elim (home-covers g k block bytes rests placed) [
+  | inl lease ↦ inr (λ of. lease-uncovered g (image_lease i) block lease.0 lease.1 lease.2 (of-covers g i block within of))
+  | inr home ↦ elim (eqb_tells home.0 (image_lease i)) [
+    | inl same ↦
+        let is : home_of rests ≡ Some (image_lease i) = home.1 ∙ ap Some same.1 in
+        let its = image-write g i block bytes rests within (subst (λ (l : ℕ). Covers g l block) same.1 home.2) is k placed in
+        inl (its.0, its.1, home-in (image_lease i) rests is)
+    | inr away ↦ inr (λ of. away.1 (same-some home.0 (image_lease i) (sym home.1 ∙ write-covered g geometry k block bytes rests placed (image_lease i) (of-covers g i block within of))))
+  ]
+]

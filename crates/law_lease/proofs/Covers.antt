@@ -1,0 +1,72 @@
+-- Which lease a block lies under, and that a write's block lies under its home alone.
+use Rattle.std.proofs.Common.{◌≡◌, ℕ, ◌<◌, ◌⊎◌, inl, inr, List, Option, Some, None, refl, ap, sym, ◌∙◌, arith}
+use Rattle.plx_base.specs.declared.write_kind.WriteKind.{WriteKind}
+use Rattle.plx_base.specs.declared.write_kind.WriteKind.TheVariants as kind
+use Rattle.plx_geom.proofs.Places.{place-place, lease-record, lease-log, lease-descriptor, lease-data, lease-map}
+use Rattle.plx_geom.specs.Geometry.{Geometry, IsGeometry, lease_count, lease_at, image_lease, extent_lease}
+use Rattle.plx_geom.specs.Places.{IsPlace, block_of}
+use Rattle.plx_geom.specs.declared.place.Place.{Place}
+use Rattle.plx_geom.specs.declared.place.Place.TheVariants.{Super, RootLease, ImageLease, ExtentLease, Record, Log, JDesc, JData, Map, Pool}
+use Rattle.plx_worlds.specs.Rests.{home_of}
+use Rattle.law_lease.proofs.Leased.{IsPlaced}
+
+-- the lease under which a place lies: an image's record, log and journal under that image's, and a map under its extent's; nothing else lies under one by its place
+abbrev pub lease_over : Geometry → Place → Option ℕ
+lease_over g (Record image) = Some (image_lease image.0)
+lease_over g (Log image) = Some (image_lease image.0)
+lease_over g (JDesc image slot) = Some (image_lease image.0)
+lease_over g (JData image slot) = Some (image_lease image.0)
+lease_over g (Map extent) = Some (extent_lease g extent.0)
+lease_over g other = None
+
+-- a block is covered by a lease
+pub record Covers (g : Geometry) (lease block : ℕ) : Type 0 where
+  pub place : Place
+  pub is : IsPlace g place
+  pub here : block_of g place ≡ block
+  pub under : lease_over g place ≡ Some lease
+
+-- no block is covered by two leases
+pub one-cover : (g : Geometry) → IsGeometry g → (lease other block : ℕ) → Covers g lease block → Covers g other block → lease ≡ other
+one-cover g geometry lease other block a b =
+    let some = geometry.blocks_low in
+    let same : a.place ≡ b.place = place-place g a.place b.place (omega arith) a.is b.is (a.here ∙ sym b.here) in
+    let e : Some lease ≡ Some other = sym a.under ∙ (ap (lease_over g) same ∙ b.under) in
+    cc
+
+-- and the block of a lease by none
+pub lease-uncovered : (g : Geometry) (lease block name : ℕ) → name < lease_count g → block ≡ lease_at name → Covers g lease block → ⊥
+lease-uncovered g lease block name within at covers = go covers.place covers.is (sym at ∙ sym covers.here) covers.under
+  where
+    go : (place : Place) → IsPlace g place → lease_at name ≡ block_of g place → lease_over g place ≡ Some lease → ⊥
+    go Super is here under = cc
+    go RootLease is here under = cc
+    go (ImageLease image) is here under = cc
+    go (ExtentLease extent) is here under = cc
+    go (Record image) is here under = lease-record g name image.0 within here
+    go (Log image) is here under = lease-log g name image.0 within here
+    go (JDesc image slot) is here under = lease-descriptor g name image.0 slot within here
+    go (JData image slot) is here under = lease-data g name image.0 slot within here
+    go (Map extent) is here under = lease-map g name extent.0 within here
+    go (Pool extent bit) is here under = cc
+
+-- where a write is written: to the block of a lease, or to one that its home covers
+pub home-covers : (g : Geometry) (k : WriteKind) (block : ℕ) (bytes rests : List ℕ) → IsPlaced g k block bytes rests →
+    ((name : ℕ) × (name < lease_count g) × (block ≡ lease_at name)) ⊎ ((home : ℕ) × (home_of rests ≡ Some home) × Covers g home block)
+home-covers g kind.Claim block bytes rests placed = inl (placed.0, placed.1, placed.2)
+home-covers g kind.Renew block bytes rests placed = inl (placed.0, placed.1, placed.2)
+home-covers g kind.Release block bytes rests placed = inl (placed.0, placed.1, placed.2)
+home-covers g kind.Take block bytes rests placed = inr (extent_lease g placed.0, ap home_of placed.3, record { place = Map (record { 0 = placed.0 }); is = placed.1; here = sym placed.2; under = refl })
+home-covers g kind.Give block bytes rests placed = inr (extent_lease g placed.0, ap home_of placed.3, record { place = Map (record { 0 = placed.0 }); is = placed.1; here = sym placed.2; under = refl })
+home-covers g kind.Sweep block bytes rests placed = inr (extent_lease g placed.0, ap home_of placed.3, record { place = Map (record { 0 = placed.0 }); is = placed.1; here = sym placed.2; under = refl })
+home-covers g kind.Record block bytes rests placed = inr (image_lease placed.0, ap home_of placed.3, record { place = Record (record { 0 = placed.0 }); is = placed.1; here = sym placed.2; under = refl })
+home-covers g kind.JData block bytes rests placed = inr (image_lease placed.0, ap home_of placed.5, record { place = JData (record { 0 = placed.0 }) placed.1; is = (placed.2, placed.3); here = sym placed.4; under = refl })
+home-covers g kind.JCommit block bytes rests placed = inr (image_lease placed.0, ap home_of placed.5, record { place = JDesc (record { 0 = placed.0 }) placed.1; is = (placed.2, placed.3); here = sym placed.4; under = refl })
+home-covers g other block bytes rests placed = absurd placed
+
+-- the block of a write is covered by no lease but its home
+pub write-covered : (g : Geometry) → IsGeometry g → (k : WriteKind) (block : ℕ) (bytes rests : List ℕ) → IsPlaced g k block bytes rests → (lease : ℕ) → Covers g lease block → home_of rests ≡ Some lease
+write-covered g geometry k block bytes rests placed lease covers = elim (home-covers g k block bytes rests placed) [
+  | inl at ↦ absurd (lease-uncovered g lease block at.0 at.1 at.2 covers)
+  | inr home ↦ home.1 ∙ ap Some (one-cover g geometry home.0 lease block home.2 covers)
+]
