@@ -79,9 +79,11 @@ record IsLast (writes : List Journaled) (vblock k : ℕ) (write : Journaled) : T
   pub names : write.vblock ≡ vblock
   pub last : (j : ℕ) (other : Journaled) → slice_get writes j ≡ Some other → other.vblock ≡ vblock → j ≤ k
 
+-- no write names the virtual block
 abbrev NamesNone : List Journaled → ℕ → Type 0
 NamesNone writes vblock = (j : ℕ) (other : Journaled) → slice_get writes j ≡ Some other → other.vblock ≢ vblock
 
+-- the bytes of its newest write, or those before where there is none
 abbrev IsLatest : List ℕ → ℕ → List Journaled → List ℕ → Type 0
 IsLatest before vblock writes bytes =
     ((k : ℕ) × (write : Journaled) × IsLast writes vblock k write × (bytes ≡ write.block)) ⊎ (NamesNone writes vblock × (bytes ≡ before))

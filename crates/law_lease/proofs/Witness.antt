@@ -400,12 +400,12 @@ t16 : S 1601 d2 p16 (Start one write ∷ e3)
 t16 = first-reading small_geometry 2 few 2 t15 one one-in k3 write refl (journal_part s0 k3 0 3 block made_session 11000) (λ holds e. rw e refl) (Held mine 11000) refl
 
 -- what is left once the descriptor has landed
-abbrev last_part : Part End
-last_part = ends_in_time s0 k3 (image_use 0 11000) (reply.Written 1) k4
+abbrev final_part : Part End
+final_part = ends_in_time s0 k3 (image_use 0 11000) (reply.Written 1) k4
 
 -- what is left once the data has landed
 abbrev commits : Part End
-commits = write_then s0 k3 (record { lease = 1; until = 11000 }) kind.JCommit 6 (descriptor_bytes d) last_part
+commits = write_then s0 k3 (record { lease = 1; until = 11000 }) kind.JCommit 6 (descriptor_bytes d) final_part
 
 -- the places once its data has landed
 abbrev p17 : ℕ → Spot
@@ -416,10 +416,10 @@ t17 = written small_geometry 2 few 2 t16 one one-in k3 write kind.JData 7 block 
 
 -- the places once its descriptor has landed
 abbrev p18 : ℕ → Spot
-p18 = one_at p17 (Held mine 11000) None (In k3 write last_part)
+p18 = one_at p17 (Held mine 11000) None (In k3 write final_part)
 
 t18 : S 1601 d4 p18 (Start one write ∷ e3)
-t18 = written small_geometry 2 few 2 t17 one one-in k3 write kind.JCommit 6 (descriptor_bytes d) 11000 _ _ _ refl (omega arith) (length-descriptor d) last_part refl (Held mine 11000) refl
+t18 = written small_geometry 2 few 2 t17 one one-in k3 write kind.JCommit 6 (descriptor_bytes d) 11000 _ _ _ refl (omega arith) (length-descriptor d) final_part refl (Held mine 11000) refl
 
 -- the places once its write is answered
 abbrev p19 : ℕ → Spot

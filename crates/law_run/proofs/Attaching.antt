@@ -41,7 +41,7 @@ use Rattle.law_run.proofs.Loading.{Says, says, Loading, loads-first, loads-none,
 use Rattle.law_run.proofs.Meets.{exchange, meets-more}
 use Rattle.law_run.proofs.OnImage.{NamesOne, names-own, names-other}
 use Rattle.law_run.proofs.Rests.{KeepsHolds, rests-by}
-use Rattle.law_run.proofs.Right.{clock, descriptor_of, Fits, FitsAt, Rests, finish, log_on, May, Shows, Right}
+use Rattle.law_run.proofs.Right.{read_of, clock, descriptor_of, Fits, FitsAt, Rests, finish, log_on, May, Shows, Right}
 use Rattle.law_run.proofs.Tests.{nat_le-true, nat_le-false, lt-cases, clash, eqb-isn't}
 use Rattle.plx_commands.proofs.Places.{at-other, at-same}
 
@@ -113,7 +113,7 @@ module _ (s : Setting) (before : List Finished) (known next : Known) (slot : Slo
   abbrev told_now : List Exchange → Given
   told_now done = learnt s.geometry slot.0 (Attach slot) done nothing_given
 
-  known-now : (done : List Exchange) → known_in s.geometry (log_on before (Attach slot) done) slot.0 ≡ learnt s.geometry slot.0 (Attach slot) done nothing_given
+  known-now : (done : List Exchange) → known_in s.geometry (log_on before (Attach slot) done) slot.0 ≡ told_now done
   known-now done = rw (names-own (Attach slot) slot.0 (attach-one slot), missing) refl
 
   -- a reply that begins no session
@@ -124,14 +124,14 @@ module _ (s : Setting) (before : List Finished) (known next : Known) (slot : Slo
 
   -- after a read past the leases
   going-bytes : (done : List Exchange) (block : ℕ) (bytes : List ℕ) → lease_count s.geometry < block → Going s before done slot.0 c →
-      Going s before (exchange (ask.Read (record { 0 = block })) [] (answer.Bytes bytes) ∷ done) slot.0 c
+      Going s before (read_of block bytes ∷ done) slot.0 c
   going-bytes done block bytes past going =
-      going-more s before done (exchange (ask.Read (record { 0 = block })) [] (answer.Bytes bytes)) slot.0 c tt (λ other apart. tt) (no-claim s.geometry block past) tt going
+      going-more s before done (read_of block bytes) slot.0 c tt (λ other apart. tt) (no-claim s.geometry block past) tt going
 
   -- a read past the leases, which may fail
   pub asks-read : (done : List Exchange) (block : ℕ) (rest : List ℕ → Part End) (n : ℕ) → lease_count s.geometry < block → Going s before done slot.0 c →
-      ((bytes : List ℕ) → Going s before (exchange (ask.Read (record { 0 = block })) [] (answer.Bytes bytes) ∷ done) slot.0 c →
-      Right s before (Attach slot) (exchange (ask.Read (record { 0 = block })) [] (answer.Bytes bytes) ∷ done) (rest bytes) n) →
+      ((bytes : List ℕ) → Going s before (read_of block bytes ∷ done) slot.0 c →
+      Right s before (Attach slot) (read_of block bytes ∷ done) (rest bytes) n) →
       Right s before (Attach slot) done (read_then block next rest) (suc n)
   asks-read done block rest n past going right = (
     (going.went, tt),
@@ -148,7 +148,7 @@ module _ (s : Setting) (before : List Finished) (known next : Known) (slot : Slo
 
   -- bytes outside the format, of a block whose reads rest on the lease of the image alone
   right-damaged : (done : List Exchange) (block : ℕ) (bytes : List ℕ) → Going s before done slot.0 c →
-      IsIn (exchange (ask.Read (record { 0 = block })) [] (answer.Bytes bytes)) done → IsOutside s.geometry (learnt s.geometry slot.0 (Attach slot) done nothing_given) slot.0 block bytes →
+      IsIn (read_of block bytes) done → IsOutside s.geometry (told_now done) slot.0 block bytes →
       ((other : ℕ) → other < s.geometry.images → ReadRestsOn s.geometry block other → other ≡ slot.0) → (n : ℕ) →
       Right s before (Attach slot) done (damaged s next (image_use slot.0 c.until) block) (suc n)
   right-damaged done block bytes going read outside own n =
@@ -170,7 +170,7 @@ module _ (s : Setting) (before : List Finished) (known next : Known) (slot : Slo
       ))
 
   -- the attach ends with a session
-  right-ends : (done : List Exchange) (session : Session) → Going s before done slot.0 c → AllInside s.geometry slot.0 session.image done → Fits s.geometry (learnt s.geometry slot.0 (Attach slot) done nothing_given) slot.0 session → (n : ℕ) →
+  right-ends : (done : List Exchange) (session : Session) → Going s before done slot.0 c → AllInside s.geometry slot.0 session.image done → Fits s.geometry (told_now done) slot.0 session → (n : ℕ) →
       Right s before (Attach slot) done (attach_ends s next slot.0 c.until session) (suc n)
   right-ends done session going inside fits n =
       let r = reply.Attached (session_report session) in
@@ -184,11 +184,11 @@ module _ (s : Setting) (before : List Finished) (known next : Known) (slot : Slo
           confirmed = confirmed;
           image = image_of session;
           stores = subst (λ (g : Given). Stores s.geometry g slot.0 (image_of session)) (sym here)
-              (stores-session s.geometry (learnt s.geometry slot.0 (Attach slot) done nothing_given) slot.0 session fits);
+              (stores-session s.geometry (told_now done) slot.0 session fits);
           whole = (plain-parts session.image fits.plain).0;
           told = refl;
           inside = λ block bytes there. subst (λ (g : Given). ¬ IsOutside s.geometry g slot.0 block.0 bytes) (sym here)
-              (not-outside s.geometry (learnt s.geometry slot.0 (Attach slot) done nothing_given) slot.0 session block.0 bytes fits
+              (not-outside s.geometry (told_now done) slot.0 session block.0 bytes fits
               (inside-of s.geometry slot.0 session.image (ask.Read block) (answer.Bytes bytes) (clock reading ∷ done) (tt, inside) there));
         },
         rests-by s before (Attach slot) (clock reading ∷ done) r known more slot.0 (names-other (Attach slot) slot.0 (attach-one slot))
@@ -213,11 +213,11 @@ module _ (s : Setting) (before : List Finished) (known next : Known) (slot : Slo
 
     -- all slots were read
     all-read : (done : List Exchange) (writes : List Journaled) → Going s before done slot.0 c →
-        Loading s.geometry (learnt s.geometry slot.0 (Attach slot) done nothing_given) slot.0 kept s.geometry.slots writes done → (gap : Option ℕ) → first_gap (applied_of kept) writes ≡ gap →
+        Loading s.geometry (told_now done) slot.0 kept s.geometry.slots writes done → (gap : Option ℕ) → first_gap (applied_of kept) writes ≡ gap →
         Right s before (Attach slot) done (after_load s next slot.0 c.until kept (gap_found s.geometry slot.0 writes gap)) 1
     all-read done writes going l None follows =
         right-ends done (record { image = kept; writes = writes }) going l.inside
-        (loaded-fits s.geometry (learnt s.geometry slot.0 (Attach slot) done nothing_given) slot.0 kept writes done within plain l follows) 0
+        (loaded-fits s.geometry (told_now done) slot.0 kept writes done within plain l follows) 0
     all-read done writes going l (Some number) follows =
         let g = s.geometry in
         let gap = gap-is (applied_of kept) writes number l.ascending follows in
@@ -245,44 +245,47 @@ module _ (s : Setting) (before : List Finished) (known next : Known) (slot : Slo
         omega arith)))
         (own-descriptor (journal_slot g.slots number) below) 0
 
-    loads : (left place : ℕ) (done : List Exchange) (writes : List Journaled) → left + place ≡ s.geometry.slots → Going s before done slot.0 c →
-        Loading s.geometry (learnt s.geometry slot.0 (Attach slot) done nothing_given) slot.0 kept place writes done →
+    -- the exchanges once a descriptor was read, and once its data was; and the writes with that one
+    abbrev after_descriptor : (place : ℕ) → (bytes : List ℕ) → List Exchange → List Exchange
+    after_descriptor place bytes done = read_of (descriptor_at s.geometry slot.0 place) bytes ∷ done
+
+    abbrev after_data : (place : ℕ) → (bytes : List ℕ) → List Exchange → List Exchange
+    after_data place bytes done = read_of (data_at s.geometry slot.0 place) bytes ∷ done
+
+    abbrev with_read : Descriptor → (bytes : List ℕ) → List Journaled → List Journaled
+    with_read d bytes writes = inserted (record { number = d.number; vblock = d.vblock; block = bytes }) writes
+
+    -- the journal is read up to this slot, and the rest of its reading is right
+    abbrev IsLoading : (place : ℕ) → List Journaled → List Exchange → Type 0
+    IsLoading place writes done = Loading s.geometry (told_now done) slot.0 kept place writes done
+
+    abbrev Loads : (left place : ℕ) → List Journaled → List Exchange → Type 0
+    Loads left place writes done =
         Right s before (Attach slot) done (followed_by (load_part s.geometry slot.0 kept left place writes) (after_load s next slot.0 c.until kept)) (suc (twice left))
+
+    loads : (left place : ℕ) (done : List Exchange) (writes : List Journaled) → left + place ≡ s.geometry.slots → Going s before done slot.0 c → IsLoading place writes done →
+        Loads left place writes done
     loads zero place done writes all going l =
         let e : place ≡ s.geometry.slots = omega arith in
-        all-read done writes going (subst (λ p. Loading s.geometry (learnt s.geometry slot.0 (Attach slot) done nothing_given) slot.0 kept p writes done) e l) (first_gap (applied_of kept) writes) refl
+        all-read done writes going (subst (λ p. Loading s.geometry (told_now done) slot.0 kept p writes done) e l) (first_gap (applied_of kept) writes) refl
     loads (suc left) place done writes all going l =
         let g = s.geometry in
         let block = descriptor_at g slot.0 place in
         let room : place < g.slots = omega arith in
-        let given = learnt g slot.0 (Attach slot) done nothing_given in
+        let given = told_now done in
         asks-read done block _ (suc (suc (twice left))) (omega arith) going
         (λ bytes going1.
-        let done1 = exchange (ask.Read (record { 0 = block })) [] (answer.Bytes bytes) ∷ done in
+        let done1 = after_descriptor place bytes done in
         by-finding bytes going1 (finding kept g.slots place bytes) (says kept g.slots place (read_descriptor bytes))
         (λ none. loads left (place + 1) done1 writes (omega arith) going1 none)
-        (λ d data' going2 counts. loads left (place + 1) (exchange (ask.Read (record { 0 = data_at g slot.0 place })) [] (answer.Bytes data') ∷ done1)
-        (inserted (record { number = d.number; vblock = d.vblock; block = data' }) writes) (omega arith) going2 counts))
+        (λ d data' going2 counts. loads left (place + 1) (after_data place data' done1) (with_read d data' writes) (omega arith) going2 counts))
       where
-        by-finding : (bytes : List ℕ) → Going s before (exchange (ask.Read (record { 0 = descriptor_at s.geometry slot.0 place })) [] (answer.Bytes bytes) ∷ done) slot.0 c → (f : Finding) →
-            Says kept s.geometry.slots place (read_descriptor bytes) f →
-            (Loading s.geometry (learnt s.geometry slot.0 (Attach slot) (exchange (ask.Read (record { 0 = descriptor_at s.geometry slot.0 place })) [] (answer.Bytes bytes) ∷ done) nothing_given) slot.0 kept
-            (place + 1) writes (exchange (ask.Read (record { 0 = descriptor_at s.geometry slot.0 place })) [] (answer.Bytes bytes) ∷ done) →
-            Right s before (Attach slot) (exchange (ask.Read (record { 0 = descriptor_at s.geometry slot.0 place })) [] (answer.Bytes bytes) ∷ done)
-            (followed_by (load_part s.geometry slot.0 kept left (place + 1) writes) (after_load s next slot.0 c.until kept)) (suc (twice left))) →
-            ((d : Descriptor) (data' : List ℕ) →
-            Going s before (exchange (ask.Read (record { 0 = data_at s.geometry slot.0 place })) [] (answer.Bytes data')
-            ∷ exchange (ask.Read (record { 0 = descriptor_at s.geometry slot.0 place })) [] (answer.Bytes bytes) ∷ done) slot.0 c →
-            Loading s.geometry (learnt s.geometry slot.0 (Attach slot) (exchange (ask.Read (record { 0 = data_at s.geometry slot.0 place })) [] (answer.Bytes data')
-            ∷ exchange (ask.Read (record { 0 = descriptor_at s.geometry slot.0 place })) [] (answer.Bytes bytes) ∷ done) nothing_given) slot.0 kept (place + 1)
-            (inserted (record { number = d.number; vblock = d.vblock; block = data' }) writes)
-            (exchange (ask.Read (record { 0 = data_at s.geometry slot.0 place })) [] (answer.Bytes data')
-            ∷ exchange (ask.Read (record { 0 = descriptor_at s.geometry slot.0 place })) [] (answer.Bytes bytes) ∷ done) →
-            Right s before (Attach slot) (exchange (ask.Read (record { 0 = data_at s.geometry slot.0 place })) [] (answer.Bytes data')
-            ∷ exchange (ask.Read (record { 0 = descriptor_at s.geometry slot.0 place })) [] (answer.Bytes bytes) ∷ done)
-            (followed_by (load_part s.geometry slot.0 kept left (place + 1) (inserted (record { number = d.number; vblock = d.vblock; block = data' }) writes)) (after_load s next slot.0 c.until kept))
-            (suc (twice left))) →
-            Right s before (Attach slot) (exchange (ask.Read (record { 0 = descriptor_at s.geometry slot.0 place })) [] (answer.Bytes bytes) ∷ done)
+        by-finding : (bytes : List ℕ) → Going s before (after_descriptor place bytes done) slot.0 c → (f : Finding) → Says kept s.geometry.slots place (read_descriptor bytes) f →
+            (IsLoading (place + 1) writes (after_descriptor place bytes done) → Loads left (place + 1) writes (after_descriptor place bytes done)) →
+            ((d : Descriptor) (data' : List ℕ) → Going s before (after_data place data' (after_descriptor place bytes done)) slot.0 c →
+            IsLoading (place + 1) (with_read d data' writes) (after_data place data' (after_descriptor place bytes done)) →
+            Loads left (place + 1) (with_read d data' writes) (after_data place data' (after_descriptor place bytes done))) →
+            Right s before (Attach slot) (after_descriptor place bytes done)
             (followed_by (load_found (descriptor_at s.geometry slot.0 place) f (load_part s.geometry slot.0 kept left (place + 1) writes)
             (λ number vblock. load_read (data_at s.geometry slot.0 place) (λ data'.
             load_part s.geometry slot.0 kept left (place + 1) (inserted (record { number = number; vblock = vblock; block = data' }) writes)))) (after_load s next slot.0 c.until kept))
@@ -290,27 +293,27 @@ module _ (s : Setting) (before : List Finished) (known next : Known) (slot : Slo
         by-finding bytes going1 Outside says' none counts =
             let g = s.geometry in
             let room : place < g.slots = omega arith in
-            let done1 = exchange (ask.Read (record { 0 = descriptor_at g slot.0 place })) [] (answer.Bytes bytes) ∷ done in
-            let given1 = with_block (learnt g slot.0 (Attach slot) done nothing_given) (descriptor_at g slot.0 place) bytes in
+            let done1 = read_of (descriptor_at g slot.0 place) bytes ∷ done in
+            let given1 = with_block (told_now done) (descriptor_at g slot.0 place) bytes in
             let found : record_on g given1 slot.0 ≡ Some kept =
-            ap record_in (with-other (learnt g slot.0 (Attach slot) done nothing_given) (descriptor_at g slot.0 place) bytes (record_at g slot.0) (record-descriptor g slot.0 slot.0 place within)) ∙ l.found in
+            ap record_in (with-other (told_now done) (descriptor_at g slot.0 place) bytes (record_at g slot.0) (record-descriptor g slot.0 slot.0 place within)) ∙ l.found in
             right-damaged done1 (descriptor_at g slot.0 place) bytes going1 (inl refl)
             (outside-found g given1 slot.0 kept place bytes room found says') (own-descriptor place room) (suc (twice left))
         by-finding bytes going1 Unused says' none counts =
             let g = s.geometry in
-            let done1 = exchange (ask.Read (record { 0 = descriptor_at g slot.0 place })) [] (answer.Bytes bytes) ∷ done in
+            let done1 = read_of (descriptor_at g slot.0 place) bytes ∷ done in
             let whole = whole-spelled bytes says'.1.0 says'.1.1 in
             let sound = says'.2 in
             meets-more (May s before (Attach slot)) (Shows s before (Attach slot)) (followed_by (load_part g slot.0 kept left (place + 1) writes) (after_load s next slot.0 c.until kept)) done1 (suc (twice left))
-            (none (loads-none g (learnt g slot.0 (Attach slot) done nothing_given) slot.0 kept place writes done l within (omega arith) bytes whole sound says'.0))
+            (none (loads-none g (told_now done) slot.0 kept place writes done l within (omega arith) bytes whole sound says'.0))
         by-finding bytes going1 (Counts d) says' none counts =
             let g = s.geometry in
-            let done1 = exchange (ask.Read (record { 0 = descriptor_at g slot.0 place })) [] (answer.Bytes bytes) ∷ done in
+            let done1 = read_of (descriptor_at g slot.0 place) bytes ∷ done in
             let whole = whole-spelled bytes (Some d) says'.1 in
             let sound = says'.2 in
             asks-read done1 (data_at g slot.0 place) _ (suc (twice left)) (omega arith) going1
             (λ data' going2. counts d data' going2
-            (loads-write g (learnt g slot.0 (Attach slot) done nothing_given) slot.0 kept place writes done l within (omega arith) bytes whole sound d says'.0 data'))
+            (loads-write g (told_now done) slot.0 kept place writes done l within (omega arith) bytes whole sound d says'.0 data'))
 
   -- ---- the record
 
@@ -322,7 +325,7 @@ module _ (s : Setting) (before : List Finished) (known next : Known) (slot : Slo
 
   -- the record is read, and then the journal of a live image
   pub right-load : (done : List Exchange) → Going s before done slot.0 c →
-      ((place : ℕ) → learnt s.geometry slot.0 (Attach slot) done nothing_given (descriptor_at s.geometry slot.0 place) ≡ None) →
+      ((place : ℕ) → told_now done (descriptor_at s.geometry slot.0 place) ≡ None) →
       ((kept : ImageRecord) → AllInside s.geometry slot.0 kept done) → Right s before (Attach slot) done (load_image s next slot.0 c.until) (suc (suc (twice s.geometry.slots)))
   right-load done going unknown inside =
       let g = s.geometry in
@@ -330,33 +333,33 @@ module _ (s : Setting) (before : List Finished) (known next : Known) (slot : Slo
       (λ bytes going1. by-record bytes going1 (attached_record bytes) refl)
     where
       record-now : (bytes : List ℕ) (kept : ImageRecord) → read_image bytes ≡ Some kept →
-          record_on s.geometry (with_block (learnt s.geometry slot.0 (Attach slot) done nothing_given) (record_at s.geometry slot.0) bytes) slot.0 ≡ Some kept
-      record-now bytes kept found = ap record_in (with-same (learnt s.geometry slot.0 (Attach slot) done nothing_given) (record_at s.geometry slot.0) bytes) ∙ found
+          record_on s.geometry (with_block (told_now done) (record_at s.geometry slot.0) bytes) slot.0 ≡ Some kept
+      record-now bytes kept found = ap record_in (with-same (told_now done) (record_at s.geometry slot.0) bytes) ∙ found
 
       journal-unknown : (bytes : List ℕ) (place : ℕ) →
-          with_block (learnt s.geometry slot.0 (Attach slot) done nothing_given) (record_at s.geometry slot.0) bytes (descriptor_at s.geometry slot.0 place) ≡ None
+          with_block (told_now done) (record_at s.geometry slot.0) bytes (descriptor_at s.geometry slot.0 place) ≡ None
       journal-unknown bytes place =
-          with-other (learnt s.geometry slot.0 (Attach slot) done nothing_given) (record_at s.geometry slot.0) bytes (descriptor_at s.geometry slot.0 place)
+          with-other (told_now done) (record_at s.geometry slot.0) bytes (descriptor_at s.geometry slot.0 place)
           (λ e. record-descriptor s.geometry slot.0 slot.0 place within (sym e)) ∙ unknown place
 
-      by-live : (bytes : List ℕ) (kept : ImageRecord) → is_plain kept ≡ true → Going s before (exchange (ask.Read (record { 0 = record_at s.geometry slot.0 })) [] (answer.Bytes bytes) ∷ done) slot.0 c →
+      by-live : (bytes : List ℕ) (kept : ImageRecord) → is_plain kept ≡ true → Going s before (read_of (record_at s.geometry slot.0) bytes ∷ done) slot.0 c →
           read_image bytes ≡ Some kept → (live : Bool) → is_live kept ≡ live →
-          Right s before (Attach slot) (exchange (ask.Read (record { 0 = record_at s.geometry slot.0 })) [] (answer.Bytes bytes) ∷ done) (load_journal s next slot.0 c.until kept live) (suc (twice s.geometry.slots))
+          Right s before (Attach slot) (read_of (record_at s.geometry slot.0) bytes ∷ done) (load_journal s next slot.0 c.until kept live) (suc (twice s.geometry.slots))
       by-live bytes kept plain going1 found true is =
           let g = s.geometry in
-          loads kept plain g.slots 0 (exchange (ask.Read (record { 0 = record_at g slot.0 })) [] (answer.Bytes bytes) ∷ done) [] (omega arith) going1
-          (loads-first g (with_block (learnt g slot.0 (Attach slot) done nothing_given) (record_at g slot.0) bytes) slot.0 kept
-          (exchange (ask.Read (record { 0 = record_at g slot.0 })) [] (answer.Bytes bytes) ∷ done) (record-now bytes kept found) (journal-unknown bytes) (inside-record g slot.0 kept bytes within found, inside kept))
+          loads kept plain g.slots 0 (read_of (record_at g slot.0) bytes ∷ done) [] (omega arith) going1
+          (loads-first g (with_block (told_now done) (record_at g slot.0) bytes) slot.0 kept
+          (read_of (record_at g slot.0) bytes ∷ done) (record-now bytes kept found) (journal-unknown bytes) (inside-record g slot.0 kept bytes within found, inside kept))
       by-live bytes kept plain going1 found false is =
           let g = s.geometry in
-          right-ends (exchange (ask.Read (record { 0 = record_at g slot.0 })) [] (answer.Bytes bytes) ∷ done) (record { image = kept; writes = [] }) going1 (inside-record g slot.0 kept bytes within found, inside kept)
-          (fits-empty g (with_block (learnt g slot.0 (Attach slot) done nothing_given) (record_at g slot.0) bytes) slot.0 kept within (record-now bytes kept found) plain (journal-unknown bytes)) (twice g.slots)
+          right-ends (read_of (record_at g slot.0) bytes ∷ done) (record { image = kept; writes = [] }) going1 (inside-record g slot.0 kept bytes within found, inside kept)
+          (fits-empty g (with_block (told_now done) (record_at g slot.0) bytes) slot.0 kept within (record-now bytes kept found) plain (journal-unknown bytes)) (twice g.slots)
 
-      by-record : (bytes : List ℕ) → Going s before (exchange (ask.Read (record { 0 = record_at s.geometry slot.0 })) [] (answer.Bytes bytes) ∷ done) slot.0 c →
+      by-record : (bytes : List ℕ) → Going s before (read_of (record_at s.geometry slot.0) bytes ∷ done) slot.0 c →
           (found : Option ImageRecord) → attached_record bytes ≡ found →
-          Right s before (Attach slot) (exchange (ask.Read (record { 0 = record_at s.geometry slot.0 })) [] (answer.Bytes bytes) ∷ done) (after_record s next slot.0 c.until found) (suc (twice s.geometry.slots))
+          Right s before (Attach slot) (read_of (record_at s.geometry slot.0) bytes ∷ done) (after_record s next slot.0 c.until found) (suc (twice s.geometry.slots))
       by-record bytes going1 None is =
-          right-damaged (exchange (ask.Read (record { 0 = record_at s.geometry slot.0 })) [] (answer.Bytes bytes) ∷ done) (record_at s.geometry slot.0) bytes going1 (inl refl)
+          right-damaged (read_of (record_at s.geometry slot.0) bytes ∷ done) (record_at s.geometry slot.0) bytes going1 (inl refl)
           (elim (bad-record bytes (read_image bytes) refl is) [
             | inl none ↦ no_record refl none
             | inr bad ↦ not_plain bad.0 refl bad.1 bad.2

@@ -7,7 +7,7 @@ use Rattle.law_run.specs.Bounds.{bound}
 use Rattle.law_run.specs.CommandLogs.{Finished}
 use Rattle.law_run.specs.Positions.{PositionsAgree}
 use Rattle.law_run.specs.Rules.{IsSetting, RunsKeepRules}
-use Rattle.law_run.proofs.Claiming.{attach-begins}
+use Rattle.law_run.proofs.Attaches.{attach-begins}
 use Rattle.law_run.proofs.Detaching.{detach-begins}
 use Rattle.law_run.proofs.Making.{create-begins, delete-begins}
 use Rattle.law_run.proofs.Reading.{read-begins}

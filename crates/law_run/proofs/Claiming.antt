@@ -1,6 +1,6 @@
--- Attaches, from the first reading on.
-use Rattle.std.proofs.Common.{◌≡◌, ◌≢◌, ℕ, suc, ◌+◌, ◌*◌, ◌≤◌, ◌<◌, ◌^◌, List, [], ◌∷◌, drop, Bool, true, false, Option, Some, None, refl, ap, sym, subst, ◌∙◌, arith, inl, inr}
-use Rattle.std.specs.Prelude.{if◌then◌else◌, nat_le, nat_lt}
+-- Attaches that claim the lease of their image.
+use Rattle.std.proofs.Common.{◌≡◌, ◌≢◌, ℕ, suc, ◌+◌, ◌≤◌, ◌<◌, ◌^◌, List, [], ◌∷◌, drop, Bool, true, false, Option, Some, None, refl, ap, sym, subst, ◌∙◌, arith, inl, inr}
+use Rattle.std.specs.Prelude.{if◌then◌else◌, nat_le}
 use Rattle.std.specs.Str.{bytes_eq}
 use Rattle.std.proofs.lemmas.Slice.Eq.{bytes_eq-Decides}
 use Rattle.std.proofs.lemmas.Bool.Decides.{leb_tells}
@@ -14,21 +14,19 @@ use Rattle.plx_commands.specs.Limits.{last_claim}
 use Rattle.plx_commands.specs.declared.command.Command.TheVariants.{Attach}
 use Rattle.plx_commands.specs.declared.reply.Reply.{Reply}
 use Rattle.plx_commands.specs.declared.reply.Reply.TheVariants as reply
-use Rattle.plx_disk.specs.declared.ask.Ask.TheVariants as ask
 use Rattle.plx_disk.specs.declared.ask.Answer.{Answer}
 use Rattle.plx_disk.specs.declared.ask.Answer.TheVariants as answer
-use Rattle.plx_gate.specs.Leases.{lease_bytes, read_lease, IsClaimed}
-use Rattle.plx_gate.proofs.Leases.{lease-back, lease-only}
+use Rattle.plx_gate.specs.Leases.{lease_bytes, read_lease}
+use Rattle.plx_gate.proofs.Leases.{lease-only}
 use Rattle.plx_geom.specs.Geometry.{Geometry, lease_count, image_lease, lease_at, descriptor_at}
 use Rattle.plx_geom.proofs.Places.{image-below, lease-record, lease-log, lease-descriptor, lease-data}
 use Rattle.plx_rules.specs.Part.{Part, Ends}
-use Rattle.plx_worlds.specs.Attaching.{load_image, after_claim, claim_image, attach_held, attach_part}
+use Rattle.plx_worlds.specs.Attaching.{load_image, after_claim, claim_image}
 use Rattle.plx_worlds.specs.Claims.{ClaimEnd, ClaimReadFault, ClaimDamaged, claim_of, own_record, own_use, claim_in_time, reread_by, reread_part, written_part, if_expired, seen_part}
-use Rattle.plx_worlds.specs.Commands.{command_part}
 use Rattle.plx_worlds.specs.Ends.{End, ends, lost}
-use Rattle.plx_worlds.specs.Holds.{Hold, Nothing, Seen, Wrote, Waited, Held, wrote, reread, seen_by, shown, timed}
+use Rattle.plx_worlds.specs.Holds.{Hold, Nothing, Seen, Wrote, Waited, Held, reread, timed}
 use Rattle.plx_worlds.specs.Parts.{followed_by}
-use Rattle.plx_worlds.specs.Session.{Session, Known, with_claim, nothing_known}
+use Rattle.plx_worlds.specs.Session.{Known, with_claim, nothing_known}
 use Rattle.plx_worlds.specs.Settings.{Setting}
 use Rattle.plx_worlds.specs.Times.{window, wait, term, is_expired}
 use Rattle.law_run.specs.AllowedAsks.{WentOn, claim_of_lease}
@@ -37,25 +35,25 @@ use Rattle.law_run.specs.Holdings as holdings
 use Rattle.law_run.specs.Holdings.{at_first, holds_along, holds_after, hold_of, IsUntil, is_lease_read, is_clock, claims_in, claims_begun, IsNotHeld}
 use Rattle.law_run.specs.KnownBytes.{nothing_given, with_block, learnt}
 use Rattle.law_run.specs.Outside.{no_lease}
-use Rattle.law_run.specs.Refusals.{IsNamedFirst, NeedsClaim, NamesBlock, of_read, of_write, NeedsImage, of_delete, of_block, already_attached, no_slot, claims}
+use Rattle.law_run.specs.Refusals.{IsNamedFirst, NeedsClaim, NamesBlock, of_read, of_write, NeedsImage, of_delete, of_block}
 use Rattle.law_run.specs.Replies.{IsInUse, going, unread, of_clock, of_wait, of_claim, ReadRestsOn, of_record, of_log, of_descriptor, of_data, unexpired, taken, refused}
 use Rattle.law_run.specs.Replies as replies
 use Rattle.law_run.specs.Sessions.{attached_by, is_attached}
 use Rattle.law_run.proofs.Asking.{IsFine, replied-fine}
-use Rattle.law_run.proofs.Attaching.{twice, twice-is, attach-one, unattached-by, right-load}
+use Rattle.law_run.proofs.Attaching.{twice, attach-one, unattached-by, right-load}
 use Rattle.law_run.proofs.Detaching.{lease-apart}
 use Rattle.law_run.proofs.Grown.{with-other}
-use Rattle.law_run.proofs.Holding.{first-hold, first-held, first-more, claims-more, LeavesOthers, Spared, spared-first, spared-more, Course, going-first}
+use Rattle.law_run.proofs.Holding.{first-hold, first-more, claims-more, LeavesOthers, Spared, spared-first, spared-more, Course}
 use Rattle.law_run.proofs.Inside.{inside-lease}
-use Rattle.law_run.proofs.Meets.{exchange}
-use Rattle.law_run.proofs.OnImage.{names-own, names-other, names-only, lease-name}
-use Rattle.law_run.proofs.Passed.{Passed, passed}
-use Rattle.law_run.proofs.Rests.{KeepsHolds, rests-by, own-still, rests-lost, rests-failed}
-use Rattle.law_run.proofs.Right.{clock, FitsAt, Rests, finish, log_on, Right}
-use Rattle.law_run.proofs.Runs.{HasFirst, start}
+use Rattle.law_run.proofs.OnImage.{names-own, names-only, lease-name}
+use Rattle.law_run.proofs.Passed.{Passed}
+use Rattle.law_run.proofs.Rests.{KeepsHolds, rests-lost, rests-failed}
+use Rattle.law_run.proofs.Right.{clock, Rests, finish, log_on, Right}
+use Rattle.law_run.proofs.Runs.{HasFirst}
 use Rattle.law_run.proofs.Spelled.{lease-rest}
-use Rattle.law_run.proofs.Tests.{nat_le-true, nat_lt-true, nat_lt-false, lt-cases, and-false, clash, lt-is, lt-isn't}
-use Rattle.plx_commands.proofs.Places.{at-same}
+use Rattle.law_run.proofs.Tests.{clash}
+use Rattle.law_run.proofs.ClaimRules.{bytes-other}
+use Rattle.law_run.proofs.ClaimSteps.{read_of_lease, claim_write, claim_wait, after_sight, after_claiming, after_waiting, after_rereading, counts-sight, counts-claiming, counts-waiting, counts-rereading, own-back, held-sight, held-claiming, held-waiting, held-late, held-rereading}
 
 -- ---- refusals of an attach
 
@@ -67,7 +65,7 @@ no-image : (slot : SlotNo) (image : ℕ) → ¬ NeedsImage (Attach slot) image
 no-image slot image (of_delete other is same) = let P : ⊥ = cc in P
 no-image slot image (of_block vblock names) = no-block slot image vblock names
 
-attach-passed : (s : Setting) (before : List Finished) (slot : SlotNo) (done : List Exchange) (n : ℕ) → (3 ≤ n → is_attached before slot.0 ≡ false) → (5 ≤ n → slot.0 < s.geometry.images) →
+pub attach-passed : (s : Setting) (before : List Finished) (slot : SlotNo) (done : List Exchange) (n : ℕ) → (3 ≤ n → is_attached before slot.0 ≡ false) → (5 ≤ n → slot.0 < s.geometry.images) →
     (10 ≤ n → NeedsClaim s (log_on before (Attach slot) done) slot.0 → claims_begun s.geometry before < last_claim) → Passed s (log_on before (Attach slot) done) n
 attach-passed s before slot done n missing within few = record {
   sessions = λ lt image needed. absurd (let P : ⊥ = cc in P);
@@ -85,25 +83,12 @@ attach-passed s before slot done n missing within few = record {
   room = λ lt other v payload kept count is found counts. absurd (let P : ⊥ = cc in P);
 }
 
--- the read of a lease, directly after a reading, begins a claim
-one-claim : (g : Geometry) (lease : ℕ) (x : Exchange) (sample : ℕ) (done : List Exchange) → lease < lease_count g → x.ask ≡ ask.Read (record { 0 = lease_at lease }) →
-    claims_in g (x ∷ clock sample ∷ done) ≡ 1 + claims_in g (clock sample ∷ done)
-one-claim g lease x sample done within is = rw (is, nat_le-true 1 (lease_at lease) (omega arith), nat_le-true (lease_at lease) (lease_count g) (omega (arith, within))) refl
-
--- the reread doesn't
-no-claim : (g : Geometry) (x : Exchange) (from reading : ℕ) (done : List Exchange) →
-    claims_in g (x ∷ exchange (ask.Until from) [] (answer.Reading reading) ∷ done) ≡ claims_in g (exchange (ask.Until from) [] (answer.Reading reading) ∷ done)
-no-claim g x from reading done = rw (and-false (is_lease_read g x.ask) false refl) (omega arith)
-
 -- reads of a lease rest on no image's lease
 rests-on-none : (g : Geometry) (number : ℕ) → number < lease_count g → (other : ℕ) → other < g.images → ¬ ReadRestsOn g (lease_at number) other
 rests-on-none g number within other less (of_record is) = lease-record g number other within is
 rests-on-none g number within other less (of_log is) = lease-log g number other within is
 rests-on-none g number within other less (of_descriptor t lt is) = lease-descriptor g number other t within is
 rests-on-none g number within other less (of_data t lt is) = lease-data g number other t within is
-
-bytes-other : (a b : List ℕ) → bytes_eq a b ≡ false → a ≢ b
-bytes-other a b differ same = clash (bytes_eq a b) ((bytes_eq-Decides a b).1 same) differ
 
 abbrev ends_by_clock : List Exchange → Bool
 ends_by_clock [] = false
@@ -143,49 +128,36 @@ module _ (s : Setting) (boot_small : s.boot < 2 ^ 128) (before : List Finished) 
   fine : IsFine s before (Attach slot) reading
   fine done first = attach-passed s before slot done 11 (λ lt. missing) (λ lt. within) (λ lt needed. (let c = rests.claims in omega arith))
 
-  abbrev L : ℕ
-  L = image_lease slot.0
-
   lease-within : image_lease slot.0 < lease_count s.geometry
   lease-within = image-below s.geometry slot.0 within
 
-  abbrev own : (sample : ℕ) → Claim
-  own sample = claim_of s.boot known.claims sample
+  few-claims : known.claims < 2 ^ 40
+  few-claims = omega (arith, few)
 
-  own-limits : (sample : ℕ) → sample < 2 ^ 48 → IsClaimed (claim_of s.boot known.claims sample) (sample + term)
-  own-limits sample small = record { boot = boot_small; number = omega (arith, few); sample = small; low = omega arith; high = omega (arith, small) }
-
-  -- the exchanges of a claim
+  -- the exchanges of the claim
   abbrev d0 : List Exchange
   d0 = clock reading ∷ []
 
   abbrev read_lease_of : (x : Answer) → Exchange
-  read_lease_of x = exchange (ask.Read (record { 0 = lease_at (image_lease slot.0) })) [] x
+  read_lease_of x = read_of_lease (image_lease slot.0) x
 
   abbrev claims_lease : (sample : ℕ) → (x : Answer) → Exchange
-  claims_lease sample x =
-      exchange (ask.Write kind.Claim (record { 0 = lease_at (image_lease slot.0) }) (sample + window)) (lease_bytes (own_record (claim_of s.boot known.claims sample))) x
-
-  abbrev waits : (sample reading' : ℕ) → Exchange
-  waits sample reading' = exchange (ask.Until (sample + wait)) [] (answer.Reading reading')
+  claims_lease sample x = claim_write s.boot (image_lease slot.0) known.claims sample x
 
   abbrev d1 : (sample : ℕ) → List Exchange
   d1 sample = clock sample ∷ d0
 
   abbrev d2 : (sample : ℕ) → (bytes : List ℕ) → List Exchange
-  d2 sample bytes = read_lease_of (answer.Bytes bytes) ∷ d1 sample
+  d2 sample bytes = after_sight d0 (image_lease slot.0) sample bytes
 
   abbrev d3 : (sample : ℕ) → (bytes : List ℕ) → List Exchange
-  d3 sample bytes = claims_lease sample answer.Done ∷ d2 sample bytes
+  d3 sample bytes = after_claiming d0 s.boot (image_lease slot.0) known.claims sample bytes
 
   abbrev d4 : (sample : ℕ) → (bytes : List ℕ) → (reading' : ℕ) → List Exchange
-  d4 sample bytes reading' = waits sample reading' ∷ d3 sample bytes
+  d4 sample bytes reading' = after_waiting d0 s.boot (image_lease slot.0) known.claims sample bytes reading'
 
   abbrev d5 : (sample : ℕ) → (bytes : List ℕ) → (reading' : ℕ) → (again : List ℕ) → List Exchange
-  d5 sample bytes reading' again = read_lease_of (answer.Bytes again) ∷ d4 sample bytes reading'
-
-  abbrev next : Known
-  next = with_claim known
+  d5 sample bytes reading' again = after_rereading d0 s.boot (image_lease slot.0) known.claims sample bytes reading' again
 
   -- the leases of the other images along it
   others : (done : List Exchange) (x : Exchange) → HasFirst done → LeavesOthers slot.0 x → Spared s before done slot.0 → Spared s before (x ∷ done) slot.0
@@ -201,7 +173,7 @@ module _ (s : Setting) (boot_small : s.boot < 2 ^ 128) (before : List Finished) 
   spared3 sample bytes = others (d2 sample bytes) (claims_lease sample answer.Done) tt (λ other apart. lease-apart slot.0 other apart) (spared2 sample (answer.Bytes bytes))
 
   spared4 : (sample : ℕ) (bytes : List ℕ) (reading' : ℕ) → Spared s before (d4 sample bytes reading') slot.0
-  spared4 sample bytes reading' = others (d3 sample bytes) (waits sample reading') tt (λ other apart. tt) (spared3 sample bytes)
+  spared4 sample bytes reading' = others (d3 sample bytes) (claim_wait sample reading') tt (λ other apart. tt) (spared3 sample bytes)
 
   spared5 : (sample : ℕ) (bytes : List ℕ) (reading' : ℕ) (x : Answer) → Spared s before (read_lease_of x ∷ d4 sample bytes reading') slot.0
   spared5 sample bytes reading' x = others (d4 sample bytes reading') (read_lease_of x) tt (λ other apart. tt) (spared4 sample bytes reading')
@@ -224,16 +196,16 @@ module _ (s : Setting) (boot_small : s.boot < 2 ^ 128) (before : List Finished) 
 
   -- how many claims began
   begun2 : (sample : ℕ) (x : Answer) → claims_in s.geometry (read_lease_of x ∷ d1 sample) ≡ 1
-  begun2 sample x = one-claim s.geometry (image_lease slot.0) (read_lease_of x) sample d0 lease-within refl
+  begun2 sample x = counts-sight s.geometry d0 (image_lease slot.0) sample x tt lease-within
 
   begun3 : (sample : ℕ) (bytes : List ℕ) (x : Answer) → claims_in s.geometry (claims_lease sample x ∷ d2 sample bytes) ≡ 1
-  begun3 sample bytes x = claims-more s.geometry (d2 sample bytes) (claims_lease sample x) tt refl ∙ begun2 sample (answer.Bytes bytes)
+  begun3 sample bytes x = counts-claiming s.geometry d0 s.boot (image_lease slot.0) known.claims sample bytes x tt lease-within
 
   begun4 : (sample : ℕ) (bytes : List ℕ) (reading' : ℕ) → claims_in s.geometry (d4 sample bytes reading') ≡ 1
-  begun4 sample bytes reading' = claims-more s.geometry (d3 sample bytes) (waits sample reading') tt refl ∙ begun3 sample bytes answer.Done
+  begun4 sample bytes reading' = counts-waiting s.geometry d0 s.boot (image_lease slot.0) known.claims sample bytes reading' tt lease-within
 
   begun5 : (sample : ℕ) (bytes : List ℕ) (reading' : ℕ) (x : Answer) → claims_in s.geometry (read_lease_of x ∷ d4 sample bytes reading') ≡ 1
-  begun5 sample bytes reading' x = no-claim s.geometry (read_lease_of x) (sample + wait) reading' (d3 sample bytes) ∙ begun4 sample bytes reading'
+  begun5 sample bytes reading' x = counts-rereading s.geometry d0 s.boot (image_lease slot.0) known.claims sample bytes reading' x tt lease-within
 
   begun6 : (sample : ℕ) (bytes : List ℕ) (reading' : ℕ) (again : List ℕ) (last : ℕ) → claims_in s.geometry (clock last ∷ d5 sample bytes reading' again) ≡ 1
   begun6 sample bytes reading' again last = claims-more s.geometry (d5 sample bytes reading' again) (clock last) tt refl ∙ begun5 sample bytes reading' (answer.Bytes again)
@@ -242,42 +214,30 @@ module _ (s : Setting) (boot_small : s.boot < 2 ^ 128) (before : List Finished) 
   one-more done is = let c = rests.claims in omega arith
 
   -- what is held of the lease
-  seen2 : (sample : ℕ) (bytes : List ℕ) (seen : LeaseRecord) → read_lease bytes ≡ Some seen → is_expired seen sample ≡ true → hold_of s before (d2 sample bytes) (image_lease slot.0) ≡ Seen sample
-  seen2 sample bytes seen sees expired =
-      let H = holds_along s.geometry (is_attached before) (holds_after s.geometry before) (d1 sample) in
+  nothing-held : hold_of s before d0 (image_lease slot.0) ≡ Nothing
+  nothing-held =
       let first = first-hold s before reading slot.0 within in
-      let nothing : hold_of s before d0 (image_lease slot.0) ≡ Nothing =
-      first ∙ first-nothing (is_attached before slot.0) reading (holds_after s.geometry before (lease_at (image_lease slot.0))) (λ c u e. not_held c u (first ∙ e)) in
-      at-same H (lease_at (image_lease slot.0)) (shown (Some sample) bytes (H (lease_at (image_lease slot.0))))
-      ∙ (ap (λ h. shown (Some sample) bytes (timed sample h)) nothing ∙ (ap (λ o. seen_by o sample) sees ∙ ap (λ t. if t then Seen sample else Nothing) expired))
+      first ∙ first-nothing (is_attached before slot.0) reading (holds_after s.geometry before (lease_at (image_lease slot.0))) (λ c u e. not_held c u (first ∙ e))
+
+  seen2 : (sample : ℕ) → sample < 2 ^ 48 → (bytes : List ℕ) (seen : LeaseRecord) → read_lease bytes ≡ Some seen → is_expired seen sample ≡ true →
+      hold_of s before (d2 sample bytes) (image_lease slot.0) ≡ Seen sample
+  seen2 sample small bytes seen sees expired = held-sight s boot_small before d0 tt (image_lease slot.0) known.claims few-claims sample small bytes nothing-held seen sees expired
 
   held3 : (sample : ℕ) (bytes : List ℕ) → sample < 2 ^ 48 → hold_of s before (d3 sample bytes) (image_lease slot.0) ≡ Wrote (claim_of s.boot known.claims sample) (sample + term)
-  held3 sample bytes small =
-      let own' = claim_of s.boot known.claims sample in
-      let H = holds_along s.geometry (is_attached before) (holds_after s.geometry before) (d2 sample bytes) in
-      at-same H (lease_at (image_lease slot.0)) (wrote (read_lease (lease_bytes (own_record own')))) ∙ ap wrote (lease-back (own_record own') (own-limits sample small))
-
-  step4 : (sample : ℕ) (bytes : List ℕ) (reading' : ℕ) → sample < 2 ^ 48 →
-      hold_of s before (d4 sample bytes reading') (image_lease slot.0) ≡ timed reading' (Wrote (claim_of s.boot known.claims sample) (sample + term))
-  step4 sample bytes reading' small = ap (timed reading') (held3 sample bytes small)
+  held3 sample bytes small = held-claiming s boot_small before d0 tt (image_lease slot.0) known.claims few-claims sample small bytes
 
   waited4 : (sample : ℕ) (bytes : List ℕ) (reading' : ℕ) → sample < 2 ^ 48 → sample + wait ≤ reading' → reading' < sample + term →
       hold_of s before (d4 sample bytes reading') (image_lease slot.0) ≡ Waited (claim_of s.boot known.claims sample) (sample + term)
-  waited4 sample bytes reading' small past early =
-      step4 sample bytes reading' small ∙ rw (nat_le-true (sample + wait) reading' past, nat_lt-true reading' (sample + term) early) refl
+  waited4 sample bytes reading' small past early = held-waiting s boot_small before d0 tt (image_lease slot.0) known.claims few-claims sample small bytes reading' past early
 
   wrote4 : (sample : ℕ) (bytes : List ℕ) (reading' : ℕ) → sample < 2 ^ 48 → sample + term ≤ reading' →
       hold_of s before (d4 sample bytes reading') (image_lease slot.0) ≡ Wrote (claim_of s.boot known.claims sample) (sample + term)
-  wrote4 sample bytes reading' small late =
-      step4 sample bytes reading' small
-      ∙ rw (and-false (nat_le (sample + wait) reading') (nat_lt reading' (sample + term)) (nat_lt-false reading' (sample + term) late)) refl
+  wrote4 sample bytes reading' small late = held-late s boot_small before d0 tt (image_lease slot.0) known.claims few-claims sample small bytes reading' late
 
   held5 : (sample : ℕ) (bytes : List ℕ) (reading' : ℕ) (again : List ℕ) → sample < 2 ^ 48 → sample + wait ≤ reading' → reading' < sample + term →
       hold_of s before (d5 sample bytes reading' again) (image_lease slot.0)
       ≡ reread (bytes_eq again (lease_bytes (own_record (claim_of s.boot known.claims sample)))) (Held (claim_of s.boot known.claims sample) (sample + term))
-  held5 sample bytes reading' again small past early =
-      let H = holds_along s.geometry (is_attached before) (holds_after s.geometry before) (d4 sample bytes reading') in
-      at-same H (lease_at (image_lease slot.0)) (shown (Some reading') again (H (lease_at (image_lease slot.0)))) ∙ ap (shown (Some reading') again) (waited4 sample bytes reading' small past early)
+  held5 sample bytes reading' again small past early = held-rereading s boot_small before d0 tt (image_lease slot.0) known.claims few-claims sample small bytes reading' again past early
 
   -- a reply that leaves no session
   unheld : (done : List Exchange) (r : Reply) → ((other : ℕ) (b : Bool) → attached_by r (Attach slot) other b ≡ b) → KeepsHolds r → Spared s before done slot.0 → claims_in s.geometry done ≡ 1 →
@@ -360,7 +320,7 @@ module _ (s : Setting) (boot_small : s.boot < 2 ^ 128) (before : List Finished) 
   after-reread sample bytes reading' again small some past early true is found sees =
       let own' = claim_of s.boot known.claims sample in
       let same : again ≡ lease_bytes (own_record own') = (bytes_eq-Decides again (lease_bytes (own_record own'))).0 is in
-      let spelled : read_lease again ≡ Some (own_record own') = ap read_lease same ∙ lease-back (own_record own') (own-limits sample small) in
+      let spelled : read_lease again ≡ Some (own_record own') = ap read_lease same ∙ own-back s boot_small before d0 tt (image_lease slot.0) known.claims few-claims sample small again in
       goes-held sample bytes reading' again some (λ e. (let P : ⊥ = cc in P)) (held5 sample bytes reading' again small past early
       ∙ ap (λ t. reread t (Held (claim_of s.boot known.claims sample) (sample + term))) is)
   after-reread sample bytes reading' again small some past early false is (Some seen) sees =
@@ -473,7 +433,7 @@ module _ (s : Setting) (boot_small : s.boot < 2 ^ 128) (before : List Finished) 
           let n = suc (suc (suc (suc (twice s.geometry.slots)))) in (
             (
               went2 sample bytes,
-              claim_of_lease (image_lease slot.0) own' seen bytes d0 lease-within refl (λ c u e. (let was = seen2 sample bytes seen sees is in let P : ⊥ = cc in P)) refl sees is refl (let c = rests.claims in omega arith) refl
+              claim_of_lease (image_lease slot.0) own' seen bytes d0 lease-within refl (λ c u e. (let was = seen2 sample small bytes seen sees is in let P : ⊥ = cc in P)) refl sees is refl (let c = rests.claims in omega arith) refl
                   (lease-rest (own_record own') ∙ sym (ap (drop 512) (lease-only bytes seen sees).1 ∙ lease-rest seen)) refl,
             ),
             (
@@ -504,92 +464,3 @@ module _ (s : Setting) (boot_small : s.boot < 2 ^ 128) (before : List Finished) 
       read-fails (d1 sample) (suc (suc (suc (suc (suc (twice s.geometry.slots)))))) refl (spared2 sample answer.Fault) (begun2 sample answer.Fault),
     ),
   )
-
--- ---- all attaches
-
--- at most so many asks are answered after the first reading
-abbrev Within : Setting → List Finished → SlotNo → (reading : ℕ) → Part End → Type 0
-Within s before slot reading part = (left : ℕ) × (left ≤ 8 + 2 * s.geometry.slots) × Right s before (Attach slot) (clock reading ∷ []) part left
-
-module _ (s : Setting) (boot_small : s.boot < 2 ^ 128) (before : List Finished) (known : Known) (slot : SlotNo) (reading : ℕ) (rests : Rests s before known) where
-  -- the lease isn't held
-  by-claims : (hold : Hold) → hold_of s before (clock reading ∷ []) (image_lease slot.0) ≡ hold → ((claim : Claim) (until : ℕ) → ¬ (hold ≡ Held claim until)) → slot.0 < s.geometry.images →
-      is_attached before slot.0 ≡ false → Within s before slot reading (claim_image (nat_lt known.claims last_claim) s known slot.0)
-  by-claims hold is none within missing = elim (lt-cases known.claims last_claim) [
-    | inl few ↦ rw few.0 (
-      suc (suc (suc (suc (suc (suc (suc (twice s.geometry.slots))))))),
-      (let t = twice-is s.geometry.slots in omega arith),
-      right-claim s boot_small before known slot reading within missing rests few.1 (λ claim until e. none claim until (sym is ∙ e)),
-    )
-    | inr worn ↦ rw worn.0 (
-      0,
-      omega arith,
-      (
-        refused 9 (reading, refl)
-            (claims slot refl (reading, refl, λ claim until e. none claim until (sym is ∙ (first-hold s before reading slot.0 within ∙ e))) (let c = rests.claims in omega (arith, worn.1)))
-            (λ p other refuses. passed s (log_on before (Attach slot) (clock reading ∷ [])) 9 p other
-            (attach-passed s before slot (clock reading ∷ []) 9 (λ lt. missing) (λ lt. within) (λ lt. absurd (omega arith))) refuses),
-        unattached-by s before known known slot missing (λ image. refl) rests (clock reading ∷ []) (reply.WornOut last_claim) (λ other b. refl) (λ h. refl) (spared-first s before reading slot.0)
-            (let c = rests.claims in omega arith),
-      ),
-    )
-  ]
-
-  by-hold : (hold : Hold) → hold_of s before (clock reading ∷ []) (image_lease slot.0) ≡ hold → slot.0 < s.geometry.images → is_attached before slot.0 ≡ false →
-      Within s before slot reading (attach_held s known slot.0 hold)
-  by-hold (Held claim until) is within missing =
-      let c : Course = record { reading = reading; claim = claim; until = until; begun = 0 } in
-      let fine : IsFine s before (Attach slot) reading = λ done first. attach-passed s before slot done 11 (λ lt. missing) (λ lt. within)
-      (λ lt needed. absurd (
-      let e : Some reading ≡ Some needed.0 = sym first ∙ needed.1 in
-      let same : reading ≡ needed.0 = cc in
-      needed.2 claim until
-      (subst (λ r. at_first (is_attached before slot.0) r (holds_after s.geometry before (lease_at (image_lease slot.0))) ≡ Held claim until) same
-      (sym (first-hold s before reading slot.0 within) ∙ is)))) in (
-        suc (suc (twice s.geometry.slots)),
-        (let t = twice-is s.geometry.slots in omega arith),
-        right-load s before known known slot c within missing fine (let k = rests.claims in omega arith) (λ image. refl) rests (clock reading ∷ [])
-            (going-first s before slot.0 claim until reading is) (λ place. refl) (λ kept. (tt, tt)),
-      )
-  by-hold Nothing is within missing = by-claims Nothing is (λ claim until e. (let P : ⊥ = cc in P)) within missing
-  by-hold (Seen sample) is within missing = by-claims (Seen sample) is (λ claim until e. (let P : ⊥ = cc in P)) within missing
-  by-hold (Wrote c u) is within missing = by-claims (Wrote c u) is (λ claim until e. (let P : ⊥ = cc in P)) within missing
-  by-hold (Waited c u) is within missing = by-claims (Waited c u) is (λ claim until e. (let P : ⊥ = cc in P)) within missing
-
-  by-slot : (test : Bool) → nat_lt slot.0 s.geometry.images ≡ test → is_attached before slot.0 ≡ false →
-      Within s before slot reading (attach_part s known slot.0 None test (start s before reading (lease_at (image_lease slot.0))))
-  by-slot true is missing = by-hold (start s before reading (lease_at (image_lease slot.0))) refl (lt-is slot.0 s.geometry.images is) missing
-  by-slot false is missing = (
-    0,
-    omega arith,
-    (
-      refused 4 (reading, refl) (no_slot slot refl (lt-isn't slot.0 s.geometry.images is))
-          (λ p other refuses. passed s (log_on before (Attach slot) (clock reading ∷ [])) 4 p other
-          (attach-passed s before slot (clock reading ∷ []) 4 (λ lt. missing) (λ lt. absurd (omega arith)) (λ lt. absurd (omega arith))) refuses),
-      unattached-by s before known known slot missing (λ image. refl) rests (clock reading ∷ []) reply.NoImage (λ other b. refl) (λ h. refl) (spared-first s before reading slot.0)
-          (let c = rests.claims in omega arith),
-    ),
-  )
-
-  by-session : (found : Option Session) → known.sessions slot.0 ≡ found → FitsAt s before slot.0 found →
-      Within s before slot reading (attach_part s known slot.0 found (nat_lt slot.0 s.geometry.images) (start s before reading (lease_at (image_lease slot.0))))
-  by-session None is fits = by-slot (nat_lt slot.0 s.geometry.images) refl fits
-  by-session (Some session) is fits = (
-    0,
-    omega arith,
-    (
-      refused 2 (reading, refl) (already_attached slot refl fits.0)
-          (λ p other refuses. passed s (log_on before (Attach slot) (clock reading ∷ [])) 2 p other
-          (attach-passed s before slot (clock reading ∷ []) 2 (λ lt. absurd (omega arith)) (λ lt. absurd (omega arith)) (λ lt. absurd (omega arith))) refuses),
-      rests-by s before (Attach slot) (clock reading ∷ []) reply.AlreadyAttached known known slot.0 (names-other (Attach slot) slot.0 (attach-one slot)) (λ other apart. refl) (λ other b apart. refl) (λ h. refl)
-          (spared-first s before reading slot.0)
-          (own-still s before (Attach slot) (clock reading ∷ []) reply.AlreadyAttached slot.0 (known.sessions slot.0) (λ b. refl) (λ h. refl) (rests.sessions slot.0)
-          (λ attached. rw (names-own (Attach slot) slot.0 (attach-one slot), attached) refl)
-          (λ attached. (let h = fits.2 in (h.0, h.1, first-held s before reading slot.0 h.0 h.1 fits.1.within fits.0 h.2))))
-          (let c = rests.claims in omega arith) rests,
-    ),
-  )
-
-pub attach-begins : (s : Setting) → s.boot < 2 ^ 128 → (before : List Finished) (known : Known) (slot : SlotNo) (reading : ℕ) → Rests s before known →
-    Within s before slot reading (command_part s known (start s before reading) reading (Attach slot))
-attach-begins s boot_small before known slot reading rests = by-session s boot_small before known slot reading rests (known.sessions slot.0) refl (rests.sessions slot.0)

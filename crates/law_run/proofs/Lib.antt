@@ -32,3 +32,7 @@ pub mod Claiming
 pub mod Begun
 pub mod Worlds
 pub mod Inside
+pub mod Attaches
+pub mod Machines
+pub mod ClaimSteps
+pub mod ClaimRules

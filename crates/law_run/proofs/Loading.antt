@@ -3,12 +3,10 @@ use Rattle.std.proofs.Common.{◌≡◌, ◌≢◌, ℕ, ◌+◌, ◌≤◌, ◌
 use Rattle.std.specs.Prelude.{if◌then◌else◌, ◌&&◌, nat_lt}
 use Rattle.std.proofs.lemmas.Bool.Decides.{eqb_tells}
 use Rattle.plx_base.specs.Blocks.{zeros}
-use Rattle.plx_disk.specs.declared.ask.Ask.TheVariants as ask
-use Rattle.plx_disk.specs.declared.ask.Answer.TheVariants as answer
 use Rattle.plx_gate.specs.Descriptors.{read_descriptor}
 use Rattle.plx_gate.specs.declared.descriptor.Descriptor.{Descriptor}
 use Rattle.plx_gate.specs.declared.image.ImageRecord.{ImageRecord}
-use Rattle.plx_gate.proofs.Descriptors.{descriptor-back, read-only, read-empty}
+use Rattle.plx_gate.proofs.Descriptors.{descriptor-back, descriptor-only, read-empty}
 use Rattle.plx_geom.specs.Geometry.{Geometry, record_at, descriptor_at, data_at}
 use Rattle.plx_geom.proofs.Places.{record-descriptor, record-data, data-descriptor}
 use Rattle.plx_rules.specs.declared.journaled.Journaled.{Journaled}
@@ -23,8 +21,7 @@ use Rattle.law_run.proofs.Counted.{Tells, counted-tells, no-count}
 use Rattle.law_run.proofs.Grown.{with-same, with-other, counts-same, data-one, descriptor-one}
 use Rattle.law_run.proofs.Inside.{IsSound, AllInside, inside-descriptor, inside-data}
 use Rattle.law_run.proofs.Inserted.{Has, has-inserted, inserted-new, inserted-old, length-inserted, Ascending, ascending-inserted, numbered}
-use Rattle.law_run.proofs.Meets.{exchange}
-use Rattle.law_run.proofs.Right.{descriptor_of, Fits}
+use Rattle.law_run.proofs.Right.{read_of, descriptor_of, Fits}
 use Rattle.law_run.proofs.Tests.{clash}
 
 -- ---- what is found in a slot
@@ -72,7 +69,7 @@ says kept slots slot (Some (Some d)) = says-descriptor kept slots slot d (is_una
 -- bytes that spell a descriptor, or none, are zeros past the first sector
 pub whole-spelled : (bytes : List ℕ) (found : Option Descriptor) → read_descriptor bytes ≡ Some found → drop 512 bytes ≡ drop 512 zeros
 whole-spelled bytes None is = ap (drop 512) (read-empty bytes is)
-whole-spelled bytes (Some d) is = ap (drop 512) (read-only bytes d is).0 ∙ descriptor-back d
+whole-spelled bytes (Some d) is = ap (drop 512) (descriptor-only bytes d is).0 ∙ descriptor-back d
 
 -- ---- the descriptors that were read so far
 
@@ -87,7 +84,7 @@ pub record Loading (g : Geometry) (given : Given) (image : ℕ) (kept : ImageRec
   pub only : (slot : ℕ) (d : Descriptor) → IsCounted g given image kept slot d → (write : Journaled) × Has writes write × (d ≡ descriptor_of kept write)
   pub later : (slot : ℕ) → place ≤ slot → given (descriptor_at g image slot) ≡ None
   pub whole : (slot : ℕ) → slot < place → drop 512 (last_known (given (descriptor_at g image slot))) ≡ drop 512 zeros
-  pub was_read : (slot : ℕ) → slot < place → (bytes : List ℕ) × IsIn (exchange (ask.Read (record { 0 = descriptor_at g image slot })) [] (answer.Bytes bytes)) done
+  pub was_read : (slot : ℕ) → slot < place → (bytes : List ℕ) × IsIn (read_of (descriptor_at g image slot) bytes) done
   pub inside : AllInside g image kept done
 
 pub loads-first : (g : Geometry) (given : Given) (image : ℕ) (kept : ImageRecord) (done : List Exchange) → record_on g given image ≡ Some kept →
@@ -156,17 +153,17 @@ module _ (g : Geometry) (given : Given) (image : ℕ) (kept : ImageRecord) (plac
     | inr other ↦ ap (λ o. drop 512 (last_known o)) (elsewhere slot other.1) ∙ l.whole slot (let ne = other.1 in omega arith)
   ]
 
-  more-read : (slot : ℕ) → slot < place + 1 → (read : List ℕ) × IsIn (exchange (ask.Read (record { 0 = descriptor_at g image slot })) [] (answer.Bytes read))
-      (exchange (ask.Read (record { 0 = descriptor_at g image place })) [] (answer.Bytes bytes) ∷ done)
+  more-read : (slot : ℕ) → slot < place + 1 → (read : List ℕ) × IsIn (read_of (descriptor_at g image slot) read)
+      (read_of (descriptor_at g image place) bytes ∷ done)
   more-read slot below = elim (eqb_tells slot place) [
-    | inl same ↦ subst (λ n. (read : List ℕ) × IsIn (exchange (ask.Read (record { 0 = descriptor_at g image n })) [] (answer.Bytes read))
-        (exchange (ask.Read (record { 0 = descriptor_at g image place })) [] (answer.Bytes bytes) ∷ done)) (sym same.1) (bytes, inl refl)
+    | inl same ↦ subst (λ n. (read : List ℕ) × IsIn (read_of (descriptor_at g image n) read)
+        (read_of (descriptor_at g image place) bytes ∷ done)) (sym same.1) (bytes, inl refl)
     | inr other ↦ (let old = l.was_read slot (let ne = other.1 in omega arith) in (old.0, inr old.1))
   ]
 
   -- it doesn't count
   pub loads-none : counted kept g.slots place bytes ≡ None →
-      Loading g (with_block given (descriptor_at g image place) bytes) image kept (place + 1) writes (exchange (ask.Read (record { 0 = descriptor_at g image place })) [] (answer.Bytes bytes) ∷ done)
+      Loading g (with_block given (descriptor_at g image place) bytes) image kept (place + 1) writes (read_of (descriptor_at g image place) bytes ∷ done)
   loads-none none = record {
     found = old-record;
     room = (let r = l.room in omega arith);
@@ -220,8 +217,8 @@ module _ (g : Geometry) (given : Given) (image : ℕ) (kept : ImageRecord) (plac
 
     pub loads-write : Loading g (with_block (with_block given (descriptor_at g image place) bytes) (data_at g image place) block) image kept (place + 1)
         (inserted (record { number = d.number; vblock = d.vblock; block = block }) writes)
-        (exchange (ask.Read (record { 0 = data_at g image place })) [] (answer.Bytes block)
-        ∷ exchange (ask.Read (record { 0 = descriptor_at g image place })) [] (answer.Bytes bytes) ∷ done)
+        (read_of (data_at g image place) block
+        ∷ read_of (descriptor_at g image place) bytes ∷ done)
     loads-write = record {
       found = ap record_in (with-other (with_block given (descriptor_at g image place) bytes) (data_at g image place) block (record_at g image) (record-data g image image place image_within)) ∙ old-record;
       room = (let r = l.room in let e = length-inserted (record { number = d.number; vblock = d.vblock; block = block }) writes in omega arith);

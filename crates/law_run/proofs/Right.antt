@@ -28,8 +28,12 @@ use Rattle.law_run.specs.Replies.{IsReplied}
 use Rattle.law_run.specs.Sessions.{is_attached}
 use Rattle.law_run.proofs.Meets.{exchange, Meets}
 
+-- a reading of the clock, and the read of a block
 abbrev pub clock : ℕ → Exchange
 clock reading = exchange ask.Clock [] (answer.Reading reading)
+
+abbrev pub read_of : (block : ℕ) → List ℕ → Exchange
+read_of block bytes = exchange (ask.Read (record { 0 = block })) [] (answer.Bytes bytes)
 
 -- the descriptor of a journalled write of an image with this record
 abbrev pub descriptor_of : ImageRecord → Journaled → Descriptor

@@ -253,6 +253,7 @@ by-commands : (s : Setting) (p : Position) (holds : ℕ → Hold) (sample : Opti
 by-commands s p holds sample (Idle known) (Between before) hs ps agree = record {
   holds = λ block i. (hs ∙ agree.2) i block;
   attached = λ image. ap (λ (here : Place). is_some ((known_at here).sessions image)) ps ∙ attached-same s before image (known.sessions image) (agree.1.sessions image);
+  claims = ap (λ (here : Place). (known_at here).claims) ps ∙ agree.1.claims;
 }
 by-commands s p holds sample (Idle known) (Within log) hs ps agree = absurd agree
 by-commands s p holds sample (Begins known command) (Between before) hs ps agree = absurd agree
@@ -260,11 +261,13 @@ by-commands s p holds sample (Begins known command) (Within log) hs ps agree =
     let b = agree.0 in record {
       holds = λ block i. (hs ∙ (agree.1 ∙ ap (holds_along s.geometry (is_attached log.before) (holds_after s.geometry log.before)) (sym b.none_yet))) i block;
       attached = λ image. ap (λ (here : Place). is_some ((known_at here).sessions image)) ps ∙ attached-same s log.before image (known.sessions image) (b.rests.sessions image);
+      claims = ap (λ (here : Place). (known_at here).claims) ps ∙ b.rests.claims;
     }
 by-commands s p holds sample (In known command part) (Between before) hs ps agree = absurd agree
 by-commands s p holds sample (In known command part) (Within log) hs ps agree = record {
   holds = λ block i. (hs ∙ agree.1) i block;
   attached = λ image. ap (λ (here : Place). is_some ((known_at here).sessions image)) ps ∙ attached-same s log.before image (known.sessions image) (agree.4.sessions image);
+  claims = ap (λ (here : Place). (known_at here).claims) ps ∙ agree.4.claims;
 }
 
 -- of each run, where each command that begins keeps the rules

@@ -13,3 +13,5 @@ pub mod OneImage
 pub mod Rules
 pub mod Positions
 pub mod Worlds
+pub mod Machines
+pub mod ClaimEnds

@@ -1,11 +1,11 @@
--- What a boot holds, and its sessions, by its commands and by where it stands.
+-- What a boot holds, its sessions and its claims, by its commands and by where it stands.
 use Rattle.std.specs.Prelude.{◌≡◌, ℕ, List, is_some}
 use Rattle.plx_worlds.specs.Boot.{Happening, Place, Idle, Begins, In, Position, position, IsRun}
 use Rattle.plx_worlds.specs.Holds.{Hold}
 use Rattle.plx_worlds.specs.Session.{Known}
 use Rattle.plx_worlds.specs.Settings.{Setting}
 use Rattle.law_run.specs.CommandLogs.{Finished, Commands, Between, Within, commands}
-use Rattle.law_run.specs.Holdings.{holds_along, holds_after}
+use Rattle.law_run.specs.Holdings.{holds_along, holds_after, claims_begun}
 use Rattle.law_run.specs.Rules.{IsSetting}
 use Rattle.law_run.specs.Sessions.{is_attached}
 
@@ -25,11 +25,12 @@ known_at (Idle known) = known
 known_at (Begins known command) = known
 known_at (In known command part) = known
 
--- leases and sessions by the commands are those by the order of asks
+-- leases, sessions and the count of claims by the commands are those by the order of asks
 pub record IsByCommands (s : Setting) (p : Position) (commands : Commands) : Type 0 where
   pub holds : (block : ℕ) → p.holds block ≡ holds_by s commands block
   pub attached : (image : ℕ) → is_some ((known_at p.place).sessions image) ≡ is_attached (finished_of commands) image
+  pub claims : (known_at p.place).claims ≡ claims_begun s.geometry (finished_of commands)
 
--- of each run: what it holds, and which images have a session
+-- of each run: what it holds, which images have a session, and how many claims it began
 abbrev pub PositionsAgree : Type 0
 PositionsAgree = (s : Setting) (log : List Happening) → IsSetting s → IsRun s log → IsByCommands s (position s log) (commands s log)

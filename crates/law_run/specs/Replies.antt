@@ -77,13 +77,16 @@ pub data WasLost (s : Setting) (log : CommandLog) : LeaseName → (until reading
 
 -- a lease is busy: a claim of this command read its record, which isn't expired for the claim's sample;
 -- or its reread, after the wait, showed a record that isn't the claim's own
-pub data WasBusy (s : Setting) (log : CommandLog) : LeaseName → LeaseRecord → Type 0 where
-  unexpired : {name : LeaseName} {seen : LeaseRecord} (sample : ℕ) (bytes : List ℕ) (older : List Exchange) →
-      HasSampled log (lease_number s.geometry name) sample bytes older → read_lease bytes ≡ Some seen → is_expired seen sample ≡ false → WasBusy s log name seen
-  taken : {name : LeaseName} {seen : LeaseRecord} (claim : Claim) (until : ℕ) (bytes : List ℕ) (older : List Exchange) →
-      EndsWith log.exchanges (ask.Read (record { 0 = lease_at (lease_number s.geometry name) })) [] (answer.Bytes bytes) older →
-      hold_of s log.before older (lease_number s.geometry name) ≡ Waited claim until →
-      read_lease bytes ≡ Some seen → seen ≢ lease_is.Claimed claim until → WasBusy s log name seen
+pub data IsBusy (s : Setting) (log : CommandLog) (lease : ℕ) (seen : LeaseRecord) : Type 0 where
+  unexpired : (sample : ℕ) (bytes : List ℕ) (older : List Exchange) → HasSampled log lease sample bytes older → read_lease bytes ≡ Some seen →
+      is_expired seen sample ≡ false → IsBusy s log lease seen
+  taken : (claim : Claim) (until : ℕ) (bytes : List ℕ) (older : List Exchange) →
+      EndsWith log.exchanges (ask.Read (record { 0 = lease_at lease })) [] (answer.Bytes bytes) older → hold_of s log.before older lease ≡ Waited claim until →
+      read_lease bytes ≡ Some seen → seen ≢ lease_is.Claimed claim until → IsBusy s log lease seen
+
+-- the same of a lease by its name
+abbrev pub WasBusy : Setting → CommandLog → LeaseName → LeaseRecord → Type 0
+WasBusy s log name seen = IsBusy s log (lease_number s.geometry name) seen
 
 -- ---- bytes outside the format
 

@@ -5,6 +5,7 @@
 //! are the theorems.
 #![tactic(auto)]
 
+ghost use Rattle.law_run.specs.ClaimEnds.{ClaimsKeepRules};
 ghost use Rattle.law_run.specs.Completeness.{OkWithoutCause};
 ghost use Rattle.law_run.specs.OneImage.{StoresOneImage};
 ghost use Rattle.law_run.specs.Positions.{PositionsAgree};
@@ -26,7 +27,8 @@ pub fn stores_one_image()
     ensures { StoresOneImage }
 {}
 
-/// What a boot holds, and which images have a session, is the same by its commands and by where it stands.
+/// What a boot holds, which images have a session, and how many claims were begun, is the same by a log's commands
+/// and by where the log leads.
 pub fn positions_agree()
     ensures { PositionsAgree }
 {}
@@ -34,4 +36,10 @@ pub fn positions_agree()
 /// The log of each boot keeps the rules, in every world that events lead to.
 pub fn boots_keep_rules()
     ensures { BootsKeepRules }
+{}
+
+/// Each claim of a lease keeps the rules by itself, within any command: its asks are allowed, at most six are
+/// answered, and its end has its cause.
+pub fn claims_keep_rules()
+    ensures { ClaimsKeepRules }
 {}

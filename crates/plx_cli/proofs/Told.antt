@@ -14,7 +14,7 @@ use Rattle.plx_headline.proofs.Reaching.{reached-plays}
 
 -- the world that the program has stands for one that was reached
 pub world-told : HeadlineOfAll → (slots : ℕ) (events : List Event) (text : List ℕ) (entries : List Entry) (reachable allocated : ℕ) (first last : World) →
-    2 ≤ slots → slots ≤ 64 → Stands first (first_world slots) → PlaysAll first last events → entries ≡ last.trace → reachable ≡ 0 → allocated ≡ 0 →
+    2 ≤ slots → slots ≤ 64 → Stands first (first_world slots) → PlaysAll first last events → entries ≡ last.trace.items → reachable ≡ 0 → allocated ≡ 0 →
     text ≡ trace_text slots entries reachable allocated → LinesTell (trace_lines slots entries reachable allocated) → IsTold slots events text
 world-told law slots events text entries reachable allocated first last low high stands plays same none nothing is tells =
     let found = plays (first_world slots) stands in

@@ -20,7 +20,7 @@ use Rattle.plx_words.proofs.Clean.{all_bounded}
 use Rattle.plx_words.specs.Pieces.{Tells, all_spelled, spelled}
 use Rattle.plx_text.specs.Commands.{command_line, command_of}
 use Rattle.plx_text.specs.Events.{SpellsEvent, event_line, event_of}
-use Rattle.plx_text.specs.Replies.{lease_in, lease_piece, reply_line, reply_in}
+use Rattle.plx_text.specs.Replies.{lease_from, lease_piece, reply_line, reply_in}
 use Rattle.plx_text.specs.Stops.{stop_of, stop_piece}
 use Rattle.plx_text.specs.Schedules.{SpellsWorld, world_line, world_of}
 use Rattle.plx_text.specs.Traces.{entry_line, entry_in}
@@ -43,10 +43,10 @@ event-found (event.Start appliance command) words tells =
 event-found (event.Upto appliance at) words tells = rw (tells.1, value appliance.0 (omega arith), stop-found at tells.0.1.1.0) refl
 event-found other words tells = grind (arith, value)
 
-lease_in-piece : (lease : LeaseName) → Tells (lease_piece lease) → lease_in (spelled (lease_piece lease)) ≡ lease
-lease_in-piece Root tells = refl
-lease_in-piece (Image slot) tells = grind (arith, value)
-lease_in-piece (Extent extent) tells = grind (arith, value)
+lease_from-piece : (lease : LeaseName) → Tells (lease_piece lease) → lease_from (spelled (lease_piece lease)) ≡ lease
+lease_from-piece Root tells = refl
+lease_from-piece (Image slot) tells = grind (arith, value)
+lease_from-piece (Extent extent) tells = grind (arith, value)
 
 pub reply-found : (one : Reply) (words : List (List ℕ)) → Tell (reply_line one) words → reply_in words ≡ Some one
 reply-found (Attached report) words tells =
@@ -61,7 +61,7 @@ reply-found (Attached report) words tells =
       label-value report.label tells.0.1.1.1.1.1.1.1.0,
     ) refl
 reply-found (Data payload) words tells = rw (tells.1, data-value payload tells.0.1.0) refl
-reply-found (Lost lease until reading) words tells = rw (tells.1, lease_in-piece lease tells.0.1.0, value until (omega arith), value reading (omega arith)) refl
+reply-found (Lost lease until reading) words tells = rw (tells.1, lease_from-piece lease tells.0.1.0, value until (omega arith), value reading (omega arith)) refl
 reply-found other words tells = grind (arith, value)
 
 pub entry_in-line : (one : Entry) (words : List (List ℕ)) → Tell (entry_line one) words → entry_in words ≡ Some one

@@ -1,0 +1,138 @@
+-- Claims keep the rules.
+use Rattle.std.proofs.Common.{◌≡◌, ◌≢◌, ℕ, suc, ◌+◌, ◌≤◌, ◌<◌, ◌^◌, List, ◌∷◌, drop, Bool, true, false, Option, Some, None, refl, ap, sym, subst, ◌∙◌, arith, inl, inr}
+use Rattle.std.specs.Prelude.{if◌then◌else◌}
+use Rattle.std.specs.Str.{bytes_eq}
+use Rattle.std.proofs.lemmas.Bool.Decides.{leb_tells}
+use Rattle.std.proofs.lemmas.Slice.Eq.{bytes_eq-Decides}
+use Rattle.plx_base.specs.declared.lease.LeaseRecord.{LeaseRecord}
+use Rattle.plx_disk.specs.declared.ask.Answer.TheVariants as answer
+use Rattle.plx_gate.specs.Leases.{lease_bytes, read_lease}
+use Rattle.plx_gate.proofs.Leases.{lease-only}
+use Rattle.plx_rules.specs.Part.{Part, Ends}
+use Rattle.plx_worlds.specs.Claims.{ClaimEnd, ClaimLost, ClaimDamaged, claim_of, own_record, own_use, claim_in_time, claim_damaged, reread_by, reread_part, written_part, if_expired, seen_part, claim_part}
+use Rattle.plx_worlds.specs.Holds.{Held, reread}
+use Rattle.plx_worlds.specs.InUse.{InUse, earlier, first_reached, unless_reached}
+use Rattle.plx_worlds.specs.Settings.{Setting}
+use Rattle.plx_worlds.specs.Times.{window, wait, term, is_expired}
+use Rattle.law_run.specs.AllowedAsks.{WentOn, MayAsk, claim_of_lease}
+use Rattle.law_run.specs.ClaimEnds.{AreInUse, beside, with_own, missed, reached, ShowsClaim, with_exchanges, MayBeginClaim, ClaimsKeepRules}
+use Rattle.law_run.specs.CommandLogs.{Exchange, CommandLog, IsIn}
+use Rattle.law_run.specs.Replies.{of_clock, of_wait, unexpired, taken}
+use Rattle.law_run.proofs.ClaimSteps.{read_of_lease, after_sight, after_claiming, after_waiting, after_rereading, held-sight, held-claiming, held-waiting, held-rereading}
+use Rattle.law_run.proofs.Machines.{meets-keeps}
+use Rattle.law_run.proofs.Meets.{Meets}
+use Rattle.law_run.proofs.Right.{clock}
+use Rattle.law_run.proofs.Runs.{HasFirst}
+use Rattle.law_run.proofs.Spelled.{lease-rest}
+use Rattle.law_run.proofs.Tests.{clash}
+
+-- the rest by the leases that a reading has reached
+by-reached : (P : Part ClaimEnd → Type 0) (uses : List InUse) (reading : ℕ) (rest : Part ClaimEnd) → ((due : InUse) → first_reached uses reading ≡ Some due → P (Ends (ClaimLost due reading))) →
+    (first_reached uses reading ≡ None → P rest) → P (claim_in_time uses reading rest)
+by-reached P uses reading rest late early = go (first_reached uses reading) refl
+  where
+    go : (found : Option InUse) → first_reached uses reading ≡ found → P (unless_reached found (λ due. Ends (ClaimLost due reading)) rest)
+    go None is = early is
+    go (Some due) is = late due is
+
+-- a reading that has reached no lease is below the end of the first one
+below-first : (one : InUse) (others : List InUse) (reading : ℕ) → first_reached (one ∷ others) reading ≡ None → reading < one.until
+below-first one others reading none = elim (leb_tells one.until reading) [
+  | inl past ↦ absurd (let e = ap (λ t. if t then Some (earlier one (first_reached others reading)) else first_reached others reading) (sym past.0) ∙ none in let P : ⊥ = cc in P)
+  | inr early ↦ omega (arith, early.1)
+]
+
+pub bytes-other : (a b : List ℕ) → bytes_eq a b ≡ false → a ≢ b
+bytes-other a b differ same = clash (bytes_eq a b) ((bytes_eq-Decides a b).1 same) differ
+
+module _ (s : Setting) (boot_small : s.boot < 2 ^ 128) (log : CommandLog) (others : List InUse) (lease number : ℕ) (may : MayBeginClaim s log lease number) (has : HasFirst log.exchanges) where
+  abbrev Claims : List Exchange → Part ClaimEnd → ℕ → Type 0
+  Claims done part n = Meets (λ done'. MayAsk s (with_exchanges log done')) (λ done'. ShowsClaim s others lease (with_exchanges log done')) done part n
+
+  -- bytes that are no lease end it after one more reading
+  ends-damaged : (done : List Exchange) (bytes : List ℕ) (uses : List InUse) (n : ℕ) → WentOn done → IsIn (read_of_lease lease (answer.Bytes bytes)) done → read_lease bytes ≡ None →
+      ((last : ℕ) → AreInUse (with_exchanges log (clock last ∷ done)) others lease uses) → Claims done (claim_damaged uses) (suc n)
+  ends-damaged done bytes uses n went read none used = (
+    (went, tt),
+    λ last small. by-reached (λ part. Claims (clock last ∷ done) part n) uses last (Ends ClaimDamaged)
+        (λ due is. reached uses (used last) (of_clock (done, refl)) is)
+        (λ is. record { bytes = bytes; read = inr read; outside = none; reading = last; last = (done, refl); uses = uses; used = used last; early = is }),
+  )
+
+  module _ (sample : ℕ) (small : sample < 2 ^ 48) (bytes : List ℕ) (seen : LeaseRecord) (sees : read_lease bytes ≡ Some seen) (reading : ℕ) (past : sample + wait ≤ reading)
+      (early : reading < sample + term) where
+    -- the reread
+    after-again : (again : List ℕ) (same : Bool) → bytes_eq again (lease_bytes (own_record (claim_of s.boot number sample))) ≡ same → (found : Option LeaseRecord) → read_lease again ≡ found →
+        Claims (after_rereading log.exchanges s.boot lease number sample bytes reading again)
+        (reread_by same (own_use lease (claim_of s.boot number sample) ∷ others) (claim_of s.boot number sample) found) 1
+    after-again again true is found reads =
+        held-rereading s boot_small log.before log.exchanges has lease number may.few sample small bytes reading again past early
+        ∙ ap (λ t. reread t (Held (claim_of s.boot number sample) (sample + term))) is
+    after-again again false is (Some other) reads =
+        taken (claim_of s.boot number sample) (sample + term) again (after_waiting log.exchanges s.boot lease number sample bytes reading) refl
+        (held-waiting s boot_small log.before log.exchanges has lease number may.few sample small bytes reading past early) reads
+        (λ e. bytes-other again (lease_bytes (own_record (claim_of s.boot number sample))) is ((lease-only again other reads).1 ∙ ap lease_bytes e))
+    after-again again false is None reads =
+        ends-damaged (after_rereading log.exchanges s.boot lease number sample bytes reading again) again (own_use lease (claim_of s.boot number sample) ∷ others) 0
+        (tt, (tt, (tt, (tt, (tt, may.went))))) (inl refl) reads (λ last. with_own (claim_of s.boot number sample) (inr (inr (inr (inl refl)))))
+
+  -- the lease was read
+  after-read : (sample : ℕ) → sample < 2 ^ 48 → (bytes : List ℕ) (found : Option LeaseRecord) → read_lease bytes ≡ found →
+      Claims (after_sight log.exchanges lease sample bytes) (seen_part others lease (claim_of s.boot number sample) found) 4
+  after-read sample small bytes None sees = ends-damaged (after_sight log.exchanges lease sample bytes) bytes others 3 (tt, (tt, may.went)) (inl refl) sees (λ last. beside)
+  after-read sample small bytes (Some seen) sees = by-expired (is_expired seen sample) refl
+    where
+      by-expired : (test : Bool) → is_expired seen sample ≡ test →
+          Claims (after_sight log.exchanges lease sample bytes) (if_expired test seen (written_part others lease (claim_of s.boot number sample))) 4
+      by-expired false is = unexpired sample bytes log.exchanges refl sees is
+      by-expired true is =
+          let own = claim_of s.boot number sample in
+          let held = held-sight s boot_small log.before log.exchanges has lease number may.few sample small bytes may.nothing seen sees is in (
+            (
+              (tt, (tt, may.went)),
+              claim_of_lease lease own seen bytes log.exchanges may.within refl (λ c u e. (let P : ⊥ = cc in P)) refl sees is refl may.counted refl
+                  (lease-rest (own_record own) ∙ sym (ap (drop 512) (lease-only bytes seen sees).1 ∙ lease-rest seen)) refl,
+            ),
+            (
+              (
+                (tt, (tt, (tt, may.went))),
+                record {
+                  lease = lease;
+                  claim = own;
+                  until = sample + term;
+                  wrote = held-claiming s boot_small log.before log.exchanges has lease number may.few sample small bytes;
+                  after = refl;
+                },
+              ),
+              λ reading past small'. by-reached (λ part. Claims (after_waiting log.exchanges s.boot lease number sample bytes reading) part 2) (own_use lease own ∷ others) reading
+                  (reread_part (own_use lease own ∷ others) lease own)
+                  (λ due e. reached (own_use lease own ∷ others) (with_own own (inr (inl refl))) (of_wait (sample + wait) (after_claiming log.exchanges s.boot lease number sample bytes, refl)) e)
+                  (λ e. (
+                    ((tt, (tt, (tt, (tt, may.went)))), tt),
+                    λ again long. after-again sample small bytes seen sees reading past (below-first (own_use lease own) others reading e) again (bytes_eq again (lease_bytes (own_record own))) refl (read_lease again) refl,
+                    (after_waiting log.exchanges s.boot lease number sample bytes reading, refl),
+                  )),
+            ),
+            (sample + window, lease_bytes (own_record own), (after_sight log.exchanges lease sample bytes, refl)),
+            λ reading past small'. missed (lease_bytes (own_record own)) (after_sight log.exchanges lease sample bytes, refl) refl,
+          )
+
+  claim-meets : Claims log.exchanges (claim_part s.boot others lease number) 6
+  claim-meets = (
+    (may.went, tt),
+    λ sample small. by-reached (λ part. Claims (clock sample ∷ log.exchanges) part 5) others sample _
+        (λ due e. reached others beside (of_clock (log.exchanges, refl)) e)
+        (λ e. (
+          ((tt, may.went), tt),
+          λ bytes long. after-read sample small bytes (read_lease bytes) refl,
+          (clock sample ∷ log.exchanges, refl),
+        )),
+  )
+
+begun-first : (done older : List Exchange) (x : Exchange) → done ≡ x ∷ older → HasFirst done
+begun-first done older x is = subst HasFirst (sym is) tt
+
+pub claims-keep-rules : ClaimsKeepRules
+claims-keep-rules s log others lease number is may =
+    meets-keeps (λ done. MayAsk s (with_exchanges log done)) (λ done. ShowsClaim s others lease (with_exchanges log done)) log.exchanges (claim_part s.boot others lease number) 6
+    (claim-meets s is.boot log others lease number may (begun-first log.exchanges may.others may.first may.begun))

@@ -1,0 +1,117 @@
+-- The exchanges of a claim: what is held of its lease after each, and how many claims began.
+use Rattle.std.proofs.Common.{◌≡◌, ℕ, ◌+◌, ◌≤◌, ◌<◌, ◌^◌, List, [], ◌∷◌, true, false, Some, refl, ap, ◌∙◌, arith}
+use Rattle.std.specs.Prelude.{if◌then◌else◌, nat_le, nat_lt}
+use Rattle.std.specs.Str.{bytes_eq}
+use Rattle.plx_base.specs.declared.lease.LeaseRecord.{LeaseRecord}
+use Rattle.plx_base.specs.declared.write_kind.WriteKind.TheVariants as kind
+use Rattle.plx_commands.proofs.Places.{at-same}
+use Rattle.plx_disk.specs.declared.ask.Ask.TheVariants as ask
+use Rattle.plx_disk.specs.declared.ask.Answer.{Answer}
+use Rattle.plx_disk.specs.declared.ask.Answer.TheVariants as answer
+use Rattle.plx_gate.specs.Leases.{lease_bytes, read_lease, IsClaimed}
+use Rattle.plx_gate.proofs.Leases.{lease-back}
+use Rattle.plx_geom.specs.Geometry.{Geometry, lease_count, lease_at}
+use Rattle.plx_worlds.specs.Claims.{claim_of, own_record}
+use Rattle.plx_worlds.specs.Holds.{Hold, Nothing, Seen, Wrote, Waited, Held, wrote, reread, seen_by, shown, timed}
+use Rattle.plx_worlds.specs.Settings.{Setting}
+use Rattle.plx_worlds.specs.Times.{window, wait, term, is_expired}
+use Rattle.law_run.specs.CommandLogs.{Exchange, Finished}
+use Rattle.law_run.specs.Holdings.{holds_along, holds_after, hold_of, is_lease_read, claims_in}
+use Rattle.law_run.specs.Sessions.{is_attached}
+use Rattle.law_run.proofs.Holding.{claims-more}
+use Rattle.law_run.proofs.Meets.{exchange}
+use Rattle.law_run.proofs.Right.{clock}
+use Rattle.law_run.proofs.Runs.{HasFirst, along-more}
+use Rattle.law_run.proofs.Tests.{nat_le-true, nat_lt-true, nat_lt-false, and-false}
+
+-- the read of a lease, its claim, and the wait
+abbrev pub read_of_lease : (lease : ℕ) → Answer → Exchange
+read_of_lease lease x = exchange (ask.Read (record { 0 = lease_at lease })) [] x
+
+abbrev pub claim_write : (boot lease number sample : ℕ) → Answer → Exchange
+claim_write boot lease number sample x = exchange (ask.Write kind.Claim (record { 0 = lease_at lease }) (sample + window)) (lease_bytes (own_record (claim_of boot number sample))) x
+
+abbrev pub claim_wait : (sample reading : ℕ) → Exchange
+claim_wait sample reading = exchange (ask.Until (sample + wait)) [] (answer.Reading reading)
+
+-- the exchanges of a command once its claim has read its lease, was written, has waited, and has read it again
+abbrev pub after_sight : (first : List Exchange) → (lease sample : ℕ) → (bytes : List ℕ) → List Exchange
+after_sight first lease sample bytes = read_of_lease lease (answer.Bytes bytes) ∷ clock sample ∷ first
+
+abbrev pub after_claiming : (first : List Exchange) → (boot lease number sample : ℕ) → (bytes : List ℕ) → List Exchange
+after_claiming first boot lease number sample bytes = claim_write boot lease number sample answer.Done ∷ after_sight first lease sample bytes
+
+abbrev pub after_waiting : (first : List Exchange) → (boot lease number sample : ℕ) → (bytes : List ℕ) → (reading : ℕ) → List Exchange
+after_waiting first boot lease number sample bytes reading = claim_wait sample reading ∷ after_claiming first boot lease number sample bytes
+
+abbrev pub after_rereading : (first : List Exchange) → (boot lease number sample : ℕ) → (bytes : List ℕ) → (reading : ℕ) → (again : List ℕ) → List Exchange
+after_rereading first boot lease number sample bytes reading again =
+    read_of_lease lease (answer.Bytes again) ∷ after_waiting first boot lease number sample bytes reading
+
+-- ---- how many claims began
+
+-- the read of a lease, directly after a reading, begins a claim
+pub counts-sight : (g : Geometry) (first : List Exchange) (lease sample : ℕ) (x : Answer) → HasFirst first → lease < lease_count g →
+    claims_in g (read_of_lease lease x ∷ clock sample ∷ first) ≡ 1 + claims_in g first
+counts-sight g first lease sample x has within =
+    rw (nat_le-true 1 (lease_at lease) (omega arith), nat_le-true (lease_at lease) (lease_count g) (omega (arith, within)))
+    (ap (λ n. 1 + n) (claims-more g first (clock sample) has refl))
+
+pub counts-claiming : (g : Geometry) (first : List Exchange) (boot lease number sample : ℕ) (bytes : List ℕ) (x : Answer) → HasFirst first → lease < lease_count g →
+    claims_in g (claim_write boot lease number sample x ∷ after_sight first lease sample bytes) ≡ 1 + claims_in g first
+counts-claiming g first boot lease number sample bytes x has within =
+    claims-more g (after_sight first lease sample bytes) (claim_write boot lease number sample x) tt refl ∙ counts-sight g first lease sample (answer.Bytes bytes) has within
+
+pub counts-waiting : (g : Geometry) (first : List Exchange) (boot lease number sample : ℕ) (bytes : List ℕ) (reading : ℕ) → HasFirst first → lease < lease_count g →
+    claims_in g (after_waiting first boot lease number sample bytes reading) ≡ 1 + claims_in g first
+counts-waiting g first boot lease number sample bytes reading has within =
+    claims-more g (after_claiming first boot lease number sample bytes) (claim_wait sample reading) tt refl ∙ counts-claiming g first boot lease number sample bytes answer.Done has within
+
+-- the reread begins none
+pub counts-rereading : (g : Geometry) (first : List Exchange) (boot lease number sample : ℕ) (bytes : List ℕ) (reading : ℕ) (x : Answer) → HasFirst first → lease < lease_count g →
+    claims_in g (read_of_lease lease x ∷ after_waiting first boot lease number sample bytes reading) ≡ 1 + claims_in g first
+counts-rereading g first boot lease number sample bytes reading x has within =
+    (let e = and-false (is_lease_read g (read_of_lease lease x).ask) false refl in rw e (omega arith)) ∙ counts-waiting g first boot lease number sample bytes reading has within
+
+-- ---- what is held of the lease
+
+module _ (s : Setting) (boot_small : s.boot < 2 ^ 128) (before : List Finished) (first : List Exchange) (has : HasFirst first) (lease number : ℕ) (few : number < 2 ^ 40)
+    (sample : ℕ) (small : sample < 2 ^ 48) (bytes : List ℕ) where
+  own-limits : IsClaimed (claim_of s.boot number sample) (sample + term)
+  own-limits = record { boot = boot_small; number = few; sample = small; low = omega arith; high = omega (arith, small) }
+
+  -- the claim's own record is read back
+  pub own-back : read_lease (lease_bytes (own_record (claim_of s.boot number sample))) ≡ Some (own_record (claim_of s.boot number sample))
+  own-back = lease-back (own_record (claim_of s.boot number sample)) own-limits
+
+  pub held-sight : hold_of s before first lease ≡ Nothing → (seen : LeaseRecord) → read_lease bytes ≡ Some seen → is_expired seen sample ≡ true →
+      hold_of s before (after_sight first lease sample bytes) lease ≡ Seen sample
+  held-sight nothing seen sees expired =
+      let H = holds_along s.geometry (is_attached before) (holds_after s.geometry before) (clock sample ∷ first) in
+      let step : hold_of s before (clock sample ∷ first) lease ≡ Nothing =
+      ap (λ (h : ℕ → Hold). h (lease_at lease)) (along-more s.geometry (is_attached before) (holds_after s.geometry before) (clock sample) first has) ∙ ap (timed sample) nothing in
+      at-same H (lease_at lease) (shown (Some sample) bytes (H (lease_at lease)))
+      ∙ (ap (shown (Some sample) bytes) step ∙ (ap (λ o. seen_by o sample) sees ∙ ap (λ t. if t then Seen sample else Nothing) expired))
+
+  pub held-claiming : hold_of s before (after_claiming first s.boot lease number sample bytes) lease ≡ Wrote (claim_of s.boot number sample) (sample + term)
+  held-claiming =
+      let H = holds_along s.geometry (is_attached before) (holds_after s.geometry before) (after_sight first lease sample bytes) in
+      at-same H (lease_at lease) (wrote (read_lease (lease_bytes (own_record (claim_of s.boot number sample))))) ∙ ap wrote own-back
+
+  step-waiting : (reading : ℕ) → hold_of s before (after_waiting first s.boot lease number sample bytes reading) lease ≡ timed reading (Wrote (claim_of s.boot number sample) (sample + term))
+  step-waiting reading = ap (timed reading) held-claiming
+
+  pub held-waiting : (reading : ℕ) → sample + wait ≤ reading → reading < sample + term →
+      hold_of s before (after_waiting first s.boot lease number sample bytes reading) lease ≡ Waited (claim_of s.boot number sample) (sample + term)
+  held-waiting reading past early = step-waiting reading ∙ rw (nat_le-true (sample + wait) reading past, nat_lt-true reading (sample + term) early) refl
+
+  pub held-late : (reading : ℕ) → sample + term ≤ reading →
+      hold_of s before (after_waiting first s.boot lease number sample bytes reading) lease ≡ Wrote (claim_of s.boot number sample) (sample + term)
+  held-late reading late = step-waiting reading ∙ rw (and-false (nat_le (sample + wait) reading) (nat_lt reading (sample + term)) (nat_lt-false reading (sample + term) late)) refl
+
+  pub held-rereading : (reading : ℕ) (again : List ℕ) → sample + wait ≤ reading → reading < sample + term →
+      hold_of s before (after_rereading first s.boot lease number sample bytes reading again) lease
+      ≡ reread (bytes_eq again (lease_bytes (own_record (claim_of s.boot number sample)))) (Held (claim_of s.boot number sample) (sample + term))
+  held-rereading reading again past early =
+      let H = holds_along s.geometry (is_attached before) (holds_after s.geometry before) (after_waiting first s.boot lease number sample bytes reading) in
+      at-same H (lease_at lease) (shown (Some reading) again (H (lease_at lease))) ∙ ap (shown (Some reading) again) (held-waiting reading past early)

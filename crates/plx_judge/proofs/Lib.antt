@@ -1,0 +1,9 @@
+mod Effects
+mod Filled
+mod Founded
+mod Numbered
+mod OnResult
+mod Pictures
+mod Reports
+mod SameBytes
+mod Tables

@@ -1,0 +1,54 @@
+-- Tables of lists.
+use Rattle.std.proofs.Common.{◌≡◌, ◌≢◌, ◌<◌, ◌≤◌, ℕ, zero, suc, List, length, map, replicate, refl, sym, ap, ◌∙◌, arith, get_or, Bool, true, false, ◌⊎◌, inl, inr}
+use Rattle.std.specs.Prelude.{if◌then◌else◌, ◌==◌, slice_set}
+use Rattle.std.proofs.Math.Path.{fun_ext}
+use Rattle.std.proofs.lemmas.Bool.Decides.{eqb_tells}
+use Rattle.std.proofs.lemmas.List.{get_or-set_other, get_or-replicate, get_or_past, length-replicate, get_or-map}
+use Rattle.std.proofs.lemmas.Grind.{get_or-set_at}
+use Rattle.plx_commands.specs.Places.{at}
+use Rattle.plx_judge.specs.Tables.{table}
+
+below_or_past : (k n : ℕ) → (k < n) ⊎ (n ≤ k)
+below_or_past k zero = inr (omega arith)
+below_or_past zero (suc n) = inl (omega arith)
+below_or_past (suc k) (suc n) = or_suc k n (below_or_past k n)
+  where
+    or_suc : (k n : ℕ) → (k < n) ⊎ (n ≤ k) → (suc k < suc n) ⊎ (suc n ≤ suc k)
+    or_suc k n (inl h) = inl (omega arith)
+    or_suc k n (inr h) = inr (omega arith)
+
+-- the table of a list that has everywhere the same
+pub table-replicate : {X : Type 0} (n : ℕ) (x : X) → table (replicate n x) x ≡ (λ k. x)
+table-replicate {X} n x = fun_ext (λ k. each k (below_or_past k n))
+  where
+    each : (k : ℕ) → (k < n) ⊎ (n ≤ k) → get_or (replicate n x) k x ≡ x
+    each k (inl h) = get_or-replicate n k x x h
+    each k (inr h) = get_or_past (replicate n x) k x (rw (length-replicate n x) h)
+
+chosen : {X : Type 0} (b : Bool) (u v w : X) → (b ≡ true → w ≡ u) → (b ≡ false → w ≡ v) → w ≡ (if b then u else v)
+chosen true u v w yes_case no_case = yes_case refl
+chosen false u v w yes_case no_case = no_case refl
+
+-- the table of a list that is changed at one place
+pub table-set : {X : Type 0} (xs : List X) (k : ℕ) (x d : X) → k < length xs → table (slice_set xs k x) d ≡ at (table xs d) k x
+table-set {X} xs k x d within = fun_ext (λ j. each j (eqb_tells j k))
+  where
+    each : (j : ℕ) → (((j == k) ≡ true) × (j ≡ k)) ⊎ (((j == k) ≡ false) × (j ≢ k)) → get_or (slice_set xs k x) j d ≡ (if j == k then x else get_or xs j d)
+    each j (inl h) = rw h.0 (get_or-set_at xs k j x d h.1 within)
+    each j (inr h) = rw h.0 (get_or-set_other xs k j x d h.1)
+
+-- what the table has at a place of the list
+pub table-at : {X Y : Type 0} (f : X → Y) (xs : List X) (k : ℕ) (x : X) (d : Y) → k < length xs → x ≡ get_or xs k x → table (map f xs) d k ≡ f x
+table-at f xs k x d within e = get_or-map f xs k x d within ∙ ap f (sym e)
+
+-- and past the list
+pub table-past : {X : Type 0} (xs : List X) (k : ℕ) (d : X) → length xs ≤ k → table xs d k ≡ d
+table-past xs k d past = get_or_past xs k d past
+
+-- what stands at a place may be written there again
+pub at-again : {X : Type 0} (f : ℕ → X) (k : ℕ) (x : X) → f k ≡ x → at f k x ≡ f
+at-again {X} f k x e = fun_ext (λ j. each j (eqb_tells j k))
+  where
+    each : (j : ℕ) → (((j == k) ≡ true) × (j ≡ k)) ⊎ (((j == k) ≡ false) × (j ≢ k)) → (if j == k then x else f j) ≡ f j
+    each j (inl h) = rw h.0 (sym e ∙ ap f (sym h.1))
+    each j (inr h) = rw h.0 refl

@@ -1,0 +1,4 @@
+pub mod Cause
+pub mod Effects
+pub mod Shown
+pub mod Tables
