@@ -22,7 +22,7 @@ use Rattle.plx_words.proofs.Clean.{all_bounded}
 use Rattle.plx_words.specs.Pieces.{Tells, all_spelled, spelled}
 use Rattle.plx_lines.specs.Commands.{built_line, built_of, command_line, command_of}
 use Rattle.plx_lines.specs.Events.{SpellsEvent, event_line, event_of}
-use Rattle.plx_lines.specs.Replies.{lease_in, lease_piece, reply_line, reply_in}
+use Rattle.plx_lines.specs.Replies.{lease_from, lease_piece, reply_line, reply_in}
 use Rattle.plx_lines.specs.Stops.{stop_of, stop_piece}
 use Rattle.plx_lines.specs.Schedules.{SpellsWorld, world_line, world_of}
 use Rattle.plx_lines.specs.Traces.{entry_line, entry_in}
@@ -64,10 +64,10 @@ event-found (event.Start appliance command) words tells =
 event-found (event.Upto appliance at) words tells = rw (tells.1, value appliance.0 (omega arith), stop-found at tells.0.1.1.0) refl
 event-found other words tells = grind (arith, value)
 
-lease_in-piece : (lease : LeaseName) → Tells (lease_piece lease) → lease_in (spelled (lease_piece lease)) ≡ lease
-lease_in-piece Root tells = refl
-lease_in-piece (Image slot) tells = grind (arith, value)
-lease_in-piece (Extent extent) tells = grind (arith, value)
+lease_from-piece : (lease : LeaseName) → Tells (lease_piece lease) → lease_from (spelled (lease_piece lease)) ≡ lease
+lease_from-piece Root tells = refl
+lease_from-piece (Image slot) tells = grind (arith, value)
+lease_from-piece (Extent extent) tells = grind (arith, value)
 
 pub reply-found : (one : Reply) (words : List (List ℕ)) → Tell (reply_line one) words → reply_in words ≡ Some one
 reply-found (Attached report) words tells =
@@ -82,17 +82,17 @@ reply-found (Attached report) words tells =
       label-value report.label tells.0.1.1.1.1.1.1.1.0,
     ) refl
 reply-found (Data payload) words tells = rw (tells.1, data-value payload tells.0.1.0) refl
-reply-found (Busy lease Free) words tells = rw (tells.1, lease_in-piece lease tells.0.1.0) refl
+reply-found (Busy lease Free) words tells = rw (tells.1, lease_from-piece lease tells.0.1.0) refl
 reply-found (Busy lease (Claimed claim until)) words tells =
     rw (
       tells.1,
-      lease_in-piece lease tells.0.1.0,
+      lease_from-piece lease tells.0.1.0,
       value claim.boot.0 (omega arith),
       value claim.number (omega arith),
       value claim.sample (omega arith),
       value until (omega arith),
     ) refl
-reply-found (Lost lease until reading) words tells = rw (tells.1, lease_in-piece lease tells.0.1.0, value until (omega arith), value reading (omega arith)) refl
+reply-found (Lost lease until reading) words tells = rw (tells.1, lease_from-piece lease tells.0.1.0, value until (omega arith), value reading (omega arith)) refl
 reply-found other words tells = grind (arith, value)
 
 pub entry_in-line : (one : Entry) (words : List (List ℕ)) → Tell (entry_line one) words → entry_in words ≡ Some one

@@ -20,8 +20,8 @@ lease_piece (Image slot) = named (codes "lease=image:") (2 ^ 32) slot.0
 lease_piece (Extent extent) = named (codes "lease=extent:") (2 ^ 32) extent.0
 
 -- the one lease that a word can name
-abbrev pub lease_in : List ℕ → LeaseName
-lease_in letters = if bytes_eq letters (codes "lease=root") then Root
+abbrev pub lease_from : List ℕ → LeaseName
+lease_from letters = if bytes_eq letters (codes "lease=root") then Root
     else if bytes_eq (take 12 letters) (codes "lease=image:") then Image (record { 0 = digits_value 10 (drop 12 letters) })
     else Extent (record { 0 = digits_value 10 (drop 13 letters) })
 
@@ -105,8 +105,8 @@ reply_in words = by_first words (
     ∷ (codes "no-image", Some NoImage)
     ∷ (codes "exists", Some Exists)
     ∷ (codes "out-of-range", Some (OutOfRange (named_at (codes "size=") 1 words)))
-    ∷ (codes "busy", Some (Busy (lease_in (get_or words 1 [])) (lease_record_in words)))
-    ∷ (codes "lost", Some (Lost (lease_in (get_or words 1 [])) (named_at (codes "until=") 2 words) (named_at (codes "reading=") 3 words)))
+    ∷ (codes "busy", Some (Busy (lease_from (get_or words 1 [])) (lease_record_in words)))
+    ∷ (codes "lost", Some (Lost (lease_from (get_or words 1 [])) (named_at (codes "until=") 2 words) (named_at (codes "reading=") 3 words)))
     ∷ (codes "read-fault", Some (ReadFault (block_at 1 words)))
     ∷ (codes "write-fault", Some (WriteFault (block_at 1 words)))
     ∷ (codes "full", Some Full)

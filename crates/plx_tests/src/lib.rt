@@ -14,6 +14,8 @@ mod judge;
 #[cfg(test)]
 mod large;
 #[cfg(test)]
+mod lease_texts;
+#[cfg(test)]
 mod leases;
 #[cfg(test)]
 mod lines;
