@@ -1,17 +1,15 @@
 -- The model that a list of slots and one of seats show, and how it changes with them.
-use Rattle.std.proofs.Common.{◌≡◌, ◌≢◌, ◌<◌, ◌≤◌, ℕ, List, length, map, refl, sym, ap, subst, ◌∙◌, get_or, Bool, true, false, Option, Some, None, ◌⊎◌, inl, inr}
+use Rattle.std.proofs.Common.{◌≡◌, ◌<◌, ◌≤◌, ℕ, List, length, map, refl, sym, ap, subst, ◌∙◌, get_or, Bool, true, false, Option, Some, None, ◌⊎◌, inl, inr}
 use Rattle.std.specs.Prelude.{slice_set}
 use Rattle.std.proofs.Math.Path.{fun_ext}
 use Rattle.std.proofs.lemmas.Bool.{cases_lt}
 use Rattle.std.proofs.lemmas.List.{length-set, length-map, map-set}
 use Rattle.std.proofs.Math.ListN.{get_or-map}
-use Rattle.plx_commands.specs.Images.{Image}
 use Rattle.plx_commands.specs.Model.{Slot, Model, first_slot, images_in, owns}
-use Rattle.plx_commands.specs.Moves.{begins_change, done_at, entered, forgotten, given_back, given_up, attached, left, made, refused_at, rested, started_at, under_way, where_owned}
+use Rattle.plx_commands.specs.Moves.{begins_change, forgotten, given_back, given_up, refused_at, rested, started_at, under_way, where_owned}
 use Rattle.plx_commands.specs.Places.{at}
 use Rattle.plx_commands.specs.Slots.{after, changed}
 use Rattle.plx_commands.specs.declared.command.Command.{Command}
-use Rattle.plx_commands.specs.declared.reply.Report.{Report}
 use Rattle.plx_judge.specs.Shown.{image_of, running_of, sessions_of, slot_of}
 use Rattle.plx_judge.specs.Tables.{table}
 use Rattle.plx_judge.specs.declared.seat.Seat.{Seat}

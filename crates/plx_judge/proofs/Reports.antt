@@ -1,5 +1,5 @@
 -- The test whether two reports are equal.
-use Rattle.std.proofs.Common.{◌≡◌, ◌+◌, refl, ap, sym, subst, Bool, true, false, Option, Some, None, inl, inr}
+use Rattle.std.proofs.Common.{◌≡◌, refl, sym, subst, Bool, true, false, Option, Some, None, inl, inr}
 use Rattle.std.specs.Prelude.{◌==◌, ◌&&◌}
 use Rattle.std.proofs.lemmas.Bool.{eqb-true, eq-eqb}
 use Rattle.plx_commands.specs.Images.{Image, report_of}

@@ -24,6 +24,7 @@ impl Model {
     ghost use Rattle.plx_judge.specs.Shown.{shown};
 
     /// Takes the next entry of a trace, where it keeps all rules. Else the model stays as it is.
+    #[tactic(auto, using(crate::proofs::Numbered::accepted_keeps))]
     pub fn judge(&mut self, entry: &Entry) -> Result<(), JudgeError>
         ensures accepted { OnOk result (Accepts (shown self.old) entry.now) }
         ensures moved { OnOk result (shown self.new ≡ moved (shown self.old) entry.now) }

@@ -1,9 +1,6 @@
 //! The refusals of a command whose facts hold.
 use crate::replies::{OK, number_of};
-use plx_commands::Reply;
-
-/// How many claims a boot can begin.
-const LAST_CLAIM: u64 = 0xff_ffff_ffff;
+use plx_commands::{LAST_CLAIM, Reply};
 
 /// Which refusals' facts hold of a slot's image.
 #[derive(Clone, Copy)]

@@ -5,18 +5,9 @@ use crate::frozen::{Frozen, count_dropped};
 use crate::refusals::ImageRefusals;
 use crate::report::is_same;
 use plx_base::{Block, Label, NoMemory};
-use plx_commands::{Command, Report};
+use plx_commands::{Command, GREATEST_SIZE, LAST_GENERATION, LAST_WRITE, Report};
 use std::alloc::Global;
 use std::collections::BTreeMap;
-
-/// The most blocks of an image.
-const GREATEST_SIZE: u32 = 0x800_0000;
-
-/// How often an image can be made in one slot.
-const LAST_GENERATION: u32 = u32::MAX;
-
-/// The number of an image's last write.
-const LAST_WRITE: u64 = 0xffff_ffff_ffff;
 
 /// A change of an image.
 #[derive(Drop)]

@@ -1,4 +1,4 @@
-use Rattle.std.proofs.Common.{Some, refl, sym}
+use Rattle.std.proofs.Common.{refl, sym}
 use Rattle.plx_commands.specs.Moves.{made}
 use Rattle.plx_judge.proofs.OnResult.{any_err}
 use Rattle.plx_judge.proofs.Pictures.{picture-changed, picture-rested, picture-same, picture-sessions}
