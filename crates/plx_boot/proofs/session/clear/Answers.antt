@@ -1,6 +1,7 @@
 use Rattle.std.proofs.Common.{◌∙◌, sym, replicate}
 use Rattle.plx_base.specs.Blocks.{zeros}
-use Rattle.plx_disk.proofs.Whole.{written-whole, length-zeros}
+use Rattle.plx_base.proofs.Spelling.{length-zeros}
+use Rattle.plx_base.proofs.Written.{written-whole}
 use Rattle.plx_boot.proofs.session.clear.Goals as goal
 
 pub returns : goal.returns

@@ -6,4 +6,4 @@ use Rattle.plx_boot.proofs.attach.Attach.ask.Goals as goal
 pub returns-in-Claim-clause-ask : goal.returns-in-Claim-clause-ask
 returns-in-Claim-clause-ask c = λ known.
     let m = c.args.self.now.claim in
-    rw (c.in-Claim.is, standing-followed (claim_rest m) _ (claim-asks m)) c.ask.ensures
+    rw (c.in-Claim.is, standing-followed (claim_rest m) _ (claim-asks m)) c.ask.ensures.ask

@@ -6,4 +6,4 @@ use Rattle.plx_boot.proofs.attach.Attach.out.Goals as goal
 pub returns-in-Claim : goal.returns-in-Claim
 returns-in-Claim c = λ known.
     let m = c.args.self.now.claim in
-    rw (c.in-Claim.is, bytes-followed (claim_rest m) _ (claim-asks m)) c.out.ensures
+    rw (c.in-Claim.is, bytes-followed (claim_rest m) _ (claim-asks m)) c.out.ensures.bytes
