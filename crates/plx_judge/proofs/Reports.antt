@@ -1,12 +1,12 @@
 -- The test whether two reports are equal.
 use Rattle.std.proofs.Common.{◌≡◌, refl, sym, subst, Bool, true, false, Option, Some, None, inl, inr}
 use Rattle.std.specs.Prelude.{◌==◌, ◌&&◌}
-use Rattle.std.proofs.lemmas.Bool.{eqb-true, eq-eqb}
+use Rattle.std.proofs.lemmas.Bool.{and_from, and_parts, eqb-true, eq-eqb}
 use Rattle.plx_commands.specs.Images.{Image, report_of}
 use Rattle.plx_commands.specs.Reports.{IsReported, same_report, same_flag, same_bytes}
 use Rattle.plx_commands.specs.declared.reply.Report.{Report}
 use Rattle.plx_judge.specs.Shown.{reported}
-use Rattle.plx_judge.proofs.SameBytes.{and_first, and_second, and_both, same_bytes-same, same_bytes-equal}
+use Rattle.plx_judge.proofs.SameBytes.{same_bytes-same, same_bytes-equal}
 
 same_flag-same : (b : Bool) → same_flag b b ≡ true
 same_flag-same true = refl
@@ -19,26 +19,26 @@ same_flag-equal false false h = refl
 
 same_report-same : (r : Report) → same_report r r ≡ true
 same_report-same r =
-    and_both _ _ (eq-eqb r.writes r.writes refl)
-    (and_both _ _ (eq-eqb r.generation r.generation refl)
-    (and_both _ _ (eq-eqb r.size r.size refl)
-    (and_both _ _ (eq-eqb r.taken r.taken refl)
-    (and_both _ _ (eq-eqb r.dropped r.dropped refl) (and_both _ _ (same_flag-same r.live) (same_bytes-same r.label))))))
+    and_from _ _ (eq-eqb r.writes r.writes refl)
+    (and_from _ _ (eq-eqb r.generation r.generation refl)
+    (and_from _ _ (eq-eqb r.size r.size refl)
+    (and_from _ _ (eq-eqb r.taken r.taken refl)
+    (and_from _ _ (eq-eqb r.dropped r.dropped refl) (and_from _ _ (same_flag-same r.live) (same_bytes-same r.label))))))
 
 same_report-equal : (r s : Report) → same_report r s ≡ true → r ≡ s
 same_report-equal r s h0 =
-    let h1 : ((r.generation == s.generation) && ((r.size == s.size) && ((r.taken == s.taken) && ((r.dropped == s.dropped) && (same_flag r.live s.live && same_bytes r.label s.label))))) ≡ true = and_second (r.writes == s.writes) _ h0 in
-    let h2 : ((r.size == s.size) && ((r.taken == s.taken) && ((r.dropped == s.dropped) && (same_flag r.live s.live && same_bytes r.label s.label)))) ≡ true = and_second (r.generation == s.generation) _ h1 in
-    let h3 : ((r.taken == s.taken) && ((r.dropped == s.dropped) && (same_flag r.live s.live && same_bytes r.label s.label))) ≡ true = and_second (r.size == s.size) _ h2 in
-    let h4 : ((r.dropped == s.dropped) && (same_flag r.live s.live && same_bytes r.label s.label)) ≡ true = and_second (r.taken == s.taken) _ h3 in
-    let h5 : (same_flag r.live s.live && same_bytes r.label s.label) ≡ true = and_second (r.dropped == s.dropped) _ h4 in
-    let writes : r.writes ≡ s.writes = eqb-true _ _ (and_first (r.writes == s.writes) _ h0) in
-    let generation : r.generation ≡ s.generation = eqb-true _ _ (and_first (r.generation == s.generation) _ h1) in
-    let size : r.size ≡ s.size = eqb-true _ _ (and_first (r.size == s.size) _ h2) in
-    let taken : r.taken ≡ s.taken = eqb-true _ _ (and_first (r.taken == s.taken) _ h3) in
-    let dropped : r.dropped ≡ s.dropped = eqb-true _ _ (and_first (r.dropped == s.dropped) _ h4) in
-    let live : r.live ≡ s.live = same_flag-equal _ _ (and_first (same_flag r.live s.live) _ h5) in
-    let label : r.label ≡ s.label = same_bytes-equal _ _ (and_second (same_flag r.live s.live) _ h5) in
+    let h1 : ((r.generation == s.generation) && ((r.size == s.size) && ((r.taken == s.taken) && ((r.dropped == s.dropped) && (same_flag r.live s.live && same_bytes r.label s.label))))) ≡ true = (and_parts (r.writes == s.writes) _ h0).1 in
+    let h2 : ((r.size == s.size) && ((r.taken == s.taken) && ((r.dropped == s.dropped) && (same_flag r.live s.live && same_bytes r.label s.label)))) ≡ true = (and_parts (r.generation == s.generation) _ h1).1 in
+    let h3 : ((r.taken == s.taken) && ((r.dropped == s.dropped) && (same_flag r.live s.live && same_bytes r.label s.label))) ≡ true = (and_parts (r.size == s.size) _ h2).1 in
+    let h4 : ((r.dropped == s.dropped) && (same_flag r.live s.live && same_bytes r.label s.label)) ≡ true = (and_parts (r.taken == s.taken) _ h3).1 in
+    let h5 : (same_flag r.live s.live && same_bytes r.label s.label) ≡ true = (and_parts (r.dropped == s.dropped) _ h4).1 in
+    let writes : r.writes ≡ s.writes = eqb-true _ _ (and_parts (r.writes == s.writes) _ h0).0 in
+    let generation : r.generation ≡ s.generation = eqb-true _ _ (and_parts (r.generation == s.generation) _ h1).0 in
+    let size : r.size ≡ s.size = eqb-true _ _ (and_parts (r.size == s.size) _ h2).0 in
+    let taken : r.taken ≡ s.taken = eqb-true _ _ (and_parts (r.taken == s.taken) _ h3).0 in
+    let dropped : r.dropped ≡ s.dropped = eqb-true _ _ (and_parts (r.dropped == s.dropped) _ h4).0 in
+    let live : r.live ≡ s.live = same_flag-equal _ _ (and_parts (same_flag r.live s.live) _ h5).0 in
+    let label : r.label ≡ s.label = same_bytes-equal _ _ (and_parts (same_flag r.live s.live) _ h5).1 in
     λ i. record {
       live = live i;
       generation = generation i;

@@ -12,6 +12,8 @@ mod geometry;
 #[cfg(test)]
 mod judge;
 #[cfg(test)]
+mod judged;
+#[cfg(test)]
 mod large;
 #[cfg(test)]
 mod lease_texts;

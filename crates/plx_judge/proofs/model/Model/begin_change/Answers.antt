@@ -1,11 +1,11 @@
 use Rattle.std.proofs.Common.{◌≡◌, ◌<◌, ◌∙◌, ap, sym, subst, true, Some, length}
+use Rattle.std.proofs.lemmas.Result.{on_ok_weaker, on_err_weaker}
 use Rattle.plx_commands.specs.Model.{Model, Slot, first_slot}
 use Rattle.plx_commands.specs.Moves.{begins_change}
 use Rattle.plx_commands.specs.Slots.{changed}
 use Rattle.plx_judge.specs.Effects.{changed_by}
 use Rattle.plx_judge.specs.Shown.{CanChange, image_of, shown, slot_of}
 use Rattle.plx_judge.proofs.Effects.{can_change, changed_of, none_changed, owned_changed}
-use Rattle.plx_judge.proofs.OnResult.{on_ok, on_err}
 use Rattle.plx_judge.proofs.Pictures.{owner_within, picture-started, picture-same}
 use Rattle.plx_judge.proofs.Tables.{table-at}
 use Rattle.plx_judge.proofs.model.Model.begin_change.Goals as goal
@@ -22,7 +22,7 @@ returns-clause-ok c =
     table-at slot_of c.args.self.now.slots.items c.in-Some.slot c.index_mut-state.result.now first_slot within c.index_mut-state.ensures.value in
     let can : CanChange (image_of c.index_mut-state.result.now) c.args.command.now =
     subst (λ (z : Slot). CanChange z.image c.args.command.now) here (can_change m c.args.appliance.0 c.in-Some.slot c.args.command.now changes within (none_changed m c.args.appliance.0 c.args.command.now begins)) in
-    on_ok c.begin.result
+    on_ok_weaker c.begin.result
     (λ e. picture-started c.args.self.now.slots.items c.args.self.now.seats.items c.in-Some.slot c.args.appliance.0 c.index_mut-state.result.now c.begin.new.self c.args.command.now within c.index_mut-state.ensures.value changes begins (e can))
     c.begin.ensures.ok
 
@@ -34,6 +34,6 @@ returns-clause-err c =
     let begins : begins_change m c.args.appliance.0 c.args.command.now ≡ true = sym c.begins_change.ensures ∙ c.if-not-begins_change.false in
     let within : c.in-Some.slot < length c.args.self.now.slots.items =
     owner_within c.args.self.now.slots.items c.args.self.now.seats.items c.in-Some.slot c.args.appliance.0 (owned_changed m c.args.appliance.0 c.in-Some.slot c.args.command.now changes begins) in
-    on_err c.begin.result
+    on_err_weaker c.begin.result
     (λ e. picture-same c.args.self.now.slots.items c.args.self.now.seats.items c.in-Some.slot c.index_mut-state.result.now c.begin.new.self within c.index_mut-state.ensures.value e)
     c.begin.ensures.err

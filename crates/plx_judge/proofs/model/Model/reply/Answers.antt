@@ -1,4 +1,5 @@
 use Rattle.std.proofs.Common.{◌≡◌, ◌∙◌, sym, ap, subst, Bool, Option, Some, None}
+use Rattle.std.proofs.lemmas.Result.{on_ok_weaker}
 use Rattle.plx_commands.specs.Model.{Model}
 use Rattle.plx_commands.specs.Moves.{replied_in}
 use Rattle.plx_commands.specs.Replies.{ends_sessions, number_of}
@@ -7,7 +8,6 @@ use Rattle.plx_judge.specs.Effects.{IsAtHand, effect_of, ended}
 use Rattle.plx_judge.specs.Shown.{shown, running_of}
 use Rattle.plx_judge.specs.declared.effect.Effect.{Effect}
 use Rattle.plx_judge.proofs.Effects.{at_hand, own_number, replied_by}
-use Rattle.plx_judge.proofs.OnResult.{on_ok}
 use Rattle.plx_judge.proofs.Tables.{table-at}
 use Rattle.plx_judge.proofs.model.Model.reply.Goals as goal
 
@@ -27,7 +27,7 @@ returns-clause-ok c =
     let ends : Bool = ends_sessions (number_of c.args.reply.now) in
     let runs : m.running c.args.appliance.0 ≡ Some command =
     table-at running_of c.args.self.now.seats.items c.args.appliance.0 c.index-seat.result.now None c.requires.known c.index-seat.ensures ∙ c.in-Some.is in
-    on_ok c.end.result
+    on_ok_weaker c.end.result
     (λ e. e
     ∙ (ap (λ (effect : Effect). ended m c.args.appliance.0 effect c.is_own-own.result ends c.args.reply.now) c.of-effect.ensures
     ∙ (ap (λ (own : Bool). ended m c.args.appliance.0 (effect_of command) own ends c.args.reply.now) c.is_own-own.ensures
