@@ -35,7 +35,7 @@ use Rattle.plx_worlds.specs.Journal.{finding, Finding, Unused, Counts}
 use Rattle.plx_worlds.specs.Loading.{LoadEnd, load_found, load_part, gap_found}
 use Rattle.plx_worlds.specs.Parts.{followed_by}
 use Rattle.plx_worlds.specs.Records.{is_live, is_plain, taken_of, applied_of, plain_record, attached_record}
-use Rattle.plx_worlds.specs.Session.{Session, Known, with_session, inserted, first_gap, session_report, latest}
+use Rattle.plx_worlds.specs.Session.{Session, Known, with_session, inserted, first_gap, session_report}
 use Rattle.plx_worlds.specs.Settings.{Setting}
 use Rattle.law_lease.proofs.LawfulCommands.{below-tested}
 use Rattle.law_headline.proofs.Held.{Regime, Without, Looks, HasImage, HeldPart}
@@ -44,6 +44,7 @@ use Rattle.law_headline.proofs.JournalFacts.{finding-commit}
 use Rattle.law_headline.proofs.Journals.{descriptor_of, IsJournal, IsShown, ShowEither, Keeps}
 use Rattle.law_headline.proofs.ModelFacts.{Differs}
 use Rattle.law_headline.proofs.Owners.{both-true}
+use Rattle.law_lease.proofs.Latest.{latest-push}
 use Rattle.law_headline.proofs.StoredFacts.{plain-taken}
 
 -- the slot with this number
@@ -142,11 +143,6 @@ chosen kept writes slot plain differs (inr away) =
     (ap (λ (c : Option Image). unwrap_or c slot.image) (sym away.1) ∙ ap (λ test. if test then slot.image else unwrap_or slot.change slot.image) (sym other)) away.2
 
 -- ---- writes
-
-latest-push : (before : List ℕ) (vblock : ℕ) (writes : List Journaled) (write : Journaled) →
-    latest before vblock (writes ++ write ∷ []) ≡ (if vblock == write.vblock then write.block else latest before vblock writes)
-latest-push before vblock [] write = refl
-latest-push before vblock (first ∷ writes) write = latest-push (if vblock == first.vblock then first.block else before) vblock writes write
 
 -- one more write
 pub shown-more : (kept : ImageRecord) (writes : List Journaled) (image : Image) (write : Journaled) → IsShown kept writes image →

@@ -42,7 +42,8 @@ use Rattle.law_run.proofs.Meets.{exchange, meets-more}
 use Rattle.law_run.proofs.OnImage.{NamesOne, names-own, names-other}
 use Rattle.law_run.proofs.Rests.{KeepsHolds, rests-by}
 use Rattle.law_run.proofs.Right.{read_of, clock, descriptor_of, Fits, FitsAt, Rests, finish, log_on, May, Shows, Right}
-use Rattle.law_run.proofs.Tests.{nat_le-true, nat_le-false, lt-cases, clash, eqb-isn't}
+use Rattle.plx_base.proofs.Tests.{nat_le-true, nat_le-false}
+use Rattle.law_run.proofs.Tests.{lt-cases, clash, eqb-isn't}
 use Rattle.plx_commands.proofs.Places.{at-other, at-same}
 
 -- two asks a slot

@@ -22,7 +22,7 @@ use Rattle.law_run.proofs.Holding.{claims-more}
 use Rattle.law_run.proofs.Meets.{exchange}
 use Rattle.law_run.proofs.Right.{clock}
 use Rattle.law_run.proofs.Runs.{HasFirst, along-more}
-use Rattle.law_run.proofs.Tests.{nat_le-true, nat_lt-true, nat_lt-false, and-false}
+use Rattle.plx_base.proofs.Tests.{nat_le-true, nat_lt-true, nat_lt-false, and-false}
 
 -- the read of a lease, its claim, and the wait
 abbrev pub read_of_lease : (lease : ℕ) → Answer → Exchange

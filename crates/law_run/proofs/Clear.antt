@@ -28,7 +28,7 @@ use Rattle.law_run.proofs.OnImage.{OnImage, names-other, names-only, needs-attac
 use Rattle.law_run.proofs.Passed.{Passed}
 use Rattle.law_run.proofs.Rests.{KeepsHolds, known-attached, rests-by, own-still}
 use Rattle.law_run.proofs.Right.{Rests, finish, log_on}
-use Rattle.law_run.proofs.Tests.{eqb-true}
+use Rattle.plx_base.proofs.Tests.{eqb-true}
 
 -- the rest by a test that refuses
 pub by-unless : (P : Part End → Type 0) (refused : Bool) (refusal : Reply) (known : Known) (part : Part End) → (refused ≡ true → P (ends refusal known)) → (refused ≡ false → P part) →

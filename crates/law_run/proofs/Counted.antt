@@ -8,7 +8,8 @@ use Rattle.plx_geom.specs.Geometry.{Geometry, descriptor_at}
 use Rattle.plx_worlds.specs.Journal.{journal_slot, is_unapplied, is_placed, counted, counted_of}
 use Rattle.plx_worlds.specs.Records.{is_live, generation_of, applied_of}
 use Rattle.plx_worlds.specs.Stored.{Given, counted_in, IsCounted}
-use Rattle.law_run.proofs.Tests.{eqb-true, nat_lt-true, and-parts, eqb-is, lt-is}
+use Rattle.plx_base.proofs.Tests.{eqb-true, nat_lt-true}
+use Rattle.law_run.proofs.Tests.{and-parts, eqb-is, lt-is}
 
 -- a descriptor that counts in a slot: the image is live, the generation is its own, the number is above the last one applied, and it stands in the slot of its number
 pub record Tells (kept : ImageRecord) (slots slot : ℕ) (d : Descriptor) : Type 0 where

@@ -14,7 +14,7 @@ use Rattle.plx_worlds.specs.Records.{is_live, generation_of, size_of, taken_of, 
 use Rattle.plx_worlds.specs.Session.{Session, write_count, latest, content}
 use Rattle.plx_worlds.specs.Stored.{Given, Holds, standing_in, leads_to, digits_of, StoredImage, record_in, record_on, IsCounted, IsWriteCount, IsNewest, IsContent, journalled, unwritten, Stores}
 use Rattle.law_run.proofs.Counted.{counts-tells}
-use Rattle.law_run.proofs.Latest.{last-of, IsLast, IsLatest, latest-is}
+use Rattle.law_lease.proofs.Latest.{last-of, IsLast, IsLatest, latest-is}
 use Rattle.law_run.proofs.Right.{descriptor_of, Fits}
 use Rattle.law_run.proofs.Slots.{slot-apart}
 use Rattle.law_run.proofs.Tests.{and-parts, eqb-is}

@@ -18,10 +18,10 @@ use Rattle.law_run.specs.AllowedAsks.{last_known}
 use Rattle.law_run.specs.KnownBytes.{with_block}
 use Rattle.law_run.proofs.Counted.{counts-spelled, no-count}
 use Rattle.law_run.proofs.Facts.{place-apart}
-use Rattle.law_run.proofs.Latest.{at_push, get-push, get-old}
+use Rattle.law_lease.proofs.Latest.{at_push, get-push, get-old}
 use Rattle.law_run.proofs.Right.{descriptor_of, Fits}
 use Rattle.law_run.proofs.Slots.{slot-below}
-use Rattle.law_run.proofs.Tests.{eqb-true, eqb-false}
+use Rattle.plx_base.proofs.Tests.{eqb-true, eqb-false}
 
 -- one more block is given
 pub with-same : (given : Given) (block : ℕ) (bytes : List ℕ) → with_block given block bytes block ≡ Some bytes

@@ -18,7 +18,7 @@ use Rattle.law_run.specs.Holdings.{lease_attached, at_first, holds_along, holds_
 use Rattle.law_run.specs.Sessions.{is_attached}
 use Rattle.law_run.proofs.Right.{clock, IsHeld}
 use Rattle.law_run.proofs.Runs.{HasFirst, last_sample, along-more}
-use Rattle.law_run.proofs.Tests.{nat_le-true, nat_lt-true}
+use Rattle.plx_base.proofs.Tests.{nat_le-true, nat_lt-true}
 use Rattle.plx_commands.proofs.Places.{at-other}
 
 -- an exchange leaves a lease held in this block: it is no write that failed or was missed, and no claim, renewal or release of it

@@ -1,5 +1,4 @@
 pub mod Tests
-pub mod Latest
 pub mod Inserted
 pub mod Meets
 pub mod Then

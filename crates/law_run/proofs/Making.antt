@@ -45,7 +45,8 @@ use Rattle.law_run.proofs.Rests.{KeepsHolds, held-after, rests-by}
 use Rattle.law_run.proofs.Right.{clock, Fits, FitsAt, Rests, finish, log_on, Right}
 use Rattle.law_run.proofs.Runs.{start}
 use Rattle.law_run.proofs.Spelled.{image-rest}
-use Rattle.law_run.proofs.Tests.{eqb-true, nat_le-true, nat_le-false, and-parts, le-is, le-isn't, lt-is, not-false, not-true}
+use Rattle.plx_base.proofs.Tests.{eqb-true, nat_le-true, nat_le-false}
+use Rattle.law_run.proofs.Tests.{and-parts, le-is, le-isn't, lt-is, opposite-false, opposite-true}
 use Rattle.law_run.proofs.Unwritten.{unwritten-quiet}
 use Rattle.plx_commands.proofs.Places.{at-other, at-same}
 
@@ -181,19 +182,19 @@ right-create s before known slot size label reading rests labelled session claim
     ))
     (λ free. by-unless (λ part. Right s before command (clock reading ∷ []) part 2) (not (is_size size)) (reply.OutOfRange greatest_size) known _
     (λ wrong. (
-      refused 6 (reading, refl) (out_of_limits slot size label refl ready.attached (not-true (is_size size) wrong))
+      refused 6 (reading, refl) (out_of_limits slot size label refl ready.attached (opposite-true (is_size size) wrong))
           (λ p other refuses. passed s log 6 p other (place 6 (λ lt. free) (λ lt. absurd (omega arith)) (λ lt. absurd (omega arith)) (clock reading ∷ []) refl) refuses),
       still s before known command slot reading on rests (reply.OutOfRange greatest_size) (λ other b. refl) (λ h. refl),
     ))
     (λ sized. by-unless (λ part. Right s before command (clock reading ∷ []) part 2) (is_worn last_generation generation) (reply.WornOut last_generation) known _
     (λ worn. (
       refused 9 (reading, refl) (generations slot size label session.image refl found (le-is last_generation generation worn))
-          (λ p other refuses. passed s log 9 p other (place 9 (λ lt. free) (λ lt. not-false (is_size size) sized) (λ lt. absurd (omega arith)) (clock reading ∷ []) refl) refuses),
+          (λ p other refuses. passed s log 9 p other (place 9 (λ lt. free) (λ lt. opposite-false (is_size size) sized) (λ lt. absurd (omega arith)) (clock reading ∷ []) refl) refuses),
       still s before known command slot reading on rests (reply.WornOut last_generation) (λ other b. refl) (λ h. refl),
     ))
     (λ fresh.
     let below = le-isn't last_generation generation fresh in
-    let good = not-false (is_size size) sized in
+    let good = opposite-false (is_size size) sized in
     let sizes = size-parts size good in
     let made = made_record (generation + 1) size label in
     let is : IsImage made = record {
@@ -268,12 +269,12 @@ right-delete s before known slot reading rests session claim until ready =
     λ n live done first. clear s before known command slot reading on rests session claim until ready done n first (delete-clear s.geometry.slots slot session n live) in
     by-unless (λ part. Right s before command (clock reading ∷ []) part 2) (not (is_live session.image)) reply.NoImage known _
     (λ dead. (
-      refused 4 (reading, refl) (no_image slot.0 session.image (of_delete slot refl refl) found (not-true (is_live session.image) dead))
+      refused 4 (reading, refl) (no_image slot.0 session.image (of_delete slot refl refl) found (opposite-true (is_live session.image) dead))
           (λ p other refuses. passed s log 4 p other (place 4 (λ lt. absurd (omega arith)) (clock reading ∷ []) refl) refuses),
       still s before known command slot reading on rests reply.NoImage (λ other b. refl) (λ h. refl),
     ))
     (λ alive.
-    let live = not-false (is_live session.image) alive in
+    let live = opposite-false (is_live session.image) alive in
     let is = limits s.geometry (known_after s.geometry before slot.0) slot.0 session ready.fits in
     let made = image_is.Free (generation_of session.image) in
     let made_is : IsImage made = generation-below session.image is in

@@ -30,7 +30,8 @@ use Rattle.law_run.proofs.Passed.{Passed, passed}
 use Rattle.law_run.proofs.Rests.{KeepsHolds, rests-by, own-still, rests-lost}
 use Rattle.law_run.proofs.Right.{clock, IsHeld, Fits, FitsAt, Rests, finish, log_on, Right}
 use Rattle.law_run.proofs.Runs.{start}
-use Rattle.law_run.proofs.Tests.{eqb-true, eqb-false, nat_lt-true, clash}
+use Rattle.plx_base.proofs.Tests.{eqb-true, eqb-false, nat_lt-true}
+use Rattle.law_run.proofs.Tests.{clash}
 
 -- a command names one image, and needs its session
 pub record OnImage (command : Command) (image : ℕ) : Type 0 where

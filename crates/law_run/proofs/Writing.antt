@@ -41,7 +41,7 @@ use Rattle.law_run.proofs.Clear.{by-unless, Clear, known-here, clear}
 use Rattle.law_run.proofs.Facts.{image_of, limits, stores-session, next-free, write-count}
 use Rattle.law_run.proofs.Grown.{with-same, fits-data, fits-more}
 use Rattle.law_run.proofs.Holding.{Course, going-first, going-more}
-use Rattle.law_run.proofs.Latest.{latest-push}
+use Rattle.law_lease.proofs.Latest.{latest-push}
 use Rattle.law_run.proofs.Meets.{exchange}
 use Rattle.law_run.proofs.OnImage.{OnImage, names-own, names-other, still, on-image, Ready}
 use Rattle.law_run.proofs.Passed.{Passed, passed}
@@ -50,7 +50,7 @@ use Rattle.law_run.proofs.Right.{clock, descriptor_of, Fits, FitsAt, Rests, fini
 use Rattle.law_run.proofs.Runs.{start}
 use Rattle.law_run.proofs.Slots.{slot-below}
 use Rattle.law_run.proofs.Unwritten.{unwritten-quiet}
-use Rattle.law_run.proofs.Tests.{eqb-is, eqb-isn't, le-is, le-isn't, not-false, not-true}
+use Rattle.law_run.proofs.Tests.{eqb-is, eqb-isn't, le-is, le-isn't, opposite-false, opposite-true}
 use Rattle.plx_commands.proofs.Places.{at-other, at-same}
 
 pub on-write : (slot : SlotNo) (vblock : ℕ) (payload : Payload) → OnImage (Write slot vblock payload) slot.0
@@ -211,12 +211,12 @@ module _ (s : Setting) (some : 1 ≤ s.geometry.slots) (before : List Finished) 
       let P : Part End → Type 0 = λ part. Right s before command (clock reading ∷ []) part 3 in
       by-unless P (not (is_live session.image)) reply.NoImage known _
       (λ dead. (
-        refused 4 (reading, refl) (no_image slot.0 session.image (of_block vblock (of_write slot payload refl refl)) found (not-true (is_live session.image) dead))
+        refused 4 (reading, refl) (no_image slot.0 session.image (of_block vblock (of_write slot payload refl refl)) found (opposite-true (is_live session.image) dead))
             (λ p other refuses. passed s log 4 p other (place 4 (λ lt. absurd (omega arith)) (λ lt. absurd (omega arith)) (λ lt. absurd (omega arith)) (λ lt. absurd (omega arith)) done refl) refuses),
         still s before known command slot reading on rests reply.NoImage (λ other b. refl) (λ h. refl),
       ))
       (λ alive.
-      let live = not-false (is_live session.image) alive in
+      let live = opposite-false (is_live session.image) alive in
       by-unless P (nat_le (size_of session.image) vblock) (reply.OutOfRange (size_of session.image)) known _
       (λ past. (
         refused 6 (reading, refl) (out_of_range slot.0 vblock session.image (of_write slot payload refl refl) found refl (le-is (size_of session.image) vblock past))

@@ -20,9 +20,11 @@ pub record IsLast (writes : List Journaled) (vblock k : ℕ) (write : Journaled)
   pub names : write.vblock ≡ vblock
   pub last : (j : ℕ) (other : Journaled) → slice_get writes j ≡ Some other → other.vblock ≡ vblock → j ≤ k
 
+-- no write names the virtual block
 abbrev pub NamesNone : List Journaled → ℕ → Type 0
 NamesNone writes vblock = (j : ℕ) (other : Journaled) → slice_get writes j ≡ Some other → other.vblock ≢ vblock
 
+-- the bytes of its newest write, or those before where there is none
 abbrev pub IsLatest : List ℕ → ℕ → List Journaled → List ℕ → Type 0
 IsLatest before vblock writes bytes =
     ((k : ℕ) × (write : Journaled) × IsLast writes vblock k write × (bytes ≡ write.block)) ⊎ (NamesNone writes vblock × (bytes ≡ before))
