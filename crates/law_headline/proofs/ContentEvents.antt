@@ -28,7 +28,7 @@ use Rattle.plx_worlds.specs.World.{World, Seat, with_surface, after_start, after
 use Rattle.law_lease.proofs.LeaseFrames.{grip-open}
 use Rattle.law_lease.proofs.LeaseSteps.{not-waiting}
 use Rattle.law_lease.proofs.Leased.{grip_at, Leased}
-use Rattle.law_lease.proofs.Open.{IsOpen, open-elsewhere}
+use Rattle.law_lease.proofs.Open.{IsOpen, open-elsewhere, open-later}
 use Rattle.law_headline.proofs.Content.{appliance_no, stands_at, PlaceFits, Has, OwnedAt, Minds, Whose, SeatFits, SeatOwns, Opens, Content}
 use Rattle.law_headline.proofs.ContentFrames.{place-unmoved, owned-foreign}
 use Rattle.law_headline.proofs.Foreign.{Foreign, foreign-start, foreign-back}
@@ -50,20 +50,14 @@ tick-content w by content leased = record {
   permitted = content.permitted;
   undamaged = content.undamaged;
   stored = content.stored;
-  opens = λ i within n x op of flags count. content.opens i within n x (sooner i n x op) of flags count;
-  whose = λ i within n x op of. content.whose i within n x (sooner i n x op) of;
+  opens = λ i within n x op of flags count. content.opens i within n x (open-later w.geometry w.rests w.appliances w.surface.time by w.surface.writes w.seats (image_lease i) n x op) of flags count;
+  whose = λ i within n x op of. content.whose i within n x (open-later w.geometry w.rests w.appliances w.surface.time by w.surface.writes w.seats (image_lease i) n x op) of;
   seats = content.seats;
   owned = λ i within a below minds. content.owned i within a below (elim minds [
     | inl grips ↦ inl (grips.0, grips.1, (grips.2.0, (let l = grips.2.1 in omega arith)))
     | inr mine ↦ inr mine
   ]);
 }
-  where
-    -- what is open later was open before
-    sooner : (i n : ℕ) (x : Issued) → IsOpen w.geometry w.rests w.appliances (w.surface.time + by) w.surface.writes w.seats (image_lease i) n x →
-        IsOpen w.geometry w.rests w.appliances w.surface.time w.surface.writes w.seats (image_lease i) n x
-    sooner i n x (inl op) = inl (record { found = op.found; needs = op.needs; missing = op.missing; live = (let l = op.live in omega arith) })
-    sooner i n x (inr o) = inr (o.0, o.1, (o.2.0, o.2.1, (o.2.2.0, (let l = o.2.2.1 in omega arith))), o.3, o.4, o.5)
 
 -- ---- the model moves, and no write of the appliance is waited for
 

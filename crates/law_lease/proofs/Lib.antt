@@ -1,4 +1,5 @@
 pub mod Covers
+pub mod Frame
 pub mod LawfulCommands
 pub mod LeaseSectors
 pub mod LeaseFrames
