@@ -19,6 +19,7 @@ use Rattle.plx_worlds.specs.Ends.{End}
 use Rattle.plx_worlds.specs.Headline.{starts_and_crashes, events_told, AreUndamaged, model_before, model_in}
 use Rattle.plx_worlds.specs.Session.{Session, Known}
 use Rattle.plx_worlds.specs.World.{World, Seat, setting_at}
+use Rattle.law_lease.proofs.Frame.{AllStand}
 use Rattle.law_lease.proofs.Leased.{Leased}
 use Rattle.law_lease.proofs.Open.{GripsLease, IsOpen}
 use Rattle.law_headline.proofs.Held.{SameSessions, Regime, With, IsRunning, Looks, HasImage, IsOf, IsOn, HeldPart, Backs, Fair}
@@ -26,6 +27,7 @@ use Rattle.law_headline.proofs.HeldBegins.{IsBegunChange}
 use Rattle.law_headline.proofs.HeldFrames.{missing_of}
 use Rattle.law_headline.proofs.Journals.{IsJournal, IsShown, Keeps}
 use Rattle.law_headline.proofs.Replied.{Names}
+use Rattle.law_headline.proofs.WaitsByKind.{WaitsOn}
 
 -- a write of an image's record or journal
 abbrev pub IsJournalled : WriteKind → Type 0
@@ -108,6 +110,11 @@ abbrev pub Whose : Geometry → (rests : ℕ → List ℕ) → (appliances time 
 Whose g rests appliances time writes seats i slot =
     (n : ℕ) (x : Issued) → IsOpen g rests appliances time writes seats (image_lease i) n x → IsOf g i x.block → (b : ℕ) → slot.owner ≡ Some b → (seats b).pending ≡ Some n
 
+-- while all claims on which an issued write rests stand, what its kind waits on holds
+abbrev pub Waits : Geometry → (rests : ℕ → List ℕ) → (appliances time : ℕ) → Device → List Issued → (ℕ → Seat) → Type 0
+Waits g rests appliances time device writes seats =
+    (n : ℕ) (x : Issued) → slice_get writes n ≡ Some x → AllStand g rests appliances time writes seats n x → WaitsOn x.kind g device x.block x.bytes x.landed
+
 -- the invariant of the headline
 pub record Content (w : World) : Type 0 where
   pub leased : Leased w
@@ -117,5 +124,6 @@ pub record Content (w : World) : Type 0 where
   pub stored : (i : ℕ) → i < w.geometry.images → Keeps w.geometry w.surface.device i ((model_in w).slots i)
   pub opens : (i : ℕ) → i < w.geometry.images → Opens w.geometry w.rests w.appliances w.surface.time w.surface.device w.surface.writes w.seats i ((model_in w).slots i)
   pub whose : (i : ℕ) → i < w.geometry.images → Whose w.geometry w.rests w.appliances w.surface.time w.surface.writes w.seats i ((model_in w).slots i)
+  pub waits : Waits w.geometry w.rests w.appliances w.surface.time w.surface.device w.surface.writes w.seats
   pub seats : (a : ℕ) → a < w.appliances → SeatFits w.geometry (model_in w) a (w.seats a)
   pub owned : (i : ℕ) → i < w.geometry.images → (a : ℕ) → a < w.appliances → SeatOwns w.geometry w.surface.time w.surface.device w.surface.writes (model_in w) i a (w.seats a)

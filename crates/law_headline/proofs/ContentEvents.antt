@@ -29,7 +29,7 @@ use Rattle.law_lease.proofs.LeaseFrames.{grip-open}
 use Rattle.law_lease.proofs.LeaseSteps.{not-waiting}
 use Rattle.law_lease.proofs.Leased.{grip_at, Leased}
 use Rattle.law_lease.proofs.Open.{IsOpen, open-elsewhere, open-later}
-use Rattle.law_headline.proofs.Content.{appliance_no, stands_at, PlaceFits, Has, OwnedAt, Minds, Whose, SeatFits, SeatOwns, Opens, Content}
+use Rattle.law_headline.proofs.Content.{appliance_no, stands_at, PlaceFits, Has, OwnedAt, Minds, Whose, SeatFits, SeatOwns, Opens, Waits, Content}
 use Rattle.law_headline.proofs.ContentFrames.{place-unmoved, owned-foreign}
 use Rattle.law_headline.proofs.Foreign.{Foreign, foreign-start, foreign-back}
 use Rattle.law_headline.proofs.Held.{IsRunning, HasImage, IsOf}
@@ -52,6 +52,7 @@ tick-content w by content leased = record {
   stored = content.stored;
   opens = λ i within n x op of flags count. content.opens i within n x (open-later w.geometry w.rests w.appliances w.surface.time by w.surface.writes w.seats (image_lease i) n x op) of flags count;
   whose = λ i within n x op of. content.whose i within n x (open-later w.geometry w.rests w.appliances w.surface.time by w.surface.writes w.seats (image_lease i) n x op) of;
+  waits = λ n x found all. content.waits n x found (λ lease under. open-later w.geometry w.rests w.appliances w.surface.time by w.surface.writes w.seats lease n x (all lease under));
   seats = content.seats;
   owned = λ i within a below minds. content.owned i within a below (elim minds [
     | inl grips ↦ inl (grips.0, grips.1, (grips.2.0, (let l = grips.2.1 in omega arith)))
@@ -72,6 +73,9 @@ module _ (w : World) (content : Content w) (a : ℕ) (below : a < w.appliances) 
 
   foreign-opens : (i : ℕ) → i < w.geometry.images → Opens w.geometry w.rests w.appliances w.surface.time w.surface.device w.surface.writes (at w.seats a seat) i (n.slots i)
   foreign-opens i within k x op of flags count = keeps-foreign w.geometry i a _ ((model_in w).slots i) (n.slots i) (foreign i) (content.opens i within k x (open-before i k x op) of flags count)
+
+  foreign-waits : Waits w.geometry w.rests w.appliances w.surface.time w.surface.device w.surface.writes (at w.seats a seat)
+  foreign-waits k x found all = content.waits k x found (λ lease under. open-elsewhere w.geometry w.rests w.appliances w.surface.time w.surface.writes w.seats lease a seat free k x (all lease under))
 
   foreign-seats : SeatFits w.geometry n a seat → (b : ℕ) → b < w.appliances → SeatFits w.geometry n b (at w.seats a seat b)
   foreign-seats mine = at-all (λ b s. b < w.appliances → SeatFits w.geometry n b s) w.seats a seat (λ under. mine)
@@ -111,6 +115,7 @@ crash-content w a below content leased =
       undamaged = content.undamaged;
       stored = foreign-stored w content a below n unmoved foreign sound' seat refl;
       opens = foreign-opens w content a below n unmoved foreign sound' seat refl;
+      waits = foreign-waits w content a below n unmoved foreign sound' seat refl;
       seats = foreign-seats w content a below n unmoved foreign sound' seat refl
           (at-same m.running a None, (λ j. ap (λ (f : ℕ → Bool). f j) (at-same m.sessions a (λ k. false))), (λ k s is. absurd (let P : ⊥ = cc in P)));
       owned = foreign-owned w content a below n unmoved foreign sound' seat refl
@@ -212,6 +217,7 @@ start-content w a command known below here well built content leased =
       undamaged = content.undamaged;
       stored = foreign-stored w content a below n unmoved foreign sound' seat refl;
       opens = foreign-opens w content a below n unmoved foreign sound' seat refl;
+      waits = foreign-waits w content a below n unmoved foreign sound' seat refl;
       seats = foreign-seats w content a below n unmoved foreign sound' seat refl
           (let P : Place → Type 0 = λ q. PlaceFits g a n (record { holds = p.holds; sample = None; place = begun command q }) (begun command q) in
           subst P (sym here) (running, fits.2, well, built));

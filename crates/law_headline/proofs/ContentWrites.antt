@@ -23,16 +23,17 @@ use Rattle.plx_worlds.specs.Boot.{Place, Idle, Begins, In, Position}
 use Rattle.plx_worlds.specs.Ends.{End}
 use Rattle.plx_worlds.specs.Headline.{model_in}
 use Rattle.plx_worlds.specs.Holds.{Hold}
-use Rattle.plx_worlds.specs.Rests.{rests_on}
+use Rattle.law_lease.proofs.Lists.{push-cases}
+use Rattle.plx_worlds.specs.Rests.{IsUnder, rests_on}
 use Rattle.plx_commands.specs.Replies.{is_in}
 use Rattle.plx_worlds.specs.Session.{Known}
 use Rattle.plx_worlds.specs.Settings.{boot_number}
 use Rattle.plx_worlds.specs.World.{World, Seat, with_surface, after_issue}
 use Rattle.law_lease.proofs.LeaseSteps.{placed-may}
-use Rattle.law_lease.proofs.Frame.{Frame, IsNew, frame-others, grips-before, grips-free, grips-other, grips-own, land-frame, landed-or, open-issued}
+use Rattle.law_lease.proofs.Frame.{Frame, IsNew, frame-all, frame-others, stood-issued, grips-before, grips-free, grips-other, grips-own, land-frame, landed-or, open-issued}
 use Rattle.law_lease.proofs.Open.{IsOpen, open-found}
 use Rattle.law_lease.proofs.Leased.{MayAsk, LawfulAt, IsAskedAt, IsRight, Leased}
-use Rattle.law_headline.proofs.Content.{appliance_no, stands_at, IsJournalled, PlaceFits, OwnedAt, Grips, Minds, Whose, SeatFits, SeatOwns, Opens, Content}
+use Rattle.law_headline.proofs.Content.{appliance_no, stands_at, IsJournalled, PlaceFits, OwnedAt, Grips, Minds, Whose, SeatFits, SeatOwns, Opens, Waits, Content}
 use Rattle.law_headline.proofs.ContentFrames.{owned-same, grip-only}
 use Rattle.law_headline.proofs.ContentGoes.{names-one}
 use Rattle.law_headline.proofs.Held.{Regime, Without, With, IsWith, IsOn, Looks, IsOf, HeldPart, IsNamed, Fair}
@@ -41,6 +42,7 @@ use Rattle.law_headline.proofs.ImageWrites.{named-image, use-image, held-image, 
 use Rattle.law_headline.proofs.JournalFacts.{Keeps-same}
 use Rattle.law_headline.proofs.Journals.{Keeps, Same}
 use Rattle.law_headline.proofs.Replied.{Names}
+use Rattle.law_headline.proofs.WaitsByKind.{WaitsOn, waits-asked, waits-lands, waits-others}
 
 -- a journal's write that is waited for is one of the named image
 named-of : (g : Geometry) (a i : ℕ) (command : Command) (known : Known) (holds : ℕ → Hold) (sample : Option ℕ) (part : Part End) (boot : ℕ) (x : Issued) →
@@ -140,6 +142,9 @@ module _ (w : World) (content : Content w) where
     abbrev leases : List ℕ
     leases = rests_on g command (p a).holds what block bytes
 
+    may : MayAsk g boot (p a).holds leases what block bytes guard
+    may = let P : Place → Type 0 = λ q. LawfulAt g boot (p a).holds (p a).sample q in (subst P here (content.leased.seated a below).lawful).0
+
     -- whatever of the new write lands, its image is kept, which is the appliance's in the model
     new-keeps : (i : ℕ) → i < g.images → IsOf g i block → is_in (image_lease i) leases ≡ true →
         (time ≤ guard + 50) ⊎ ((claim : Claim) × (until : ℕ) × Grips g time writes a (w.seats a) i claim until) →
@@ -158,9 +163,6 @@ module _ (w : World) (content : Content w) where
           ((λ flags count. write.keeps flags count m s.looks), with-owner i s.regime s.looks write.changes)
       | inr away ↦ absurd (away of)
     ]
-      where
-        may : MayAsk g boot (p a).holds leases what block bytes guard
-        may = let P : Place → Type 0 = λ q. LawfulAt g boot (p a).holds (p a).sample q in (subst P here (content.leased.seated a below).lawful).0
 
     abbrev seat' : Seat
     seat' = record { boots = (w.seats a).boots; log = (w.seats a).log; pending = Some (length writes) }
@@ -186,6 +188,12 @@ module _ (w : World) (content : Content w) where
             let P : Issued → Type 0 = λ y. Keeps g (put device y.block (mixed flags y.bytes (device y.block))) i (m.slots i) in
             let Q : Issued → Type 0 = λ y. IsOf g i y.block in
             subst P is.is ((new-keeps i within (subst Q (sym is.is) of) is.under is.live).0 flags count)
+      ];
+      waits = λ n x found all. elim (push-cases writes fresh x n found) [
+        | inl old ↦ content.waits n x old (stood-issued w content.leased a below free leases what block bytes guard n x old all)
+        | inr is ↦
+            let P : Issued → Type 0 = λ y. WaitsOn y.kind g device y.block y.bytes y.landed in
+            subst P is.1 (waits-asked what g boot (p a).holds leases device block bytes guard may)
       ];
       whose = λ i within n x op of b mine. elim (opened i n x op) [
         | inl was ↦ elim (eqb_tells b a) [
@@ -415,6 +423,19 @@ module _ (w : World) (content : Content w) where
               λ away. absurd (away names),
             )
 
+    waits-after : Waits g w.rests w.appliances time after now' w.seats
+    waits-after n x found all = elim (landed-or w content.leased number sector write may n x found) [
+      | inl here' ↦
+          let U : ℕ → Type 0 = λ k. (lease : ℕ) → IsUnder w.rests k lease → IsOpen g w.rests w.appliances time now' w.seats lease k x in
+          let its = subst U here'.0 all in
+          let P : Issued → Type 0 = λ y. WaitsOn y.kind g after y.block y.bytes y.landed in
+          subst P (sym here'.1) (waits-lands write.kind g device write.block write.bytes write.landed sector may.missing
+          (content.waits number write may.found (λ lease under. frame.still lease x (its lease under))))
+      | inr away ↦
+          let left = frame-all w content.leased after now' number write frame n x away.0 away.1 all in
+          waits-others x.kind g (w.rests n) device after x.block x.bytes x.landed left.1 (content.waits n x away.1 left.0)
+    ]
+
     pub land-content : (a back : ℕ) → Leased (with_surface w (event.Land (appliance_no a) back sector) (after_landing w.surface number write sector)) →
         Content (with_surface w (event.Land (appliance_no a) back sector) (after_landing w.surface number write sector))
     land-content a back leased = record {
@@ -424,6 +445,7 @@ module _ (w : World) (content : Content w) where
       undamaged = content.undamaged;
       stored = stored-after;
       opens = opens-after;
+      waits = waits-after;
       whose = whose-after;
       seats = content.seats;
       owned = owned-lands;

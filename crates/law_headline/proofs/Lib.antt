@@ -25,3 +25,4 @@ pub mod ModelFacts
 pub mod Owners
 pub mod Replied
 pub mod StoredFacts
+pub mod WaitsByKind

@@ -8,26 +8,26 @@ use Rattle.plx_base.proofs.Devices.{put-other}
 use Rattle.plx_base.specs.declared.lease.Claim.{Claim}
 use Rattle.plx_base.specs.declared.write_kind.WriteKind.{WriteKind}
 use Rattle.plx_base.specs.declared.write_kind.WriteKind.TheVariants as kind
-use Rattle.plx_commands.proofs.Places.{at-all}
+use Rattle.plx_commands.proofs.Places.{at-all, at-other}
 use Rattle.plx_commands.specs.Places.{at}
 use Rattle.plx_commands.specs.Replies.{is_in}
 use Rattle.plx_disk.proofs.Lists.{set-other, set-same, push-before, push-last}
 use Rattle.plx_disk.specs.Writes.{Issued, MayLand, fresh_write, with_sector, all_sectors}
-use Rattle.plx_geom.proofs.Places.{lease-lease}
-use Rattle.plx_geom.specs.Geometry.{Geometry, lease_count, lease_at}
+use Rattle.plx_geom.proofs.Places.{lease-lease, image-below, extent-below}
+use Rattle.plx_geom.specs.Geometry.{Geometry, lease_count, lease_at, root_lease, image_lease, extent_lease}
 use Rattle.plx_worlds.specs.Boot.{Position, position}
 use Rattle.plx_worlds.specs.Holds.{Held}
 use Rattle.plx_worlds.specs.Owners.{pending_write, first_landed, is_set}
-use Rattle.plx_worlds.specs.Rests.{home_of}
+use Rattle.plx_worlds.specs.Rests.{IsUnder, home_of}
 use Rattle.plx_worlds.specs.Settings.{boot_number}
 use Rattle.plx_worlds.specs.World.{World, Seat, setting_at}
 use Rattle.law_lease.proofs.Covers.{Covers, lease-uncovered, home-covers, write-covered}
 use Rattle.law_lease.proofs.LeaseFrames.{grip-open, grip_while-open, grip_while-away}
-use Rattle.law_lease.proofs.LeaseLands.{MayBeAsked, asked-may, grip-asked, first-set, pending-other, not-whole}
+use Rattle.law_lease.proofs.LeaseLands.{MayBeAsked, unlanded-before, asked-may, grip-asked, first-set, pending-other, not-whole}
 use Rattle.law_lease.proofs.Leased.{IsPlaced, IsAskedAt, IsRight, Unlanded, grip_while, grip_at, Leased}
 use Rattle.law_lease.proofs.Lists.{pending-is, push-cases, same-some}
 use Rattle.law_lease.proofs.Open.{GripsLease, IsOpen, open-found, open-alone, lands-open}
-use Rattle.law_lease.proofs.Rests.{home-in, needs-before, needs-last}
+use Rattle.law_lease.proofs.Rests.{either-in, home-in, rests-home, needs-before, needs-last}
 
 -- ---- what a landing does, as one lease sees it
 
@@ -46,10 +46,15 @@ pub record IsAway (g : Geometry) (device after : Device) (block lease : ℕ) : T
   pub uncovered : Covers g lease block → ⊥
   pub same : SameUnder g lease device after
 
--- the frame of a landing: each lease sees it as its own, or as away, and every other write that is open after it was open before
+-- the frame of a landing: each lease sees it as its own, or as away; every other write that is open after it was open before, and so was the one that lands
 pub record Frame (g : Geometry) (rests : ℕ → List ℕ) (appliances time : ℕ) (device after : Device) (writes now : List Issued) (seats : ℕ → Seat) (number : ℕ) (write : Issued) : Type 0 where
   pub each : (lease : ℕ) → lease < lease_count g → (IsOwn g rests appliances time writes seats number write lease) ⊎ (IsAway g device after write.block lease)
   pub before : (lease n : ℕ) (x : Issued) → n ≢ number → IsOpen g rests appliances time now seats lease n x → IsOpen g rests appliances time writes seats lease n x
+  pub still : (lease : ℕ) (x : Issued) → IsOpen g rests appliances time now seats lease number x → IsOpen g rests appliances time writes seats lease number write
+
+-- one that rests on one lease
+alone-within : (g : Geometry) (lease home : ℕ) (rests : List ℕ) → home < lease_count g → rests ≡ home ∷ [] → is_in lease rests ≡ true → lease < lease_count g
+alone-within g lease home rests within all under = subst (λ (l : ℕ). l < lease_count g) (sym (rests-home lease home rests all under)) within
 
 -- what each kind shows of its landing: where a lease covers its block, each of its sectors may change something
 covered-unlanded : (g : Geometry) (lease : ℕ) (k : WriteKind) (block : ℕ) (bytes rests : List ℕ) (flags : List Bool) → Covers g lease block → IsPlaced g k block bytes rests → flags ≢ all_sectors → Unlanded k flags
@@ -57,6 +62,28 @@ covered-unlanded g lease kind.Claim block bytes rests flags covers placed missin
 covered-unlanded g lease kind.Renew block bytes rests flags covers placed missing = absurd (lease-uncovered g lease block placed.0 placed.1 placed.2 covers)
 covered-unlanded g lease kind.Release block bytes rests flags covers placed missing = absurd (lease-uncovered g lease block placed.0 placed.1 placed.2 covers)
 covered-unlanded g lease other block bytes rests flags covers placed missing = missing
+
+-- a write rests on leases that there are
+pub placed-within : (g : Geometry) (lease : ℕ) (k : WriteKind) (block : ℕ) (bytes rests : List ℕ) → IsPlaced g k block bytes rests → is_in lease rests ≡ true → lease < lease_count g
+placed-within g lease kind.Claim block bytes rests placed under = absurd (let P : List ℕ → Type 0 = λ l. is_in lease l ≡ true in let e : false ≡ true = subst P placed.4 under in let Q : ⊥ = cc in Q)
+placed-within g lease kind.Renew block bytes rests placed under = alone-within g lease placed.0 rests placed.1 placed.4 under
+placed-within g lease kind.Release block bytes rests placed under = alone-within g lease placed.0 rests placed.1 placed.4 under
+placed-within g lease kind.Take block bytes rests placed under = alone-within g lease (extent_lease g placed.0) rests (extent-below g placed.0 placed.1) placed.3 under
+placed-within g lease kind.Give block bytes rests placed under = alone-within g lease (extent_lease g placed.0) rests (extent-below g placed.0 placed.1) placed.3 under
+placed-within g lease kind.Sweep block bytes rests placed under =
+    let P : List ℕ → Type 0 = λ l. is_in lease l ≡ true in
+    elim (either-in lease (extent_lease g placed.0) root_lease (subst P placed.3 under)) [
+      | inl home ↦ (let b = extent-below g placed.0 placed.1 in subst (λ (l : ℕ). l < lease_count g) (sym home) b)
+      | inr root ↦ omega (arith, root)
+    ]
+placed-within g lease kind.Record block bytes rests placed under = alone-within g lease (image_lease placed.0) rests (image-below g placed.0 placed.1) placed.3 under
+placed-within g lease kind.JData block bytes rests placed under = alone-within g lease (image_lease placed.0) rests (image-below g placed.0 placed.2) placed.5 under
+placed-within g lease kind.JCommit block bytes rests placed under = alone-within g lease (image_lease placed.0) rests (image-below g placed.0 placed.2) placed.5 under
+placed-within g lease other block bytes rests placed under = absurd placed
+
+-- all claims on which a write rests stand: it is open under each lease of its list
+abbrev pub AllStand : Geometry → (rests : ℕ → List ℕ) → (appliances time : ℕ) → List Issued → (ℕ → Seat) → (number : ℕ) → Issued → Type 0
+AllStand g rests appliances time writes seats number write = (lease : ℕ) → IsUnder rests number lease → IsOpen g rests appliances time writes seats lease number write
 
 -- ---- a write is issued
 
@@ -141,6 +168,18 @@ module _ (w : World) (leased : Leased w) (a : ℕ) (below : a < w.appliances) (f
         absurd (let f = is.0 in omega (arith, less, f)))
         o.0 o.1 o.2 o.3
   ]
+
+  -- an older write whose claims all stand once this one is issued had them stand before
+  pub stood-issued : (n : ℕ) (x : Issued) → slice_get w.surface.writes n ≡ Some x → AllStand w.geometry since w.appliances w.surface.time longer (at w.seats a waiting) n x →
+      AllStand w.geometry w.rests w.appliances w.surface.time w.surface.writes w.seats n x
+  stood-issued n x old all lease under =
+      let less = slice_get_within w.surface.writes n x old in
+      let P : List ℕ → Type 0 = λ l. is_in lease l ≡ true in
+      let needs : IsUnder since n lease = subst P (sym (at-other w.rests (length w.surface.writes) n leases (λ e. omega (arith, less, e)))) under in
+      elim (open-issued lease n x (all lease needs)) [
+        | inl was ↦ was
+        | inr new ↦ absurd (let l = new.last in omega (arith, less, l))
+      ]
 
 -- ---- a sector lands
 
@@ -297,6 +336,20 @@ module _ (w : World) (leased : Leased w) (number sector : ℕ) (write : Issued) 
         same = λ block covers. put-other device write.block (landed sector write.bytes (device write.block)) block (λ e. un (subst (λ (c : ℕ). Covers g lease c) e covers));
       }
 
+  -- the write that lands is open after only where it was before
+  still-open : (lease : ℕ) (x : Issued) → slice_get now number ≡ Some (with_sector write sector) → IsOpen g w.rests w.appliances time now w.seats lease number x → IsOpen g w.rests w.appliances time writes w.seats lease number write
+  still-open lease x there (inl op) =
+      let same : with_sector write sector ≡ x = (let e : Some (with_sector write sector) ≡ Some x = sym there ∙ op.found in cc) in
+      let P : Issued → Type 0 = λ y. Unlanded y.kind y.landed in
+      let guards : write.guard ≡ x.guard = ap (λ (y : Issued). y.guard) same in
+      inl (record {
+        found = may.found;
+        needs = op.needs;
+        missing = unlanded-before write.kind write.landed sector may.missing (subst P (sym same) op.missing);
+        live = (let l = op.live in omega (arith, l, guards));
+      })
+  still-open lease x there (inr o) = inr (o.0, o.1, grips-before lease o.0 o.1 o.2.0 o.2.1 o.2.2, o.3, may.found, o.5)
+
   -- each landing has the frame
   pub land-frame : Frame g w.rests w.appliances time device after writes now w.seats number write
   land-frame = record {
@@ -305,16 +358,28 @@ module _ (w : World) (leased : Leased w) (number sector : ℕ) (write : Issued) 
       | inl here ↦ absurd (ne here.0)
       | inr away ↦ open-landed lease n x ne away.1 op
     ];
+    still = λ lease x op. still-open lease x (set-same writes number (with_sector write sector) write may.found) op;
   }
 
 -- the frame is all that other writes need: what is open under a lease after the landing was open before, and what the lease covers is the same
-pub frame-others : (w : World) (leased : Leased w) (after : Device) (now : List Issued) (number : ℕ) (write : Issued) →
-    Frame w.geometry w.rests w.appliances w.surface.time w.surface.device after w.surface.writes now w.seats number write →
-    (lease : ℕ) → lease < lease_count w.geometry → (n : ℕ) (x : Issued) → n ≢ number → IsOpen w.geometry w.rests w.appliances w.surface.time now w.seats lease n x →
-    IsOpen w.geometry w.rests w.appliances w.surface.time w.surface.writes w.seats lease n x × SameUnder w.geometry lease w.surface.device after
-frame-others w leased after now number write frame lease within n x ne op =
+pub frame-others : (w : World) (leased : Leased w) (changed : Device) (flagged : List Issued) (number : ℕ) (write : Issued) →
+    Frame w.geometry w.rests w.appliances w.surface.time w.surface.device changed w.surface.writes flagged w.seats number write →
+    (lease : ℕ) → lease < lease_count w.geometry → (n : ℕ) (x : Issued) → n ≢ number → IsOpen w.geometry w.rests w.appliances w.surface.time flagged w.seats lease n x →
+    IsOpen w.geometry w.rests w.appliances w.surface.time w.surface.writes w.seats lease n x × SameUnder w.geometry lease w.surface.device changed
+frame-others w leased changed flagged number write frame lease within n x ne op =
     let was = frame.before lease n x ne op in
     elim (frame.each lease within) [
       | inl own ↦ absurd (ne (open-alone w leased lease within n number x write was own.opens))
       | inr away ↦ (was, away.same)
     ]
+
+-- and one whose claims all stand after it had them stand before, and finds what each of its leases covers as it was
+pub frame-all : (w : World) (leased : Leased w) (changed : Device) (flagged : List Issued) (number : ℕ) (write : Issued) →
+    Frame w.geometry w.rests w.appliances w.surface.time w.surface.device changed w.surface.writes flagged w.seats number write →
+    (n : ℕ) (x : Issued) → n ≢ number → slice_get w.surface.writes n ≡ Some x → AllStand w.geometry w.rests w.appliances w.surface.time flagged w.seats n x →
+    AllStand w.geometry w.rests w.appliances w.surface.time w.surface.writes w.seats n x × ((lease : ℕ) → IsUnder w.rests n lease → SameUnder w.geometry lease w.surface.device changed)
+frame-all w leased changed flagged number write frame n x ne found all = (
+  (λ lease under. frame.before lease n x ne (all lease under)),
+  (λ lease under. (frame-others w leased changed flagged number write frame lease
+      (placed-within w.geometry lease x.kind x.block x.bytes (w.rests n) (leased.right n x found).placed under) n x ne (all lease under)).1),
+)
