@@ -29,7 +29,7 @@ use Rattle.law_lease.proofs.LeaseFrames.{grip-open}
 use Rattle.law_lease.proofs.LeaseSteps.{not-waiting}
 use Rattle.law_lease.proofs.Leased.{grip_at, Leased}
 use Rattle.law_lease.proofs.Open.{IsOpen, open-elsewhere, open-later}
-use Rattle.law_headline.proofs.Content.{appliance_no, stands_at, PlaceFits, Has, OwnedAt, Minds, Whose, SeatFits, SeatOwns, Opens, Waits, Content}
+use Rattle.law_headline.proofs.Content.{appliance_no, stands_at, PlaceFits, Has, OwnedAt, Minds, Whose, SeatFits, SeatOwns, Placed, Waits, Content}
 use Rattle.law_headline.proofs.ContentFrames.{place-unmoved, owned-foreign}
 use Rattle.law_headline.proofs.Foreign.{Foreign, foreign-start, foreign-back}
 use Rattle.law_headline.proofs.Held.{IsRunning, HasImage, IsOf}
@@ -39,6 +39,7 @@ use Rattle.law_headline.proofs.HeldFrames.{keeps-foreign}
 use Rattle.law_headline.proofs.Journals.{Keeps}
 use Rattle.law_headline.proofs.ModelFacts.{Sound, sound-all, counts-all}
 use Rattle.law_headline.proofs.Owners.{owns-own, disowned-not}
+use Rattle.law_headline.proofs.PlacedByKind.{placed-moves}
 use Rattle.law_headline.proofs.Replied.{Names, changed-named, named-one, Unmoved, unmoved-started, unmoved-forgotten}
 
 -- ---- time passes
@@ -50,7 +51,7 @@ tick-content w by content leased = record {
   permitted = content.permitted;
   undamaged = content.undamaged;
   stored = content.stored;
-  opens = λ i within n x op of flags count. content.opens i within n x (open-later w.geometry w.rests w.appliances w.surface.time by w.surface.writes w.seats (image_lease i) n x op) of flags count;
+  placed = λ i within n x op of. content.placed i within n x (open-later w.geometry w.rests w.appliances w.surface.time by w.surface.writes w.seats (image_lease i) n x op) of;
   whose = λ i within n x op of. content.whose i within n x (open-later w.geometry w.rests w.appliances w.surface.time by w.surface.writes w.seats (image_lease i) n x op) of;
   waits = λ n x found all. content.waits n x found (λ lease under. open-later w.geometry w.rests w.appliances w.surface.time by w.surface.writes w.seats lease n x (all lease under));
   seats = content.seats;
@@ -71,8 +72,10 @@ module _ (w : World) (content : Content w) (a : ℕ) (below : a < w.appliances) 
   foreign-stored : (i : ℕ) → i < w.geometry.images → Keeps w.geometry w.surface.device i (n.slots i)
   foreign-stored i within = keeps-foreign w.geometry i a w.surface.device ((model_in w).slots i) (n.slots i) (foreign i) (content.stored i within)
 
-  foreign-opens : (i : ℕ) → i < w.geometry.images → Opens w.geometry w.rests w.appliances w.surface.time w.surface.device w.surface.writes (at w.seats a seat) i (n.slots i)
-  foreign-opens i within k x op of flags count = keeps-foreign w.geometry i a _ ((model_in w).slots i) (n.slots i) (foreign i) (content.opens i within k x (open-before i k x op) of flags count)
+  foreign-placed : (i : ℕ) → i < w.geometry.images → Placed w.geometry w.rests w.appliances w.surface.time w.surface.device w.surface.writes (at w.seats a seat) i (n.slots i)
+  foreign-placed i within k x op of =
+      placed-moves x.kind w.geometry w.surface.device w.surface.device i ((model_in w).slots i) (n.slots i) x.block x.bytes (λ only. only)
+      (λ keeps flags count. keeps-foreign w.geometry i a _ ((model_in w).slots i) (n.slots i) (foreign i) (keeps flags count)) (content.placed i within k x (open-before i k x op) of)
 
   foreign-waits : Waits w.geometry w.rests w.appliances w.surface.time w.surface.device w.surface.writes (at w.seats a seat)
   foreign-waits k x found all = content.waits k x found (λ lease under. open-elsewhere w.geometry w.rests w.appliances w.surface.time w.surface.writes w.seats lease a seat free k x (all lease under))
@@ -114,7 +117,7 @@ crash-content w a below content leased =
       permitted = permitted;
       undamaged = content.undamaged;
       stored = foreign-stored w content a below n unmoved foreign sound' seat refl;
-      opens = foreign-opens w content a below n unmoved foreign sound' seat refl;
+      placed = foreign-placed w content a below n unmoved foreign sound' seat refl;
       waits = foreign-waits w content a below n unmoved foreign sound' seat refl;
       seats = foreign-seats w content a below n unmoved foreign sound' seat refl
           (at-same m.running a None, (λ j. ap (λ (f : ℕ → Bool). f j) (at-same m.sessions a (λ k. false))), (λ k s is. absurd (let P : ⊥ = cc in P)));
@@ -216,7 +219,7 @@ start-content w a command known below here well built content leased =
       permitted = permitted;
       undamaged = content.undamaged;
       stored = foreign-stored w content a below n unmoved foreign sound' seat refl;
-      opens = foreign-opens w content a below n unmoved foreign sound' seat refl;
+      placed = foreign-placed w content a below n unmoved foreign sound' seat refl;
       waits = foreign-waits w content a below n unmoved foreign sound' seat refl;
       seats = foreign-seats w content a below n unmoved foreign sound' seat refl
           (let P : Place → Type 0 = λ q. PlaceFits g a n (record { holds = p.holds; sample = None; place = begun command q }) (begun command q) in

@@ -31,7 +31,7 @@ use Rattle.plx_worlds.specs.Session.{Session, Known}
 use Rattle.plx_worlds.specs.World.{World, Seat, setting_at, told}
 use Rattle.law_lease.proofs.Leased.{Leased}
 use Rattle.law_lease.proofs.Open.{IsOpen, open-elsewhere}
-use Rattle.law_headline.proofs.Content.{appliance_no, stands_at, PlaceFits, Has, OwnedAt, Grips, Minds, Whose, SeatFits, SeatOwns, Opens, Waits, Content}
+use Rattle.law_headline.proofs.Content.{appliance_no, stands_at, PlaceFits, Has, OwnedAt, Grips, Minds, Whose, SeatFits, SeatOwns, Placed, Waits, Content}
 use Rattle.law_headline.proofs.ContentFrames.{place-unmoved, owned-foreign, owned-taken, one-grip, grip-only}
 use Rattle.law_headline.proofs.Foreign.{Foreign}
 use Rattle.law_headline.proofs.Harmless.{Harmless, Yields, harmless-answers, harmless-foreign, yields-answers, yields-stays, yields-foreign}
@@ -41,6 +41,7 @@ use Rattle.law_headline.proofs.HeldFrames.{keeps-foreign}
 use Rattle.law_headline.proofs.Journals.{Keeps}
 use Rattle.law_headline.proofs.ModelFacts.{Sound, sound-all}
 use Rattle.law_headline.proofs.Owners.{owner-cases}
+use Rattle.law_headline.proofs.PlacedByKind.{placed-moves}
 use Rattle.law_headline.proofs.Replied.{IsAmongSlots, Names, IsDropping, sessions_after, sessions_sorted, not-own, ending-refusal, sessions-replied, running-replied, unmoved-replied, away-same, away-foreign, replied-others, dropping-disowned, attach-left}
 
 -- a command names an image, or doesn't
@@ -170,7 +171,7 @@ module _ (w : World) (content : Content w) (a : ℕ) (below : a < w.appliances) 
       permitted = content.permitted;
       undamaged = content.undamaged;
       stored = content.stored;
-      opens = λ i within k x op of flags count. content.opens i within k x (open-before i k x op) of flags count;
+      placed = λ i within k x op of. content.placed i within k x (open-before i k x op) of;
       waits = waits-stay;
       whose = λ i within k x op of b owns'. elim (eqb_tells b a) [
         | inl same ↦ absurd (quiet i within k x op of (owns' ∙ ap Some same.1))
@@ -357,10 +358,11 @@ module _ (w : World) (content : Content w) (a : ℕ) (below : a < w.appliances) 
                   | inr owner ↦ (owner.0.2 m owner.0.1).1
                 ]);
             waits = waits-stay;
-            opens = λ i within.
-                let P : Model → Type 0 = λ x. Opens g w.rests w.appliances time device writes (at w.seats a seat') i (x.slots i) in
-                subst P (sym is-model) (λ k x op of flags count. elim (foreign-or i within) [
-                  | inl foreign ↦ keeps-foreign g i a _ (m.slots i) (n.slots i) foreign (content.opens i within k x (open-before i k x op) of flags count)
+            placed = λ i within.
+                let P : Model → Type 0 = λ x. Placed g w.rests w.appliances time device writes (at w.seats a seat') i (x.slots i) in
+                subst P (sym is-model) (λ k x op of. elim (foreign-or i within) [
+                  | inl foreign ↦ placed-moves x.kind g device device i (m.slots i) (n.slots i) x.block x.bytes (λ only. only)
+                      (λ keeps flags count. keeps-foreign g i a _ (m.slots i) (n.slots i) foreign (keeps flags count)) (content.placed i within k x (open-before i k x op) of)
                   | inr owner ↦ absurd (owner.1 k x op of)
                 ]);
             whose = λ i within.

@@ -33,14 +33,15 @@ use Rattle.law_lease.proofs.LeaseSteps.{placed-may}
 use Rattle.law_lease.proofs.Frame.{Frame, IsNew, frame-all, frame-others, stood-issued, grips-before, grips-free, grips-other, grips-own, land-frame, landed-or, open-issued}
 use Rattle.law_lease.proofs.Open.{IsOpen, open-found}
 use Rattle.law_lease.proofs.Leased.{MayAsk, LawfulAt, IsAskedAt, IsRight, Leased}
-use Rattle.law_headline.proofs.Content.{appliance_no, stands_at, IsJournalled, PlaceFits, OwnedAt, Grips, Minds, Whose, SeatFits, SeatOwns, Opens, Waits, Content}
+use Rattle.law_headline.proofs.Content.{appliance_no, stands_at, IsJournalled, PlaceFits, OwnedAt, Grips, Minds, Whose, SeatFits, SeatOwns, Placed, Waits, Content}
 use Rattle.law_headline.proofs.ContentFrames.{owned-same, grip-only}
 use Rattle.law_headline.proofs.ContentGoes.{names-one}
 use Rattle.law_headline.proofs.Held.{Regime, Without, With, IsWith, IsOn, Looks, IsOf, HeldPart, IsNamed, Fair}
 use Rattle.law_headline.proofs.HeldFrames.{missing_of, missing-landed, same-refl, same-at, same-put, same-over, held-same, keeps-landed}
-use Rattle.law_headline.proofs.ImageWrites.{named-image, use-image, held-image, image-held, image-write, of-covers, of-one, placed-cases, same-under}
+use Rattle.law_headline.proofs.ImageWrites.{placed-keeps, placed-made, named-image, use-image, held-image, image-held, image-write, of-covers, of-one, placed-cases, same-under}
 use Rattle.law_headline.proofs.JournalFacts.{Keeps-same}
 use Rattle.law_headline.proofs.Journals.{Keeps, Same}
+use Rattle.law_headline.proofs.PlacedByKind.{OnlyBytes, PlacedBy, only-lands, placed-moves}
 use Rattle.law_headline.proofs.Replied.{Names}
 use Rattle.law_headline.proofs.WaitsByKind.{WaitsOn, waits-asked, waits-lands, waits-others}
 
@@ -61,20 +62,25 @@ of-named : (g : Geometry) (command : Command) (i block : ℕ) → (j : ℕ) × (
 of-named g command i block named names = let P : ℕ → Type 0 = λ j. IsOf g j block in subst P (names-one command named.0 i named.3 names) named.2
 
 -- the frame of a landing leaves each other open write what it had
-opens-others : (w : World) (content : Content w) (after : Device) (now : List Issued) (number : ℕ) (write : Issued) →
-    Frame w.geometry w.rests w.appliances w.surface.time w.surface.device after w.surface.writes now w.seats number write →
-    (i : ℕ) → i < w.geometry.images → (n : ℕ) (x : Issued) → n ≢ number → IsOpen w.geometry w.rests w.appliances w.surface.time now w.seats (image_lease i) n x → IsOf w.geometry i x.block →
-    (flags : List Bool) → length flags ≡ 8 → Keeps w.geometry (put after x.block (mixed flags x.bytes (after x.block))) i ((model_in w).slots i)
-opens-others w content after now number write frame i within n x ne op of flags count =
+placed-others : (w : World) (content : Content w) (other : Device) (flagged : List Issued) (number : ℕ) (write : Issued) →
+    Frame w.geometry w.rests w.appliances w.surface.time w.surface.device other w.surface.writes flagged w.seats number write →
+    (i : ℕ) → i < w.geometry.images → (n : ℕ) (x : Issued) → n ≢ number → IsOpen w.geometry w.rests w.appliances w.surface.time flagged w.seats (image_lease i) n x → IsOf w.geometry i x.block →
+    PlacedBy x.kind w.geometry other i ((model_in w).slots i) x.block x.bytes
+placed-others w content other flagged number write frame i within n x ne op of =
     let g = w.geometry in
     let device = w.surface.device in
     let slot = (model_in w).slots i in
-    let left = frame-others w content.leased after now number write frame (image_lease i) (image-below g i within) n x ne op in
-    let same = same-under g i device after within left.1 in
-    let P : List ℕ → Type 0 = λ y. Keeps g (put after x.block (mixed flags x.bytes y)) i slot in
-    subst P (sym (same-at g i x.block device after of same))
-    (Keeps-same g (put device x.block (mixed flags x.bytes (device x.block))) (put after x.block (mixed flags x.bytes (device x.block))) i slot
-    (same-put g i x.block (mixed flags x.bytes (device x.block)) device after same) (content.opens i within n x left.0 of flags count))
+    let left = frame-others w content.leased other flagged number write frame (image_lease i) (image-below g i within) n x ne op in
+    let same = same-under g i device other within left.1 in
+    let at' : other x.block ≡ device x.block = same-at g i x.block device other of same in
+    let O : List ℕ → Type 0 = λ y. OnlyBytes x.kind x.bytes y in
+    placed-moves x.kind g device other i slot slot x.block x.bytes (λ only. subst O (sym at') only)
+    (λ keeps flags count.
+    let P : List ℕ → Type 0 = λ y. Keeps g (put other x.block (mixed flags x.bytes y)) i slot in
+    subst P (sym at')
+    (Keeps-same g (put device x.block (mixed flags x.bytes (device x.block))) (put other x.block (mixed flags x.bytes (device x.block))) i slot
+    (same-put g i x.block (mixed flags x.bytes (device x.block)) device other same) (keeps flags count)))
+    (content.placed i within n x left.0 of)
 
 module _ (w : World) (content : Content w) where
   abbrev g : Geometry
@@ -145,11 +151,11 @@ module _ (w : World) (content : Content w) where
     may : MayAsk g boot (p a).holds leases what block bytes guard
     may = let P : Place → Type 0 = λ q. LawfulAt g boot (p a).holds (p a).sample q in (subst P here (content.leased.seated a below).lawful).0
 
-    -- whatever of the new write lands, its image is kept, which is the appliance's in the model
-    new-keeps : (i : ℕ) → i < g.images → IsOf g i block → is_in (image_lease i) leases ≡ true →
+    -- the new write is placed, and its image is the appliance's in the model
+    new-placed : (i : ℕ) → i < g.images → IsOf g i block → is_in (image_lease i) leases ≡ true →
         (time ≤ guard + 50) ⊎ ((claim : Claim) × (until : ℕ) × Grips g time writes a (w.seats a) i claim until) →
-        ((flags : List Bool) → length flags ≡ 8 → Keeps g (put device block (mixed flags bytes (device block))) i (m.slots i)) × ((m.slots i).owner ≡ Some a)
-    new-keeps i within of needs live = elim (placed-cases g geometry what block bytes leases (placed-may g boot (p a).holds leases what block bytes guard may) i within) [
+        PlacedBy what g device i (m.slots i) block bytes × ((m.slots i).owner ≡ Some a)
+    new-placed i within of needs live = elim (placed-cases g geometry what block bytes leases (placed-may g boot (p a).holds leases what block bytes guard may) i within) [
       | inl mine ↦
           let grant = (use-image g boot (p a).holds leases block bytes guard what mine.1 may).grants (image_lease i) needs in
           let named = named-image g command block what mine.1 fits.1.0 in
@@ -160,7 +166,7 @@ module _ (w : World) (content : Content w) where
           ] in
           let s = (serving i within (inl grips)).0 names in
           let write = held-image g a i command known s.regime block bytes guard done fault missed device what mine.1 s.held in
-          ((λ flags count. write.keeps flags count m s.looks), with-owner i s.regime s.looks write.changes)
+          (placed-made what g device i (m.slots i) block bytes mine.1 write.only (λ flags count. write.keeps flags count m s.looks), with-owner i s.regime s.looks write.changes)
       | inr away ↦ absurd (away of)
     ]
 
@@ -182,12 +188,12 @@ module _ (w : World) (content : Content w) where
       permitted = content.permitted;
       undamaged = content.undamaged;
       stored = content.stored;
-      opens = λ i within n x op of flags count. elim (opened i n x op) [
-        | inl was ↦ content.opens i within n x was of flags count
+      placed = λ i within n x op of. elim (opened i n x op) [
+        | inl was ↦ content.placed i within n x was of
         | inr is ↦
-            let P : Issued → Type 0 = λ y. Keeps g (put device y.block (mixed flags y.bytes (device y.block))) i (m.slots i) in
+            let P : Issued → Type 0 = λ y. PlacedBy y.kind g device i (m.slots i) y.block y.bytes in
             let Q : Issued → Type 0 = λ y. IsOf g i y.block in
-            subst P is.is ((new-keeps i within (subst Q (sym is.is) of) is.under is.live).0 flags count)
+            subst P is.is ((new-placed i within (subst Q (sym is.is) of) is.under is.live).0)
       ];
       waits = λ n x found all. elim (push-cases writes fresh x n found) [
         | inl old ↦ content.waits n x old (stood-issued w content.leased a below free leases what block bytes guard n x old all)
@@ -202,7 +208,7 @@ module _ (w : World) (content : Content w) where
         ]
         | inr is ↦
             let Q : Issued → Type 0 = λ y. IsOf g i y.block in
-            let owner = (new-keeps i within (subst Q (sym is.is) of) is.under is.live).1 in
+            let owner = (new-placed i within (subst Q (sym is.is) of) is.under is.live).1 in
             let same : a ≡ b = (let e : Some a ≡ Some b = sym owner ∙ mine in cc) in
             let S : ℕ → Type 0 = λ j. (at w.seats a seat' j).pending ≡ Some n in
             subst S same (ap (λ (s : Seat). s.pending) (at-same w.seats a seat') ∙ ap Some (sym is.last))
@@ -296,21 +302,24 @@ module _ (w : World) (content : Content w) where
 
     stored-after : (i : ℕ) → i < g.images → Keeps g after i (m.slots i)
     stored-after i within = elim (cases i within) [
-      | inl mine ↦ keeps-after i (m.slots i) (λ flags count. content.opens i within number write mine.2 mine.0 flags count)
+      | inl mine ↦ keeps-after i (m.slots i) (placed-keeps write.kind g device i (m.slots i) write.block write.bytes mine.1 (content.placed i within number write mine.2 mine.0))
       | inr no' ↦ Keeps-same g device after i (m.slots i) no'.1 (content.stored i within)
     ]
 
-    opens-after : (i : ℕ) → i < g.images → Opens g w.rests w.appliances time after now' w.seats i (m.slots i)
-    opens-after i within n x op of flags count = elim (landed-or w content.leased number sector write may n x (open-found g w.rests w.appliances time now' w.seats (image_lease i) n x op)) [
+    placed-after : (i : ℕ) → i < g.images → Placed g w.rests w.appliances time after now' w.seats i (m.slots i)
+    placed-after i within n x op of = elim (landed-or w content.leased number sector write may n x (open-found g w.rests w.appliances time now' w.seats (image_lease i) n x op)) [
       | inl here' ↦
           let Q : Issued → Type 0 = λ y. IsOf g i y.block in
-          let P : Issued → Type 0 = λ y. Keeps g (put after y.block (mixed flags y.bytes (after y.block))) i (m.slots i) in
+          let P : Issued → Type 0 = λ y. PlacedBy y.kind g after i (m.slots i) y.block y.bytes in
           elim (cases i within) [
-            | inl mine ↦ subst P (sym here'.1) (keeps-landed g i write.block sector write.bytes device (m.slots i) below-8 bytes-long (content.leased.long write.block)
-                (λ f c. content.opens i within number write mine.2 mine.0 f c) flags count)
+            | inl mine ↦ subst P (sym here'.1) (placed-moves write.kind g device after i (m.slots i) (m.slots i) write.block write.bytes
+                (λ only. let O : List ℕ → Type 0 = λ y. OnlyBytes write.kind write.bytes y in
+                subst O (sym (put-same device write.block (landed sector write.bytes (device write.block)))) (only-lands write.kind sector write.bytes (device write.block) only))
+                (λ keeps. keeps-landed g i write.block sector write.bytes device (m.slots i) below-8 bytes-long (content.leased.long write.block) keeps)
+                (content.placed i within number write mine.2 mine.0))
             | inr no' ↦ absurd (no'.0 (subst Q here'.1 of))
           ]
-      | inr away ↦ opens-others w content after now' number write frame i within n x away.0 op of flags count
+      | inr away ↦ placed-others w content after now' number write frame i within n x away.0 op of
     ]
 
     whose-after : (i : ℕ) → i < g.images → Whose g w.rests w.appliances time now' w.seats i (m.slots i)
@@ -345,6 +354,8 @@ module _ (w : World) (content : Content w) where
               keeps = λ flags count x looks. keeps-landed g i block sector bytes device (x.slots i) below-8 long (content.leased.long block) (λ f c. write'.keeps f c x looks) flags count;
               follows = held-same g b i command known regime done (put device block bytes) (put made block bytes) (same-over g i block bytes (landed sector bytes (device block)) device) write'.follows;
               changes = write'.changes;
+              only = (let O : List ℕ → Type 0 = λ y. OnlyBytes k bytes y in
+                  subst O (sym (put-same device block (landed sector bytes (device block)))) (only-lands k sector bytes (device block) write'.only));
             })
     held-lands b i command known regime (Ends end) number_of_boot asked journalled held = absurd asked
     held-lands b i command known regime (ReadThen block rest fault) number_of_boot asked journalled held = absurd asked
@@ -444,7 +455,7 @@ module _ (w : World) (content : Content w) where
       permitted = content.permitted;
       undamaged = content.undamaged;
       stored = stored-after;
-      opens = opens-after;
+      placed = placed-after;
       waits = waits-after;
       whose = whose-after;
       seats = content.seats;

@@ -16,6 +16,7 @@ use Rattle.plx_rules.specs.Part.{Part, Ends, ReadThen, WriteThen, ClockThen, Unt
 use Rattle.plx_rules.specs.declared.journaled.Journaled.{Journaled}
 use Rattle.plx_worlds.specs.Ends.{End}
 use Rattle.plx_worlds.specs.Session.{Session, Known}
+use Rattle.law_headline.proofs.PlacedByKind.{OnlyBytes}
 use Rattle.law_headline.proofs.Foreign.{Foreign}
 use Rattle.law_headline.proofs.Held.{Regime, Without, With, LooksSlot, Looks, HasImage, IsOf, HeldPart}
 use Rattle.law_headline.proofs.JournalFacts.{IsJournal-same, Keeps-same}
@@ -169,6 +170,7 @@ module _ (g : Geometry) (a i : ℕ) (command : Command) (known : Known) (regime 
             (same-put g i block (mixed flags bytes (d block)) d e same) (held.1 flags count m looks))),
         next held.2,
         held.3,
+        (let O : List ℕ → Type 0 = λ x. OnlyBytes other bytes x in subst O (sym (same-at g i block d e held.0 same)) held.4),
       )
   held-same (ClockThen rest) d e same held = λ reading. held-same (rest reading) d e same (held reading)
   held-same (UntilThen from rest) d e same held = λ reading. held-same (rest reading) d e same (held reading)

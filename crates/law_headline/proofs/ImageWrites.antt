@@ -4,7 +4,7 @@ use Rattle.std.proofs.lemmas.Bool.Decides.{eqb_tells}
 use Rattle.plx_base.specs.Sectors.{Device, put, mixed}
 use Rattle.plx_base.specs.declared.write_kind.WriteKind.{WriteKind}
 use Rattle.plx_base.specs.declared.write_kind.WriteKind.TheVariants as kind
-use Rattle.plx_commands.specs.Model.{Model}
+use Rattle.plx_commands.specs.Model.{Model, Slot}
 use Rattle.plx_commands.specs.Replies.{is_in}
 use Rattle.plx_commands.specs.declared.command.Command.{Command}
 use Rattle.plx_geom.proofs.Places.{image-extent, image-image}
@@ -23,6 +23,7 @@ use Rattle.law_lease.proofs.Rests.{home-in}
 use Rattle.law_headline.proofs.Content.{IsJournalled}
 use Rattle.law_headline.proofs.Held.{Regime, IsWith, Looks, IsOf, HeldPart, IsNamed}
 use Rattle.law_headline.proofs.Journals.{Keeps, Same}
+use Rattle.law_headline.proofs.PlacedByKind.{OnlyBytes, KeepsAll, PlacedBy}
 use Rattle.law_headline.proofs.Replied.{Names}
 
 -- ---- by kind
@@ -60,24 +61,39 @@ use-image g boot holds rests block bytes guard kind.JData is may = may
 use-image g boot holds rests block bytes guard kind.JCommit is may = may
 use-image g boot holds rests block bytes guard other is may = absurd is
 
+-- of its block only its own bytes differ, and the image is kept whatever of it lands
+pub placed-made : (k : WriteKind) (g : Geometry) (device : Device) (i : ℕ) (slot : Slot) (block : ℕ) (bytes : List ℕ) → IsJournalled k → OnlyBytes k bytes (device block) → KeepsAll g device i slot block bytes →
+    PlacedBy k g device i slot block bytes
+placed-made kind.Record g device i slot block bytes is only keeps = (only, keeps)
+placed-made kind.JData g device i slot block bytes is only keeps = (only, keeps)
+placed-made kind.JCommit g device i slot block bytes is only keeps = (only, keeps)
+placed-made other g device i slot block bytes is only keeps = absurd is
+
+pub placed-keeps : (k : WriteKind) (g : Geometry) (device : Device) (i : ℕ) (slot : Slot) (block : ℕ) (bytes : List ℕ) → IsJournalled k → PlacedBy k g device i slot block bytes → KeepsAll g device i slot block bytes
+placed-keeps kind.Record g device i slot block bytes is placed = placed.1
+placed-keeps kind.JData g device i slot block bytes is placed = placed.1
+placed-keeps kind.JCommit g device i slot block bytes is placed = placed.1
+placed-keeps other g device i slot block bytes is placed = absurd is
+
 module _ (g : Geometry) (a i : ℕ) (command : Command) (known : Known) (regime : Regime) (block : ℕ) (bytes : List ℕ) (guard : ℕ) (done fault : Part End) (missed : ℕ → Part End) (device : Device) where
   -- what an owner owes where it asks for a write of its image: whatever of it lands the image is kept, and what follows is right on the device with all of it landed
-  pub record IsImageWrite : Type 0 where
+  pub record IsImageWrite (k : WriteKind) : Type 0 where
     pub of : IsOf g i block
     pub keeps : (flags : List Bool) → length flags ≡ 8 → (m : Model) → Looks g a i command known regime m → Keeps g (put device block (mixed flags bytes (device block))) i (m.slots i)
     pub follows : HeldPart g a i command known regime done (put device block bytes)
     pub changes : IsWith regime
+    pub only : OnlyBytes k bytes (device block)
 
-  pub held-image : (k : WriteKind) → IsJournalled k → HeldPart g a i command known regime (WriteThen k block bytes guard done fault missed) device → IsImageWrite
-  held-image kind.Record is held = record { of = held.0; keeps = held.1; follows = held.2; changes = held.3 }
-  held-image kind.JData is held = record { of = held.0; keeps = held.1; follows = held.2; changes = held.3 }
-  held-image kind.JCommit is held = record { of = held.0; keeps = held.1; follows = held.2; changes = held.3 }
+  pub held-image : (k : WriteKind) → IsJournalled k → HeldPart g a i command known regime (WriteThen k block bytes guard done fault missed) device → IsImageWrite k
+  held-image kind.Record is held = record { of = held.0; keeps = held.1; follows = held.2; changes = held.3; only = held.4 }
+  held-image kind.JData is held = record { of = held.0; keeps = held.1; follows = held.2; changes = held.3; only = held.4 }
+  held-image kind.JCommit is held = record { of = held.0; keeps = held.1; follows = held.2; changes = held.3; only = held.4 }
   held-image other is held = absurd is
 
-  pub image-held : (k : WriteKind) → IsJournalled k → IsImageWrite → HeldPart g a i command known regime (WriteThen k block bytes guard done fault missed) device
-  image-held kind.Record is write = (write.of, write.keeps, write.follows, write.changes)
-  image-held kind.JData is write = (write.of, write.keeps, write.follows, write.changes)
-  image-held kind.JCommit is write = (write.of, write.keeps, write.follows, write.changes)
+  pub image-held : (k : WriteKind) → IsJournalled k → IsImageWrite k → HeldPart g a i command known regime (WriteThen k block bytes guard done fault missed) device
+  image-held kind.Record is write = (write.of, write.keeps, write.follows, write.changes, write.only)
+  image-held kind.JData is write = (write.of, write.keeps, write.follows, write.changes, write.only)
+  image-held kind.JCommit is write = (write.of, write.keeps, write.follows, write.changes, write.only)
   image-held other is write = absurd is
 
   -- an owner asks for the release of its lease, or for a write of its image

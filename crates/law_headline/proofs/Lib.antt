@@ -23,6 +23,7 @@ pub mod JournalOne
 pub mod Journals
 pub mod ModelFacts
 pub mod Owners
+pub mod PlacedByKind
 pub mod Replied
 pub mod StoredFacts
 pub mod WaitsByKind
