@@ -19,6 +19,7 @@ use Rattle.plx_worlds.specs.Ends.{End}
 use Rattle.plx_worlds.specs.Headline.{starts_and_crashes, events_told, AreUndamaged, model_before, model_in}
 use Rattle.plx_worlds.specs.Session.{Session, Known}
 use Rattle.plx_worlds.specs.World.{World, Seat, setting_at}
+use Rattle.plx_worlds.specs.Rests.{home_of}
 use Rattle.law_lease.proofs.Frame.{AllStand}
 use Rattle.law_lease.proofs.Leased.{Leased}
 use Rattle.law_lease.proofs.Open.{GripsLease, IsOpen}
@@ -101,10 +102,10 @@ abbrev pub SeatOwns : Geometry → ℕ → Device → List Issued → Model → 
 SeatOwns g time device writes m i a seat =
     Minds g time writes m a seat i → OwnedAt g a i device writes seat.pending m (stands_at g a seat).place
 
--- while a write of the image is open under its lease, what its kind says of its place holds
-abbrev pub Placed : Geometry → (rests : ℕ → List ℕ) → (appliances time : ℕ) → Device → List Issued → (ℕ → Seat) → ℕ → Slot → Type 0
-Placed g rests appliances time device writes seats i slot =
-    (n : ℕ) (x : Issued) → IsOpen g rests appliances time writes seats (image_lease i) n x → IsOf g i x.block → PlacedBy x.kind g device i slot x.block x.bytes
+-- while a write is open under its home, what its kind says of its place holds
+abbrev pub Placed : Geometry → (rests : ℕ → List ℕ) → (appliances time : ℕ) → Device → List Issued → (ℕ → Seat) → (slots : ℕ → Slot) → Type 0
+Placed g rests appliances time device writes seats slots =
+    (home n : ℕ) (x : Issued) → home_of (rests n) ≡ Some home → IsOpen g rests appliances time writes seats home n x → PlacedBy x.kind g device slots home x.block x.bytes
 
 -- while an appliance owns the image in the model, an open write of the image is what it waits for
 abbrev pub Whose : Geometry → (rests : ℕ → List ℕ) → (appliances time : ℕ) → List Issued → (ℕ → Seat) → ℕ → Slot → Type 0
@@ -123,7 +124,7 @@ pub record Content (w : World) : Type 0 where
   pub permitted : Permitted (model_before w) w.trace
   pub undamaged : AreUndamaged w.trace
   pub stored : (i : ℕ) → i < w.geometry.images → Keeps w.geometry w.surface.device i ((model_in w).slots i)
-  pub placed : (i : ℕ) → i < w.geometry.images → Placed w.geometry w.rests w.appliances w.surface.time w.surface.device w.surface.writes w.seats i ((model_in w).slots i)
+  pub placed : Placed w.geometry w.rests w.appliances w.surface.time w.surface.device w.surface.writes w.seats (model_in w).slots
   pub whose : (i : ℕ) → i < w.geometry.images → Whose w.geometry w.rests w.appliances w.surface.time w.surface.writes w.seats i ((model_in w).slots i)
   pub waits : Waits w.geometry w.rests w.appliances w.surface.time w.surface.device w.surface.writes w.seats
   pub seats : (a : ℕ) → a < w.appliances → SeatFits w.geometry (model_in w) a (w.seats a)

@@ -51,7 +51,7 @@ tick-content w by content leased = record {
   permitted = content.permitted;
   undamaged = content.undamaged;
   stored = content.stored;
-  placed = λ i within n x op of. content.placed i within n x (open-later w.geometry w.rests w.appliances w.surface.time by w.surface.writes w.seats (image_lease i) n x op) of;
+  placed = λ home n x is op. content.placed home n x is (open-later w.geometry w.rests w.appliances w.surface.time by w.surface.writes w.seats home n x op);
   whose = λ i within n x op of. content.whose i within n x (open-later w.geometry w.rests w.appliances w.surface.time by w.surface.writes w.seats (image_lease i) n x op) of;
   waits = λ n x found all. content.waits n x found (λ lease under. open-later w.geometry w.rests w.appliances w.surface.time by w.surface.writes w.seats lease n x (all lease under));
   seats = content.seats;
@@ -72,10 +72,11 @@ module _ (w : World) (content : Content w) (a : ℕ) (below : a < w.appliances) 
   foreign-stored : (i : ℕ) → i < w.geometry.images → Keeps w.geometry w.surface.device i (n.slots i)
   foreign-stored i within = keeps-foreign w.geometry i a w.surface.device ((model_in w).slots i) (n.slots i) (foreign i) (content.stored i within)
 
-  foreign-placed : (i : ℕ) → i < w.geometry.images → Placed w.geometry w.rests w.appliances w.surface.time w.surface.device w.surface.writes (at w.seats a seat) i (n.slots i)
-  foreign-placed i within k x op of =
-      placed-moves x.kind w.geometry w.surface.device w.surface.device i ((model_in w).slots i) (n.slots i) x.block x.bytes (λ only. only)
-      (λ keeps flags count. keeps-foreign w.geometry i a _ ((model_in w).slots i) (n.slots i) (foreign i) (keeps flags count)) (content.placed i within k x (open-before i k x op) of)
+  foreign-placed : Placed w.geometry w.rests w.appliances w.surface.time w.surface.device w.surface.writes (at w.seats a seat) n.slots
+  foreign-placed home k x is op =
+      placed-moves x.kind w.geometry w.surface.device w.surface.device (model_in w).slots n.slots home x.block x.bytes (λ only. only)
+      (λ keeps i within its. let old = keeps i within its in (old.0, (λ flags count. keeps-foreign w.geometry i a _ ((model_in w).slots i) (n.slots i) (foreign i) (old.1 flags count))))
+      (content.placed home k x is (open-elsewhere w.geometry w.rests w.appliances w.surface.time w.surface.writes w.seats home a seat free k x op))
 
   foreign-waits : Waits w.geometry w.rests w.appliances w.surface.time w.surface.device w.surface.writes (at w.seats a seat)
   foreign-waits k x found all = content.waits k x found (λ lease under. open-elsewhere w.geometry w.rests w.appliances w.surface.time w.surface.writes w.seats lease a seat free k x (all lease under))

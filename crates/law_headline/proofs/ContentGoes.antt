@@ -171,7 +171,7 @@ module _ (w : World) (content : Content w) (a : ℕ) (below : a < w.appliances) 
       permitted = content.permitted;
       undamaged = content.undamaged;
       stored = content.stored;
-      placed = λ i within k x op of. content.placed i within k x (open-before i k x op) of;
+      placed = λ home k x is op. content.placed home k x is (open-elsewhere g w.rests w.appliances time writes w.seats home a seat' refl k x op);
       waits = waits-stay;
       whose = λ i within k x op of b owns'. elim (eqb_tells b a) [
         | inl same ↦ absurd (quiet i within k x op of (owns' ∙ ap Some same.1))
@@ -358,13 +358,18 @@ module _ (w : World) (content : Content w) (a : ℕ) (below : a < w.appliances) 
                   | inr owner ↦ (owner.0.2 m owner.0.1).1
                 ]);
             waits = waits-stay;
-            placed = λ i within.
-                let P : Model → Type 0 = λ x. Placed g w.rests w.appliances time device writes (at w.seats a seat') i (x.slots i) in
-                subst P (sym is-model) (λ k x op of. elim (foreign-or i within) [
-                  | inl foreign ↦ placed-moves x.kind g device device i (m.slots i) (n.slots i) x.block x.bytes (λ only. only)
-                      (λ keeps flags count. keeps-foreign g i a _ (m.slots i) (n.slots i) foreign (keeps flags count)) (content.placed i within k x (open-before i k x op) of)
-                  | inr owner ↦ absurd (owner.1 k x op of)
-                ]);
+            placed =
+                let P : Model → Type 0 = λ x. Placed g w.rests w.appliances time device writes (at w.seats a seat') x.slots in
+                subst P (sym is-model) (λ home k x is op. placed-moves x.kind g device device m.slots n.slots home x.block x.bytes (λ only. only)
+                (λ keeps i within its.
+                let old = keeps i within its in (
+                  old.0,
+                  elim (foreign-or i within) [
+                    | inl foreign ↦ (λ flags count. keeps-foreign g i a _ (m.slots i) (n.slots i) foreign (old.1 flags count))
+                    | inr owner ↦ absurd (let O : ℕ → Type 0 = λ l. IsOpen g w.rests w.appliances time writes (at w.seats a seat') l k x in owner.1 k x (subst O its op) old.0)
+                  ],
+                ))
+                (content.placed home k x is (open-elsewhere g w.rests w.appliances time writes w.seats home a seat' refl k x op)));
             whose = λ i within.
                 let P : Model → Type 0 = λ x. Whose g w.rests w.appliances time writes (at w.seats a seat') i (x.slots i) in
                 subst P (sym is-model) (λ k x op of b owns'. elim (foreign-or i within) [

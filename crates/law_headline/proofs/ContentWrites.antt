@@ -15,8 +15,8 @@ use Rattle.plx_commands.specs.declared.command.Command.{Command}
 use Rattle.plx_commands.specs.declared.event.Event.TheVariants as event
 use Rattle.plx_commands.proofs.Places.{at-all, at-same, at-other}
 use Rattle.plx_disk.specs.Writes.{Issued, with_sector, no_sectors, fresh_write, MayLand, after_landing}
-use Rattle.plx_geom.specs.Geometry.{Geometry, IsGeometry, image_lease}
-use Rattle.plx_geom.proofs.Places.{image-below}
+use Rattle.plx_geom.specs.Geometry.{Geometry, IsGeometry, image_lease, lease_count}
+use Rattle.plx_geom.proofs.Places.{image-image, image-below}
 use Rattle.plx_disk.proofs.Lists.{push-before, push-last}
 use Rattle.plx_rules.specs.Part.{Part, Ends, ReadThen, WriteThen, ClockThen, UntilThen}
 use Rattle.plx_worlds.specs.Boot.{Place, Idle, Begins, In, Position}
@@ -24,24 +24,26 @@ use Rattle.plx_worlds.specs.Ends.{End}
 use Rattle.plx_worlds.specs.Headline.{model_in}
 use Rattle.plx_worlds.specs.Holds.{Hold}
 use Rattle.law_lease.proofs.Lists.{push-cases}
-use Rattle.plx_worlds.specs.Rests.{IsUnder, rests_on}
+use Rattle.plx_worlds.specs.Rests.{IsUnder, home_of, rests_on}
 use Rattle.plx_commands.specs.Replies.{is_in}
 use Rattle.plx_worlds.specs.Session.{Known}
 use Rattle.plx_worlds.specs.Settings.{boot_number}
 use Rattle.plx_worlds.specs.World.{World, Seat, with_surface, after_issue}
 use Rattle.law_lease.proofs.LeaseSteps.{placed-may}
-use Rattle.law_lease.proofs.Frame.{Frame, IsNew, frame-all, frame-others, stood-issued, grips-before, grips-free, grips-other, grips-own, land-frame, landed-or, open-issued}
-use Rattle.law_lease.proofs.Open.{IsOpen, open-found}
+use Rattle.law_lease.proofs.Frame.{Frame, IsNew, SameUnder, frame-all, frame-others, stood-issued, grips-before, grips-free, grips-other, grips-own, land-frame, landed-or, open-issued}
+use Rattle.law_lease.proofs.Covers.{Covers}
+use Rattle.law_lease.proofs.Open.{GripsLease, IsOpen, open-found}
 use Rattle.law_lease.proofs.Leased.{MayAsk, LawfulAt, IsAskedAt, IsRight, Leased}
 use Rattle.law_headline.proofs.Content.{appliance_no, stands_at, IsJournalled, PlaceFits, OwnedAt, Grips, Minds, Whose, SeatFits, SeatOwns, Placed, Waits, Content}
 use Rattle.law_headline.proofs.ContentFrames.{owned-same, grip-only}
 use Rattle.law_headline.proofs.ContentGoes.{names-one}
 use Rattle.law_headline.proofs.Held.{Regime, Without, With, IsWith, IsOn, Looks, IsOf, HeldPart, IsNamed, Fair}
-use Rattle.law_headline.proofs.HeldFrames.{missing_of, missing-landed, same-refl, same-at, same-put, same-over, held-same, keeps-landed}
-use Rattle.law_headline.proofs.ImageWrites.{placed-keeps, placed-made, named-image, use-image, held-image, image-held, image-write, of-covers, of-one, placed-cases, same-under}
+use Rattle.law_headline.proofs.HeldFrames.{missing_of, missing-landed, same-refl, same-put, same-over, held-same, keeps-landed}
+use Rattle.law_headline.proofs.ImageWrites.{placed-block, placed-keeps, placed-made, named-image, use-image, held-image, image-held, image-write, of-covers, of-one, placed-cases, same-under}
 use Rattle.law_headline.proofs.JournalFacts.{Keeps-same}
 use Rattle.law_headline.proofs.Journals.{Keeps, Same}
-use Rattle.law_headline.proofs.PlacedByKind.{OnlyBytes, PlacedBy, only-lands, placed-moves}
+use Rattle.law_headline.proofs.BytesByKind.{OnlyBytes, only-lands}
+use Rattle.law_headline.proofs.PlacedByKind.{KeepsAll, PlacedBy, placed-moves}
 use Rattle.law_headline.proofs.Replied.{Names}
 use Rattle.law_headline.proofs.WaitsByKind.{WaitsOn, waits-asked, waits-lands, waits-others}
 
@@ -64,23 +66,32 @@ of-named g command i block named names = let P : ℕ → Type 0 = λ j. IsOf g j
 -- the frame of a landing leaves each other open write what it had
 placed-others : (w : World) (content : Content w) (other : Device) (flagged : List Issued) (number : ℕ) (write : Issued) →
     Frame w.geometry w.rests w.appliances w.surface.time w.surface.device other w.surface.writes flagged w.seats number write →
-    (i : ℕ) → i < w.geometry.images → (n : ℕ) (x : Issued) → n ≢ number → IsOpen w.geometry w.rests w.appliances w.surface.time flagged w.seats (image_lease i) n x → IsOf w.geometry i x.block →
-    PlacedBy x.kind w.geometry other i ((model_in w).slots i) x.block x.bytes
-placed-others w content other flagged number write frame i within n x ne op of =
+    (home n : ℕ) (x : Issued) → n ≢ number → slice_get w.surface.writes n ≡ Some x → home_of (w.rests n) ≡ Some home → IsOpen w.geometry w.rests w.appliances w.surface.time flagged w.seats home n x →
+    PlacedBy x.kind w.geometry other (model_in w).slots home x.block x.bytes
+placed-others w content other flagged number write frame home n x ne found is op =
     let g = w.geometry in
     let device = w.surface.device in
-    let slot = (model_in w).slots i in
-    let left = frame-others w content.leased other flagged number write frame (image_lease i) (image-below g i within) n x ne op in
-    let same = same-under g i device other within left.1 in
-    let at' : other x.block ≡ device x.block = same-at g i x.block device other of same in
-    let O : List ℕ → Type 0 = λ y. OnlyBytes x.kind x.bytes y in
-    placed-moves x.kind g device other i slot slot x.block x.bytes (λ only. subst O (sym at') only)
-    (λ keeps flags count.
-    let P : List ℕ → Type 0 = λ y. Keeps g (put other x.block (mixed flags x.bytes y)) i slot in
-    subst P (sym at')
-    (Keeps-same g (put device x.block (mixed flags x.bytes (device x.block))) (put other x.block (mixed flags x.bytes (device x.block))) i slot
-    (same-put g i x.block (mixed flags x.bytes (device x.block)) device other same) (keeps flags count)))
-    (content.placed i within n x left.0 of)
+    let slots = (model_in w).slots in
+    elim (placed-block g x.kind x.block x.bytes (w.rests n) home (content.leased.right n x found).placed is) [
+      | inr all ↦ all other slots
+      | inl its ↦
+          let within : home < lease_count g = subst (λ (l : ℕ). l < lease_count g) (sym its.2) (image-below g its.0 its.1) in
+          let left = frame-others w content.leased other flagged number write frame home within n x ne op in
+          let at' : other x.block ≡ device x.block = left.1 x.block (subst (λ (l : ℕ). Covers g l x.block) (sym its.2) (of-covers g its.0 x.block its.1 its.3)) in
+          let O : List ℕ → Type 0 = λ y. OnlyBytes x.kind x.bytes y in
+          placed-moves x.kind g device other slots slots home x.block x.bytes (λ only. subst O (sym at') only)
+          (λ keeps i below at''.
+          let old = keeps i below at'' in
+          let same = same-under g i device other below (subst (λ (l : ℕ). SameUnder g l device other) at'' left.1) in (
+            old.0,
+            λ flags count.
+                let P : List ℕ → Type 0 = λ y. Keeps g (put other x.block (mixed flags x.bytes y)) i (slots i) in
+                subst P (sym at')
+                (Keeps-same g (put device x.block (mixed flags x.bytes (device x.block))) (put other x.block (mixed flags x.bytes (device x.block))) i (slots i)
+                (same-put g i x.block (mixed flags x.bytes (device x.block)) device other same) (old.1 flags count)),
+          ))
+          (content.placed home n x is left.0)
+    ]
 
 module _ (w : World) (content : Content w) where
   abbrev g : Geometry
@@ -151,11 +162,11 @@ module _ (w : World) (content : Content w) where
     may : MayAsk g boot (p a).holds leases what block bytes guard
     may = let P : Place → Type 0 = λ q. LawfulAt g boot (p a).holds (p a).sample q in (subst P here (content.leased.seated a below).lawful).0
 
-    -- the new write is placed, and its image is the appliance's in the model
-    new-placed : (i : ℕ) → i < g.images → IsOf g i block → is_in (image_lease i) leases ≡ true →
+    -- of its block only its own bytes differ, its image is kept, and it is the appliance's in the model
+    new-keeps : (i : ℕ) → i < g.images → IsOf g i block → is_in (image_lease i) leases ≡ true →
         (time ≤ guard + 50) ⊎ ((claim : Claim) × (until : ℕ) × Grips g time writes a (w.seats a) i claim until) →
-        PlacedBy what g device i (m.slots i) block bytes × ((m.slots i).owner ≡ Some a)
-    new-placed i within of needs live = elim (placed-cases g geometry what block bytes leases (placed-may g boot (p a).holds leases what block bytes guard may) i within) [
+        OnlyBytes what bytes (device block) × KeepsAll g device i (m.slots i) block bytes × ((m.slots i).owner ≡ Some a)
+    new-keeps i within of needs live = elim (placed-cases g geometry what block bytes leases (placed-may g boot (p a).holds leases what block bytes guard may) i within) [
       | inl mine ↦
           let grant = (use-image g boot (p a).holds leases block bytes guard what mine.1 may).grants (image_lease i) needs in
           let named = named-image g command block what mine.1 fits.1.0 in
@@ -166,7 +177,7 @@ module _ (w : World) (content : Content w) where
           ] in
           let s = (serving i within (inl grips)).0 names in
           let write = held-image g a i command known s.regime block bytes guard done fault missed device what mine.1 s.held in
-          (placed-made what g device i (m.slots i) block bytes mine.1 write.only (λ flags count. write.keeps flags count m s.looks), with-owner i s.regime s.looks write.changes)
+          (write.only, (λ flags count. write.keeps flags count m s.looks), with-owner i s.regime s.looks write.changes)
       | inr away ↦ absurd (away of)
     ]
 
@@ -188,12 +199,25 @@ module _ (w : World) (content : Content w) where
       permitted = content.permitted;
       undamaged = content.undamaged;
       stored = content.stored;
-      placed = λ i within n x op of. elim (opened i n x op) [
-        | inl was ↦ content.placed i within n x was of
-        | inr is ↦
-            let P : Issued → Type 0 = λ y. PlacedBy y.kind g device i (m.slots i) y.block y.bytes in
-            let Q : Issued → Type 0 = λ y. IsOf g i y.block in
-            subst P is.is ((new-placed i within (subst Q (sym is.is) of) is.under is.live).0)
+      placed = λ home n x is op. elim (open-issued w content.leased a below free leases what block bytes guard home n x op) [
+        | inl was ↦
+            let old = slice_get_within writes n x (open-found g w.rests w.appliances time writes w.seats home n x was) in
+            content.placed home n x (ap home_of (sym (at-other w.rests (length writes) n leases (λ e. omega (arith, old, e)))) ∙ is) was
+        | inr new ↦
+            let its-home : home_of leases ≡ Some home = ap home_of (sym (ap since new.last ∙ at-same w.rests (length writes) leases)) ∙ is in
+            let P : Issued → Type 0 = λ y. PlacedBy y.kind g device m.slots home y.block y.bytes in
+            subst P new.is (elim (placed-block g what block bytes leases home (placed-may g boot (p a).holds leases what block bytes guard may) its-home) [
+              | inr all ↦ all device m.slots
+              | inl its ↦
+                  let L : ℕ → Type 0 = λ l. (is_in l leases ≡ true) × ((time ≤ guard + 50) ⊎ ((claim : Claim) × (until : ℕ) × GripsLease g time writes a (w.seats a) l claim until)) in
+                  let live = subst L its.2 (new.under, new.live) in
+                  let made = new-keeps its.0 its.1 its.3 live.0 live.1 in
+                  placed-made what g device m.slots home block bytes its.4 made.0
+                  (λ j within at'.
+                  let same : its.0 ≡ j = image-image its.0 j (sym its.2 ∙ at') in
+                  let K : ℕ → Type 0 = λ k. IsOf g k block × KeepsAll g device k (m.slots k) block bytes in
+                  subst K same (its.3, made.1))
+            ])
       ];
       waits = λ n x found all. elim (push-cases writes fresh x n found) [
         | inl old ↦ content.waits n x old (stood-issued w content.leased a below free leases what block bytes guard n x old all)
@@ -208,7 +232,7 @@ module _ (w : World) (content : Content w) where
         ]
         | inr is ↦
             let Q : Issued → Type 0 = λ y. IsOf g i y.block in
-            let owner = (new-placed i within (subst Q (sym is.is) of) is.under is.live).1 in
+            let owner = (new-keeps i within (subst Q (sym is.is) of) is.under is.live).2 in
             let same : a ≡ b = (let e : Some a ≡ Some b = sym owner ∙ mine in cc) in
             let S : ℕ → Type 0 = λ j. (at w.seats a seat' j).pending ≡ Some n in
             subst S same (ap (λ (s : Seat). s.pending) (at-same w.seats a seat') ∙ ap Some (sym is.last))
@@ -293,33 +317,32 @@ module _ (w : World) (content : Content w) where
         no-sector (suc (suc (suc (suc (suc (suc (suc (suc k)))))))) less = absurd (omega (arith, less))
 
     -- as an image sees it: it is one of the image, and open under its lease; or it is none of the image's, and what the image has is the same
-    cases : (i : ℕ) → i < g.images → (IsOf g i write.block × IsJournalled write.kind × IsOpen g w.rests w.appliances time writes w.seats (image_lease i) number write)
+    cases : (i : ℕ) → i < g.images → (IsOf g i write.block × IsJournalled write.kind × IsOpen g w.rests w.appliances time writes w.seats (image_lease i) number write × (home_of (w.rests number) ≡ Some (image_lease i)))
         ⊎ ((IsOf g i write.block → ⊥) × Same g i device after)
     cases i within = elim (frame.each (image_lease i) (image-below g i within)) [
-      | inl own ↦ (let its = image-write g i write.block write.bytes (w.rests number) within own.covers own.home write.kind right.placed in inl (its.0, its.1, own.opens))
+      | inl own ↦ (let its = image-write g i write.block write.bytes (w.rests number) within own.covers own.home write.kind right.placed in inl (its.0, its.1, own.opens, own.home))
       | inr away ↦ inr ((λ of. away.uncovered (of-covers g i write.block within of)), same-under g i device after within away.same)
     ]
 
     stored-after : (i : ℕ) → i < g.images → Keeps g after i (m.slots i)
     stored-after i within = elim (cases i within) [
-      | inl mine ↦ keeps-after i (m.slots i) (placed-keeps write.kind g device i (m.slots i) write.block write.bytes mine.1 (content.placed i within number write mine.2 mine.0))
+      | inl mine ↦ keeps-after i (m.slots i) (placed-keeps write.kind g device m.slots (image_lease i) write.block write.bytes mine.1 (content.placed (image_lease i) number write mine.3 mine.2) i within refl).1
       | inr no' ↦ Keeps-same g device after i (m.slots i) no'.1 (content.stored i within)
     ]
 
-    placed-after : (i : ℕ) → i < g.images → Placed g w.rests w.appliances time after now' w.seats i (m.slots i)
-    placed-after i within n x op of = elim (landed-or w content.leased number sector write may n x (open-found g w.rests w.appliances time now' w.seats (image_lease i) n x op)) [
+    placed-after : Placed g w.rests w.appliances time after now' w.seats m.slots
+    placed-after home n x is op = elim (landed-or w content.leased number sector write may n x (open-found g w.rests w.appliances time now' w.seats home n x op)) [
       | inl here' ↦
-          let Q : Issued → Type 0 = λ y. IsOf g i y.block in
-          let P : Issued → Type 0 = λ y. PlacedBy y.kind g after i (m.slots i) y.block y.bytes in
-          elim (cases i within) [
-            | inl mine ↦ subst P (sym here'.1) (placed-moves write.kind g device after i (m.slots i) (m.slots i) write.block write.bytes
-                (λ only. let O : List ℕ → Type 0 = λ y. OnlyBytes write.kind write.bytes y in
-                subst O (sym (put-same device write.block (landed sector write.bytes (device write.block)))) (only-lands write.kind sector write.bytes (device write.block) only))
-                (λ keeps. keeps-landed g i write.block sector write.bytes device (m.slots i) below-8 bytes-long (content.leased.long write.block) keeps)
-                (content.placed i within number write mine.2 mine.0))
-            | inr no' ↦ absurd (no'.0 (subst Q here'.1 of))
-          ]
-      | inr away ↦ placed-others w content after now' number write frame i within n x away.0 op of
+          let U : ℕ → Type 0 = λ k. (home_of (w.rests k) ≡ Some home) × IsOpen g w.rests w.appliances time now' w.seats home k x in
+          let its = subst U here'.0 (is, op) in
+          let P : Issued → Type 0 = λ y. PlacedBy y.kind g after m.slots home y.block y.bytes in
+          subst P (sym here'.1) (placed-moves write.kind g device after m.slots m.slots home write.block write.bytes
+          (λ only. let O : List ℕ → Type 0 = λ y. OnlyBytes write.kind write.bytes y in
+          subst O (sym (put-same device write.block (landed sector write.bytes (device write.block)))) (only-lands write.kind sector write.bytes (device write.block) only))
+          (λ keeps i within at'. let old = keeps i within at' in
+          (old.0, keeps-landed g i write.block sector write.bytes device (m.slots i) below-8 bytes-long (content.leased.long write.block) old.1))
+          (content.placed home number write its.0 (frame.still home x its.1)))
+      | inr away ↦ placed-others w content after now' number write frame home n x away.0 away.1 is op
     ]
 
     whose-after : (i : ℕ) → i < g.images → Whose g w.rests w.appliances time now' w.seats i (m.slots i)
@@ -404,7 +427,7 @@ module _ (w : World) (content : Content w) where
               by_place (p b).place waits mine (subst Q same asked.2) (content.seats b under) owned
         ]
       where
-        by_place : (place : Place) → (w.seats b).pending ≡ Some number → (IsOf g i write.block × IsJournalled write.kind × IsOpen g w.rests w.appliances time writes w.seats (image_lease i) number write) →
+        by_place : (place : Place) → (w.seats b).pending ≡ Some number → (IsOf g i write.block × IsJournalled write.kind × IsOpen g w.rests w.appliances time writes w.seats (image_lease i) number write × (home_of (w.rests number) ≡ Some (image_lease i))) →
             IsAskedAt place (boot_number b (w.seats b).boots) write → PlaceFits g b m (p b) place → OwnedAt g b i device writes (w.seats b).pending m place → OwnedAt g b i after now' (w.seats b).pending m place
         by_place (Idle known) waits mine asked fits owned = absurd asked
         by_place (Begins known command) waits mine asked fits owned = absurd asked

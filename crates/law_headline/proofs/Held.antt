@@ -28,7 +28,7 @@ use Rattle.plx_worlds.specs.Session.{Session, Known}
 use Rattle.law_headline.proofs.Harmless.{Harmless, Yields}
 use Rattle.law_headline.proofs.Journals.{IsJournal, IsShown, ShowEither, Keeps}
 use Rattle.law_headline.proofs.ModelFacts.{Differs}
-use Rattle.law_headline.proofs.PlacedByKind.{OnlyBytes}
+use Rattle.law_headline.proofs.BytesByKind.{OnlyBytes}
 use Rattle.law_headline.proofs.Replied.{Names, IsDropping, sessions_after}
 
 -- of which slots there is a session

@@ -23,7 +23,8 @@ use Rattle.law_lease.proofs.Rests.{home-in}
 use Rattle.law_headline.proofs.Content.{IsJournalled}
 use Rattle.law_headline.proofs.Held.{Regime, IsWith, Looks, IsOf, HeldPart, IsNamed}
 use Rattle.law_headline.proofs.Journals.{Keeps, Same}
-use Rattle.law_headline.proofs.PlacedByKind.{OnlyBytes, KeepsAll, PlacedBy}
+use Rattle.law_headline.proofs.BytesByKind.{OnlyBytes}
+use Rattle.law_headline.proofs.PlacedByKind.{KeepsImage, PlacedBy}
 use Rattle.law_headline.proofs.Replied.{Names}
 
 -- ---- by kind
@@ -62,18 +63,33 @@ use-image g boot holds rests block bytes guard kind.JCommit is may = may
 use-image g boot holds rests block bytes guard other is may = absurd is
 
 -- of its block only its own bytes differ, and the image is kept whatever of it lands
-pub placed-made : (k : WriteKind) (g : Geometry) (device : Device) (i : ℕ) (slot : Slot) (block : ℕ) (bytes : List ℕ) → IsJournalled k → OnlyBytes k bytes (device block) → KeepsAll g device i slot block bytes →
-    PlacedBy k g device i slot block bytes
-placed-made kind.Record g device i slot block bytes is only keeps = (only, keeps)
-placed-made kind.JData g device i slot block bytes is only keeps = (only, keeps)
-placed-made kind.JCommit g device i slot block bytes is only keeps = (only, keeps)
-placed-made other g device i slot block bytes is only keeps = absurd is
+pub placed-made : (k : WriteKind) (g : Geometry) (device : Device) (slots : ℕ → Slot) (home block : ℕ) (bytes : List ℕ) → IsJournalled k → OnlyBytes k bytes (device block) → KeepsImage g device slots home block bytes →
+    PlacedBy k g device slots home block bytes
+placed-made kind.Record g device slots home block bytes is only keeps = (only, keeps)
+placed-made kind.JData g device slots home block bytes is only keeps = (only, keeps)
+placed-made kind.JCommit g device slots home block bytes is only keeps = (only, keeps)
+placed-made other g device slots home block bytes is only keeps = absurd is
 
-pub placed-keeps : (k : WriteKind) (g : Geometry) (device : Device) (i : ℕ) (slot : Slot) (block : ℕ) (bytes : List ℕ) → IsJournalled k → PlacedBy k g device i slot block bytes → KeepsAll g device i slot block bytes
-placed-keeps kind.Record g device i slot block bytes is placed = placed.1
-placed-keeps kind.JData g device i slot block bytes is placed = placed.1
-placed-keeps kind.JCommit g device i slot block bytes is placed = placed.1
-placed-keeps other g device i slot block bytes is placed = absurd is
+pub placed-keeps : (k : WriteKind) (g : Geometry) (device : Device) (slots : ℕ → Slot) (home block : ℕ) (bytes : List ℕ) → IsJournalled k → PlacedBy k g device slots home block bytes →
+    KeepsImage g device slots home block bytes
+placed-keeps kind.Record g device slots home block bytes is placed = placed.1
+placed-keeps kind.JData g device slots home block bytes is placed = placed.1
+placed-keeps kind.JCommit g device slots home block bytes is placed = placed.1
+placed-keeps other g device slots home block bytes is placed = absurd is
+
+-- a write is one of the image whose lease is its home, or nothing is said of its block
+pub placed-block : (g : Geometry) (k : WriteKind) (block : ℕ) (bytes rests : List ℕ) (home : ℕ) → IsPlaced g k block bytes rests → home_of rests ≡ Some home →
+    ((i : ℕ) × (i < g.images) × (home ≡ image_lease i) × IsOf g i block × IsJournalled k) ⊎ ((device : Device) (slots : ℕ → Slot) → PlacedBy k g device slots home block bytes)
+placed-block g kind.Claim block bytes rests home placed is = inr (λ device slots. tt)
+placed-block g kind.Renew block bytes rests home placed is = inr (λ device slots. tt)
+placed-block g kind.Release block bytes rests home placed is = inr (λ device slots. tt)
+placed-block g kind.Take block bytes rests home placed is = inr (λ device slots. tt)
+placed-block g kind.Give block bytes rests home placed is = inr (λ device slots. tt)
+placed-block g kind.Sweep block bytes rests home placed is = inr (λ device slots. tt)
+placed-block g kind.Record block bytes rests home placed is = inl (placed.0, placed.1, same-some home (image_lease placed.0) (sym is ∙ ap home_of placed.3), inl placed.2, tt)
+placed-block g kind.JData block bytes rests home placed is = inl (placed.0, placed.2, same-some home (image_lease placed.0) (sym is ∙ ap home_of placed.5), inr (placed.1, placed.3, inr placed.4), tt)
+placed-block g kind.JCommit block bytes rests home placed is = inl (placed.0, placed.2, same-some home (image_lease placed.0) (sym is ∙ ap home_of placed.5), inr (placed.1, placed.3, inl placed.4), tt)
+placed-block g other block bytes rests home placed is = absurd placed
 
 module _ (g : Geometry) (a i : ℕ) (command : Command) (known : Known) (regime : Regime) (block : ℕ) (bytes : List ℕ) (guard : ℕ) (done fault : Part End) (missed : ℕ → Part End) (device : Device) where
   -- what an owner owes where it asks for a write of its image: whatever of it lands the image is kept, and what follows is right on the device with all of it landed

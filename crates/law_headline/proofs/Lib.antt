@@ -1,3 +1,4 @@
+pub mod BytesByKind
 pub mod Content
 pub mod ContentAnswers
 pub mod ContentEvents
