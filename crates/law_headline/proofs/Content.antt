@@ -1,7 +1,7 @@
 -- What holds in every world that events lead to.
-use Rattle.std.proofs.Common.{◌≡◌, ℕ, ◌<◌, ◌⊎◌, List, length, Bool, false, Option, Some, None}
+use Rattle.std.proofs.Common.{◌≡◌, ℕ, ◌<◌, ◌⊎◌, List, false, Option, Some, None}
 use Rattle.std.specs.Prelude.{slice_get}
-use Rattle.plx_base.specs.Sectors.{Device, put, mixed}
+use Rattle.plx_base.specs.Sectors.{Device, mixed}
 use Rattle.plx_base.specs.declared.lease.Claim.{Claim}
 use Rattle.plx_base.specs.declared.numbers.ApplianceNo.{ApplianceNo}
 use Rattle.plx_base.specs.declared.write_kind.WriteKind.{WriteKind}
@@ -19,13 +19,17 @@ use Rattle.plx_worlds.specs.Ends.{End}
 use Rattle.plx_worlds.specs.Headline.{starts_and_crashes, events_told, AreUndamaged, model_before, model_in}
 use Rattle.plx_worlds.specs.Session.{Session, Known}
 use Rattle.plx_worlds.specs.World.{World, Seat, setting_at}
+use Rattle.plx_worlds.specs.Rests.{home_of}
+use Rattle.law_lease.proofs.Frame.{AllStand}
 use Rattle.law_lease.proofs.Leased.{Leased}
 use Rattle.law_lease.proofs.Open.{GripsLease, IsOpen}
 use Rattle.law_headline.proofs.Held.{SameSessions, Regime, With, IsRunning, Looks, HasImage, IsOf, IsOn, HeldPart, Backs, Fair}
 use Rattle.law_headline.proofs.HeldBegins.{IsBegunChange}
 use Rattle.law_headline.proofs.HeldFrames.{missing_of}
 use Rattle.law_headline.proofs.Journals.{IsJournal, IsShown, Keeps}
+use Rattle.law_headline.proofs.PlacedByKind.{PlacedBy}
 use Rattle.law_headline.proofs.Replied.{Names}
+use Rattle.law_headline.proofs.WaitsByKind.{WaitsOn}
 
 -- a write of an image's record or journal
 abbrev pub IsJournalled : WriteKind → Type 0
@@ -98,15 +102,20 @@ abbrev pub SeatOwns : Geometry → ℕ → Device → List Issued → Model → 
 SeatOwns g time device writes m i a seat =
     Minds g time writes m a seat i → OwnedAt g a i device writes seat.pending m (stands_at g a seat).place
 
--- whatever of an open write lands, the image is kept
-abbrev pub Opens : Geometry → (rests : ℕ → List ℕ) → (appliances time : ℕ) → Device → List Issued → (ℕ → Seat) → ℕ → Slot → Type 0
-Opens g rests appliances time device writes seats i slot =
-    (n : ℕ) (x : Issued) → IsOpen g rests appliances time writes seats (image_lease i) n x → IsOf g i x.block → (flags : List Bool) → length flags ≡ 8 → Keeps g (put device x.block (mixed flags x.bytes (device x.block))) i slot
+-- while a write is open under its home, what its kind says of its place holds
+abbrev pub Placed : Geometry → (rests : ℕ → List ℕ) → (appliances time : ℕ) → Device → List Issued → (ℕ → Seat) → (slots : ℕ → Slot) → Type 0
+Placed g rests appliances time device writes seats slots =
+    (home n : ℕ) (x : Issued) → home_of (rests n) ≡ Some home → IsOpen g rests appliances time writes seats home n x → PlacedBy x.kind g device slots home x.block x.bytes
 
 -- while an appliance owns the image in the model, an open write of the image is what it waits for
 abbrev pub Whose : Geometry → (rests : ℕ → List ℕ) → (appliances time : ℕ) → List Issued → (ℕ → Seat) → ℕ → Slot → Type 0
 Whose g rests appliances time writes seats i slot =
     (n : ℕ) (x : Issued) → IsOpen g rests appliances time writes seats (image_lease i) n x → IsOf g i x.block → (b : ℕ) → slot.owner ≡ Some b → (seats b).pending ≡ Some n
+
+-- while all claims on which an issued write rests stand, what its kind waits on holds
+abbrev pub Waits : Geometry → (rests : ℕ → List ℕ) → (appliances time : ℕ) → Device → List Issued → (ℕ → Seat) → Type 0
+Waits g rests appliances time device writes seats =
+    (n : ℕ) (x : Issued) → slice_get writes n ≡ Some x → AllStand g rests appliances time writes seats n x → WaitsOn x.kind g device x.block x.bytes x.landed
 
 -- the invariant of the headline
 pub record Content (w : World) : Type 0 where
@@ -115,7 +124,8 @@ pub record Content (w : World) : Type 0 where
   pub permitted : Permitted (model_before w) w.trace
   pub undamaged : AreUndamaged w.trace
   pub stored : (i : ℕ) → i < w.geometry.images → Keeps w.geometry w.surface.device i ((model_in w).slots i)
-  pub opens : (i : ℕ) → i < w.geometry.images → Opens w.geometry w.rests w.appliances w.surface.time w.surface.device w.surface.writes w.seats i ((model_in w).slots i)
+  pub placed : Placed w.geometry w.rests w.appliances w.surface.time w.surface.device w.surface.writes w.seats (model_in w).slots
   pub whose : (i : ℕ) → i < w.geometry.images → Whose w.geometry w.rests w.appliances w.surface.time w.surface.writes w.seats i ((model_in w).slots i)
+  pub waits : Waits w.geometry w.rests w.appliances w.surface.time w.surface.device w.surface.writes w.seats
   pub seats : (a : ℕ) → a < w.appliances → SeatFits w.geometry (model_in w) a (w.seats a)
   pub owned : (i : ℕ) → i < w.geometry.images → (a : ℕ) → a < w.appliances → SeatOwns w.geometry w.surface.time w.surface.device w.surface.writes (model_in w) i a (w.seats a)

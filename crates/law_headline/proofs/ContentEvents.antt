@@ -28,8 +28,8 @@ use Rattle.plx_worlds.specs.World.{World, Seat, with_surface, after_start, after
 use Rattle.law_lease.proofs.LeaseFrames.{grip-open}
 use Rattle.law_lease.proofs.LeaseSteps.{not-waiting}
 use Rattle.law_lease.proofs.Leased.{grip_at, Leased}
-use Rattle.law_lease.proofs.Open.{IsOpen, open-elsewhere}
-use Rattle.law_headline.proofs.Content.{appliance_no, stands_at, PlaceFits, Has, OwnedAt, Minds, Whose, SeatFits, SeatOwns, Opens, Content}
+use Rattle.law_lease.proofs.Open.{IsOpen, open-elsewhere, open-later}
+use Rattle.law_headline.proofs.Content.{appliance_no, stands_at, PlaceFits, Has, OwnedAt, Minds, Whose, SeatFits, SeatOwns, Placed, Waits, Content}
 use Rattle.law_headline.proofs.ContentFrames.{place-unmoved, owned-foreign}
 use Rattle.law_headline.proofs.Foreign.{Foreign, foreign-start, foreign-back}
 use Rattle.law_headline.proofs.Held.{IsRunning, HasImage, IsOf}
@@ -39,6 +39,7 @@ use Rattle.law_headline.proofs.HeldFrames.{keeps-foreign}
 use Rattle.law_headline.proofs.Journals.{Keeps}
 use Rattle.law_headline.proofs.ModelFacts.{Sound, sound-all, counts-all}
 use Rattle.law_headline.proofs.Owners.{owns-own, disowned-not}
+use Rattle.law_headline.proofs.PlacedByKind.{placed-moves}
 use Rattle.law_headline.proofs.Replied.{Names, changed-named, named-one, Unmoved, unmoved-started, unmoved-forgotten}
 
 -- ---- time passes
@@ -50,20 +51,15 @@ tick-content w by content leased = record {
   permitted = content.permitted;
   undamaged = content.undamaged;
   stored = content.stored;
-  opens = λ i within n x op of flags count. content.opens i within n x (sooner i n x op) of flags count;
-  whose = λ i within n x op of. content.whose i within n x (sooner i n x op) of;
+  placed = λ home n x is op. content.placed home n x is (open-later w.geometry w.rests w.appliances w.surface.time by w.surface.writes w.seats home n x op);
+  whose = λ i within n x op of. content.whose i within n x (open-later w.geometry w.rests w.appliances w.surface.time by w.surface.writes w.seats (image_lease i) n x op) of;
+  waits = λ n x found all. content.waits n x found (λ lease under. open-later w.geometry w.rests w.appliances w.surface.time by w.surface.writes w.seats lease n x (all lease under));
   seats = content.seats;
   owned = λ i within a below minds. content.owned i within a below (elim minds [
     | inl grips ↦ inl (grips.0, grips.1, (grips.2.0, (let l = grips.2.1 in omega arith)))
     | inr mine ↦ inr mine
   ]);
 }
-  where
-    -- what is open later was open before
-    sooner : (i n : ℕ) (x : Issued) → IsOpen w.geometry w.rests w.appliances (w.surface.time + by) w.surface.writes w.seats (image_lease i) n x →
-        IsOpen w.geometry w.rests w.appliances w.surface.time w.surface.writes w.seats (image_lease i) n x
-    sooner i n x (inl op) = inl (record { found = op.found; needs = op.needs; missing = op.missing; live = (let l = op.live in omega arith) })
-    sooner i n x (inr o) = inr (o.0, o.1, (o.2.0, o.2.1, (o.2.2.0, (let l = o.2.2.1 in omega arith))), o.3, o.4, o.5)
 
 -- ---- the model moves, and no write of the appliance is waited for
 
@@ -76,8 +72,14 @@ module _ (w : World) (content : Content w) (a : ℕ) (below : a < w.appliances) 
   foreign-stored : (i : ℕ) → i < w.geometry.images → Keeps w.geometry w.surface.device i (n.slots i)
   foreign-stored i within = keeps-foreign w.geometry i a w.surface.device ((model_in w).slots i) (n.slots i) (foreign i) (content.stored i within)
 
-  foreign-opens : (i : ℕ) → i < w.geometry.images → Opens w.geometry w.rests w.appliances w.surface.time w.surface.device w.surface.writes (at w.seats a seat) i (n.slots i)
-  foreign-opens i within k x op of flags count = keeps-foreign w.geometry i a _ ((model_in w).slots i) (n.slots i) (foreign i) (content.opens i within k x (open-before i k x op) of flags count)
+  foreign-placed : Placed w.geometry w.rests w.appliances w.surface.time w.surface.device w.surface.writes (at w.seats a seat) n.slots
+  foreign-placed home k x is op =
+      placed-moves x.kind w.geometry w.surface.device w.surface.device (model_in w).slots n.slots home x.block x.bytes (λ only. only)
+      (λ keeps i within its. let old = keeps i within its in (old.0, (λ flags count. keeps-foreign w.geometry i a _ ((model_in w).slots i) (n.slots i) (foreign i) (old.1 flags count))))
+      (content.placed home k x is (open-elsewhere w.geometry w.rests w.appliances w.surface.time w.surface.writes w.seats home a seat free k x op))
+
+  foreign-waits : Waits w.geometry w.rests w.appliances w.surface.time w.surface.device w.surface.writes (at w.seats a seat)
+  foreign-waits k x found all = content.waits k x found (λ lease under. open-elsewhere w.geometry w.rests w.appliances w.surface.time w.surface.writes w.seats lease a seat free k x (all lease under))
 
   foreign-seats : SeatFits w.geometry n a seat → (b : ℕ) → b < w.appliances → SeatFits w.geometry n b (at w.seats a seat b)
   foreign-seats mine = at-all (λ b s. b < w.appliances → SeatFits w.geometry n b s) w.seats a seat (λ under. mine)
@@ -116,7 +118,8 @@ crash-content w a below content leased =
       permitted = permitted;
       undamaged = content.undamaged;
       stored = foreign-stored w content a below n unmoved foreign sound' seat refl;
-      opens = foreign-opens w content a below n unmoved foreign sound' seat refl;
+      placed = foreign-placed w content a below n unmoved foreign sound' seat refl;
+      waits = foreign-waits w content a below n unmoved foreign sound' seat refl;
       seats = foreign-seats w content a below n unmoved foreign sound' seat refl
           (at-same m.running a None, (λ j. ap (λ (f : ℕ → Bool). f j) (at-same m.sessions a (λ k. false))), (λ k s is. absurd (let P : ⊥ = cc in P)));
       owned = foreign-owned w content a below n unmoved foreign sound' seat refl
@@ -217,7 +220,8 @@ start-content w a command known below here well built content leased =
       permitted = permitted;
       undamaged = content.undamaged;
       stored = foreign-stored w content a below n unmoved foreign sound' seat refl;
-      opens = foreign-opens w content a below n unmoved foreign sound' seat refl;
+      placed = foreign-placed w content a below n unmoved foreign sound' seat refl;
+      waits = foreign-waits w content a below n unmoved foreign sound' seat refl;
       seats = foreign-seats w content a below n unmoved foreign sound' seat refl
           (let P : Place → Type 0 = λ q. PlaceFits g a n (record { holds = p.holds; sample = None; place = begun command q }) (begun command q) in
           subst P (sym here) (running, fits.2, well, built));

@@ -31,7 +31,7 @@ use Rattle.plx_worlds.specs.Session.{Session, Known}
 use Rattle.plx_worlds.specs.World.{World, Seat, setting_at, told}
 use Rattle.law_lease.proofs.Leased.{Leased}
 use Rattle.law_lease.proofs.Open.{IsOpen, open-elsewhere}
-use Rattle.law_headline.proofs.Content.{appliance_no, stands_at, PlaceFits, Has, OwnedAt, Grips, Minds, Whose, SeatFits, SeatOwns, Opens, Content}
+use Rattle.law_headline.proofs.Content.{appliance_no, stands_at, PlaceFits, Has, OwnedAt, Grips, Minds, Whose, SeatFits, SeatOwns, Placed, Waits, Content}
 use Rattle.law_headline.proofs.ContentFrames.{place-unmoved, owned-foreign, owned-taken, one-grip, grip-only}
 use Rattle.law_headline.proofs.Foreign.{Foreign}
 use Rattle.law_headline.proofs.Harmless.{Harmless, Yields, harmless-answers, harmless-foreign, yields-answers, yields-stays, yields-foreign}
@@ -41,6 +41,7 @@ use Rattle.law_headline.proofs.HeldFrames.{keeps-foreign}
 use Rattle.law_headline.proofs.Journals.{Keeps}
 use Rattle.law_headline.proofs.ModelFacts.{Sound, sound-all}
 use Rattle.law_headline.proofs.Owners.{owner-cases}
+use Rattle.law_headline.proofs.PlacedByKind.{placed-moves}
 use Rattle.law_headline.proofs.Replied.{IsAmongSlots, Names, IsDropping, sessions_after, sessions_sorted, not-own, ending-refusal, sessions-replied, running-replied, unmoved-replied, away-same, away-foreign, replied-others, dropping-disowned, attach-left}
 
 -- a command names an image, or doesn't
@@ -139,6 +140,9 @@ module _ (w : World) (content : Content w) (a : ℕ) (below : a < w.appliances) 
   open-before : (i k : ℕ) (x : Issued) → IsOpen g w.rests w.appliances time writes (at w.seats a seat') (image_lease i) k x → IsOpen g w.rests w.appliances time writes w.seats (image_lease i) k x
   open-before i = open-elsewhere g w.rests w.appliances time writes w.seats (image_lease i) a seat' refl
 
+  waits-stay : Waits g w.rests w.appliances time device writes (at w.seats a seat')
+  waits-stay k x found all = content.waits k x found (λ lease under. open-elsewhere g w.rests w.appliances time writes w.seats lease a seat' refl k x (all lease under))
+
   -- nothing of what the boot's appliance owns in the model is open after the answer
   abbrev pub IsQuiet : Type 0
   IsQuiet = (i : ℕ) → i < g.images → (k : ℕ) (x : Issued) → IsOpen g w.rests w.appliances time writes (at w.seats a seat') (image_lease i) k x → IsOf g i x.block → (m.slots i).owner ≡ Some a → ⊥
@@ -167,7 +171,8 @@ module _ (w : World) (content : Content w) (a : ℕ) (below : a < w.appliances) 
       permitted = content.permitted;
       undamaged = content.undamaged;
       stored = content.stored;
-      opens = λ i within k x op of flags count. content.opens i within k x (open-before i k x op) of flags count;
+      placed = λ home k x is op. content.placed home k x is (open-elsewhere g w.rests w.appliances time writes w.seats home a seat' refl k x op);
+      waits = waits-stay;
       whose = λ i within k x op of b owns'. elim (eqb_tells b a) [
         | inl same ↦ absurd (quiet i within k x op of (owns' ∙ ap Some same.1))
         | inr away ↦ ap (λ (s : Seat). s.pending) (at-other w.seats a b seat' away.1) ∙ content.whose i within k x (open-before i k x op) of b owns'
@@ -352,12 +357,19 @@ module _ (w : World) (content : Content w) (a : ℕ) (below : a < w.appliances) 
                   | inl foreign ↦ keeps-foreign g i a device (m.slots i) (n.slots i) foreign (content.stored i within)
                   | inr owner ↦ (owner.0.2 m owner.0.1).1
                 ]);
-            opens = λ i within.
-                let P : Model → Type 0 = λ x. Opens g w.rests w.appliances time device writes (at w.seats a seat') i (x.slots i) in
-                subst P (sym is-model) (λ k x op of flags count. elim (foreign-or i within) [
-                  | inl foreign ↦ keeps-foreign g i a _ (m.slots i) (n.slots i) foreign (content.opens i within k x (open-before i k x op) of flags count)
-                  | inr owner ↦ absurd (owner.1 k x op of)
-                ]);
+            waits = waits-stay;
+            placed =
+                let P : Model → Type 0 = λ x. Placed g w.rests w.appliances time device writes (at w.seats a seat') x.slots in
+                subst P (sym is-model) (λ home k x is op. placed-moves x.kind g device device m.slots n.slots home x.block x.bytes (λ only. only)
+                (λ keeps i within its.
+                let old = keeps i within its in (
+                  old.0,
+                  elim (foreign-or i within) [
+                    | inl foreign ↦ (λ flags count. keeps-foreign g i a _ (m.slots i) (n.slots i) foreign (old.1 flags count))
+                    | inr owner ↦ absurd (let O : ℕ → Type 0 = λ l. IsOpen g w.rests w.appliances time writes (at w.seats a seat') l k x in owner.1 k x (subst O its op) old.0)
+                  ],
+                ))
+                (content.placed home k x is (open-elsewhere g w.rests w.appliances time writes w.seats home a seat' refl k x op)));
             whose = λ i within.
                 let P : Model → Type 0 = λ x. Whose g w.rests w.appliances time writes (at w.seats a seat') i (x.slots i) in
                 subst P (sym is-model) (λ k x op of b owns'. elim (foreign-or i within) [

@@ -1,6 +1,6 @@
 -- What holds stays where a write is issued, and where a sector lands.
 use Rattle.std.proofs.Common.{◌≡◌, ◌≢◌, ℕ, zero, suc, ◌+◌, ◌≤◌, ◌<◌, ◌⊎◌, inl, inr, List, [], ◌∷◌, ◌++◌, Bool, true, false, Option, Some, None, refl, ap, sym, subst, ◌∙◌, arith, length, slice_set}
-use Rattle.std.specs.Prelude.{slice_get, ◌==◌}
+use Rattle.std.specs.Prelude.{slice_get}
 use Rattle.std.proofs.lemmas.Bool.Decides.{eqb_tells}
 use Rattle.std.proofs.lemmas.List.{length-set}
 use Rattle.std.proofs.lemmas.Option.{slice_get_within}
@@ -9,43 +9,43 @@ use Rattle.plx_base.proofs.Devices.{put-same}
 use Rattle.plx_base.proofs.Mixed.{mixed-none, mixed-all, mixed-landed}
 use Rattle.plx_base.specs.declared.lease.Claim.{Claim}
 use Rattle.plx_base.specs.declared.write_kind.WriteKind.{WriteKind}
-use Rattle.plx_base.specs.declared.write_kind.WriteKind.TheVariants as kind
 use Rattle.plx_commands.specs.Model.{Model, Slot}
 use Rattle.plx_commands.specs.Places.{at}
 use Rattle.plx_commands.specs.declared.command.Command.{Command}
 use Rattle.plx_commands.specs.declared.event.Event.TheVariants as event
 use Rattle.plx_commands.proofs.Places.{at-all, at-same, at-other}
 use Rattle.plx_disk.specs.Writes.{Issued, with_sector, no_sectors, fresh_write, MayLand, after_landing}
-use Rattle.plx_geom.specs.Geometry.{Geometry, IsGeometry, image_lease, lease_at}
-use Rattle.plx_geom.proofs.Places.{lease-lease, image-below}
-use Rattle.plx_disk.proofs.Lists.{push-before, push-last, set-other, set-same}
-use Rattle.law_lease.proofs.Lists.{pending-is, push-cases}
+use Rattle.plx_geom.specs.Geometry.{Geometry, IsGeometry, image_lease, lease_count}
+use Rattle.plx_geom.proofs.Places.{image-image, image-below}
+use Rattle.plx_disk.proofs.Lists.{push-before, push-last}
 use Rattle.plx_rules.specs.Part.{Part, Ends, ReadThen, WriteThen, ClockThen, UntilThen}
 use Rattle.plx_worlds.specs.Boot.{Place, Idle, Begins, In, Position}
 use Rattle.plx_worlds.specs.Ends.{End}
 use Rattle.plx_worlds.specs.Headline.{model_in}
-use Rattle.plx_worlds.specs.Holds.{Hold, Held}
-use Rattle.plx_worlds.specs.Owners.{is_set, pending_write, first_landed}
-use Rattle.plx_worlds.specs.Rests.{IsUnder, rests_on}
+use Rattle.plx_worlds.specs.Holds.{Hold}
+use Rattle.law_lease.proofs.Lists.{push-cases}
+use Rattle.plx_worlds.specs.Rests.{IsUnder, home_of, rests_on}
 use Rattle.plx_commands.specs.Replies.{is_in}
-use Rattle.law_lease.proofs.Rests.{needs-before, needs-last}
 use Rattle.plx_worlds.specs.Session.{Known}
 use Rattle.plx_worlds.specs.Settings.{boot_number}
 use Rattle.plx_worlds.specs.World.{World, Seat, with_surface, after_issue}
 use Rattle.law_lease.proofs.LeaseSteps.{placed-may}
-use Rattle.law_lease.proofs.Open.{IsOpen, open-found, open-alone, lands-open}
-use Rattle.law_lease.proofs.LeaseFrames.{grip-open, grip_while-open, grip_while-away}
-use Rattle.law_lease.proofs.LeaseLands.{MayBeAsked, asked-may, grip-asked, first-set, pending-other, not-whole}
-use Rattle.law_lease.proofs.Leased.{MayAsk, LawfulAt, IsAskedAt, IsRight, grip_while, grip_at, Leased}
-use Rattle.law_headline.proofs.Content.{appliance_no, stands_at, IsJournalled, PlaceFits, OwnedAt, Grips, Minds, Whose, SeatFits, SeatOwns, Opens, Content}
+use Rattle.law_lease.proofs.Frame.{Frame, IsNew, SameUnder, frame-all, frame-others, stood-issued, grips-before, grips-free, grips-other, grips-own, land-frame, landed-or, open-issued}
+use Rattle.law_lease.proofs.Covers.{Covers}
+use Rattle.law_lease.proofs.Open.{GripsLease, IsOpen, open-found}
+use Rattle.law_lease.proofs.Leased.{MayAsk, LawfulAt, IsAskedAt, IsRight, Leased}
+use Rattle.law_headline.proofs.Content.{appliance_no, stands_at, IsJournalled, PlaceFits, OwnedAt, Grips, Minds, Whose, SeatFits, SeatOwns, Placed, Waits, Content}
 use Rattle.law_headline.proofs.ContentFrames.{owned-same, grip-only}
 use Rattle.law_headline.proofs.ContentGoes.{names-one}
 use Rattle.law_headline.proofs.Held.{Regime, Without, With, IsWith, IsOn, Looks, IsOf, HeldPart, IsNamed, Fair}
-use Rattle.law_headline.proofs.HeldFrames.{missing_of, missing-landed, same-refl, same-at, same-put, same-over, same-elsewhere, held-same, keeps-landed}
-use Rattle.law_headline.proofs.ImageWrites.{named-image, use-image, unlanded-image, held-image, image-held, of-one, placed-cases}
+use Rattle.law_headline.proofs.HeldFrames.{missing_of, missing-landed, same-refl, same-put, same-over, held-same, keeps-landed}
+use Rattle.law_headline.proofs.ImageWrites.{placed-block, placed-keeps, placed-made, named-image, use-image, held-image, image-held, image-write, of-covers, of-one, placed-cases, same-under}
 use Rattle.law_headline.proofs.JournalFacts.{Keeps-same}
 use Rattle.law_headline.proofs.Journals.{Keeps, Same}
+use Rattle.law_headline.proofs.BytesByKind.{OnlyBytes, only-lands}
+use Rattle.law_headline.proofs.PlacedByKind.{KeepsAll, PlacedBy, placed-moves}
 use Rattle.law_headline.proofs.Replied.{Names}
+use Rattle.law_headline.proofs.WaitsByKind.{WaitsOn, waits-asked, waits-lands, waits-others}
 
 -- a journal's write that is waited for is one of the named image
 named-of : (g : Geometry) (a i : ℕ) (command : Command) (known : Known) (holds : ℕ → Hold) (sample : Option ℕ) (part : Part End) (boot : ℕ) (x : Issued) →
@@ -62,6 +62,36 @@ named-of g a i command known holds sample (UntilThen from rest) boot x fair aske
 -- a block of a named image is one of the image that the command names
 of-named : (g : Geometry) (command : Command) (i block : ℕ) → (j : ℕ) × (j < g.images) × (IsOf g j block) × Names command j → Names command i → IsOf g i block
 of-named g command i block named names = let P : ℕ → Type 0 = λ j. IsOf g j block in subst P (names-one command named.0 i named.3 names) named.2
+
+-- the frame of a landing leaves each other open write what it had
+placed-others : (w : World) (content : Content w) (other : Device) (flagged : List Issued) (number : ℕ) (write : Issued) →
+    Frame w.geometry w.rests w.appliances w.surface.time w.surface.device other w.surface.writes flagged w.seats number write →
+    (home n : ℕ) (x : Issued) → n ≢ number → slice_get w.surface.writes n ≡ Some x → home_of (w.rests n) ≡ Some home → IsOpen w.geometry w.rests w.appliances w.surface.time flagged w.seats home n x →
+    PlacedBy x.kind w.geometry other (model_in w).slots home x.block x.bytes
+placed-others w content other flagged number write frame home n x ne found is op =
+    let g = w.geometry in
+    let device = w.surface.device in
+    let slots = (model_in w).slots in
+    elim (placed-block g x.kind x.block x.bytes (w.rests n) home (content.leased.right n x found).placed is) [
+      | inr all ↦ all other slots
+      | inl its ↦
+          let within : home < lease_count g = subst (λ (l : ℕ). l < lease_count g) (sym its.2) (image-below g its.0 its.1) in
+          let left = frame-others w content.leased other flagged number write frame home within n x ne op in
+          let at' : other x.block ≡ device x.block = left.1 x.block (subst (λ (l : ℕ). Covers g l x.block) (sym its.2) (of-covers g its.0 x.block its.1 its.3)) in
+          let O : List ℕ → Type 0 = λ y. OnlyBytes x.kind x.bytes y in
+          placed-moves x.kind g device other slots slots home x.block x.bytes (λ only. subst O (sym at') only)
+          (λ keeps i below at''.
+          let old = keeps i below at'' in
+          let same = same-under g i device other below (subst (λ (l : ℕ). SameUnder g l device other) at'' left.1) in (
+            old.0,
+            λ flags count.
+                let P : List ℕ → Type 0 = λ y. Keeps g (put other x.block (mixed flags x.bytes y)) i (slots i) in
+                subst P (sym at')
+                (Keeps-same g (put device x.block (mixed flags x.bytes (device x.block))) (put other x.block (mixed flags x.bytes (device x.block))) i (slots i)
+                (same-put g i x.block (mixed flags x.bytes (device x.block)) device other same) (old.1 flags count)),
+          ))
+          (content.placed home n x is left.0)
+    ]
 
 module _ (w : World) (content : Content w) where
   abbrev g : Geometry
@@ -117,11 +147,6 @@ module _ (w : World) (content : Content w) where
     fits : PlaceFits g a m (p a) (In known command part)
     fits = let F : Place → Type 0 = λ q. PlaceFits g a m (p a) q in subst F here (content.seats a below)
 
-    grips-free : (i : ℕ) (claim : Claim) (until : ℕ) → (p a).holds (lease_at (image_lease i)) ≡ Held claim until → time ≤ until + 50 → Grips g time writes a (w.seats a) i claim until
-    grips-free i claim until held live =
-        let P : Option ℕ → Type 0 = λ o. grip_at (p a).place (pending_write writes o) (lease_at (image_lease i)) ((p a).holds (lease_at (image_lease i))) ≡ Held claim until in
-        (subst P (sym free) (grip-open (p a).place None (lease_at (image_lease i)) ((p a).holds (lease_at (image_lease i))) refl ∙ held), live)
-
     serving : (i : ℕ) → i < g.images → Minds g time writes m a (w.seats a) i → OwnedAt g a i device writes (w.seats a).pending m (In known command part)
     serving i within minds =
         let P : Place → Type 0 = λ q. OwnedAt g a i device writes (w.seats a).pending m q in subst P here (content.owned i within a below minds)
@@ -134,27 +159,27 @@ module _ (w : World) (content : Content w) where
     abbrev leases : List ℕ
     leases = rests_on g command (p a).holds what block bytes
 
-    -- whatever of the new write lands, its image is kept, which is the appliance's in the model
+    may : MayAsk g boot (p a).holds leases what block bytes guard
+    may = let P : Place → Type 0 = λ q. LawfulAt g boot (p a).holds (p a).sample q in (subst P here (content.leased.seated a below).lawful).0
+
+    -- of its block only its own bytes differ, its image is kept, and it is the appliance's in the model
     new-keeps : (i : ℕ) → i < g.images → IsOf g i block → is_in (image_lease i) leases ≡ true →
         (time ≤ guard + 50) ⊎ ((claim : Claim) × (until : ℕ) × Grips g time writes a (w.seats a) i claim until) →
-        ((flags : List Bool) → length flags ≡ 8 → Keeps g (put device block (mixed flags bytes (device block))) i (m.slots i)) × ((m.slots i).owner ≡ Some a)
+        OnlyBytes what bytes (device block) × KeepsAll g device i (m.slots i) block bytes × ((m.slots i).owner ≡ Some a)
     new-keeps i within of needs live = elim (placed-cases g geometry what block bytes leases (placed-may g boot (p a).holds leases what block bytes guard may) i within) [
       | inl mine ↦
           let grant = (use-image g boot (p a).holds leases block bytes guard what mine.1 may).grants (image_lease i) needs in
           let named = named-image g command block what mine.1 fits.1.0 in
           let names : Names command i = (let P : ℕ → Type 0 = λ j. Names command j in subst P (of-one g geometry named.0 i block named.1 within named.2 of) named.3) in
           let grips : (claim : Claim) × (until : ℕ) × Grips g time writes a (w.seats a) i claim until = elim live [
-            | inl early ↦ (grant.claim, grant.until, grips-free i grant.claim grant.until grant.hold (let guarded = grant.guarded in omega arith))
+            | inl early ↦ (grant.claim, grant.until, grips-free w content.leased a below free leases what block bytes guard (image_lease i) grant.claim grant.until grant.hold (let guarded = grant.guarded in omega arith))
             | inr held ↦ held
           ] in
           let s = (serving i within (inl grips)).0 names in
           let write = held-image g a i command known s.regime block bytes guard done fault missed device what mine.1 s.held in
-          ((λ flags count. write.keeps flags count m s.looks), with-owner i s.regime s.looks write.changes)
+          (write.only, (λ flags count. write.keeps flags count m s.looks), with-owner i s.regime s.looks write.changes)
       | inr away ↦ absurd (away of)
     ]
-      where
-        may : MayAsk g boot (p a).holds leases what block bytes guard
-        may = let P : Place → Type 0 = λ q. LawfulAt g boot (p a).holds (p a).sample q in (subst P here (content.leased.seated a below).lawful).0
 
     abbrev seat' : Seat
     seat' = record { boots = (w.seats a).boots; log = (w.seats a).log; pending = Some (length writes) }
@@ -162,59 +187,10 @@ module _ (w : World) (content : Content w) where
     abbrev since : ℕ → List ℕ
     since = at w.rests (length writes) leases
 
-    pending-before : (b : ℕ) → b < w.appliances → (q : Option ℕ) → (w.seats b).pending ≡ q → pending_write now q ≡ pending_write writes q
-    pending-before b under None e = refl
-    pending-before b under (Some n) e =
-        let asked = (content.leased.seated b under).asked n e in push-before writes fresh asked.0 n asked.1 ∙ sym asked.1
-
-    -- what the boot holds once the write is issued it held before
-    grips-own : (i : ℕ) (claim : Claim) (until : ℕ) → Grips g time now a seat' i claim until → Grips g time writes a (w.seats a) i claim until
-    grips-own i claim until grips =
-        let held : (p a).holds (lease_at (image_lease i)) ≡ Held claim until =
-        sym (grip-open (p a).place (pending_write now (Some (length writes))) (lease_at (image_lease i)) ((p a).holds (lease_at (image_lease i)))
-        (ap (λ (o : Option Issued). first_landed o) (push-last writes fresh))) ∙ grips.0 in
-        grips-free i claim until held grips.1
-
-    grips-other : (i b : ℕ) → b < w.appliances → (claim : Claim) (until : ℕ) → Grips g time now b (w.seats b) i claim until → Grips g time writes b (w.seats b) i claim until
-    grips-other i b under claim until grips =
-        let G : Option Issued → Type 0 = λ o. grip_at (p b).place o (lease_at (image_lease i)) ((p b).holds (lease_at (image_lease i))) ≡ Held claim until in
-        (subst G (pending-before b under (w.seats b).pending refl) grips.0, grips.1)
-
     -- what is open once the write is issued was open before, or is the new one
-    open-issued : (i : ℕ) → i < g.images → (n : ℕ) (x : Issued) → IsOpen g since w.appliances time now (at w.seats a seat') (image_lease i) n x →
-        (IsOpen g w.rests w.appliances time writes w.seats (image_lease i) n x)
-        ⊎ ((n ≡ length writes) × (fresh ≡ x) × (is_in (image_lease i) leases ≡ true) × ((time ≤ guard + 50) ⊎ ((claim : Claim) × (until : ℕ) × Grips g time writes a (w.seats a) i claim until)))
-    open-issued i within n x (inl op) = elim (push-cases writes fresh x n op.found) [
-      | inl old ↦ inl (inl (record { found = old; needs = needs-before w.rests writes leases n x (image_lease i) old op.needs; missing = op.missing; live = op.live }))
-      | inr is ↦ inr (
-        is.0,
-        is.1,
-        needs-last w.rests writes leases n (image_lease i) is.0 op.needs,
-        inl (let e = op.live in let f : x.guard ≡ guard = ap (λ (y : Issued). y.guard) (sym is.1) in omega (arith, e, f)),
-      )
-    ]
-    open-issued i within n x (inr o) = elim (push-cases writes fresh x n o.4) [
-      | inl old ↦
-          let needs = needs-before w.rests writes leases n x (image_lease i) old o.5 in
-          let less = slice_get_within writes n x old in
-          inl (at-all (λ b s. b < w.appliances → ((claim : Claim) × (until : ℕ) × Grips g time now b s i claim until) → s.pending ≡ Some n → IsOpen g w.rests w.appliances time writes w.seats (image_lease i) n x)
-          w.seats a seat'
-          (λ under grips waits. absurd (let e : Some (length writes) ≡ Some n = waits in let f : length writes ≡ n = cc in omega (arith, less, f)))
-          (λ b ne under grips waits. inr (b, under, (grips.0, grips.1, grips-other i b under grips.0 grips.1 grips.2), waits, old, needs))
-          o.0 o.1 o.2 o.3)
-      | inr is ↦
-          let needs = needs-last w.rests writes leases n (image_lease i) is.0 o.5 in
-          at-all (λ b s. b < w.appliances → ((claim : Claim) × (until : ℕ) × Grips g time now b s i claim until) → s.pending ≡ Some n →
-          (IsOpen g w.rests w.appliances time writes w.seats (image_lease i) n x)
-          ⊎ ((n ≡ length writes) × (fresh ≡ x) × (is_in (image_lease i) leases ≡ true) × ((time ≤ guard + 50) ⊎ ((claim : Claim) × (until : ℕ) × Grips g time writes a (w.seats a) i claim until))))
-          w.seats a seat'
-          (λ under grips waits. inr (is.0, is.1, needs, inr (grips.0, grips.1, grips-own i grips.0 grips.1 grips.2)))
-          (λ b ne under grips waits.
-          let asked = (content.leased.seated b under).asked n waits in
-          let less = slice_get_within writes n asked.0 asked.1 in
-          absurd (let f = is.0 in omega (arith, less, f)))
-          o.0 o.1 o.2 o.3
-    ]
+    opened : (i n : ℕ) (x : Issued) → IsOpen g since w.appliances time now (at w.seats a seat') (image_lease i) n x →
+        (IsOpen g w.rests w.appliances time writes w.seats (image_lease i) n x) ⊎ IsNew w content.leased a below free leases what block bytes guard (image_lease i) n x
+    opened i = open-issued w content.leased a below free leases what block bytes guard (image_lease i)
 
     pub issue-content : Leased (after_issue w (appliance_no a) command what block bytes guard) → Content (after_issue w (appliance_no a) command what block bytes guard)
     issue-content leased = record {
@@ -223,34 +199,49 @@ module _ (w : World) (content : Content w) where
       permitted = content.permitted;
       undamaged = content.undamaged;
       stored = content.stored;
-      opens = λ i within n x op of flags count. elim (open-issued i within n x op) [
-        | inl was ↦ content.opens i within n x was of flags count
-        | inr is ↦
-            let P : Issued → Type 0 = λ y. Keeps g (put device y.block (mixed flags y.bytes (device y.block))) i (m.slots i) in
-            let Q : Issued → Type 0 = λ y. IsOf g i y.block in
-            subst P is.1 ((new-keeps i within (subst Q (sym is.1) of) is.2 is.3).0 flags count)
+      placed = λ home n x is op. elim (open-issued w content.leased a below free leases what block bytes guard home n x op) [
+        | inl was ↦
+            let old = slice_get_within writes n x (open-found g w.rests w.appliances time writes w.seats home n x was) in
+            content.placed home n x (ap home_of (sym (at-other w.rests (length writes) n leases (λ e. omega (arith, old, e)))) ∙ is) was
+        | inr new ↦
+            let its-home : home_of leases ≡ Some home = ap home_of (sym (ap since new.last ∙ at-same w.rests (length writes) leases)) ∙ is in
+            let P : Issued → Type 0 = λ y. PlacedBy y.kind g device m.slots home y.block y.bytes in
+            subst P new.is (elim (placed-block g what block bytes leases home (placed-may g boot (p a).holds leases what block bytes guard may) its-home) [
+              | inr all ↦ all device m.slots
+              | inl its ↦
+                  let L : ℕ → Type 0 = λ l. (is_in l leases ≡ true) × ((time ≤ guard + 50) ⊎ ((claim : Claim) × (until : ℕ) × GripsLease g time writes a (w.seats a) l claim until)) in
+                  let live = subst L its.2 (new.under, new.live) in
+                  let made = new-keeps its.0 its.1 its.3 live.0 live.1 in
+                  placed-made what g device m.slots home block bytes its.4 made.0
+                  (λ j within at'.
+                  let same : its.0 ≡ j = image-image its.0 j (sym its.2 ∙ at') in
+                  let K : ℕ → Type 0 = λ k. IsOf g k block × KeepsAll g device k (m.slots k) block bytes in
+                  subst K same (its.3, made.1))
+            ])
       ];
-      whose = λ i within n x op of b mine. elim (open-issued i within n x op) [
+      waits = λ n x found all. elim (push-cases writes fresh x n found) [
+        | inl old ↦ content.waits n x old (stood-issued w content.leased a below free leases what block bytes guard n x old all)
+        | inr is ↦
+            let P : Issued → Type 0 = λ y. WaitsOn y.kind g device y.block y.bytes y.landed in
+            subst P is.1 (waits-asked what g boot (p a).holds leases device block bytes guard may)
+      ];
+      whose = λ i within n x op of b mine. elim (opened i n x op) [
         | inl was ↦ elim (eqb_tells b a) [
           | inl same ↦ absurd (let e : None ≡ Some n = sym free ∙ content.whose i within n x was of a (mine ∙ ap Some same.1) in let P : ⊥ = cc in P)
           | inr away ↦ ap (λ (s : Seat). s.pending) (at-other w.seats a b seat' away.1) ∙ content.whose i within n x was of b mine
         ]
         | inr is ↦
             let Q : Issued → Type 0 = λ y. IsOf g i y.block in
-            let owner = (new-keeps i within (subst Q (sym is.1) of) is.2 is.3).1 in
+            let owner = (new-keeps i within (subst Q (sym is.is) of) is.under is.live).2 in
             let same : a ≡ b = (let e : Some a ≡ Some b = sym owner ∙ mine in cc) in
             let S : ℕ → Type 0 = λ j. (at w.seats a seat' j).pending ≡ Some n in
-            subst S same (ap (λ (s : Seat). s.pending) (at-same w.seats a seat') ∙ ap Some (sym is.0))
+            subst S same (ap (λ (s : Seat). s.pending) (at-same w.seats a seat') ∙ ap Some (sym is.last))
       ];
       seats = at-all (λ b s. b < w.appliances → SeatFits g m b s) w.seats a seat' (λ under. content.seats a below) (λ b ne under. content.seats b under);
       owned = λ i within. at-all (λ b s. b < w.appliances → SeatOwns g time device now m i b s) w.seats a seat'
           (λ under minds.
           let before : Minds g time writes m a (w.seats a) i = elim minds [
-            | inl grips ↦
-                let held : (p a).holds (lease_at (image_lease i)) ≡ Held grips.0 grips.1 =
-                sym (grip-open (p a).place (pending_write now (Some (length writes))) (lease_at (image_lease i)) ((p a).holds (lease_at (image_lease i)))
-                (ap (λ (o : Option Issued). first_landed o) (push-last writes fresh))) ∙ grips.2.0 in
-                inl (grips.0, grips.1, grips-free i grips.0 grips.1 held grips.2.1)
+            | inl grips ↦ inl (grips.0, grips.1, grips-own w content.leased a below free leases what block bytes guard (image_lease i) grips.0 grips.1 grips.2)
             | inr owner ↦ inr owner
           ] in
           let mine = serving i within before in
@@ -271,11 +262,8 @@ module _ (w : World) (content : Content w) where
             mine.1,
           ))
           (λ b ne under minds.
-          let pending-same : (q : Option ℕ) → (w.seats b).pending ≡ q → pending_write now q ≡ pending_write writes q = (λ q e. by_pending b under q e) in
           let old : Minds g time writes m b (w.seats b) i = elim minds [
-            | inl grips ↦
-                let G : Option Issued → Type 0 = λ o. grip_at (p b).place o (lease_at (image_lease i)) ((p b).holds (lease_at (image_lease i))) ≡ Held grips.0 grips.1 in
-                inl (grips.0, grips.1, (subst G (pending-same (w.seats b).pending refl) grips.2.0, grips.2.1))
+            | inl grips ↦ inl (grips.0, grips.1, grips-other w content.leased a below free leases what block bytes guard (image_lease i) b under grips.0 grips.1 grips.2)
             | inr owner ↦ inr owner
           ] in
           owned-same g b i device device writes now (w.seats b).pending m (same-refl g i device) (p b).place
@@ -286,11 +274,6 @@ module _ (w : World) (content : Content w) where
           (was, waits-of b under i known' command' part' at' names n x waits was journalled))
           (content.owned i within b under old));
     }
-      where
-        by_pending : (b : ℕ) → b < w.appliances → (q : Option ℕ) → (w.seats b).pending ≡ q → pending_write now q ≡ pending_write writes q
-        by_pending b under None e = refl
-        by_pending b under (Some n) e =
-            let asked = (content.leased.seated b under).asked n e in push-before writes fresh asked.0 n asked.1 ∙ sym asked.1
 
   -- ---- a sector lands
 
@@ -310,24 +293,8 @@ module _ (w : World) (content : Content w) where
     bytes-long : length write.bytes ≡ 4096
     bytes-long = right.long
 
-    -- the write that lands, and every other
-    landed-or : (n : ℕ) (x : Issued) → slice_get now' n ≡ Some x → ((n ≡ number) × (x ≡ with_sector write sector)) ⊎ ((n ≢ number) × (slice_get writes n ≡ Some x))
-    landed-or n x there = elim (eqb_tells n number) [
-      | inl same ↦ inl (
-        same.1,
-        (let P : ℕ → Type 0 = λ k. slice_get now' k ≡ Some x in
-            let e : Some x ≡ Some (with_sector write sector) = sym (subst P same.1 there) ∙ set-same writes number (with_sector write sector) write may.found in cc),
-      )
-      | inr away ↦ inr (away.1, sym (set-other writes number n (with_sector write sector) away.1) ∙ there)
-    ]
-
-    this-open : (i : ℕ) → IsJournalled write.kind → IsUnder w.rests number (image_lease i) → IsOpen g w.rests w.appliances time writes w.seats (image_lease i) number write
-    this-open i journalled =
-        lands-open w number sector write may (unlanded-image write.kind write.landed journalled (not-whole write.landed sector may.missing)) (image_lease i)
-
-    -- the device, as an image sees it
-    same-after : (i : ℕ) → (IsOf g i write.block → ⊥) → Same g i device after
-    same-after i no' = same-elsewhere g i write.block (landed sector write.bytes (device write.block)) device no'
+    frame : Frame g w.rests w.appliances time device after writes now' w.seats number write
+    frame = land-frame w content.leased number sector write may
 
     keeps-after : (i : ℕ) → (slot : Slot) → ((flags : List Bool) → length flags ≡ 8 → Keeps g (put device write.block (mixed flags write.bytes (device write.block))) i slot) → Keeps g after i slot
     keeps-after i slot keeps =
@@ -349,139 +316,44 @@ module _ (w : World) (content : Content w) where
         no-sector (suc (suc (suc (suc (suc (suc (suc zero))))))) less = refl
         no-sector (suc (suc (suc (suc (suc (suc (suc (suc k)))))))) less = absurd (omega (arith, less))
 
-    cases : (i : ℕ) → i < g.images → (IsOf g i write.block × IsJournalled write.kind × IsUnder w.rests number (image_lease i)) ⊎ (IsOf g i write.block → ⊥)
-    cases i within = placed-cases g geometry write.kind write.block write.bytes (w.rests number) right.placed i within
+    -- as an image sees it: it is one of the image, and open under its lease; or it is none of the image's, and what the image has is the same
+    cases : (i : ℕ) → i < g.images → (IsOf g i write.block × IsJournalled write.kind × IsOpen g w.rests w.appliances time writes w.seats (image_lease i) number write × (home_of (w.rests number) ≡ Some (image_lease i)))
+        ⊎ ((IsOf g i write.block → ⊥) × Same g i device after)
+    cases i within = elim (frame.each (image_lease i) (image-below g i within)) [
+      | inl own ↦ (let its = image-write g i write.block write.bytes (w.rests number) within own.covers own.home write.kind right.placed in inl (its.0, its.1, own.opens, own.home))
+      | inr away ↦ inr ((λ of. away.uncovered (of-covers g i write.block within of)), same-under g i device after within away.same)
+    ]
 
     stored-after : (i : ℕ) → i < g.images → Keeps g after i (m.slots i)
     stored-after i within = elim (cases i within) [
-      | inl mine ↦ keeps-after i (m.slots i) (λ flags count. content.opens i within number write (this-open i mine.1 mine.2) mine.0 flags count)
-      | inr no' ↦ Keeps-same g device after i (m.slots i) (same-after i no') (content.stored i within)
+      | inl mine ↦ keeps-after i (m.slots i) (placed-keeps write.kind g device m.slots (image_lease i) write.block write.bytes mine.1 (content.placed (image_lease i) number write mine.3 mine.2) i within refl).1
+      | inr no' ↦ Keeps-same g device after i (m.slots i) no'.1 (content.stored i within)
     ]
 
-    -- what is held after the landing was held before
-    grips-before : (i : ℕ) → i < g.images → (b : ℕ) → b < w.appliances → (claim : Claim) (until : ℕ) → Grips g time now' b (w.seats b) i claim until →
-        (c : Claim) × (u : ℕ) × Grips g time writes b (w.seats b) i c u
-    grips-before i within b under claim until grips = elim (pending-is (w.seats b).pending number) [
-      | inr ne ↦
-          let G : Option Issued → Type 0 = λ o. grip_at (p b).place o (lease_at (image_lease i)) ((p b).holds (lease_at (image_lease i))) ≡ Held claim until in
-          (claim, until, (subst G (pending-other writes number (with_sector write sector) (w.seats b).pending ne) grips.0, grips.1))
-      | inl is ↦
-          let asked = (content.leased.seated b under).asked number is in
-          let same : asked.0 ≡ write = (let e : Some asked.0 ≡ Some write = sym asked.1 ∙ may.found in cc) in
-          let Q : Issued → Type 0 = λ y. IsAskedAt (p b).place (boot_number b (w.seats b).boots) y in
-          let asked' = subst Q same asked.2 in
-          let lawful = (content.leased.seated b under).lawful in
-          let may' = asked-may g (boot_number b (w.seats b).boots) (p b).holds (p b).sample (p b).place write asked' lawful in
-          let hold = (p b).holds (lease_at (image_lease i)) in
-          let there : pending_write writes (w.seats b).pending ≡ Some write = ap (pending_write writes) is ∙ may.found in
-          let there' : pending_write now' (w.seats b).pending ≡ Some (with_sector write sector) =
-          ap (pending_write now') is ∙ set-same writes number (with_sector write sector) write may.found in
-          let old : grip_at (p b).place (pending_write writes (w.seats b).pending) (lease_at (image_lease i)) hold
-          ≡ grip_while write.kind (lease_at (image_lease i) == write.block) (first_landed (Some write)) write.bytes hold =
-          grip-asked (p b).place (boot_number b (w.seats b).boots) write asked' (pending_write writes (w.seats b).pending) (lease_at (image_lease i)) hold
-          ∙ ap (λ (o : Option Issued). grip_while write.kind (lease_at (image_lease i) == write.block) (first_landed o) write.bytes hold) there in
-          let new : grip_at (p b).place (pending_write now' (w.seats b).pending) (lease_at (image_lease i)) hold
-          ≡ grip_while write.kind (lease_at (image_lease i) == write.block) (first_landed (Some (with_sector write sector))) write.bytes hold =
-          grip-asked (p b).place (boot_number b (w.seats b).boots) write asked' (pending_write now' (w.seats b).pending) (lease_at (image_lease i)) hold
-          ∙ ap (λ (o : Option Issued). grip_while write.kind (lease_at (image_lease i) == write.block) (first_landed o) write.bytes hold) there' in
-          let back = by_kind b write.kind refl sector refl may' (sym new ∙ grips.0) in
-          (back.0, back.1, (old ∙ back.2, back.3 grips.1))
-    ]
-      where
-        by_kind : (b : ℕ) (k : WriteKind) → write.kind ≡ k → (s : ℕ) → sector ≡ s → MayBeAsked g (boot_number b (w.seats b).boots) (p b).holds write.kind write.block write.bytes write.guard →
-            grip_while write.kind (lease_at (image_lease i) == write.block) (first_landed (Some (with_sector write sector))) write.bytes ((p b).holds (lease_at (image_lease i))) ≡ Held claim until →
-            (c : Claim) × (u : ℕ) × (grip_while write.kind (lease_at (image_lease i) == write.block) (first_landed (Some write)) write.bytes ((p b).holds (lease_at (image_lease i))) ≡ Held c u)
-            × (time ≤ until + 50 → time ≤ u + 50)
-        by_kind b k is (suc s) at' may' e =
-            let flag : slice_get (slice_set write.landed sector true) 0 ≡ slice_get write.landed 0 = set-other write.landed sector 0 true (λ z. omega (arith, z, at')) in
-            let hold = (p b).holds (lease_at (image_lease i)) in
-            (claim, until, ap (λ (o : Option Bool). grip_while write.kind (lease_at (image_lease i) == write.block) (is_set o) write.bytes hold) (sym flag) ∙ e, (λ l. l))
-        by_kind b kind.Renew is zero at' may' e =
-            let hold = (p b).holds (lease_at (image_lease i)) in
-            let zeroth : slice_get write.landed 0 ≡ Some false = ap (slice_get write.landed) (sym at') ∙ may.missing in
-            let before : grip_while write.kind (lease_at (image_lease i) == write.block) (first_landed (Some write)) write.bytes hold ≡ hold =
-            ap (λ (f : Bool). grip_while write.kind (lease_at (image_lease i) == write.block) f write.bytes hold) (first-set write false zeroth)
-            ∙ grip_while-open write.kind (lease_at (image_lease i) == write.block) write.bytes hold in
-            let M : WriteKind → Type 0 = λ x. MayBeAsked g (boot_number b (w.seats b).boots) (p b).holds x write.block write.bytes write.guard in
-            let t = (subst M is may').1 in
-            elim (eqb_tells (lease_at (image_lease i)) write.block) [
-              | inl here' ↦
-                  let same : image_lease i ≡ t.lease = lease-lease (image_lease i) t.lease (here'.1 ∙ t.at_lease) in
-                  (t.claim, t.until, before ∙ (ap (λ (j : ℕ). (p b).holds (lease_at j)) same ∙ t.hold), (λ l. (let early = may.early in let guarded = t.guarded in omega (arith, early, guarded))))
-              | inr away ↦ (
-                claim,
-                until,
-                before ∙ (sym (ap (λ (f : Bool). grip_while write.kind f (first_landed (Some (with_sector write sector))) write.bytes hold) away.0
-                    ∙ grip_while-away write.kind (first_landed (Some (with_sector write sector))) write.bytes hold) ∙ e),
-                (λ l. l),
-              )
-            ]
-        by_kind b kind.Release is zero at' may' e =
-            let hold = (p b).holds (lease_at (image_lease i)) in
-            let zeroth : slice_get write.landed 0 ≡ Some false = ap (slice_get write.landed) (sym at') ∙ may.missing in
-            let before : grip_while write.kind (lease_at (image_lease i) == write.block) (first_landed (Some write)) write.bytes hold ≡ hold =
-            ap (λ (f : Bool). grip_while write.kind (lease_at (image_lease i) == write.block) f write.bytes hold) (first-set write false zeroth)
-            ∙ grip_while-open write.kind (lease_at (image_lease i) == write.block) write.bytes hold in
-            let M : WriteKind → Type 0 = λ x. MayBeAsked g (boot_number b (w.seats b).boots) (p b).holds x write.block write.bytes write.guard in
-            let t = (subst M is may').1 in
-            elim (eqb_tells (lease_at (image_lease i)) write.block) [
-              | inl here' ↦
-                  let same : image_lease i ≡ t.lease = lease-lease (image_lease i) t.lease (here'.1 ∙ t.at_lease) in
-                  (t.claim, t.until, before ∙ (ap (λ (j : ℕ). (p b).holds (lease_at j)) same ∙ t.hold), (λ l. (let early = may.early in let guarded = t.guarded in omega (arith, early, guarded))))
-              | inr away ↦ (
-                claim,
-                until,
-                before ∙ (sym (ap (λ (f : Bool). grip_while write.kind f (first_landed (Some (with_sector write sector))) write.bytes hold) away.0
-                    ∙ grip_while-away write.kind (first_landed (Some (with_sector write sector))) write.bytes hold) ∙ e),
-                (λ l. l),
-              )
-            ]
-        by_kind b other is zero at' may' e =
-            let hold = (p b).holds (lease_at (image_lease i)) in
-            let same : grip_while write.kind (lease_at (image_lease i) == write.block) (first_landed (Some write)) write.bytes hold
-            ≡ grip_while write.kind (lease_at (image_lease i) == write.block) (first_landed (Some (with_sector write sector))) write.bytes hold =
-            ap (λ (x : WriteKind). grip_while x (lease_at (image_lease i) == write.block) (first_landed (Some write)) write.bytes hold) is
-            ∙ sym (ap (λ (x : WriteKind). grip_while x (lease_at (image_lease i) == write.block) (first_landed (Some (with_sector write sector))) write.bytes hold) is) in
-            (claim, until, same ∙ e, (λ l. l))
-
-    -- another write that is open after the landing was open before
-    open-landed : (i : ℕ) → i < g.images → (n : ℕ) (x : Issued) → n ≢ number → slice_get writes n ≡ Some x → IsOpen g w.rests w.appliances time now' w.seats (image_lease i) n x →
-        IsOpen g w.rests w.appliances time writes w.seats (image_lease i) n x
-    open-landed i within n x ne found (inl op) = inl (record { found = found; needs = op.needs; missing = op.missing; live = op.live })
-    open-landed i within n x ne found (inr o) = inr (o.0, o.1, grips-before i within o.0 o.1 o.2.0 o.2.1 o.2.2, o.3, found, o.5)
-
-    opens-after : (i : ℕ) → i < g.images → Opens g w.rests w.appliances time after now' w.seats i (m.slots i)
-    opens-after i within n x op of flags count = elim (landed-or n x (open-found g w.rests w.appliances time now' w.seats (image_lease i) n x op)) [
+    placed-after : Placed g w.rests w.appliances time after now' w.seats m.slots
+    placed-after home n x is op = elim (landed-or w content.leased number sector write may n x (open-found g w.rests w.appliances time now' w.seats home n x op)) [
       | inl here' ↦
-          let Q : Issued → Type 0 = λ y. IsOf g i y.block in
-          let P : Issued → Type 0 = λ y. Keeps g (put after y.block (mixed flags y.bytes (after y.block))) i (m.slots i) in
-          elim (cases i within) [
-            | inl mine ↦ subst P (sym here'.1) (keeps-landed g i write.block sector write.bytes device (m.slots i) below-8 bytes-long (content.leased.long write.block)
-                (λ f c. content.opens i within number write (this-open i mine.1 mine.2) mine.0 f c) flags count)
-            | inr no' ↦ absurd (no' (subst Q here'.1 of))
-          ]
-      | inr away ↦
-          let was = open-landed i within n x away.0 away.1 op in
-          elim (cases i within) [
-            | inl mine ↦ absurd (away.0 (open-alone w content.leased (image_lease i) (image-below g i within) n number x write was (this-open i mine.1 mine.2)))
-            | inr no' ↦
-                let same = same-after i no' in
-                let P : List ℕ → Type 0 = λ y. Keeps g (put after x.block (mixed flags x.bytes y)) i (m.slots i) in
-                subst P (sym (same-at g i x.block device after of same))
-                (Keeps-same g (put device x.block (mixed flags x.bytes (device x.block))) (put after x.block (mixed flags x.bytes (device x.block))) i (m.slots i)
-                (same-put g i x.block (mixed flags x.bytes (device x.block)) device after same) (content.opens i within n x was of flags count))
-          ]
+          let U : ℕ → Type 0 = λ k. (home_of (w.rests k) ≡ Some home) × IsOpen g w.rests w.appliances time now' w.seats home k x in
+          let its = subst U here'.0 (is, op) in
+          let P : Issued → Type 0 = λ y. PlacedBy y.kind g after m.slots home y.block y.bytes in
+          subst P (sym here'.1) (placed-moves write.kind g device after m.slots m.slots home write.block write.bytes
+          (λ only. let O : List ℕ → Type 0 = λ y. OnlyBytes write.kind write.bytes y in
+          subst O (sym (put-same device write.block (landed sector write.bytes (device write.block)))) (only-lands write.kind sector write.bytes (device write.block) only))
+          (λ keeps i within at'. let old = keeps i within at' in
+          (old.0, keeps-landed g i write.block sector write.bytes device (m.slots i) below-8 bytes-long (content.leased.long write.block) old.1))
+          (content.placed home number write its.0 (frame.still home x its.1)))
+      | inr away ↦ placed-others w content after now' number write frame home n x away.0 away.1 is op
     ]
 
     whose-after : (i : ℕ) → i < g.images → Whose g w.rests w.appliances time now' w.seats i (m.slots i)
-    whose-after i within n x op of b mine' = elim (landed-or n x (open-found g w.rests w.appliances time now' w.seats (image_lease i) n x op)) [
+    whose-after i within n x op of b mine' = elim (landed-or w content.leased number sector write may n x (open-found g w.rests w.appliances time now' w.seats (image_lease i) n x op)) [
       | inl here' ↦
           let Q : Issued → Type 0 = λ y. IsOf g i y.block in
           elim (cases i within) [
-            | inl mine ↦ content.whose i within number write (this-open i mine.1 mine.2) mine.0 b mine' ∙ ap Some (sym here'.0)
-            | inr no' ↦ absurd (no' (subst Q here'.1 of))
+            | inl mine ↦ content.whose i within number write mine.2 mine.0 b mine' ∙ ap Some (sym here'.0)
+            | inr no' ↦ absurd (no'.0 (subst Q here'.1 of))
           ]
-      | inr away ↦ content.whose i within n x (open-landed i within n x away.0 away.1 op) of b mine'
+      | inr away ↦ content.whose i within n x (frame.before (image_lease i) n x away.0 op) of b mine'
     ]
 
     -- what is right at a write stays right while it lands
@@ -505,6 +377,8 @@ module _ (w : World) (content : Content w) where
               keeps = λ flags count x looks. keeps-landed g i block sector bytes device (x.slots i) below-8 long (content.leased.long block) (λ f c. write'.keeps f c x looks) flags count;
               follows = held-same g b i command known regime done (put device block bytes) (put made block bytes) (same-over g i block bytes (landed sector bytes (device block)) device) write'.follows;
               changes = write'.changes;
+              only = (let O : List ℕ → Type 0 = λ y. OnlyBytes k bytes y in
+                  subst O (sym (put-same device block (landed sector bytes (device block)))) (only-lands k sector bytes (device block) write'.only));
             })
     held-lands b i command known regime (Ends end) number_of_boot asked journalled held = absurd asked
     held-lands b i command known regime (ReadThen block rest fault) number_of_boot asked journalled held = absurd asked
@@ -528,24 +402,24 @@ module _ (w : World) (content : Content w) where
     owned-lands : (i : ℕ) → i < g.images → (b : ℕ) → b < w.appliances → SeatOwns g time after now' m i b (w.seats b)
     owned-lands i within b under minds =
         let before : Minds g time writes m b (w.seats b) i = elim minds [
-          | inl grips ↦ inl (grips-before i within b under grips.0 grips.1 grips.2)
+          | inl grips ↦ inl (grips-before w content.leased number sector write may (image_lease i) b under grips.0 grips.1 grips.2)
           | inr owner ↦ inr owner
         ] in
         let owned = content.owned i within b under before in
         elim (cases i within) [
-          | inr no' ↦ owned-same g b i device after writes now' (w.seats b).pending m (same-after i no') (p b).place
-              (λ known command part at' names n x waits found journalled. elim (landed-or n x found) [
+          | inr no' ↦ owned-same g b i device after writes now' (w.seats b).pending m no'.1 (p b).place
+              (λ known command part at' names n x waits found journalled. elim (landed-or w content.leased number sector write may n x found) [
                 | inl here' ↦
                     let P : ℕ → Type 0 = λ k. (w.seats b).pending ≡ Some k in
                     let K : Issued → Type 0 = λ y. IsJournalled y.kind in
-                    absurd (no' (waits-of b under i known command part at' names number write (subst P here'.0 waits) may.found (subst K here'.1 journalled)))
+                    absurd (no'.0 (waits-of b under i known command part at' names number write (subst P here'.0 waits) may.found (subst K here'.1 journalled)))
                 | inr away ↦ (away.1, waits-of b under i known command part at' names n x waits away.1 journalled)
               ])
               owned
           | inl mine ↦
               let waits : (w.seats b).pending ≡ Some number = elim before [
-                | inl grips ↦ grip-only w content.leased i b within under grips.0 grips.1 grips.2 number write (this-open i mine.1 mine.2)
-                | inr owner ↦ content.whose i within number write (this-open i mine.1 mine.2) mine.0 b owner
+                | inl grips ↦ grip-only w content.leased i b within under grips.0 grips.1 grips.2 number write mine.2
+                | inr owner ↦ content.whose i within number write mine.2 mine.0 b owner
               ] in
               let asked = (content.leased.seated b under).asked number waits in
               let same : asked.0 ≡ write = (let e : Some asked.0 ≡ Some write = sym asked.1 ∙ may.found in cc) in
@@ -553,7 +427,7 @@ module _ (w : World) (content : Content w) where
               by_place (p b).place waits mine (subst Q same asked.2) (content.seats b under) owned
         ]
       where
-        by_place : (place : Place) → (w.seats b).pending ≡ Some number → (IsOf g i write.block × IsJournalled write.kind × IsUnder w.rests number (image_lease i)) →
+        by_place : (place : Place) → (w.seats b).pending ≡ Some number → (IsOf g i write.block × IsJournalled write.kind × IsOpen g w.rests w.appliances time writes w.seats (image_lease i) number write × (home_of (w.rests number) ≡ Some (image_lease i))) →
             IsAskedAt place (boot_number b (w.seats b).boots) write → PlaceFits g b m (p b) place → OwnedAt g b i device writes (w.seats b).pending m place → OwnedAt g b i after now' (w.seats b).pending m place
         by_place (Idle known) waits mine asked fits owned = absurd asked
         by_place (Begins known command) waits mine asked fits owned = absurd asked
@@ -567,7 +441,7 @@ module _ (w : World) (content : Content w) where
                 looks = s.looks;
                 held = held-lands b i command known s.regime part (boot_number b (w.seats b).boots) asked mine.1 s.held;
                 on = on-with i s.regime (held-with b i command known s.regime part (boot_number b (w.seats b).boots) asked mine.1 s.held);
-                fills = λ n x waits' found journalled. elim (landed-or n x found) [
+                fills = λ n x waits' found journalled. elim (landed-or w content.leased number sector write may n x found) [
                   | inl here' ↦
                       let P : Issued → Type 0 = λ y. mixed (missing_of y.landed) y.bytes (after y.block) ≡ y.bytes in
                       let at' : after write.block ≡ landed sector write.bytes (device write.block) = put-same device write.block (landed sector write.bytes (device write.block)) in
@@ -583,6 +457,19 @@ module _ (w : World) (content : Content w) where
               λ away. absurd (away names),
             )
 
+    waits-after : Waits g w.rests w.appliances time after now' w.seats
+    waits-after n x found all = elim (landed-or w content.leased number sector write may n x found) [
+      | inl here' ↦
+          let U : ℕ → Type 0 = λ k. (lease : ℕ) → IsUnder w.rests k lease → IsOpen g w.rests w.appliances time now' w.seats lease k x in
+          let its = subst U here'.0 all in
+          let P : Issued → Type 0 = λ y. WaitsOn y.kind g after y.block y.bytes y.landed in
+          subst P (sym here'.1) (waits-lands write.kind g device write.block write.bytes write.landed sector may.missing
+          (content.waits number write may.found (λ lease under. frame.still lease x (its lease under))))
+      | inr away ↦
+          let left = frame-all w content.leased after now' number write frame n x away.0 away.1 all in
+          waits-others x.kind g (w.rests n) device after x.block x.bytes x.landed left.1 (content.waits n x away.1 left.0)
+    ]
+
     pub land-content : (a back : ℕ) → Leased (with_surface w (event.Land (appliance_no a) back sector) (after_landing w.surface number write sector)) →
         Content (with_surface w (event.Land (appliance_no a) back sector) (after_landing w.surface number write sector))
     land-content a back leased = record {
@@ -591,7 +478,8 @@ module _ (w : World) (content : Content w) where
       permitted = content.permitted;
       undamaged = content.undamaged;
       stored = stored-after;
-      opens = opens-after;
+      placed = placed-after;
+      waits = waits-after;
       whose = whose-after;
       seats = content.seats;
       owned = owned-lands;

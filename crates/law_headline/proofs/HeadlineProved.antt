@@ -72,8 +72,9 @@ first-content g appliances device geometry few formatted = record {
   permitted = tt;
   undamaged = tt;
   stored = λ i within. keeps-first g device formatted i within;
-  opens = λ i within n x op of flags count. absurd (let e = open-found g (λ number. []) appliances 1000 [] (λ b. first_seat) (image_lease i) n x op in let P : ⊥ = cc in P);
+  placed = λ home n x is op. absurd (let e = open-found g (λ number. []) appliances 1000 [] (λ b. first_seat) home n x op in let P : ⊥ = cc in P);
   whose = λ i within n x op of b mine. absurd (let e = open-found g (λ number. []) appliances 1000 [] (λ b'. first_seat) (image_lease i) n x op in let P : ⊥ = cc in P);
+  waits = λ n x found all. absurd (let P : ⊥ = cc in P);
   seats = λ a below. (refl, (λ j. refl), (λ k s is. absurd (let P : ⊥ = cc in P)));
   owned = λ i within a below minds. elim minds [ inl grips ↦ absurd (let e = grips.2.0 in let P : ⊥ = cc in P) | inr mine ↦ absurd (let P : ⊥ = cc in P) ];
 }

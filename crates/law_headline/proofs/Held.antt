@@ -28,6 +28,7 @@ use Rattle.plx_worlds.specs.Session.{Session, Known}
 use Rattle.law_headline.proofs.Harmless.{Harmless, Yields}
 use Rattle.law_headline.proofs.Journals.{IsJournal, IsShown, ShowEither, Keeps}
 use Rattle.law_headline.proofs.ModelFacts.{Differs}
+use Rattle.law_headline.proofs.BytesByKind.{OnlyBytes}
 use Rattle.law_headline.proofs.Replied.{Names, IsDropping, sessions_after}
 
 -- of which slots there is a session
@@ -106,6 +107,7 @@ HeldPart g a i command known regime (WriteThen what block bytes guard done fault
     × ((flags : List Bool) → length flags ≡ 8 → (m : Model) → Looks g a i command known regime m → Keeps g (put device block (mixed flags bytes (device block))) i (m.slots i))
     × HeldPart g a i command known regime done (put device block bytes)
     × IsWith regime
+    × OnlyBytes what bytes (device block)
 HeldPart g a i command known regime (ClockThen rest) device = (reading : ℕ) → HeldPart g a i command known regime (rest reading) device
 HeldPart g a i command known regime (UntilThen from rest) device = (reading : ℕ) → HeldPart g a i command known regime (rest reading) device
 

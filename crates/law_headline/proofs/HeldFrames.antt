@@ -4,7 +4,7 @@ use Rattle.std.specs.Prelude.{slice_get, if◌then◌else◌}
 use Rattle.std.proofs.lemmas.Bool.Decides.{eqb_tells}
 use Rattle.std.proofs.lemmas.List.{take_at, drop_at, length-take, length-drop, length-set}
 use Rattle.plx_base.specs.Sectors.{Device, put, mixed, landed}
-use Rattle.plx_base.proofs.Devices.{put-same, put-other}
+use Rattle.plx_base.proofs.Devices.{put-same}
 use Rattle.plx_base.specs.declared.write_kind.WriteKind.{WriteKind}
 use Rattle.plx_base.specs.declared.write_kind.WriteKind.TheVariants as kind
 use Rattle.plx_commands.specs.Images.{Image}
@@ -16,6 +16,7 @@ use Rattle.plx_rules.specs.Part.{Part, Ends, ReadThen, WriteThen, ClockThen, Unt
 use Rattle.plx_rules.specs.declared.journaled.Journaled.{Journaled}
 use Rattle.plx_worlds.specs.Ends.{End}
 use Rattle.plx_worlds.specs.Session.{Session, Known}
+use Rattle.law_headline.proofs.BytesByKind.{OnlyBytes}
 use Rattle.law_headline.proofs.Foreign.{Foreign}
 use Rattle.law_headline.proofs.Held.{Regime, Without, With, LooksSlot, Looks, HasImage, IsOf, HeldPart}
 use Rattle.law_headline.proofs.JournalFacts.{IsJournal-same, Keeps-same}
@@ -115,14 +116,6 @@ same-put g i block bytes d e same = record {
     at : (b : ℕ) → e b ≡ d b → put e block bytes b ≡ put d block bytes b
     at b is = elim (eqb_tells b block) [ inl here ↦ rw here.0 refl | inr away ↦ rw away.0 is ]
 
--- a write elsewhere
-pub same-elsewhere : (g : Geometry) (i block : ℕ) (bytes : List ℕ) (d : Device) → (IsOf g i block → ⊥) → Same g i d (put d block bytes)
-same-elsewhere g i block bytes d no' = record {
-  recorded = put-other d block bytes (record_at g i) (λ e. no' (inl (sym e)));
-  descriptors = λ s below. put-other d block bytes (descriptor_at g i s) (λ e. no' (inr (s, below, inl (sym e))));
-  blocks = λ s below. put-other d block bytes (data_at g i s) (λ e. no' (inr (s, below, inr (sym e))));
-}
-
 -- the same everywhere
 pub same-all : (g : Geometry) (i : ℕ) (d e : Device) → ((b : ℕ) → e b ≡ d b) → Same g i d e
 same-all g i d e same = record { recorded = same _; descriptors = λ s below. same _; blocks = λ s below. same _ }
@@ -169,6 +162,7 @@ module _ (g : Geometry) (a i : ℕ) (command : Command) (known : Known) (regime 
             (same-put g i block (mixed flags bytes (d block)) d e same) (held.1 flags count m looks))),
         next held.2,
         held.3,
+        (let O : List ℕ → Type 0 = λ x. OnlyBytes other bytes x in subst O (sym (same-at g i block d e held.0 same)) held.4),
       )
   held-same (ClockThen rest) d e same held = λ reading. held-same (rest reading) d e same (held reading)
   held-same (UntilThen from rest) d e same held = λ reading. held-same (rest reading) d e same (held reading)

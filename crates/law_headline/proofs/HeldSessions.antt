@@ -11,6 +11,7 @@ use Rattle.plx_base.specs.declared.write_kind.WriteKind.TheVariants as kind
 use Rattle.plx_base.proofs.Canonical.{bytes_of-payload_of}
 use Rattle.plx_base.proofs.Devices.{put-same, put-again}
 use Rattle.plx_base.proofs.Mixed.{mixed-first_sector}
+use Rattle.plx_base.proofs.Spelling.{only-first}
 use Rattle.plx_commands.specs.Facts.{refusals, of_claims, of_none, of_some, of_block, of_size, of_generation, of_writes, where_holds, where_is, is_size, is_worn, IsAmong}
 use Rattle.plx_commands.specs.Images.{Image, written, new_image, free_image}
 use Rattle.plx_commands.specs.Limits.{last_generation, last_write, greatest_size}
@@ -269,7 +270,9 @@ module _ (s : Setting) (a i : ℕ) (within : i < s.geometry.images) (few : s.geo
                   tt,
                 )),
             tt,
+            only-first (descriptor_bytes d) (filled (descriptor_at s.geometry i n)) rest,
           ),
+          tt,
           tt,
         )
 
@@ -318,9 +321,10 @@ module _ (s : Setting) (a i : ℕ) (within : i < s.geometry.images) (few : s.geo
       let written' : Device = put device block (image_bytes new) in
       let journal' : IsJournal s.geometry written' i new [] = IsJournal-made s.geometry device i kept new writes within journal limits plain unapplied later fresh in
       let keeps' : (m : Model) → Sees command change m → Keeps s.geometry written' i (m.slots i) =
-      λ m looks. record { kept = new; writes = []; journal = journal'; either = inr (image', looks.slot.2 ∙ is-change, shown) } in (
+      λ m looks. record { kept = new; writes = []; journal = journal'; either = inr (image', looks.slot.2 ∙ is-change, shown) } in
+      let rest : drop 512 (image_bytes new) ≡ drop 512 (device block) = image-drop new kept limits journal.limits ∙ ap (drop 512) (sym journal.recorded) in (
         inl refl,
-        λ flags count m looks. elim (mixed-first_sector flags (image_bytes new) (device block) (image-drop new kept limits journal.limits ∙ ap (drop 512) (sym journal.recorded))) [
+        λ flags count m looks. elim (mixed-first_sector flags (image_bytes new) (device block) rest) [
           | inl whole ↦
               let P : List ℕ → Type 0 = λ x. Keeps s.geometry (put device block x) i (m.slots i) in
               subst P (sym whole) (keeps' m looks)
@@ -350,6 +354,7 @@ module _ (s : Setting) (a i : ℕ) (within : i < s.geometry.images) (few : s.geo
               fine,
             )),
         tt,
+        only-first (image_bytes new) (device block) rest,
       )
 
   owned-one : (m : Model) → (m.slots i).owner ≡ Some a → owns_all m a (i ∷ []) ≡ true

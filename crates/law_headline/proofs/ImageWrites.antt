@@ -1,15 +1,14 @@
 -- Writes of an image's record and journal: what a kind owes, in one lemma each, so that the invariant asks for no kind.
-use Rattle.std.proofs.Common.{◌≡◌, ◌≢◌, ℕ, ◌<◌, ◌⊎◌, inl, inr, List, [], ◌∷◌, Bool, true, Some, refl, ap, sym, subst, ◌∙◌, length}
+use Rattle.std.proofs.Common.{◌≡◌, ℕ, ◌<◌, ◌⊎◌, inl, inr, List, [], ◌∷◌, Bool, true, Some, refl, ap, sym, subst, ◌∙◌, length}
 use Rattle.std.proofs.lemmas.Bool.Decides.{eqb_tells}
 use Rattle.plx_base.specs.Sectors.{Device, put, mixed}
 use Rattle.plx_base.specs.declared.write_kind.WriteKind.{WriteKind}
 use Rattle.plx_base.specs.declared.write_kind.WriteKind.TheVariants as kind
-use Rattle.plx_commands.specs.Model.{Model}
+use Rattle.plx_commands.specs.Model.{Model, Slot}
 use Rattle.plx_commands.specs.Replies.{is_in}
 use Rattle.plx_commands.specs.declared.command.Command.{Command}
-use Rattle.plx_disk.specs.Writes.{all_sectors}
 use Rattle.plx_geom.proofs.Places.{image-extent, image-image}
-use Rattle.plx_geom.specs.Geometry.{Geometry, IsGeometry, image_lease, extent_lease}
+use Rattle.plx_geom.specs.Geometry.{Geometry, IsGeometry, image_lease, extent_lease, record_at, descriptor_at, data_at}
 use Rattle.plx_geom.specs.declared.place.Place.TheVariants as place
 use Rattle.plx_rules.specs.Part.{Part, WriteThen}
 use Rattle.plx_worlds.specs.Ends.{End}
@@ -17,12 +16,15 @@ use Rattle.plx_worlds.specs.Holds.{Hold}
 use Rattle.plx_worlds.specs.Rests.{home_of}
 use Rattle.plx_worlds.specs.Session.{Known}
 use Rattle.law_lease.proofs.Covers.{Covers, one-cover, lease-uncovered, home-covers, write-covered}
-use Rattle.law_lease.proofs.Leased.{MayAsk, MayUse, IsPlaced, Unlanded}
+use Rattle.law_lease.proofs.Frame.{SameUnder}
+use Rattle.law_lease.proofs.Leased.{MayAsk, MayUse, IsPlaced}
 use Rattle.law_lease.proofs.Lists.{same-some}
 use Rattle.law_lease.proofs.Rests.{home-in}
 use Rattle.law_headline.proofs.Content.{IsJournalled}
 use Rattle.law_headline.proofs.Held.{Regime, IsWith, Looks, IsOf, HeldPart, IsNamed}
-use Rattle.law_headline.proofs.Journals.{Keeps}
+use Rattle.law_headline.proofs.Journals.{Keeps, Same}
+use Rattle.law_headline.proofs.BytesByKind.{OnlyBytes}
+use Rattle.law_headline.proofs.PlacedByKind.{KeepsImage, PlacedBy}
 use Rattle.law_headline.proofs.Replied.{Names}
 
 -- ---- by kind
@@ -32,7 +34,7 @@ of-image : (g : Geometry) (i j block : ℕ) (rests : List ℕ) → home_of rests
 of-image g i j block rests home all of = subst (λ (n : ℕ). IsOf g n block) (image-image j i (same-some (image_lease j) (image_lease i) (sym (ap home_of all) ∙ home))) of
 
 -- a write that its image's lease covers is one of its record or journal
-image-write : (g : Geometry) (i block : ℕ) (bytes rests : List ℕ) → i < g.images → Covers g (image_lease i) block → home_of rests ≡ Some (image_lease i) →
+pub image-write : (g : Geometry) (i block : ℕ) (bytes rests : List ℕ) → i < g.images → Covers g (image_lease i) block → home_of rests ≡ Some (image_lease i) →
     (k : WriteKind) → IsPlaced g k block bytes rests → IsOf g i block × IsJournalled k
 image-write g i block bytes rests within covers home kind.Claim placed = absurd (lease-uncovered g (image_lease i) block placed.0 placed.1 placed.2 covers)
 image-write g i block bytes rests within covers home kind.Renew placed = absurd (lease-uncovered g (image_lease i) block placed.0 placed.1 placed.2 covers)
@@ -60,31 +62,54 @@ use-image g boot holds rests block bytes guard kind.JData is may = may
 use-image g boot holds rests block bytes guard kind.JCommit is may = may
 use-image g boot holds rests block bytes guard other is may = absurd is
 
--- each of its sectors may change something
-pub unlanded-image : (k : WriteKind) (flags : List Bool) → IsJournalled k → flags ≢ all_sectors → Unlanded k flags
-unlanded-image kind.Record flags is missing = missing
-unlanded-image kind.JData flags is missing = missing
-unlanded-image kind.JCommit flags is missing = missing
-unlanded-image other flags is missing = absurd is
+-- of its block only its own bytes differ, and the image is kept whatever of it lands
+pub placed-made : (k : WriteKind) (g : Geometry) (device : Device) (slots : ℕ → Slot) (home block : ℕ) (bytes : List ℕ) → IsJournalled k → OnlyBytes k bytes (device block) → KeepsImage g device slots home block bytes →
+    PlacedBy k g device slots home block bytes
+placed-made kind.Record g device slots home block bytes is only keeps = (only, keeps)
+placed-made kind.JData g device slots home block bytes is only keeps = (only, keeps)
+placed-made kind.JCommit g device slots home block bytes is only keeps = (only, keeps)
+placed-made other g device slots home block bytes is only keeps = absurd is
+
+pub placed-keeps : (k : WriteKind) (g : Geometry) (device : Device) (slots : ℕ → Slot) (home block : ℕ) (bytes : List ℕ) → IsJournalled k → PlacedBy k g device slots home block bytes →
+    KeepsImage g device slots home block bytes
+placed-keeps kind.Record g device slots home block bytes is placed = placed.1
+placed-keeps kind.JData g device slots home block bytes is placed = placed.1
+placed-keeps kind.JCommit g device slots home block bytes is placed = placed.1
+placed-keeps other g device slots home block bytes is placed = absurd is
+
+-- a write is one of the image whose lease is its home, or nothing is said of its block
+pub placed-block : (g : Geometry) (k : WriteKind) (block : ℕ) (bytes rests : List ℕ) (home : ℕ) → IsPlaced g k block bytes rests → home_of rests ≡ Some home →
+    ((i : ℕ) × (i < g.images) × (home ≡ image_lease i) × IsOf g i block × IsJournalled k) ⊎ ((device : Device) (slots : ℕ → Slot) → PlacedBy k g device slots home block bytes)
+placed-block g kind.Claim block bytes rests home placed is = inr (λ device slots. tt)
+placed-block g kind.Renew block bytes rests home placed is = inr (λ device slots. tt)
+placed-block g kind.Release block bytes rests home placed is = inr (λ device slots. tt)
+placed-block g kind.Take block bytes rests home placed is = inr (λ device slots. tt)
+placed-block g kind.Give block bytes rests home placed is = inr (λ device slots. tt)
+placed-block g kind.Sweep block bytes rests home placed is = inr (λ device slots. tt)
+placed-block g kind.Record block bytes rests home placed is = inl (placed.0, placed.1, same-some home (image_lease placed.0) (sym is ∙ ap home_of placed.3), inl placed.2, tt)
+placed-block g kind.JData block bytes rests home placed is = inl (placed.0, placed.2, same-some home (image_lease placed.0) (sym is ∙ ap home_of placed.5), inr (placed.1, placed.3, inr placed.4), tt)
+placed-block g kind.JCommit block bytes rests home placed is = inl (placed.0, placed.2, same-some home (image_lease placed.0) (sym is ∙ ap home_of placed.5), inr (placed.1, placed.3, inl placed.4), tt)
+placed-block g other block bytes rests home placed is = absurd placed
 
 module _ (g : Geometry) (a i : ℕ) (command : Command) (known : Known) (regime : Regime) (block : ℕ) (bytes : List ℕ) (guard : ℕ) (done fault : Part End) (missed : ℕ → Part End) (device : Device) where
   -- what an owner owes where it asks for a write of its image: whatever of it lands the image is kept, and what follows is right on the device with all of it landed
-  pub record IsImageWrite : Type 0 where
+  pub record IsImageWrite (k : WriteKind) : Type 0 where
     pub of : IsOf g i block
     pub keeps : (flags : List Bool) → length flags ≡ 8 → (m : Model) → Looks g a i command known regime m → Keeps g (put device block (mixed flags bytes (device block))) i (m.slots i)
     pub follows : HeldPart g a i command known regime done (put device block bytes)
     pub changes : IsWith regime
+    pub only : OnlyBytes k bytes (device block)
 
-  pub held-image : (k : WriteKind) → IsJournalled k → HeldPart g a i command known regime (WriteThen k block bytes guard done fault missed) device → IsImageWrite
-  held-image kind.Record is held = record { of = held.0; keeps = held.1; follows = held.2; changes = held.3 }
-  held-image kind.JData is held = record { of = held.0; keeps = held.1; follows = held.2; changes = held.3 }
-  held-image kind.JCommit is held = record { of = held.0; keeps = held.1; follows = held.2; changes = held.3 }
+  pub held-image : (k : WriteKind) → IsJournalled k → HeldPart g a i command known regime (WriteThen k block bytes guard done fault missed) device → IsImageWrite k
+  held-image kind.Record is held = record { of = held.0; keeps = held.1; follows = held.2; changes = held.3; only = held.4 }
+  held-image kind.JData is held = record { of = held.0; keeps = held.1; follows = held.2; changes = held.3; only = held.4 }
+  held-image kind.JCommit is held = record { of = held.0; keeps = held.1; follows = held.2; changes = held.3; only = held.4 }
   held-image other is held = absurd is
 
-  pub image-held : (k : WriteKind) → IsJournalled k → IsImageWrite → HeldPart g a i command known regime (WriteThen k block bytes guard done fault missed) device
-  image-held kind.Record is write = (write.of, write.keeps, write.follows, write.changes)
-  image-held kind.JData is write = (write.of, write.keeps, write.follows, write.changes)
-  image-held kind.JCommit is write = (write.of, write.keeps, write.follows, write.changes)
+  pub image-held : (k : WriteKind) → IsJournalled k → IsImageWrite k → HeldPart g a i command known regime (WriteThen k block bytes guard done fault missed) device
+  image-held kind.Record is write = (write.of, write.keeps, write.follows, write.changes, write.only)
+  image-held kind.JData is write = (write.of, write.keeps, write.follows, write.changes, write.only)
+  image-held kind.JCommit is write = (write.of, write.keeps, write.follows, write.changes, write.only)
   image-held other is write = absurd is
 
   -- an owner asks for the release of its lease, or for a write of its image
@@ -100,6 +125,14 @@ pub of-covers : (g : Geometry) (i block : ℕ) → i < g.images → IsOf g i blo
 of-covers g i block within (inl at) = record { place = place.Record (record { 0 = i }); is = within; here = sym at; under = refl }
 of-covers g i block within (inr (slot, below, inl at)) = record { place = place.JDesc (record { 0 = i }) slot; is = (within, below); here = sym at; under = refl }
 of-covers g i block within (inr (slot, below, inr at)) = record { place = place.JData (record { 0 = i }) slot; is = (within, below); here = sym at; under = refl }
+
+-- where what its lease covers is the same, what the image has is the same
+pub same-under : (g : Geometry) (i : ℕ) (d e : Device) → i < g.images → SameUnder g (image_lease i) d e → Same g i d e
+same-under g i d e within same = record {
+  recorded = same (record_at g i) (of-covers g i (record_at g i) within (inl refl));
+  descriptors = λ slot below. same (descriptor_at g i slot) (of-covers g i (descriptor_at g i slot) within (inr (slot, below, inl refl)));
+  blocks = λ slot below. same (data_at g i slot) (of-covers g i (data_at g i slot) within (inr (slot, below, inr refl)));
+}
 
 -- a block of two images is one image's
 pub of-one : (g : Geometry) → IsGeometry g → (i j block : ℕ) → i < g.images → j < g.images → IsOf g i block → IsOf g j block → i ≡ j

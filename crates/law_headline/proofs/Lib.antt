@@ -1,3 +1,4 @@
+pub mod BytesByKind
 pub mod Content
 pub mod ContentAnswers
 pub mod ContentEvents
@@ -23,5 +24,7 @@ pub mod JournalOne
 pub mod Journals
 pub mod ModelFacts
 pub mod Owners
+pub mod PlacedByKind
 pub mod Replied
 pub mod StoredFacts
+pub mod WaitsByKind

@@ -1,5 +1,6 @@
 pub mod Covers
 pub mod Latest
+pub mod Frame
 pub mod LawfulCommands
 pub mod LeaseSectors
 pub mod LeaseFrames

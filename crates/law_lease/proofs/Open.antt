@@ -47,6 +47,12 @@ pub lands-open : (w : World) (number sector : ℕ) (write : Issued) → MayLand 
     (lease : ℕ) → IsUnder w.rests number lease → IsOpen w.geometry w.rests w.appliances w.surface.time w.surface.writes w.seats lease number write
 lands-open w number sector write may missing lease under = inl (record { found = may.found; needs = under; missing = missing; live = may.early })
 
+-- what is open later was open before
+pub open-later : (g : Geometry) (rests : ℕ → List ℕ) (appliances time by : ℕ) (writes : List Issued) (seats : ℕ → Seat) (lease n : ℕ) (x : Issued) →
+    IsOpen g rests appliances (time + by) writes seats lease n x → IsOpen g rests appliances time writes seats lease n x
+open-later g rests appliances time by writes seats lease n x (inl op) = inl (record { found = op.found; needs = op.needs; missing = op.missing; live = (let l = op.live in omega arith) })
+open-later g rests appliances time by writes seats lease n x (inr o) = inr (o.0, o.1, (o.2.0, o.2.1, (o.2.2.0, (let l = o.2.2.1 in omega arith))), o.3, o.4, o.5)
+
 -- where a seat comes to wait for no write, what is open was open before
 pub open-elsewhere : (g : Geometry) (rests : ℕ → List ℕ) (appliances time : ℕ) (writes : List Issued) (seats : ℕ → Seat) (lease a : ℕ) (seat : Seat) → seat.pending ≡ None →
     (n : ℕ) (x : Issued) → IsOpen g rests appliances time writes (at seats a seat) lease n x → IsOpen g rests appliances time writes seats lease n x
