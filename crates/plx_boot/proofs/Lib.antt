@@ -1,6 +1,3 @@
-pub mod Asking
-pub mod Confirmed
-pub mod Confirms
 pub mod Contents
 pub mod Dropping
 pub mod Entered

@@ -32,7 +32,7 @@ pub struct Attach {
 }
 
 impl Attach {
-    ghost use Rattle.std.specs.Prelude.{ℕ, []};
+    ghost use Rattle.std.specs.Prelude.{ℕ, [], Option};
     ghost use Rattle.plx_geom.specs.Geometry.{block_count, image_lease, lease_at};
     ghost use Rattle.plx_rules.specs.Part.{Part, answered, standing, bytes_out};
     ghost use Rattle.plx_commands.specs.Limits.{last_claim};
@@ -42,7 +42,8 @@ impl Attach {
     ghost use Rattle.plx_worlds.specs.Parts.{followed_by};
     ghost use Rattle.plx_worlds.specs.Session.{Known};
     ghost use Rattle.plx_lease.specs.ClaimEnds.{claim_end};
-    ghost use Rattle.plx_lease.specs.Claiming.{claim_rest};
+    ghost use Rattle.plx_lease.specs.Holding.{IsSampled, claim_hold};
+    ghost use Rattle.plx_worlds.specs.Holds.{Nothing};
     ghost use Rattle.plx_boot.specs.Attaches.{attach_rest, attach_spares};
     ghost use Rattle.plx_boot.specs.Ending.{after_reply};
     ghost use Rattle.plx_boot.specs.Giving.{given};
@@ -61,7 +62,9 @@ impl Attach {
         requires slots { session.slots ≡ setting.geometry.slots }
         requires empty { vec_len session.writes ≡ 0 }
         ensures rest { (known : Known) → attach_rest known result ≡ followed_by (claim_part (given setting).boot [] (image_lease slot.0) number) (after_claim (given setting) known slot.0) }
-        ensures claim { claim_rest result.claim ≡ claim_part (given setting).boot [] (image_lease slot.0) number }
+        ensures number { result.claim.number ≡ image_lease result.load.image.slot.0 }
+        ensures fresh { claim_hold result.claim ≡ Nothing }
+        ensures sampled { (sample : Option ℕ) → IsSampled result.claim sample }
         ensures at { result.at ≡ AttachAt.Claim }
         ensures slot { result.load.image.slot ≡ slot }
         ensures setting { result.load.image.setting ≡ setting }

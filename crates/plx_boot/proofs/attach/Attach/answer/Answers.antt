@@ -1,5 +1,5 @@
 use Rattle.plx_worlds.proofs.Nested.{nested}
-use Rattle.plx_boot.proofs.Asking.{claim-asks}
+use Rattle.plx_lease.proofs.Asking.{claim-asks}
 use Rattle.plx_boot.proofs.attach.Attach.answer.Goals as goal
 
 pub returns-in-None-clause-rest : goal.returns-in-None-clause-rest

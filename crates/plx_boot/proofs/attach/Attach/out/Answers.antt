@@ -1,6 +1,6 @@
 use Rattle.plx_worlds.proofs.Nested.{bytes-followed}
 use Rattle.plx_lease.specs.Claiming.{claim_rest}
-use Rattle.plx_boot.proofs.Asking.{claim-asks}
+use Rattle.plx_lease.proofs.Asking.{claim-asks}
 use Rattle.plx_boot.proofs.attach.Attach.out.Goals as goal
 
 pub returns-in-Claim : goal.returns-in-Claim
