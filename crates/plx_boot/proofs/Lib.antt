@@ -4,6 +4,7 @@ pub mod Entered
 pub mod First
 pub mod Goes
 pub mod Held
+pub mod Moved
 pub mod Numbers
 pub mod Places
 pub mod Reached

@@ -48,6 +48,8 @@ impl Attach {
     ghost use Rattle.plx_boot.specs.Ending.{after_reply};
     ghost use Rattle.plx_boot.specs.Giving.{given};
     ghost use Rattle.plx_boot.specs.Kept.{known_by};
+    ghost use Rattle.plx_boot.specs.Moving.{attach_moves, claimed};
+    ghost use Rattle.plx_boot.specs.Tokens.{leases_of};
 
     /// The lease is to be claimed, by a boot that began so many claims before.
     pub fn claim(
@@ -107,7 +109,7 @@ impl Attach {
     pub fn ask(&self) -> Ask
         requires { self.now.load.slots ≡ self.now.load.image.setting.geometry.slots }
         ensures ask { (known : Known) → Some result ≡ standing (attach_rest known self.now) }
-        ensures spare { attach_spares self.now.at self.now.load.image.setting result }
+        ensures spare { attach_spares self.now.at self.now result }
     {
         match self.at {
             AttachAt::Claim => self.claim.ask(),
@@ -143,6 +145,7 @@ impl Attach {
         ensures count { sessions.new.count ≡ sessions.old.count }
         ensures slots { sessions.new.slots ≡ sessions.old.slots }
         ensures leased { leases.new.count ≡ leases.old.count }
+        ensures moves { attach_moves self.old.at self.old self.new answer.now (leases_of leases.old.leases.items) (leases_of leases.new.leases.items) result }
     {
         match self.at {
             AttachAt::Claim => match self.claim.answer(answer) {
@@ -161,6 +164,10 @@ impl Attach {
         ensures setting { self.new.load.image.setting ≡ self.old.load.image.setting }
         ensures own { self.new.load.slots ≡ self.old.load.slots }
         ensures leased { leases.new.count ≡ leases.old.count }
+        ensures leases { leases_of leases.new.leases.items ≡ claimed (claim_end end) self.old.load.image.slot.0 (leases_of leases.old.leases.items) }
+        ensures claim { self.new.claim ≡ self.old.claim }
+        ensures slot { self.new.load.image.slot ≡ self.old.load.image.slot }
+        ensures held { result ≡ None → self.new.at ≡ AttachAt.Load }
     {
         let image = self.load.image;
         match end {

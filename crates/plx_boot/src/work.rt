@@ -27,6 +27,8 @@ impl Work {
     ghost use Rattle.plx_worlds.specs.Session.{Known};
     ghost use Rattle.plx_boot.specs.Ending.{after_reply};
     ghost use Rattle.plx_boot.specs.Kept.{known_of};
+    ghost use Rattle.plx_boot.specs.Moving.{Moves};
+    ghost use Rattle.plx_boot.specs.Tokens.{leases_of};
     ghost use Rattle.plx_boot.specs.Works.{Spares, work_rest, work_setting, work_slots};
 
     /// The ask that stands.
@@ -66,6 +68,7 @@ impl Work {
         ensures own { result ≡ None → work_slots self.new ≡ work_slots self.old }
         ensures kept { result ≡ None → work_setting self.new ≡ work_setting self.old }
         ensures setting { holdings.new.setting ≡ holdings.old.setting }
+        ensures moves { Moves self.old self.new answer.now (leases_of holdings.old.leases.leases.items) (leases_of holdings.new.leases.leases.items) result }
     {
         match self {
             Work::Attach(attach) => attach.answer(

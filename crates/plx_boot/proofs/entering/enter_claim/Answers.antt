@@ -1,4 +1,4 @@
-use Rattle.std.proofs.Common.{◌∙◌, sym, ap, arith}
+use Rattle.std.proofs.Common.{◌∙◌, ap, arith}
 use Rattle.std.specs.Prelude.{◌≡◌, nat_lt, true}
 use Rattle.plx_commands.specs.Limits.{last_claim}
 use Rattle.plx_worlds.specs.Session.{with_claim}
