@@ -125,7 +125,7 @@ first-part s known b p reading leases h held =
     ∙ begun-agrees s known (after_first s.geometry known reading p.holds) (held_at s.geometry (first_leases known reading leases)) reading b
     (first-agrees s.geometry known reading leases p.holds held)
 
-reply-asks : (part : Part End) → Asks part → None ≡ reply_of part
+pub reply-asks : (part : Part End) → Asks part → None ≡ reply_of part
 reply-asks (Ends end) asks = absurd asks
 reply-asks (ReadThen block rest fault) asks = refl
 reply-asks (WriteThen kind block bytes guard done fault missed) asks = refl
