@@ -11,3 +11,4 @@ pub mod Places
 pub mod Reached
 pub mod Stood
 pub mod Tables
+pub mod Went

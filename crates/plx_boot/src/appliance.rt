@@ -34,7 +34,9 @@ impl Appliance {
     ghost use Rattle.std.specs.Prelude.{ℕ, List, [], ◌∷◌, Some, None, true, false, IsTrue, IfOk, OnOk, OnErr};
     ghost use Rattle.plx_disk.specs.declared.ask.Ask.{Ask};
     ghost use Rattle.plx_worlds.specs.Boot.{Began, Asked, Fits, Happening, asks, position, replies, writes_out};
-    ghost use Rattle.plx_boot.specs.Appliance.{IsIdle, IsRunning, StandsFor, has_session, setting_of};
+    ghost use Rattle.plx_worlds.specs.Machines.{IsTimely};
+    ghost use Rattle.plx_boot.specs.Appliance.{IsIdle, IsRunning, IsStanding, StandsFor, has_session, setting_of};
+    ghost use Rattle.plx_boot.specs.declared.work.Work.{Work as Running};
     ghost use Rattle.plx_boot.specs.Begins.{IsServed};
     ghost use Rattle.plx_boot.specs.declared.begun.Begun.{Begun as Started};
 
@@ -123,6 +125,37 @@ impl Appliance {
                         None
                     }
                     Err(reply) => {
+                        self.holdings.settle(&reply);
+                        Some(reply)
+                    }
+                }
+            }
+            other => {
+                self.stage = other;
+                None
+            }
+        }
+    }
+
+    // The command that runs is answered.
+    fn next(&mut self, answer: &Answer) -> Option<Reply>
+        requires { IsTimely answer.now }
+        ensures log { (log : List Happening) (ask : Ask) (bytes : List ℕ) (work : Running) → self.old.stage ≡ Stage.In work → StandsFor self.old log → IsStanding self.old log ask bytes → Fits ask answer.now → StandsFor self.new (Asked ask bytes answer.now ∷ log) }
+        ensures reply { (log : List Happening) (ask : Ask) (bytes : List ℕ) (work : Running) → self.old.stage ≡ Stage.In work → StandsFor self.old log → IsStanding self.old log ask bytes → Fits ask answer.now → result ≡ replies (setting_of self.old) answer.now (position (setting_of self.old) log) }
+        ensures setting { self.new.holdings.setting ≡ self.old.holdings.setting }
+    {
+        match mem::replace(&mut self.stage, Stage::Idle) {
+            Stage::In(running) => {
+                let mut work = running;
+                let ask = work.ask();
+                let reply = work.answer(&mut self.holdings, answer);
+                self.holdings.drop_failed(&ask, answer);
+                match reply {
+                    None => {
+                        self.stage = Stage::In(work);
+                        None
+                    }
+                    Some(reply) => {
                         self.holdings.settle(&reply);
                         Some(reply)
                     }
