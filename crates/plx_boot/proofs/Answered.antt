@@ -1,5 +1,5 @@
 -- The command that runs is answered: what is kept, how far its claim has come, and where the appliance stands.
-use Rattle.std.proofs.Common.{◌≡◌, ℕ, ◌<◌, List, ◌∷◌, Option, Some, None, refl, sym, ap, ◌∙◌, subst, arith}
+use Rattle.std.proofs.Common.{◌≡◌, ℕ, ◌<◌, List, Option, Some, None, refl, sym, ap, ◌∙◌, subst, arith}
 use Rattle.plx_base.specs.declared.write_kind.WriteKind.TheVariants as kind
 use Rattle.plx_base.specs.declared.numbers.SlotNo.{SlotNo}
 use Rattle.plx_commands.specs.declared.reply.Reply.{Reply}
@@ -7,27 +7,23 @@ use Rattle.plx_disk.specs.declared.ask.Ask.{Ask}
 use Rattle.plx_disk.specs.declared.ask.Ask.TheVariants as ask
 use Rattle.plx_disk.specs.declared.ask.Answer.{Answer}
 use Rattle.plx_disk.specs.declared.ask.Answer.TheVariants as answer
-use Rattle.plx_geom.specs.Geometry.{Geometry, image_lease, lease_at, lease_count}
-use Rattle.plx_rules.specs.Part.{Part, answered, bytes_out, standing}
-use Rattle.plx_worlds.specs.Boot.{Fits, Happening, Asked, Idle, In, Position, after_part, goes_to, place_of, position, replies, replies_at, reply_of, went_on, asks, writes_out}
-use Rattle.plx_worlds.specs.Ends.{End, ends}
-use Rattle.plx_worlds.specs.Holds.{Hold, Nothing, after_answer, after_reply, sample_of}
+use Rattle.plx_geom.specs.Geometry.{Geometry, image_lease, lease_at}
+use Rattle.plx_rules.specs.Part.{bytes_out, standing}
+use Rattle.plx_worlds.specs.Boot.{Fits}
+use Rattle.plx_worlds.specs.Holds.{Hold, Nothing, after_answer, sample_of}
 use Rattle.plx_worlds.specs.Machines.{AsksOnly, IsTimely}
 use Rattle.plx_worlds.specs.Session.{Known}
-use Rattle.plx_worlds.specs.Settings.{Setting}
 use Rattle.plx_worlds.proofs.Nested.{bytes-followed, standing-followed}
 use Rattle.plx_lease.specs.Claiming.{claim_rest}
-use Rattle.plx_lease.specs.Holding.{LeavesClaim, claim_ask, claim_hold}
+use Rattle.plx_lease.specs.Holding.{LeavesClaim, claim_ask}
 use Rattle.plx_lease.proofs.Asking.{claim-asks}
 use Rattle.plx_lease.proofs.Held.{claim-holds, claim-standing}
 use Rattle.plx_lease.specs.declared.claim_end.ClaimEnd.{ClaimEnd as End'}
 use Rattle.plx_token.specs.declared.kind.Image.{Image}
-use Rattle.plx_boot.specs.Appliance.{IsIn}
 use Rattle.plx_boot.specs.Asking.{IsSpare}
 use Rattle.plx_boot.specs.Attaches.{attach_at, attach_spares}
-use Rattle.plx_boot.specs.Ending.{known_after, leases_after}
 use Rattle.plx_boot.specs.Holding.{HoldsAs, dropped, settled}
-use Rattle.plx_boot.specs.Moving.{ClaimMoves, ClaimsNone, LoadMoves, Moves, attach_moves}
+use Rattle.plx_boot.specs.Moving.{ClaimMoves, ClaimsNone, Moves, attach_moves}
 use Rattle.plx_boot.specs.Releasing.{released}
 use Rattle.plx_boot.specs.Stands.{Inside, IsClaiming, inside_at}
 use Rattle.plx_boot.specs.Works.{Spares, work_rest, work_setting}
@@ -37,8 +33,6 @@ use Rattle.plx_boot.specs.declared.attach.AttachAt.TheVariants as attach
 use Rattle.plx_boot.specs.declared.work.Work.{Work}
 use Rattle.plx_boot.specs.declared.work.Work.TheVariants as work
 use Rattle.plx_boot.proofs.Entered.{held-image}
-use Rattle.plx_boot.proofs.First.{holds-asks, place-asks}
-use Rattle.plx_boot.proofs.Goes.{reply-asks, reply-holds, work-asks}
 use Rattle.plx_boot.proofs.Held.{nothing-at, spare-holds}
 use Rattle.plx_boot.proofs.Moved.{claim-settled, claimed-others, holds-own, holds-released, leaves-settled}
 

@@ -1,15 +1,16 @@
 -- Where an appliance stands after an answer to the command that runs.
-use Rattle.std.proofs.Common.{◌≡◌, ℕ, List, ◌∷◌, Option, Some, None, refl, sym, ap, ◌∙◌, subst}
+use Rattle.std.proofs.Common.{◌≡◌, ℕ, List, [], ◌∷◌, Option, Some, None, true, false, refl, sym, ap, ◌∙◌, subst}
 use Rattle.plx_commands.specs.declared.reply.Reply.{Reply}
 use Rattle.plx_disk.specs.declared.ask.Ask.{Ask}
+use Rattle.plx_disk.specs.declared.ask.Ask.TheVariants as ask
 use Rattle.plx_disk.specs.declared.ask.Answer.{Answer}
 use Rattle.plx_rules.specs.Part.{Part, answered, bytes_out, standing}
-use Rattle.plx_worlds.specs.Boot.{Asked, Fits, Happening, Idle, In, Place, Position, after_part, asks, goes_to, place_of, position, replies, replies_at, reply_of, went_on, writes_out}
+use Rattle.plx_worlds.specs.Boot.{Asked, Fits, Happening, Idle, Place, Position, after_part, asks, goes_to, place_of, position, replies, replies_at, reply_of, went_on, writes_out}
 use Rattle.plx_worlds.specs.Ends.{End, ends}
 use Rattle.plx_worlds.specs.Holds.{Hold, after_answer, after_reply, sample_of}
 use Rattle.plx_worlds.specs.Session.{Known}
 use Rattle.plx_worlds.specs.Settings.{Setting}
-use Rattle.plx_boot.specs.Appliance.{IsIn, IsStanding, StandsAt, StandsFor, setting_of}
+use Rattle.plx_boot.specs.Appliance.{HasBegun, IsIn, IsStanding, StandsAt, StandsFor, has_begun, runs, setting_of}
 use Rattle.plx_boot.specs.Ending.{known_after, leases_after}
 use Rattle.plx_boot.specs.Holding.{HoldsAs, dropped}
 use Rattle.plx_boot.specs.Giving.{given}
@@ -19,6 +20,7 @@ use Rattle.plx_boot.specs.Tokens.{leases_of}
 use Rattle.plx_boot.specs.declared.appliance.Appliance.{Appliance}
 use Rattle.plx_boot.specs.declared.appliance.Stage.{Stage}
 use Rattle.plx_boot.specs.declared.appliance.Stage.TheVariants as stage
+use Rattle.plx_boot.specs.declared.begun.Begun.{Begun}
 use Rattle.plx_boot.specs.declared.holdings.Holdings.{Holdings}
 use Rattle.plx_boot.specs.declared.setting.Setting.{Setting as Given}
 use Rattle.plx_boot.specs.Moving.{Moves}
@@ -158,3 +160,22 @@ stands-out a h kept r log q bytes found leases same known is went = (
   subst (λ (st : Given). HoldsAs st.geometry (leases_of kept.leases.leases.items) (position (given st) (Asked q bytes found ∷ log)).holds) (sym same)
       (subst (λ (ls : ℕ → Hold). HoldsAs a.holdings.setting.geometry ls (position (setting_of a) (Asked q bytes found ∷ log)).holds) (sym is) went.held),
 )
+
+-- a command that runs waits for its first reading, or is after it
+pub by-begun : {P : Type 0} (st : Stage) → true ≡ has_begun st → ((b : Begun) → st ≡ stage.Begun b → P) → P
+by-begun stage.Idle h goes = absurd cc
+by-begun (stage.Begun b) h goes = goes b refl
+by-begun (stage.In w) h goes = absurd cc
+
+pub by-running : {P : Type 0} (st : Stage) → false ≡ has_begun st → runs st ≡ true → ((w : Work) → st ≡ stage.In w → P) → P
+by-running stage.Idle h running goes = absurd cc
+by-running (stage.Begun b) h running goes = absurd cc
+by-running (stage.In w) h running goes = goes w refl
+
+-- what it waits for
+pub begun-stands : (a : Appliance) (b : Begun) (log : List Happening) (q : Ask) (bytes : List ℕ) → a.stage ≡ stage.Begun b → StandsFor a log → IsStanding a log q bytes →
+    (ask.Clock ≡ q) × ([] ≡ bytes)
+begun-stands a b log q bytes is stands standing' =
+    let h : HasBegun (setting_of a) (known_of a.holdings) b (position (setting_of a) log) =
+    subst (λ (st : Stage). StandsAt (setting_of a) (known_of a.holdings) st (position (setting_of a) log)) is stands.at in
+    (same-ask ask.Clock q (sym (ap asks h.place_is) ∙ standing'.ask_is), sym (ap writes_out h.place_is) ∙ standing'.bytes_are)

@@ -58,6 +58,11 @@ runs stage.Idle = false
 runs (stage.Begun begun) = true
 runs (stage.In w) = true
 
+-- its command waits for its first reading
+abbrev pub has_begun : Stage → Bool
+has_begun (stage.Begun begun) = true
+has_begun other = false
+
 abbrev pub IsIdle : Appliance → Type 0
 IsIdle a = runs a.stage ≡ false
 

@@ -4,6 +4,7 @@ ghost use Rattle.plx_boot.specs.Ties.{stage_setting, stage_slots};
 
 use crate::begun::Begun;
 use crate::entering::enter;
+use crate::fitting::fits;
 use crate::holdings::Holdings;
 use crate::setting::Setting;
 use crate::work::Work;
@@ -35,7 +36,7 @@ impl Appliance {
     ghost use Rattle.plx_disk.specs.declared.ask.Ask.{Ask};
     ghost use Rattle.plx_worlds.specs.Boot.{Began, Asked, Fits, Happening, asks, position, replies, writes_out};
     ghost use Rattle.plx_worlds.specs.Machines.{IsTimely};
-    ghost use Rattle.plx_boot.specs.Appliance.{IsIdle, IsRunning, IsStanding, StandsFor, has_session, setting_of};
+    ghost use Rattle.plx_boot.specs.Appliance.{IsIdle, IsRunning, IsStanding, StandsFor, has_begun, has_session, setting_of};
     ghost use Rattle.plx_boot.specs.declared.work.Work.{Work as Running};
     ghost use Rattle.plx_boot.specs.Begins.{IsServed};
     ghost use Rattle.plx_boot.specs.declared.begun.Begun.{Begun as Started};
@@ -107,6 +108,36 @@ impl Appliance {
             Stage::Idle => &[],
             Stage::Begun(_) => &[],
             Stage::In(work) => work.out(),
+        }
+    }
+
+    /// The ask that stands is answered: the reply, where the command ends with it. An answer that doesn't fit the ask
+    /// changes nothing.
+    pub fn answer(&mut self, answer: &Answer) -> Option<Reply>
+        requires { IsRunning self.old }
+        ensures log { (log : List Happening) (ask : Ask) (bytes : List ℕ) → StandsFor self.old log → IsStanding self.old log ask bytes → Fits ask answer.now → StandsFor self.new (Asked ask bytes answer.now ∷ log) }
+        ensures reply { (log : List Happening) (ask : Ask) (bytes : List ℕ) → StandsFor self.old log → IsStanding self.old log ask bytes → Fits ask answer.now → result ≡ replies (setting_of self.old) answer.now (position (setting_of self.old) log) }
+        ensures unfit { (log : List Happening) (ask : Ask) (bytes : List ℕ) → StandsFor self.old log → IsStanding self.old log ask bytes → ¬ (Fits ask answer.now) → (self.new ≡ self.old) × (result ≡ None) }
+        ensures setting { self.new.holdings.setting ≡ self.old.holdings.setting }
+    {
+        let ask = self.ask();
+        if !fits(&ask, answer) {
+            return None;
+        }
+        match (self.has_begun(), answer) {
+            (true, Answer::Reading(reading)) => self.first(*reading),
+            (true, _) => None,
+            (false, _) => self.next(answer),
+        }
+    }
+
+    // Whether the command that runs waits for its first reading.
+    fn has_begun(&self) -> bool
+        ensures { result ≡ has_begun self.now.stage }
+    {
+        match &self.stage {
+            Stage::Begun(_) => true,
+            Stage::Idle | Stage::In(_) => false,
         }
     }
 

@@ -1,6 +1,6 @@
-use Rattle.std.proofs.Common.{◌≡◌, ℕ, ◌∷◌, List, Some, None, sym, ap, ◌∙◌, subst}
+use Rattle.std.proofs.Common.{◌∷◌, Some, None, sym, ap, ◌∙◌, subst}
 use Rattle.plx_disk.specs.declared.ask.Ask.{Ask}
-use Rattle.plx_worlds.specs.Boot.{Asked, Happening, position}
+use Rattle.plx_worlds.specs.Boot.{Asked, position}
 use Rattle.plx_boot.specs.Appliance.{StandsAt, setting_of}
 use Rattle.plx_boot.specs.Ending.{known_after, leases_after}
 use Rattle.plx_boot.specs.Giving.{given}
