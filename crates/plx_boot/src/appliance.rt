@@ -32,7 +32,7 @@ pub struct Appliance {
 }
 
 impl Appliance {
-    ghost use Rattle.std.specs.Prelude.{ℕ, List, [], ◌∷◌, Some, None, true, false, IsTrue, IfOk, OnOk, OnErr};
+    ghost use Rattle.std.specs.Prelude.{ℕ, List, [], ◌∷◌, Some, None, true, false, IsTrue, IfOk, MatchOption, OnOk, OnErr};
     ghost use Rattle.plx_disk.specs.declared.ask.Ask.{Ask};
     ghost use Rattle.plx_worlds.specs.Boot.{Began, Asked, Fits, Happening, asks, position, replies, writes_out};
     ghost use Rattle.plx_worlds.specs.Machines.{IsTimely};
@@ -115,6 +115,7 @@ impl Appliance {
     /// changes nothing.
     pub fn answer(&mut self, answer: &Answer) -> Option<Reply>
         requires { IsRunning self.old }
+        ensures stage { MatchOption result (IsRunning self.new) (λ reply. IsIdle self.new) }
         ensures log { (log : List Happening) (ask : Ask) (bytes : List ℕ) → StandsFor self.old log → IsStanding self.old log ask bytes → Fits ask answer.now → StandsFor self.new (Asked ask bytes answer.now ∷ log) }
         ensures reply { (log : List Happening) (ask : Ask) (bytes : List ℕ) → StandsFor self.old log → IsStanding self.old log ask bytes → Fits ask answer.now → result ≡ replies (setting_of self.old) answer.now (position (setting_of self.old) log) }
         ensures unfit { (log : List Happening) (ask : Ask) (bytes : List ℕ) → StandsFor self.old log → IsStanding self.old log ask bytes → ¬ (Fits ask answer.now) → (self.new ≡ self.old) × (result ≡ None) }
@@ -143,6 +144,7 @@ impl Appliance {
 
     // The command that has begun has its first reading.
     fn first(&mut self, reading: u64) -> Option<Reply>
+        ensures stage { IsRunning self.old → MatchOption result (IsRunning self.new) (λ reply. IsIdle self.new) }
         ensures log { (log : List Happening) (begun : Started) → self.old.stage ≡ Stage.Begun begun → StandsFor self.old log → StandsFor self.new (Asked Ask.Clock [] (Answer.Reading reading) ∷ log) }
         ensures reply { (log : List Happening) (begun : Started) → self.old.stage ≡ Stage.Begun begun → StandsFor self.old log → result ≡ replies (setting_of self.old) (Answer.Reading reading) (position (setting_of self.old) log) }
         ensures setting { self.new.holdings.setting ≡ self.old.holdings.setting }
@@ -171,6 +173,7 @@ impl Appliance {
     // The command that runs is answered.
     fn next(&mut self, answer: &Answer) -> Option<Reply>
         requires { IsTimely answer.now }
+        ensures stage { IsRunning self.old → MatchOption result (IsRunning self.new) (λ reply. IsIdle self.new) }
         ensures log { (log : List Happening) (ask : Ask) (bytes : List ℕ) (work : Running) → self.old.stage ≡ Stage.In work → StandsFor self.old log → IsStanding self.old log ask bytes → Fits ask answer.now → StandsFor self.new (Asked ask bytes answer.now ∷ log) }
         ensures reply { (log : List Happening) (ask : Ask) (bytes : List ℕ) (work : Running) → self.old.stage ≡ Stage.In work → StandsFor self.old log → IsStanding self.old log ask bytes → Fits ask answer.now → result ≡ replies (setting_of self.old) answer.now (position (setting_of self.old) log) }
         ensures setting { self.new.holdings.setting ≡ self.old.holdings.setting }
