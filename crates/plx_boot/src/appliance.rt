@@ -35,9 +35,10 @@ impl Appliance {
     ghost use Rattle.std.specs.Prelude.{ℕ, List, [], ◌∷◌, Some, None, true, false, IsTrue, IfOk, MatchOption, OnOk, OnErr};
     ghost use Rattle.plx_disk.specs.declared.ask.Ask.{Ask};
     ghost use Rattle.plx_worlds.specs.Boot.{Began, Asked, Fits, Happening, asks, position, replies, writes_out};
-    ghost use Rattle.plx_worlds.specs.Machines.{IsTimely};
+    ghost use Rattle.plx_worlds.specs.Machines.{AreWhole, IsTimely};
     ghost use Rattle.plx_boot.specs.Appliance.{IsIdle, IsRunning, IsStanding, StandsFor, has_begun, has_session, setting_of};
     ghost use Rattle.plx_boot.specs.declared.work.Work.{Work as Running};
+    ghost use Rattle.plx_boot.specs.Asking.{IsOnDevice};
     ghost use Rattle.plx_boot.specs.Begins.{IsServed};
     ghost use Rattle.plx_boot.specs.declared.begun.Begun.{Begun as Started};
 
@@ -90,7 +91,8 @@ impl Appliance {
     /// The ask that stands.
     pub fn ask(&self) -> Ask
         requires { IsRunning self.now }
-        ensures { (log : List Happening) → StandsFor self.now log → Some result ≡ asks (position (setting_of self.now) log).place }
+        ensures ask { (log : List Happening) → StandsFor self.now log → Some result ≡ asks (position (setting_of self.now) log).place }
+        ensures within { (log : List Happening) → StandsFor self.now log → IsOnDevice self.now.holdings.setting.geometry result }
     {
         match &self.stage {
             Stage::Idle => Ask::Clock,
@@ -102,7 +104,8 @@ impl Appliance {
     /// The bytes of the write that is asked for.
     pub fn out(&self) -> &[u8]
         requires { IsRunning self.now }
-        ensures { (log : List Happening) → StandsFor self.now log → result.now ≡ writes_out (position (setting_of self.now) log).place }
+        ensures bytes { (log : List Happening) → StandsFor self.now log → result.now ≡ writes_out (position (setting_of self.now) log).place }
+        ensures whole { (log : List Happening) → StandsFor self.now log → AreWhole (asks (position (setting_of self.now) log).place) result.now }
     {
         match &self.stage {
             Stage::Idle => &[],

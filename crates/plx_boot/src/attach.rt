@@ -38,12 +38,14 @@ impl Attach {
     ghost use Rattle.plx_commands.specs.Limits.{last_claim};
     ghost use Rattle.plx_worlds.specs.Attaching.{after_claim, load_image};
     ghost use Rattle.plx_worlds.specs.Claims.{claim_part};
-    ghost use Rattle.plx_worlds.specs.Machines.{IsTimely};
+    ghost use Rattle.plx_worlds.specs.Machines.{AreWhole, IsTimely};
     ghost use Rattle.plx_worlds.specs.Parts.{followed_by};
     ghost use Rattle.plx_worlds.specs.Session.{Known};
     ghost use Rattle.plx_lease.specs.ClaimEnds.{claim_end};
     ghost use Rattle.plx_lease.specs.Holding.{IsSampled, claim_hold};
-    ghost use Rattle.plx_worlds.specs.Holds.{Nothing};
+    ghost use Rattle.plx_worlds.specs.Holds.{Hold, Nothing};
+    ghost use Rattle.plx_boot.specs.Asking.{IsOnDevice};
+    ghost use Rattle.plx_boot.specs.Stands.{inside_at};
     ghost use Rattle.plx_boot.specs.Attaches.{attach_rest, attach_spares};
     ghost use Rattle.plx_boot.specs.Ending.{after_reply};
     ghost use Rattle.plx_boot.specs.Giving.{given};
@@ -110,6 +112,7 @@ impl Attach {
         requires { self.now.load.slots ≡ self.now.load.image.setting.geometry.slots }
         ensures ask { (known : Known) → Some result ≡ standing (attach_rest known self.now) }
         ensures spare { attach_spares self.now.at self.now result }
+        ensures within { (holds : ℕ → Hold) (sample : Option ℕ) → inside_at self.now.at self.now holds sample → IsOnDevice self.now.load.image.setting.geometry result }
     {
         match self.at {
             AttachAt::Claim => self.claim.ask(),
@@ -119,7 +122,8 @@ impl Attach {
 
     /// The bytes of the write that is asked for.
     pub fn out(&self) -> &[u8]
-        ensures { (known : Known) → result.now ≡ bytes_out (attach_rest known self.now) }
+        ensures bytes { (known : Known) → result.now ≡ bytes_out (attach_rest known self.now) }
+        ensures whole { (known : Known) → AreWhole (standing (attach_rest known self.now)) result.now }
     {
         match self.at {
             AttachAt::Claim => self.claim.out(),

@@ -23,3 +23,7 @@ returns-in-true-Reading-clause-reply c = λ log ask bytes stands standing fits. 
 pub returns-in-false-default-clause-log : goal.returns-in-false-default-clause-log
 returns-in-false-default-clause-log c = λ log ask bytes stands standing fits.
     by-running c.args.self.now.stage c.in-false-default.ensures c.requires (λ w is. c.next.ensures.log log ask bytes w is stands standing fits)
+
+pub returns-in-false-default-clause-reply : goal.returns-in-false-default-clause-reply
+returns-in-false-default-clause-reply c = λ log ask bytes stands standing fits.
+    by-running c.args.self.now.stage c.in-false-default.ensures c.requires (λ w is. c.next.ensures.reply log ask bytes w is stands standing fits)
