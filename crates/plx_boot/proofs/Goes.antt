@@ -25,7 +25,7 @@ use Rattle.plx_boot.specs.Ending.{known_after, leases_after}
 use Rattle.plx_boot.specs.Holding.{HoldsAs, first_leases, settled}
 use Rattle.plx_boot.specs.Loads.{load_at}
 use Rattle.plx_boot.specs.Rests.{record_stage, write_at}
-use Rattle.plx_boot.specs.Stands.{Confirms, Inside, StartsInside, inside_at, starts_at}
+use Rattle.plx_boot.specs.Stands.{Inside, StartsInside, inside_at, starts_at}
 use Rattle.plx_boot.specs.Tokens.{held_at, hold_of, leases_of}
 use Rattle.plx_boot.specs.Works.{work_rest, work_setting}
 use Rattle.plx_boot.specs.declared.attach.Attach.{Attach}
@@ -43,7 +43,7 @@ use Rattle.plx_boot.specs.declared.work.Work.TheVariants as work
 use Rattle.plx_boot.specs.declared.write.Write.{Write}
 use Rattle.plx_boot.specs.declared.write.WriteAt.{WriteAt}
 use Rattle.plx_boot.specs.declared.write.WriteAt.TheVariants as write
-use Rattle.plx_boot.proofs.Asking.{claim-asks}
+use Rattle.plx_lease.proofs.Asking.{claim-asks}
 use Rattle.plx_boot.proofs.Entered.{held-image}
 use Rattle.plx_boot.proofs.First.{begun-agrees, first-agrees, holds-asks, place-asks}
 use Rattle.plx_boot.proofs.Held.{nothing-at}
@@ -125,7 +125,7 @@ first-part s known b p reading leases h held =
     ∙ begun-agrees s known (after_first s.geometry known reading p.holds) (held_at s.geometry (first_leases known reading leases)) reading b
     (first-agrees s.geometry known reading leases p.holds held)
 
-reply-asks : (part : Part End) → Asks part → None ≡ reply_of part
+pub reply-asks : (part : Part End) → Asks part → None ≡ reply_of part
 reply-asks (Ends end) asks = absurd asks
 reply-asks (ReadThen block rest fault) asks = refl
 reply-asks (WriteThen kind block bytes guard done fault missed) asks = refl
@@ -145,8 +145,8 @@ starts-at g leases attach.Claim a holds sample same starts agrees =
     let slot = a.load.image.slot.0 in
     let within : slot < g.images = subst (λ (q : Geometry). slot < q.images) same a.load.image.inside in
     let hold : holds (lease_at (image_lease slot)) ≡ Nothing =
-    agrees (image_lease slot) (omega (arith, within)) ∙ held-image g leases slot within ∙ starts.0 in
-    subst (λ (q : Hold). Confirms (lease_at (image_lease slot)) (claim_rest a.claim) q sample) (sym hold) (starts.1 sample)
+    agrees (image_lease slot) (omega (arith, within)) ∙ held-image g leases slot within ∙ starts.none in
+    record { number = starts.number; hold = ap (λ (n : ℕ). holds (lease_at n)) starts.number ∙ hold ∙ sym starts.fresh; sampled = starts.sampled sample }
 starts-at g leases attach.Load a holds sample same starts agrees = tt
 
 starts-inside : (g : Geometry) (leases : ℕ → Hold) (w : Work) (holds : ℕ → Hold) (sample : Option ℕ) → (work_setting w).geometry ≡ g → StartsInside leases w →

@@ -14,7 +14,7 @@ use Rattle.plx_boot.specs.Asking.{IsOther, IsSpare}
 use Rattle.plx_boot.specs.Tokens.{held_at}
 use Rattle.plx_boot.specs.Holding.{HoldsAs, dropped, settled}
 
-settled-timed : (reading : ℕ) (hold : Hold) → settled (timed reading hold) ≡ settled hold
+pub settled-timed : (reading : ℕ) (hold : Hold) → settled (timed reading hold) ≡ settled hold
 settled-timed reading Nothing = refl
 settled-timed reading (Seen sample) = refl
 settled-timed reading (Wrote claim until) = by_test (nat_le (claim.sample + 601) reading && nat_lt reading until)

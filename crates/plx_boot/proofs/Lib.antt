@@ -1,14 +1,14 @@
-pub mod Asking
-pub mod Confirmed
-pub mod Confirms
+pub mod Answered
 pub mod Contents
 pub mod Dropping
 pub mod Entered
 pub mod First
 pub mod Goes
 pub mod Held
+pub mod Moved
 pub mod Numbers
 pub mod Places
 pub mod Reached
 pub mod Stood
 pub mod Tables
+pub mod Went

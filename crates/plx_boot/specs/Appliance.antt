@@ -1,7 +1,8 @@
 -- An appliance, by the log of its boot.
-use Rattle.std.specs.Prelude.{◌≡◌, ℕ, List, Bool, true, false, is_some}
+use Rattle.std.specs.Prelude.{◌≡◌, ℕ, List, Bool, true, false, Some, is_some}
 use Rattle.plx_commands.specs.declared.command.Command.{Command}
-use Rattle.plx_worlds.specs.Boot.{Position, Idle, Begins, In, Happening, position}
+use Rattle.plx_disk.specs.declared.ask.Ask.{Ask}
+use Rattle.plx_worlds.specs.Boot.{Position, Idle, Begins, In, Happening, asks, position, writes_out}
 use Rattle.plx_worlds.specs.Commands.{command_part}
 use Rattle.plx_worlds.specs.Holds.{Hold}
 use Rattle.plx_worlds.specs.Session.{Known}
@@ -46,11 +47,21 @@ pub record StandsFor (a : Appliance) (log : List Happening) : Type 0 where
   pub at : StandsAt (setting_of a) (known_of a.holdings) a.stage (position (setting_of a) log)
   pub held : HoldsAs a.holdings.setting.geometry (leases_of a.holdings.leases.leases.items) (position (setting_of a) log).holds
 
+-- this ask stands where the log leads, and these bytes are to be written
+pub record IsStanding (a : Appliance) (log : List Happening) (ask : Ask) (bytes : List ℕ) : Type 0 where
+  pub ask_is : asks (position (setting_of a) log).place ≡ Some ask
+  pub bytes_are : writes_out (position (setting_of a) log).place ≡ bytes
+
 -- an appliance is in no command, or in one
 abbrev pub runs : Stage → Bool
 runs stage.Idle = false
 runs (stage.Begun begun) = true
 runs (stage.In w) = true
+
+-- its command waits for its first reading
+abbrev pub has_begun : Stage → Bool
+has_begun (stage.Begun begun) = true
+has_begun other = false
 
 abbrev pub IsIdle : Appliance → Type 0
 IsIdle a = runs a.stage ≡ false

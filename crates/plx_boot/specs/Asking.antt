@@ -1,5 +1,5 @@
 -- What is asked of the device.
-use Rattle.std.specs.Prelude.{◌≡◌, ◌<◌, ◌^◌, ℕ, List, length, Option, Some}
+use Rattle.std.specs.Prelude.{◌<◌, ◌^◌}
 use Rattle.plx_base.specs.declared.write_kind.WriteKind.{WriteKind}
 use Rattle.plx_base.specs.declared.write_kind.WriteKind.TheVariants as kind
 use Rattle.plx_disk.specs.declared.ask.Ask.{Ask}
@@ -12,11 +12,6 @@ IsOnDevice g (ask.Read block) = block.0 < block_count g
 IsOnDevice g (ask.Write kind block guard) = (block.0 < block_count g) × (guard < 2 ^ 49)
 IsOnDevice g ask.Clock = Unit {0}
 IsOnDevice g (ask.Until from) = Unit {0}
-
--- the bytes of a write fill a block
-abbrev pub AreWhole : Option Ask → List ℕ → Type 0
-AreWhole (Some (ask.Write kind block guard)) bytes = length bytes ≡ 4096
-AreWhole other bytes = Unit {0}
 
 -- no lease is claimed, renewed or released
 abbrev pub IsOther : WriteKind → Type 0

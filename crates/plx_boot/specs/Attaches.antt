@@ -2,6 +2,8 @@
 use Rattle.plx_rules.specs.Part.{Part}
 use Rattle.plx_worlds.specs.Attaching.{after_claim}
 use Rattle.plx_worlds.specs.Ends.{End}
+use Rattle.plx_geom.specs.Geometry.{lease_at}
+use Rattle.plx_worlds.specs.Machines.{AsksOnly}
 use Rattle.plx_worlds.specs.Parts.{followed_by}
 use Rattle.plx_worlds.specs.Session.{Known}
 use Rattle.plx_lease.specs.Claiming.{claim_rest}
@@ -10,7 +12,6 @@ use Rattle.plx_boot.specs.Asking.{IsSpare}
 use Rattle.plx_boot.specs.Giving.{given}
 use Rattle.plx_boot.specs.Loads.{load_rest}
 use Rattle.plx_boot.specs.declared.attach.Attach.{Attach}
-use Rattle.plx_boot.specs.declared.setting.Setting.{Setting}
 use Rattle.plx_boot.specs.declared.attach.AttachAt.{AttachAt}
 use Rattle.plx_boot.specs.declared.attach.AttachAt.TheVariants as attach
 
@@ -22,7 +23,7 @@ attach_at attach.Load known a = load_rest known a.load
 abbrev pub attach_rest : Known → Attach → Part End
 attach_rest known a = attach_at a.at known a
 
--- the load concerns no lease
-abbrev pub attach_spares : AttachAt → Setting → Ask → Type 0
-attach_spares attach.Claim setting ask = Unit {0}
-attach_spares attach.Load setting ask = IsSpare setting.geometry ask
+-- a claim concerns its lease alone, and a load no lease
+abbrev pub attach_spares : AttachAt → Attach → Ask → Type 0
+attach_spares attach.Claim a ask = AsksOnly (lease_at a.claim.number) ask
+attach_spares attach.Load a ask = IsSpare a.load.image.setting.geometry ask

@@ -9,6 +9,7 @@ pub mod Holding
 pub mod Inside
 pub mod Kept
 pub mod Loads
+pub mod Moving
 pub mod Pushing
 pub mod Releasing
 pub mod Rests

@@ -42,9 +42,9 @@ abbrev pub work_entered : Known → Result Work Reply → Part End
 work_entered known (Ok w) = work_rest known w
 work_entered known (Err reply) = ends reply (known_after reply known)
 
--- what a claim and a release ask concerns the lease of the image; every other ask no lease
+-- what a claim and a release ask concerns their lease alone; every other ask no lease
 abbrev pub Spares : Work → Ask → Type 0
-Spares (work.Attach a) ask = attach_spares a.at a.load.image.setting ask
+Spares (work.Attach a) ask = attach_spares a.at a ask
 Spares (work.Detach d) ask = Unit {0}
 Spares (work.Record r) ask = IsSpare r.image.setting.geometry ask
 Spares (work.Read r) ask = IsSpare r.image.setting.geometry ask

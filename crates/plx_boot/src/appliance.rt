@@ -4,6 +4,7 @@ ghost use Rattle.plx_boot.specs.Ties.{stage_setting, stage_slots};
 
 use crate::begun::Begun;
 use crate::entering::enter;
+use crate::fitting::fits;
 use crate::holdings::Holdings;
 use crate::setting::Setting;
 use crate::work::Work;
@@ -31,10 +32,13 @@ pub struct Appliance {
 }
 
 impl Appliance {
-    ghost use Rattle.std.specs.Prelude.{ℕ, List, [], ◌∷◌, Some, None, true, false, IsTrue, IfOk, OnOk, OnErr};
+    ghost use Rattle.std.specs.Prelude.{ℕ, List, [], ◌∷◌, Some, None, true, false, IsTrue, IfOk, MatchOption, OnOk, OnErr};
     ghost use Rattle.plx_disk.specs.declared.ask.Ask.{Ask};
     ghost use Rattle.plx_worlds.specs.Boot.{Began, Asked, Fits, Happening, asks, position, replies, writes_out};
-    ghost use Rattle.plx_boot.specs.Appliance.{IsIdle, IsRunning, StandsFor, has_session, setting_of};
+    ghost use Rattle.plx_worlds.specs.Machines.{AreWhole, IsTimely};
+    ghost use Rattle.plx_boot.specs.Appliance.{IsIdle, IsRunning, IsStanding, StandsFor, has_begun, has_session, setting_of};
+    ghost use Rattle.plx_boot.specs.declared.work.Work.{Work as Running};
+    ghost use Rattle.plx_boot.specs.Asking.{IsOnDevice};
     ghost use Rattle.plx_boot.specs.Begins.{IsServed};
     ghost use Rattle.plx_boot.specs.declared.begun.Begun.{Begun as Started};
 
@@ -87,7 +91,8 @@ impl Appliance {
     /// The ask that stands.
     pub fn ask(&self) -> Ask
         requires { IsRunning self.now }
-        ensures { (log : List Happening) → StandsFor self.now log → Some result ≡ asks (position (setting_of self.now) log).place }
+        ensures ask { (log : List Happening) → StandsFor self.now log → Some result ≡ asks (position (setting_of self.now) log).place }
+        ensures within { (log : List Happening) → StandsFor self.now log → IsOnDevice self.now.holdings.setting.geometry result }
     {
         match &self.stage {
             Stage::Idle => Ask::Clock,
@@ -99,7 +104,8 @@ impl Appliance {
     /// The bytes of the write that is asked for.
     pub fn out(&self) -> &[u8]
         requires { IsRunning self.now }
-        ensures { (log : List Happening) → StandsFor self.now log → result.now ≡ writes_out (position (setting_of self.now) log).place }
+        ensures bytes { (log : List Happening) → StandsFor self.now log → result.now ≡ writes_out (position (setting_of self.now) log).place }
+        ensures whole { (log : List Happening) → StandsFor self.now log → AreWhole (asks (position (setting_of self.now) log).place) result.now }
     {
         match &self.stage {
             Stage::Idle => &[],
@@ -108,8 +114,40 @@ impl Appliance {
         }
     }
 
+    /// The ask that stands is answered: the reply, where the command ends with it. An answer that doesn't fit the ask
+    /// changes nothing.
+    pub fn answer(&mut self, answer: &Answer) -> Option<Reply>
+        requires { IsRunning self.old }
+        ensures stage { MatchOption result (IsRunning self.new) (λ reply. IsIdle self.new) }
+        ensures log { (log : List Happening) (ask : Ask) (bytes : List ℕ) → StandsFor self.old log → IsStanding self.old log ask bytes → Fits ask answer.now → StandsFor self.new (Asked ask bytes answer.now ∷ log) }
+        ensures reply { (log : List Happening) (ask : Ask) (bytes : List ℕ) → StandsFor self.old log → IsStanding self.old log ask bytes → Fits ask answer.now → result ≡ replies (setting_of self.old) answer.now (position (setting_of self.old) log) }
+        ensures unfit { (log : List Happening) (ask : Ask) (bytes : List ℕ) → StandsFor self.old log → IsStanding self.old log ask bytes → ¬ (Fits ask answer.now) → (self.new ≡ self.old) × (result ≡ None) }
+        ensures setting { self.new.holdings.setting ≡ self.old.holdings.setting }
+    {
+        let ask = self.ask();
+        if !fits(&ask, answer) {
+            return None;
+        }
+        match (self.has_begun(), answer) {
+            (true, Answer::Reading(reading)) => self.first(*reading),
+            (true, _) => None,
+            (false, _) => self.next(answer),
+        }
+    }
+
+    // Whether the command that runs waits for its first reading.
+    fn has_begun(&self) -> bool
+        ensures { result ≡ has_begun self.now.stage }
+    {
+        match &self.stage {
+            Stage::Begun(_) => true,
+            Stage::Idle | Stage::In(_) => false,
+        }
+    }
+
     // The command that has begun has its first reading.
     fn first(&mut self, reading: u64) -> Option<Reply>
+        ensures stage { IsRunning self.old → MatchOption result (IsRunning self.new) (λ reply. IsIdle self.new) }
         ensures log { (log : List Happening) (begun : Started) → self.old.stage ≡ Stage.Begun begun → StandsFor self.old log → StandsFor self.new (Asked Ask.Clock [] (Answer.Reading reading) ∷ log) }
         ensures reply { (log : List Happening) (begun : Started) → self.old.stage ≡ Stage.Begun begun → StandsFor self.old log → result ≡ replies (setting_of self.old) (Answer.Reading reading) (position (setting_of self.old) log) }
         ensures setting { self.new.holdings.setting ≡ self.old.holdings.setting }
@@ -123,6 +161,38 @@ impl Appliance {
                         None
                     }
                     Err(reply) => {
+                        self.holdings.settle(&reply);
+                        Some(reply)
+                    }
+                }
+            }
+            other => {
+                self.stage = other;
+                None
+            }
+        }
+    }
+
+    // The command that runs is answered.
+    fn next(&mut self, answer: &Answer) -> Option<Reply>
+        requires { IsTimely answer.now }
+        ensures stage { IsRunning self.old → MatchOption result (IsRunning self.new) (λ reply. IsIdle self.new) }
+        ensures log { (log : List Happening) (ask : Ask) (bytes : List ℕ) (work : Running) → self.old.stage ≡ Stage.In work → StandsFor self.old log → IsStanding self.old log ask bytes → Fits ask answer.now → StandsFor self.new (Asked ask bytes answer.now ∷ log) }
+        ensures reply { (log : List Happening) (ask : Ask) (bytes : List ℕ) (work : Running) → self.old.stage ≡ Stage.In work → StandsFor self.old log → IsStanding self.old log ask bytes → Fits ask answer.now → result ≡ replies (setting_of self.old) answer.now (position (setting_of self.old) log) }
+        ensures setting { self.new.holdings.setting ≡ self.old.holdings.setting }
+    {
+        match mem::replace(&mut self.stage, Stage::Idle) {
+            Stage::In(running) => {
+                let mut work = running;
+                let ask = work.ask();
+                let reply = work.answer(&mut self.holdings, answer);
+                self.holdings.drop_failed(&ask, answer);
+                match reply {
+                    None => {
+                        self.stage = Stage::In(work);
+                        None
+                    }
+                    Some(reply) => {
                         self.holdings.settle(&reply);
                         Some(reply)
                     }

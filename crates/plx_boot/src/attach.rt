@@ -32,21 +32,26 @@ pub struct Attach {
 }
 
 impl Attach {
-    ghost use Rattle.std.specs.Prelude.{ℕ, []};
+    ghost use Rattle.std.specs.Prelude.{ℕ, [], Option};
     ghost use Rattle.plx_geom.specs.Geometry.{block_count, image_lease, lease_at};
     ghost use Rattle.plx_rules.specs.Part.{Part, answered, standing, bytes_out};
     ghost use Rattle.plx_commands.specs.Limits.{last_claim};
     ghost use Rattle.plx_worlds.specs.Attaching.{after_claim, load_image};
     ghost use Rattle.plx_worlds.specs.Claims.{claim_part};
-    ghost use Rattle.plx_worlds.specs.Machines.{IsTimely};
+    ghost use Rattle.plx_worlds.specs.Machines.{AreWhole, IsTimely};
     ghost use Rattle.plx_worlds.specs.Parts.{followed_by};
     ghost use Rattle.plx_worlds.specs.Session.{Known};
     ghost use Rattle.plx_lease.specs.ClaimEnds.{claim_end};
-    ghost use Rattle.plx_lease.specs.Claiming.{claim_rest};
+    ghost use Rattle.plx_lease.specs.Holding.{IsSampled, claim_hold};
+    ghost use Rattle.plx_worlds.specs.Holds.{Hold, Nothing};
+    ghost use Rattle.plx_boot.specs.Asking.{IsOnDevice};
+    ghost use Rattle.plx_boot.specs.Stands.{inside_at};
     ghost use Rattle.plx_boot.specs.Attaches.{attach_rest, attach_spares};
     ghost use Rattle.plx_boot.specs.Ending.{after_reply};
     ghost use Rattle.plx_boot.specs.Giving.{given};
     ghost use Rattle.plx_boot.specs.Kept.{known_by};
+    ghost use Rattle.plx_boot.specs.Moving.{attach_moves, claimed};
+    ghost use Rattle.plx_boot.specs.Tokens.{leases_of};
 
     /// The lease is to be claimed, by a boot that began so many claims before.
     pub fn claim(
@@ -61,7 +66,9 @@ impl Attach {
         requires slots { session.slots ≡ setting.geometry.slots }
         requires empty { vec_len session.writes ≡ 0 }
         ensures rest { (known : Known) → attach_rest known result ≡ followed_by (claim_part (given setting).boot [] (image_lease slot.0) number) (after_claim (given setting) known slot.0) }
-        ensures claim { claim_rest result.claim ≡ claim_part (given setting).boot [] (image_lease slot.0) number }
+        ensures number { result.claim.number ≡ image_lease result.load.image.slot.0 }
+        ensures fresh { claim_hold result.claim ≡ Nothing }
+        ensures sampled { (sample : Option ℕ) → IsSampled result.claim sample }
         ensures at { result.at ≡ AttachAt.Claim }
         ensures slot { result.load.image.slot ≡ slot }
         ensures setting { result.load.image.setting ≡ setting }
@@ -104,7 +111,8 @@ impl Attach {
     pub fn ask(&self) -> Ask
         requires { self.now.load.slots ≡ self.now.load.image.setting.geometry.slots }
         ensures ask { (known : Known) → Some result ≡ standing (attach_rest known self.now) }
-        ensures spare { attach_spares self.now.at self.now.load.image.setting result }
+        ensures spare { attach_spares self.now.at self.now result }
+        ensures within { (holds : ℕ → Hold) (sample : Option ℕ) → inside_at self.now.at self.now holds sample → IsOnDevice self.now.load.image.setting.geometry result }
     {
         match self.at {
             AttachAt::Claim => self.claim.ask(),
@@ -114,7 +122,8 @@ impl Attach {
 
     /// The bytes of the write that is asked for.
     pub fn out(&self) -> &[u8]
-        ensures { (known : Known) → result.now ≡ bytes_out (attach_rest known self.now) }
+        ensures bytes { (known : Known) → result.now ≡ bytes_out (attach_rest known self.now) }
+        ensures whole { (known : Known) → AreWhole (standing (attach_rest known self.now)) result.now }
     {
         match self.at {
             AttachAt::Claim => self.claim.out(),
@@ -140,6 +149,7 @@ impl Attach {
         ensures count { sessions.new.count ≡ sessions.old.count }
         ensures slots { sessions.new.slots ≡ sessions.old.slots }
         ensures leased { leases.new.count ≡ leases.old.count }
+        ensures moves { attach_moves self.old.at self.old self.new answer.now (leases_of leases.old.leases.items) (leases_of leases.new.leases.items) result }
     {
         match self.at {
             AttachAt::Claim => match self.claim.answer(answer) {
@@ -158,6 +168,10 @@ impl Attach {
         ensures setting { self.new.load.image.setting ≡ self.old.load.image.setting }
         ensures own { self.new.load.slots ≡ self.old.load.slots }
         ensures leased { leases.new.count ≡ leases.old.count }
+        ensures leases { leases_of leases.new.leases.items ≡ claimed (claim_end end) self.old.load.image.slot.0 (leases_of leases.old.leases.items) }
+        ensures claim { self.new.claim ≡ self.old.claim }
+        ensures slot { self.new.load.image.slot ≡ self.old.load.image.slot }
+        ensures held { result ≡ None → self.new.at ≡ AttachAt.Load }
     {
         let image = self.load.image;
         match end {

@@ -29,7 +29,8 @@ impl Detach {
     ghost use Rattle.plx_worlds.specs.Holds.{Nothing};
     ghost use Rattle.plx_worlds.specs.Session.{Known};
     ghost use Rattle.plx_worlds.specs.Session.{Session as KnownSession};
-    ghost use Rattle.plx_boot.specs.Asking.{AreWhole, IsOnDevice};
+    ghost use Rattle.plx_boot.specs.Asking.{IsOnDevice};
+    ghost use Rattle.plx_worlds.specs.Machines.{AreWhole};
     ghost use Rattle.plx_boot.specs.Ending.{after_reply};
     ghost use Rattle.plx_boot.specs.Giving.{given};
     ghost use Rattle.plx_boot.specs.Kept.{known_by};

@@ -8,6 +8,7 @@ use crate::sessions::Sessions;
 use crate::setting::Setting;
 use plx_base::{NoMemory, SlotNo};
 use plx_commands::Reply;
+use plx_disk::{Answer, Ask};
 use std::alloc::Global;
 
 /// What a boot is given, its sessions, how many claims it began, and the leases that it holds.
@@ -34,7 +35,7 @@ impl Holdings {
     ghost use Rattle.plx_boot.specs.Taking.{taken};
     ghost use Rattle.plx_commands.specs.Places.{at};
     ghost use Rattle.plx_worlds.specs.Holds.{Nothing, first_hold};
-    ghost use Rattle.plx_boot.specs.Holding.{first_leases};
+    ghost use Rattle.plx_boot.specs.Holding.{dropped, first_leases};
     ghost use Rattle.plx_worlds.specs.Session.{nothing_known};
     ghost use Rattle.plx_boot.specs.Kept.{known_of};
     ghost use Rattle.plx_boot.specs.Tokens.{leases_of};
@@ -96,6 +97,18 @@ impl Holdings {
         match reply {
             Reply::Lost { .. } => self.forget(),
             Reply::WriteFault { .. } => self.sessions.forget(),
+            _ => {}
+        }
+    }
+
+    /// A write that failed or was missed drops every lease.
+    pub fn drop_failed(&mut self, ask: &Ask, answer: &Answer)
+        ensures setting { self.new.setting ≡ self.old.setting }
+        ensures known { known_of self.new ≡ known_of self.old }
+        ensures leases { leases_of self.new.leases.leases.items ≡ dropped ask.now answer.now (leases_of self.old.leases.leases.items) }
+    {
+        match (ask, answer) {
+            (Ask::Write { .. }, Answer::Fault | Answer::Missed(_)) => self.leases.forget(),
             _ => {}
         }
     }

@@ -47,6 +47,7 @@ impl Load {
     ghost use Rattle.plx_worlds.specs.Attaching.{after_record, load_image, load_journal};
     ghost use Rattle.plx_worlds.specs.Records.{attached_record, is_live};
     ghost use Rattle.plx_gate.specs.Images.{is_image};
+    ghost use Rattle.plx_worlds.specs.Machines.{AreWhole};
     ghost use Rattle.plx_worlds.specs.Session.{Known, inserted};
     ghost use Rattle.plx_boot.specs.Asking.{IsOnDevice, IsSpare};
     ghost use Rattle.plx_boot.specs.Ending.{after_reply};
@@ -107,7 +108,8 @@ impl Load {
 
     /// It writes nothing.
     pub fn out(&self) -> &[u8]
-        ensures { (known : Known) → result.now ≡ bytes_out (load_rest known self.now) }
+        ensures bytes { (known : Known) → result.now ≡ bytes_out (load_rest known self.now) }
+        ensures whole { (known : Known) → AreWhole (standing (load_rest known self.now)) result.now }
     {
         match self.at {
             LoadAt::Record | LoadAt::Slot | LoadAt::Data(_) | LoadAt::Damaged(_) | LoadAt::Last =>

@@ -53,7 +53,8 @@ impl Record {
     ghost use Rattle.plx_worlds.specs.Commands.{create_part, delete_part, record_part};
     ghost use Rattle.plx_worlds.specs.Session.{Known};
     ghost use Rattle.plx_worlds.specs.Session.{Session as KnownSession};
-    ghost use Rattle.plx_boot.specs.Asking.{AreWhole, IsOnDevice, IsSpare};
+    ghost use Rattle.plx_boot.specs.Asking.{IsOnDevice, IsSpare};
+    ghost use Rattle.plx_worlds.specs.Machines.{AreWhole};
     ghost use Rattle.plx_boot.specs.Ending.{after_reply, entered};
     ghost use Rattle.plx_boot.specs.Giving.{given};
     ghost use Rattle.plx_boot.specs.Kept.{known_by, session_of};

@@ -21,12 +21,17 @@ pub enum Work {
 }
 
 impl Work {
-    ghost use Rattle.std.specs.Prelude.{ℕ};
+    ghost use Rattle.std.specs.Prelude.{ℕ, Option};
     ghost use Rattle.plx_rules.specs.Part.{answered, standing, bytes_out};
-    ghost use Rattle.plx_worlds.specs.Machines.{IsTimely};
+    ghost use Rattle.plx_worlds.specs.Holds.{Hold};
+    ghost use Rattle.plx_worlds.specs.Machines.{AreWhole, IsTimely};
     ghost use Rattle.plx_worlds.specs.Session.{Known};
+    ghost use Rattle.plx_boot.specs.Asking.{IsOnDevice};
+    ghost use Rattle.plx_boot.specs.Stands.{Inside};
     ghost use Rattle.plx_boot.specs.Ending.{after_reply};
     ghost use Rattle.plx_boot.specs.Kept.{known_of};
+    ghost use Rattle.plx_boot.specs.Moving.{Moves};
+    ghost use Rattle.plx_boot.specs.Tokens.{leases_of};
     ghost use Rattle.plx_boot.specs.Works.{Spares, work_rest, work_setting, work_slots};
 
     /// The ask that stands.
@@ -34,6 +39,7 @@ impl Work {
         requires { work_slots self.now ≡ (work_setting self.now).geometry.slots }
         ensures ask { (known : Known) → Some result ≡ standing (work_rest known self.now) }
         ensures spare { Spares self.now result }
+        ensures within { (holds : ℕ → Hold) (sample : Option ℕ) → Inside self.now holds sample → IsOnDevice (work_setting self.now).geometry result }
     {
         match self {
             Work::Attach(attach) => attach.ask(),
@@ -46,7 +52,8 @@ impl Work {
 
     /// The bytes of the write that is asked for.
     pub fn out(&self) -> &[u8]
-        ensures { (known : Known) → result.now ≡ bytes_out (work_rest known self.now) }
+        ensures bytes { (known : Known) → result.now ≡ bytes_out (work_rest known self.now) }
+        ensures whole { (known : Known) → AreWhole (standing (work_rest known self.now)) result.now }
     {
         match self {
             Work::Attach(attach) => attach.out(),
@@ -66,6 +73,7 @@ impl Work {
         ensures own { result ≡ None → work_slots self.new ≡ work_slots self.old }
         ensures kept { result ≡ None → work_setting self.new ≡ work_setting self.old }
         ensures setting { holdings.new.setting ≡ holdings.old.setting }
+        ensures moves { Moves self.old self.new answer.now (leases_of holdings.old.leases.leases.items) (leases_of holdings.new.leases.leases.items) result }
     {
         match self {
             Work::Attach(attach) => attach.answer(

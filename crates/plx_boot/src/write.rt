@@ -41,7 +41,8 @@ impl Write {
     ghost use Rattle.plx_rules.specs.Part.{answered, standing, bytes_out};
     ghost use Rattle.plx_worlds.specs.Commands.{write_part};
     ghost use Rattle.plx_worlds.specs.Session.{Known};
-    ghost use Rattle.plx_boot.specs.Asking.{AreWhole, IsOnDevice, IsSpare};
+    ghost use Rattle.plx_boot.specs.Asking.{IsOnDevice, IsSpare};
+    ghost use Rattle.plx_worlds.specs.Machines.{AreWhole};
     ghost use Rattle.plx_boot.specs.Ending.{after_reply, entered};
     ghost use Rattle.plx_boot.specs.Giving.{given};
     ghost use Rattle.plx_boot.specs.Kept.{known_by, session_of};
