@@ -158,8 +158,8 @@ abbrev pub just_at : Geometry → Command → (ℕ → Hold) → ℕ → Bool
 just_at g command holds reading = is_some_slot (named command) && are_below g holds reading (named command)
 
 -- the reread that shows the boot's own claim makes it the owner
-abbrev pub Confirms : Geometry → ℕ → Command → Known → (ℕ → Hold) → ℕ → (List ℕ → Part End) → Type 0
-Confirms g a command known holds block rest =
+abbrev pub IsRightOnceConfirmed : Geometry → ℕ → Command → Known → (ℕ → Hold) → ℕ → (List ℕ → Part End) → Type 0
+IsRightOnceConfirmed g a command known holds block rest =
     (i : ℕ) (claim : Claim) (until : ℕ) → i < g.images → block ≡ lease_at (image_lease i) → holds (lease_at (image_lease i)) ≡ Waited claim until →
     (command ≡ Attach (record { 0 = i })) × ((device : Device) (kept : ImageRecord) (writes : List Journaled) → IsJournal g device i kept writes →
     HeldPart g a i command known (Without kept writes) (rest (lease_bytes (Claimed claim until))) device)
@@ -181,7 +181,7 @@ abbrev pub Fair : Geometry → ℕ → Command → Known → (ℕ → Hold) → 
 Fair g a command known holds sample just (Ends end) = IsFairEnd g command known holds just end
 Fair g a command known holds sample just (ReadThen block rest fault) =
     ((bytes : List ℕ) → IsSpelled g block bytes → Fair g a command known (after_answer sample (ask.Read (record { 0 = block })) [] (answer.Bytes bytes) holds) None false (rest bytes))
-    × Fair g a command known holds None false fault × Confirms g a command known holds block rest
+    × Fair g a command known holds None false fault × IsRightOnceConfirmed g a command known holds block rest
 Fair g a command known holds sample just (WriteThen what block bytes guard done fault missed) =
     IsNamed g command what block × (length bytes ≡ 4096) × Fair g a command known (after_write what block bytes holds) None false done
     × Fair g a command known no_holds None false fault × ((reading : ℕ) → Fair g a command known no_holds None false (missed reading))

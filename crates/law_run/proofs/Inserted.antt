@@ -6,49 +6,49 @@ use Rattle.plx_worlds.specs.Session.{inserted, first_gap}
 use Rattle.plx_rules.specs.declared.journaled.Journaled.{Journaled}
 use Rattle.law_run.proofs.Tests.{lt-cases, eqb-is, eqb-isn't}
 
-abbrev pub Has : List Journaled → Journaled → Type 0
-Has writes write = (k : ℕ) × (slice_get writes k ≡ Some write)
+abbrev pub HasWrite : List Journaled → Journaled → Type 0
+HasWrite writes write = (k : ℕ) × (slice_get writes k ≡ Some write)
 
-has-later : (x : Journaled) (writes : List Journaled) (write : Journaled) → Has writes write → Has (x ∷ writes) write
+has-later : (x : Journaled) (writes : List Journaled) (write : Journaled) → HasWrite writes write → HasWrite (x ∷ writes) write
 has-later x writes write has = (suc has.0, has.1)
 
 -- what is there once one more is inserted
-pub has-inserted : (new : Journaled) (writes : List Journaled) (write : Journaled) → Has (inserted new writes) write → (write ≡ new) ⊎ Has writes write
+pub has-inserted : (new : Journaled) (writes : List Journaled) (write : Journaled) → HasWrite (inserted new writes) write → (write ≡ new) ⊎ HasWrite writes write
 has-inserted new [] write (zero, e) = inl cc
 has-inserted new [] write (suc k, e) = absurd (let P : ⊥ = cc in P)
 has-inserted new (x ∷ writes) write has = by-test (nat_lt new.number x.number) (has-inserted new writes write) has
   where
-    at-new : (k : ℕ) → slice_get (new ∷ x ∷ writes) k ≡ Some write → (write ≡ new) ⊎ Has (x ∷ writes) write
+    at-new : (k : ℕ) → slice_get (new ∷ x ∷ writes) k ≡ Some write → (write ≡ new) ⊎ HasWrite (x ∷ writes) write
     at-new zero e = inl cc
     at-new (suc k) e = inr (k, e)
 
-    at-old : (write ≡ new) ⊎ Has writes write → (write ≡ new) ⊎ Has (x ∷ writes) write
+    at-old : (write ≡ new) ⊎ HasWrite writes write → (write ≡ new) ⊎ HasWrite (x ∷ writes) write
     at-old (inl e) = inl e
     at-old (inr has') = inr (has-later x writes write has')
 
-    past : (k : ℕ) → slice_get (x ∷ inserted new writes) k ≡ Some write → (Has (inserted new writes) write → (write ≡ new) ⊎ Has writes write) → (write ≡ new) ⊎ Has (x ∷ writes) write
+    past : (k : ℕ) → slice_get (x ∷ inserted new writes) k ≡ Some write → (HasWrite (inserted new writes) write → (write ≡ new) ⊎ HasWrite writes write) → (write ≡ new) ⊎ HasWrite (x ∷ writes) write
     past zero e ih = inr (zero, e)
     past (suc k) e ih = at-old (ih (k, e))
 
-    by-test : (test : Bool) → (Has (inserted new writes) write → (write ≡ new) ⊎ Has writes write) → Has (if test then new ∷ x ∷ writes else x ∷ inserted new writes) write →
-        (write ≡ new) ⊎ Has (x ∷ writes) write
+    by-test : (test : Bool) → (HasWrite (inserted new writes) write → (write ≡ new) ⊎ HasWrite writes write) → HasWrite (if test then new ∷ x ∷ writes else x ∷ inserted new writes) write →
+        (write ≡ new) ⊎ HasWrite (x ∷ writes) write
     by-test true ih h = at-new h.0 h.1
     by-test false ih h = past h.0 h.1 ih
 
-pub inserted-new : (new : Journaled) (writes : List Journaled) → Has (inserted new writes) new
+pub inserted-new : (new : Journaled) (writes : List Journaled) → HasWrite (inserted new writes) new
 inserted-new new [] = (zero, refl)
 inserted-new new (x ∷ writes) = by-test (nat_lt new.number x.number) (inserted-new new writes)
   where
-    by-test : (test : Bool) → Has (inserted new writes) new → Has (if test then new ∷ x ∷ writes else x ∷ inserted new writes) new
+    by-test : (test : Bool) → HasWrite (inserted new writes) new → HasWrite (if test then new ∷ x ∷ writes else x ∷ inserted new writes) new
     by-test true ih = (zero, refl)
     by-test false ih = has-later x (inserted new writes) new ih
 
-pub inserted-old : (new : Journaled) (writes : List Journaled) (write : Journaled) → Has writes write → Has (inserted new writes) write
+pub inserted-old : (new : Journaled) (writes : List Journaled) (write : Journaled) → HasWrite writes write → HasWrite (inserted new writes) write
 inserted-old new [] write has = absurd (let e = has.1 in let P : ⊥ = cc in P)
 inserted-old new (x ∷ writes) write has = by-test (nat_lt new.number x.number) has.0 has.1 (inserted-old new writes write)
   where
-    by-test : (test : Bool) (k : ℕ) → slice_get (x ∷ writes) k ≡ Some write → (Has writes write → Has (inserted new writes) write) →
-        Has (if test then new ∷ x ∷ writes else x ∷ inserted new writes) write
+    by-test : (test : Bool) (k : ℕ) → slice_get (x ∷ writes) k ≡ Some write → (HasWrite writes write → HasWrite (inserted new writes) write) →
+        HasWrite (if test then new ∷ x ∷ writes else x ∷ inserted new writes) write
     by-test true k e ih = (suc k, e)
     by-test false zero e ih = (zero, e)
     by-test false (suc k) e ih = has-later x (inserted new writes) write (ih (k, e))
@@ -66,7 +66,7 @@ abbrev pub Ascending : ℕ → List Journaled → Type 0
 Ascending before [] = Unit {0}
 Ascending before (write ∷ writes) = (before < write.number) × Ascending write.number writes
 
-pub ascending-inserted : (before : ℕ) (new : Journaled) (writes : List Journaled) → before < new.number → ((write : Journaled) → Has writes write → write.number ≢ new.number) →
+pub ascending-inserted : (before : ℕ) (new : Journaled) (writes : List Journaled) → before < new.number → ((write : Journaled) → HasWrite writes write → write.number ≢ new.number) →
     Ascending before writes → Ascending before (inserted new writes)
 ascending-inserted before new [] above apart ascending = (above, tt)
 ascending-inserted before new (x ∷ writes) above apart ascending = elim (lt-cases new.number x.number) [
@@ -80,7 +80,7 @@ ascending-inserted before new (x ∷ writes) above apart ascending = elim (lt-ca
     above-it le ne = elim (eqb_tells x.number new.number) [ inl same ↦ absurd (ne same.1) | inr other ↦ omega (arith, le, other.1) ]
 
 -- each of them has at least the first number
-pub above-all : (before : ℕ) (writes : List Journaled) → Ascending before writes → (write : Journaled) → Has writes write → before < write.number
+pub above-all : (before : ℕ) (writes : List Journaled) → Ascending before writes → (write : Journaled) → HasWrite writes write → before < write.number
 above-all before [] ascending write has = absurd (let e = has.1 in let P : ⊥ = cc in P)
 above-all before (x ∷ writes) ascending write (zero, e) = let same : x ≡ write = cc in let first = ascending.0 in subst (λ (w : Journaled). before < w.number) same first
 above-all before (x ∷ writes) ascending write (suc k, e) = let later = above-all x.number writes ascending.1 write (k, e) in let first = ascending.0 in omega arith
@@ -104,13 +104,13 @@ numbered before (x ∷ writes) e (suc k) write found = elim (by-number (x.number
 -- a gap: a number is missing, all between are there, and the write has the least number above it
 pub record IsGap (before : ℕ) (writes : List Journaled) (number : ℕ) : Type 0 where
   pub write : Journaled
-  pub has : Has writes write
+  pub has : HasWrite writes write
   pub is : write.number ≡ number
   pub missing : ℕ
   pub above : before < missing
   pub below : missing < number
-  pub there : (n : ℕ) → before < n → n < missing → (w : Journaled) × Has writes w × (w.number ≡ n)
-  pub least : (w : Journaled) → Has writes w → missing ≤ w.number → number ≤ w.number
+  pub there : (n : ℕ) → before < n → n < missing → (w : Journaled) × HasWrite writes w × (w.number ≡ n)
+  pub least : (w : Journaled) → HasWrite writes w → missing ≤ w.number → number ≤ w.number
 
 pub gap-is : (before : ℕ) (writes : List Journaled) (number : ℕ) → Ascending before writes → first_gap before writes ≡ Some number → IsGap before writes number
 gap-is before [] number ascending e = absurd (let P : ⊥ = cc in P)
@@ -150,7 +150,7 @@ gap-is before (x ∷ writes) number ascending e = elim (by-number (x.number == b
     all-above w zero found is = let same : x ≡ w = cc in subst (λ (v : Journaled). number ≤ v.number) same (omega arith)
     all-above w (suc k) found is = let later = above-all x.number writes ascending.1 w (k, found) in omega arith
 
-    at-place : (missing : ℕ) (w : Journaled) (k : ℕ) → slice_get (x ∷ writes) k ≡ Some w → missing ≤ w.number → (Has writes w → number ≤ w.number) → x.number ≡ before + 1 → before + 1 < missing →
+    at-place : (missing : ℕ) (w : Journaled) (k : ℕ) → slice_get (x ∷ writes) k ≡ Some w → missing ≤ w.number → (HasWrite writes w → number ≤ w.number) → x.number ≡ before + 1 → before + 1 < missing →
         number ≤ w.number
     at-place missing w zero found le later n above = let same : x ≡ w = cc in absurd (let e = ap (λ (v : Journaled). v.number) same in omega arith)
     at-place missing w (suc k) found le later n above = later (k, found)

@@ -20,7 +20,7 @@ use Rattle.law_run.specs.KnownBytes.{with_block}
 use Rattle.law_run.proofs.Counted.{Tells, counted-tells, no-count}
 use Rattle.law_run.proofs.Grown.{with-same, with-other, counts-same, data-one, descriptor-one}
 use Rattle.law_run.proofs.Inside.{IsSound, AllInside, inside-descriptor, inside-data}
-use Rattle.law_run.proofs.Inserted.{Has, has-inserted, inserted-new, inserted-old, length-inserted, Ascending, ascending-inserted, numbered}
+use Rattle.law_run.proofs.Inserted.{HasWrite, has-inserted, inserted-new, inserted-old, length-inserted, Ascending, ascending-inserted, numbered}
 use Rattle.law_run.proofs.Right.{read_of, descriptor_of, Fits}
 use Rattle.law_run.proofs.Tests.{clash}
 
@@ -78,10 +78,10 @@ pub record Loading (g : Geometry) (given : Given) (image : ℕ) (kept : ImageRec
   pub found : record_on g given image ≡ Some kept
   pub room : length writes ≤ place
   pub ascending : Ascending (applied_of kept) writes
-  pub counts : (write : Journaled) → Has writes write → IsCounted g given image kept (journal_slot g.slots write.number) (descriptor_of kept write)
-  pub below : (write : Journaled) → Has writes write → journal_slot g.slots write.number < place
-  pub blocks : (write : Journaled) → Has writes write → given (data_at g image (journal_slot g.slots write.number)) ≡ Some write.block
-  pub only : (slot : ℕ) (d : Descriptor) → IsCounted g given image kept slot d → (write : Journaled) × Has writes write × (d ≡ descriptor_of kept write)
+  pub counts : (write : Journaled) → HasWrite writes write → IsCounted g given image kept (journal_slot g.slots write.number) (descriptor_of kept write)
+  pub below : (write : Journaled) → HasWrite writes write → journal_slot g.slots write.number < place
+  pub blocks : (write : Journaled) → HasWrite writes write → given (data_at g image (journal_slot g.slots write.number)) ≡ Some write.block
+  pub only : (slot : ℕ) (d : Descriptor) → IsCounted g given image kept slot d → (write : Journaled) × HasWrite writes write × (d ≡ descriptor_of kept write)
   pub later : (slot : ℕ) → place ≤ slot → given (descriptor_at g image slot) ≡ None
   pub whole : (slot : ℕ) → slot < place → drop 512 (last_known (given (descriptor_at g image slot))) ≡ drop 512 zeros
   pub was_read : (slot : ℕ) → slot < place → (bytes : List ℕ) × IsIn (read_of (descriptor_at g image slot) bytes) done
@@ -127,21 +127,21 @@ module _ (g : Geometry) (given : Given) (image : ℕ) (kept : ImageRecord) (plac
   old-record : record_on g (with_block given (descriptor_at g image place) bytes) image ≡ Some kept
   old-record = ap record_in (with-other given (descriptor_at g image place) bytes (record_at g image) (record-descriptor g image image place image_within)) ∙ l.found
 
-  old-counts : (write : Journaled) → Has writes write →
+  old-counts : (write : Journaled) → HasWrite writes write →
       IsCounted g (with_block given (descriptor_at g image place) bytes) image kept (journal_slot g.slots write.number) (descriptor_of kept write)
   old-counts write has =
       counts-same g given (with_block given (descriptor_at g image place) bytes) image kept (journal_slot g.slots write.number) (descriptor_of kept write)
       (elsewhere (journal_slot g.slots write.number) (λ e. (let b = l.below write has in omega arith))) (l.counts write has)
 
   old-only : (slot : ℕ) (d : Descriptor) → slot ≢ place → IsCounted g (with_block given (descriptor_at g image place) bytes) image kept slot d →
-      (write : Journaled) × Has writes write × (d ≡ descriptor_of kept write)
+      (write : Journaled) × HasWrite writes write × (d ≡ descriptor_of kept write)
   old-only slot d other counts =
       l.only slot d (counts-same g (with_block given (descriptor_at g image place) bytes) given image kept slot d (sym (elsewhere slot other)) counts)
 
   old-later : (slot : ℕ) → place + 1 ≤ slot → with_block given (descriptor_at g image place) bytes (descriptor_at g image slot) ≡ None
   old-later slot past = elsewhere slot (λ e. (let P : ⊥ = omega arith in P)) ∙ l.later slot (omega arith)
 
-  old-data : (write : Journaled) → Has writes write → with_block given (descriptor_at g image place) bytes (data_at g image (journal_slot g.slots write.number)) ≡ Some write.block
+  old-data : (write : Journaled) → HasWrite writes write → with_block given (descriptor_at g image place) bytes (data_at g image (journal_slot g.slots write.number)) ≡ Some write.block
   old-data write has =
       with-other given (descriptor_at g image place) bytes (data_at g image (journal_slot g.slots write.number)) (data-descriptor g image image (journal_slot g.slots write.number) place)
       ∙ l.blocks write has
@@ -211,7 +211,7 @@ module _ (g : Geometry) (given : Given) (image : ℕ) (kept : ImageRecord) (plac
     new-fits = subst (λ (e : Descriptor). IsCounted g Both image kept (journal_slot g.slots d.number) e) spells
         (subst (λ n. IsCounted g Both image kept n d) (sym tells.place) new-counts)
 
-    both-counts : (write : Journaled) → Has writes write → IsCounted g Both image kept (journal_slot g.slots write.number) (descriptor_of kept write)
+    both-counts : (write : Journaled) → HasWrite writes write → IsCounted g Both image kept (journal_slot g.slots write.number) (descriptor_of kept write)
     both-counts write has =
         counts-same g (with_block given (descriptor_at g image place) bytes) Both image kept (journal_slot g.slots write.number) (descriptor_of kept write) (beside (journal_slot g.slots write.number)) (old-counts write has)
 

@@ -68,12 +68,12 @@ abbrev pub WasAnswered : CommandLog → Ask → List ℕ → Answer → Type 0
 WasAnswered log ask bytes answer = IsIn (record { ask = ask; bytes = bytes; answer = answer }) log.exchanges
 
 -- the newest exchange is this one, after those
-abbrev pub EndsWith : List Exchange → Ask → List ℕ → Answer → (older : List Exchange) → Type 0
-EndsWith exchanges ask bytes answer older = exchanges ≡ (record { ask = ask; bytes = bytes; answer = answer }) ∷ older
+abbrev pub NewestIs : List Exchange → Ask → List ℕ → Answer → (older : List Exchange) → Type 0
+NewestIs exchanges ask bytes answer older = exchanges ≡ (record { ask = ask; bytes = bytes; answer = answer }) ∷ older
 
 -- the last answer of the command was this one
 abbrev pub LastAnswered : CommandLog → Ask → List ℕ → Answer → Type 0
-LastAnswered log ask bytes answer = (older : List Exchange) × EndsWith log.exchanges ask bytes answer older
+LastAnswered log ask bytes answer = (older : List Exchange) × NewestIs log.exchanges ask bytes answer older
 
 -- the reading of an exchange that has none before it
 abbrev pub earliest : (before newer : Option ℕ) → Option ℕ

@@ -28,7 +28,7 @@ use Rattle.plx_worlds.specs.Stored.{Holds, StoredImage, record_on, IsContent, St
 use Rattle.plx_worlds.specs.Times.{is_expired}
 use Rattle.law_run.specs.AllowedAsks.{HasSampled}
 use Rattle.law_run.specs.Changes.{written_on, created_on, deleted_on, report_on}
-use Rattle.law_run.specs.CommandLogs.{Exchange, CommandLog, WasAnswered, EndsWith, LastAnswered}
+use Rattle.law_run.specs.CommandLogs.{Exchange, CommandLog, WasAnswered, NewestIs, LastAnswered}
 use Rattle.law_run.specs.Holdings as holdings
 use Rattle.law_run.specs.Holdings.{hold_of, HoldsImage, IsUntil}
 use Rattle.law_run.specs.KnownBytes.{known_in, known_before}
@@ -81,7 +81,7 @@ pub data IsBusy (s : Setting) (log : CommandLog) (lease : ℕ) (seen : LeaseReco
   unexpired : (sample : ℕ) (bytes : List ℕ) (older : List Exchange) → HasSampled log lease sample bytes older → read_lease bytes ≡ Some seen →
       is_expired seen sample ≡ false → IsBusy s log lease seen
   taken : (claim : Claim) (until : ℕ) (bytes : List ℕ) (older : List Exchange) →
-      EndsWith log.exchanges (ask.Read (record { 0 = lease_at lease })) [] (answer.Bytes bytes) older → hold_of s log.before older lease ≡ Waited claim until →
+      NewestIs log.exchanges (ask.Read (record { 0 = lease_at lease })) [] (answer.Bytes bytes) older → hold_of s log.before older lease ≡ Waited claim until →
       read_lease bytes ≡ Some seen → seen ≢ lease_is.Claimed claim until → IsBusy s log lease seen
 
 -- the same of a lease by its name
@@ -209,7 +209,7 @@ Comes s log (reply.WornOut count) = ⊥
 
 -- a command was asked for its first reading alone
 abbrev pub IsAtFirst : CommandLog → Type 0
-IsAtFirst log = (reading : ℕ) × EndsWith log.exchanges ask.Clock [] (answer.Reading reading) []
+IsAtFirst log = (reading : ℕ) × NewestIs log.exchanges ask.Clock [] (answer.Reading reading) []
 
 -- a command has its reply: at its first reading the first refusal whose fact holds, or, where no fact of a refusal holds, what comes of its work
 pub data IsReplied (s : Setting) (log : CommandLog) : Reply → Type 0 where
