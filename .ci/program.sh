@@ -39,7 +39,7 @@ plays_examples() {
         wrote "$schedule" "${schedule%.plx}.trace"
         found=$((found + 1))
     done
-    [ "$found" -ge 3 ] || wrong "only $found examples"
+    [ "$found" -ge 4 ] || wrong "only $found examples"
 }
 
 tells_each_failure() {

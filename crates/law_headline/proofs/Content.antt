@@ -13,13 +13,13 @@ use Rattle.plx_commands.specs.declared.command.Command.{Command}
 use Rattle.plx_disk.specs.Writes.{Issued}
 use Rattle.plx_geom.specs.Geometry.{Geometry, image_lease}
 use Rattle.plx_rules.specs.Part.{Part}
-use Rattle.plx_worlds.specs.Boot.{Place, Idle, Begins, In, Position, position}
-use Rattle.plx_worlds.specs.Commands.{IsBuilt, IsWellFormed}
-use Rattle.plx_worlds.specs.Ends.{End}
-use Rattle.plx_worlds.specs.Headline.{starts_and_crashes, events_told, AreUndamaged, model_before, model_in}
-use Rattle.plx_worlds.specs.Session.{Session, Known}
-use Rattle.plx_worlds.specs.World.{World, Seat, setting_at}
-use Rattle.plx_worlds.specs.Rests.{home_of}
+use Rattle.plx_rules.specs.Boot.{Place, Idle, Begins, In, Position, position}
+use Rattle.plx_rules.specs.Commands.{IsBuilt, IsWellFormed}
+use Rattle.plx_rules.specs.Ends.{End}
+use Rattle.plx_rules.specs.Headline.{starts_and_crashes, events_told, AreUndamaged, model_before, model_in}
+use Rattle.plx_rules.specs.Session.{Session, Known}
+use Rattle.plx_rules.specs.World.{World, Seat, setting_at}
+use Rattle.plx_rules.specs.Rests.{home_of}
 use Rattle.law_lease.proofs.Frame.{AllStand}
 use Rattle.law_lease.proofs.Leased.{Leased}
 use Rattle.law_lease.proofs.Open.{GripsLease, IsOpen}

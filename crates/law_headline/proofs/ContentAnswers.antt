@@ -32,17 +32,17 @@ use Rattle.plx_geom.specs.Geometry.{Geometry, image_lease, lease_at}
 use Rattle.plx_geom.proofs.Places.{image-below}
 use Rattle.law_lease.proofs.Lists.{none-some}
 use Rattle.plx_rules.specs.Part.{Part, Ends, ReadThen, WriteThen, ClockThen, UntilThen}
-use Rattle.plx_worlds.specs.Boot.{Happening, Asked, Place, Begins, In, Position, position, place_of, after_part, goes_to, went_on}
-use Rattle.plx_worlds.specs.Commands.{IsBuilt, IsWellFormed, attached_part, of_attached, detach_part, create_part, delete_part, read_part, write_part, command_part}
-use Rattle.plx_worlds.specs.Ends.{End}
-use Rattle.plx_worlds.specs.Headline.{IsUndamaged, starts_and_crashes, events_told, model_in}
-use Rattle.plx_worlds.specs.Holds.{Hold, Nothing, Seen, Wrote, Waited, Held, no_holds, after_write, after_reply, after_first, first_hold, session_at, timed, shown, reread, seen_for, seen_by, renewed, wrote}
-use Rattle.plx_worlds.specs.Owners.{first_landed, pending_write}
-use Rattle.plx_worlds.specs.Rests.{rests_on}
-use Rattle.plx_worlds.specs.Session.{Session, Known}
-use Rattle.plx_worlds.specs.Settings.{Setting}
-use Rattle.plx_worlds.specs.Times.{is_expired}
-use Rattle.plx_worlds.specs.World.{World, IsReading, setting_at, goes_on, told}
+use Rattle.plx_rules.specs.Boot.{Happening, Asked, Place, Begins, In, Position, position, place_of, after_part, goes_to, went_on}
+use Rattle.plx_rules.specs.Commands.{IsBuilt, IsWellFormed, attached_part, of_attached, detach_part, create_part, delete_part, read_part, write_part, command_part}
+use Rattle.plx_rules.specs.Ends.{End}
+use Rattle.plx_rules.specs.Headline.{IsUndamaged, starts_and_crashes, events_told, model_in}
+use Rattle.plx_rules.specs.Holds.{Hold, Nothing, Seen, Wrote, Waited, Held, no_holds, after_write, after_reply, after_first, first_hold, session_at, timed, shown, reread, seen_for, seen_by, renewed, wrote}
+use Rattle.plx_rules.specs.Owners.{first_landed, pending_write}
+use Rattle.plx_rules.specs.Rests.{rests_on}
+use Rattle.plx_rules.specs.Session.{Session, Known}
+use Rattle.plx_rules.specs.Settings.{Setting}
+use Rattle.plx_rules.specs.Times.{is_expired}
+use Rattle.plx_rules.specs.World.{World, IsReading, setting_at, goes_on, told}
 use Rattle.law_lease.proofs.LawfulCommands.{first-rests, below-tested}
 use Rattle.law_lease.proofs.LeaseFrames.{grip-open}
 use Rattle.law_lease.proofs.LeaseGoes.{good-free}

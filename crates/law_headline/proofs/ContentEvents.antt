@@ -18,13 +18,13 @@ use Rattle.plx_disk.specs.Writes.{Issued, passed}
 use Rattle.plx_geom.specs.Geometry.{image_lease, lease_at}
 use Rattle.law_lease.proofs.Lists.{none-some}
 use Rattle.plx_base.proofs.Tests.{nat_lt-true, nat_le-false}
-use Rattle.plx_worlds.specs.Boot.{Began, Place, Idle, begun}
-use Rattle.plx_worlds.specs.Commands.{IsBuilt, IsWellFormed}
-use Rattle.plx_worlds.specs.Headline.{model_before, model_in}
-use Rattle.plx_worlds.specs.Holds.{Held}
-use Rattle.plx_worlds.specs.Owners.{pending_write}
-use Rattle.plx_worlds.specs.Session.{Session, Known}
-use Rattle.plx_worlds.specs.World.{World, Seat, with_surface, after_start, after_crash}
+use Rattle.plx_rules.specs.Boot.{Began, Place, Idle, begun}
+use Rattle.plx_rules.specs.Commands.{IsBuilt, IsWellFormed}
+use Rattle.plx_rules.specs.Headline.{model_before, model_in}
+use Rattle.plx_rules.specs.Holds.{Held}
+use Rattle.plx_rules.specs.Owners.{pending_write}
+use Rattle.plx_rules.specs.Session.{Session, Known}
+use Rattle.plx_rules.specs.World.{World, Seat, with_surface, after_start, after_crash}
 use Rattle.law_lease.proofs.LeaseFrames.{grip-open}
 use Rattle.law_lease.proofs.LeaseSteps.{not-waiting}
 use Rattle.law_lease.proofs.Leased.{grip_at, Leased}

@@ -9,10 +9,10 @@ use Rattle.plx_disk.specs.Writes.{Issued}
 use Rattle.plx_geom.specs.Geometry.{Geometry, image_lease}
 use Rattle.plx_geom.proofs.Places.{image-below}
 use Rattle.plx_rules.specs.Part.{Part}
-use Rattle.plx_worlds.specs.Boot.{Place, Idle, Begins, In, Position}
-use Rattle.plx_worlds.specs.Ends.{End}
-use Rattle.plx_worlds.specs.Session.{Known}
-use Rattle.plx_worlds.specs.World.{World}
+use Rattle.plx_rules.specs.Boot.{Place, Idle, Begins, In, Position}
+use Rattle.plx_rules.specs.Ends.{End}
+use Rattle.plx_rules.specs.Session.{Known}
+use Rattle.plx_rules.specs.World.{World}
 use Rattle.law_lease.proofs.Leased.{Leased}
 use Rattle.law_lease.proofs.Open.{IsOpen, grips-one, grips-only}
 use Rattle.law_headline.proofs.Content.{IsJournalled, PlaceFits, IsServing, Has, OwnedAt, Grips}

@@ -23,12 +23,12 @@ use Rattle.plx_disk.specs.Writes.{Issued}
 use Rattle.plx_geom.specs.Geometry.{Geometry, image_lease}
 use Rattle.law_lease.proofs.Lists.{none-some}
 use Rattle.plx_rules.specs.Part.{Part, Ends, ReadThen, WriteThen, ClockThen, UntilThen}
-use Rattle.plx_worlds.specs.Boot.{Happening, In, Position, position, goes_to}
-use Rattle.plx_worlds.specs.Ends.{End}
-use Rattle.plx_worlds.specs.Headline.{starts_and_crashes, events_told, IsUndamaged, model_before, model_in}
-use Rattle.plx_worlds.specs.Holds.{Hold}
-use Rattle.plx_worlds.specs.Session.{Session, Known}
-use Rattle.plx_worlds.specs.World.{World, Seat, setting_at, told}
+use Rattle.plx_rules.specs.Boot.{Happening, In, Position, position, goes_to}
+use Rattle.plx_rules.specs.Ends.{End}
+use Rattle.plx_rules.specs.Headline.{starts_and_crashes, events_told, IsUndamaged, model_before, model_in}
+use Rattle.plx_rules.specs.Holds.{Hold}
+use Rattle.plx_rules.specs.Session.{Session, Known}
+use Rattle.plx_rules.specs.World.{World, Seat, setting_at, told}
 use Rattle.law_lease.proofs.Leased.{Leased}
 use Rattle.law_lease.proofs.Open.{IsOpen, open-elsewhere}
 use Rattle.law_headline.proofs.Content.{appliance_no, stands_at, PlaceFits, Has, OwnedAt, Grips, Minds, Whose, SeatFits, SeatOwns, Placed, Waits, Content}

@@ -19,16 +19,16 @@ use Rattle.plx_geom.specs.Geometry.{Geometry, IsGeometry, image_lease, lease_cou
 use Rattle.plx_geom.proofs.Places.{image-image, image-below}
 use Rattle.plx_disk.proofs.Lists.{push-before, push-last}
 use Rattle.plx_rules.specs.Part.{Part, Ends, ReadThen, WriteThen, ClockThen, UntilThen}
-use Rattle.plx_worlds.specs.Boot.{Place, Idle, Begins, In, Position}
-use Rattle.plx_worlds.specs.Ends.{End}
-use Rattle.plx_worlds.specs.Headline.{model_in}
-use Rattle.plx_worlds.specs.Holds.{Hold}
+use Rattle.plx_rules.specs.Boot.{Place, Idle, Begins, In, Position}
+use Rattle.plx_rules.specs.Ends.{End}
+use Rattle.plx_rules.specs.Headline.{model_in}
+use Rattle.plx_rules.specs.Holds.{Hold}
 use Rattle.law_lease.proofs.Lists.{push-cases}
-use Rattle.plx_worlds.specs.Rests.{IsUnder, home_of, rests_on}
+use Rattle.plx_rules.specs.Rests.{IsUnder, home_of, rests_on}
 use Rattle.plx_commands.specs.Replies.{is_in}
-use Rattle.plx_worlds.specs.Session.{Known}
-use Rattle.plx_worlds.specs.Settings.{boot_number}
-use Rattle.plx_worlds.specs.World.{World, Seat, with_surface, after_issue}
+use Rattle.plx_rules.specs.Session.{Known}
+use Rattle.plx_rules.specs.Settings.{boot_number}
+use Rattle.plx_rules.specs.World.{World, Seat, with_surface, after_issue}
 use Rattle.law_lease.proofs.LeaseSteps.{placed-may}
 use Rattle.law_lease.proofs.Frame.{Frame, IsNew, SameUnder, frame-all, frame-others, stood-issued, grips-before, grips-free, grips-other, grips-own, land-frame, landed-or, open-issued}
 use Rattle.law_lease.proofs.Covers.{Covers}

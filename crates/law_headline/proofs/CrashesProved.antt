@@ -3,9 +3,9 @@ use Rattle.std.proofs.Common.{◌+◌, [], None, refl, ap}
 use Rattle.plx_base.specs.declared.numbers.ApplianceNo.{ApplianceNo}
 use Rattle.plx_commands.specs.declared.event.Event.TheVariants as event
 use Rattle.plx_commands.proofs.Places.{at-same, at-other}
-use Rattle.plx_worlds.specs.Boot.{position}
-use Rattle.plx_worlds.specs.World as world
-use Rattle.plx_worlds.specs.World.{World, Seat, Reached, Step, setting_at}
+use Rattle.plx_rules.specs.Boot.{position}
+use Rattle.plx_rules.specs.World as world
+use Rattle.plx_rules.specs.World.{World, Seat, Reached, Step, setting_at}
 use Rattle.law_headline.specs.Crashes.{CrashLeaves, CrashesLeaveFreshBoots}
 
 leaves : {w : World} {a : ApplianceNo} {v : World} → Step w (event.Crash a) v → CrashLeaves w v a.0

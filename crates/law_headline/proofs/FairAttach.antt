@@ -21,19 +21,19 @@ use Rattle.plx_geom.proofs.Places.{image-below, lease-record, lease-data, lease-
 use Rattle.plx_base.proofs.Tests.{nat_lt-true, nat_le-true}
 use Rattle.plx_rules.specs.Part.{Part, Ends, UntilThen}
 use Rattle.plx_rules.specs.declared.journaled.Journaled.{Journaled}
-use Rattle.plx_worlds.specs.Attaching.{image_use, attach_ends, after_load, load_journal, after_record, load_image, after_claim, claim_image, attach_held}
-use Rattle.plx_worlds.specs.Claims.{ClaimEnd, ClaimBusy, ClaimLost, claim_of, end_of_term, own_record, own_use, claim_in_time, reread_by, reread_part, written_part, if_expired, seen_part}
-use Rattle.plx_worlds.specs.Ends.{End, ends, read_failed, damaged}
-use Rattle.plx_worlds.specs.Headline.{IsUndamaged}
-use Rattle.plx_worlds.specs.Holds.{Hold, Nothing, Seen, Wrote, Waited, Held, no_holds, shown, reread, timed, wrote, after_reply}
-use Rattle.plx_worlds.specs.InUse.{InUse, lease_name, first_reached, unless_reached}
-use Rattle.plx_worlds.specs.Journal.{Finding, Outside, Unused, Counts, finding}
-use Rattle.plx_worlds.specs.Loading.{LoadEnd, load_found, load_part, gap_found}
-use Rattle.plx_worlds.specs.Parts.{followed_by}
-use Rattle.plx_worlds.specs.Records.{is_live, applied_of, attached_record}
-use Rattle.plx_worlds.specs.Session.{Session, Known, with_session, inserted, first_gap, session_report}
-use Rattle.plx_worlds.specs.Settings.{Setting}
-use Rattle.plx_worlds.specs.Times.{wait, is_expired}
+use Rattle.plx_rules.specs.Attaching.{image_use, attach_ends, after_load, load_journal, after_record, load_image, after_claim, claim_image, attach_held}
+use Rattle.plx_rules.specs.Claims.{ClaimEnd, ClaimBusy, ClaimLost, claim_of, end_of_term, own_record, own_use, claim_in_time, reread_by, reread_part, written_part, if_expired, seen_part}
+use Rattle.plx_rules.specs.Ends.{End, ends, read_failed, damaged}
+use Rattle.plx_rules.specs.Headline.{IsUndamaged}
+use Rattle.plx_rules.specs.Holds.{Hold, Nothing, Seen, Wrote, Waited, Held, no_holds, shown, reread, timed, wrote, after_reply}
+use Rattle.plx_rules.specs.InUse.{InUse, lease_name, first_reached, unless_reached}
+use Rattle.plx_rules.specs.Journal.{Finding, Outside, Unused, Counts, finding}
+use Rattle.plx_rules.specs.Loading.{LoadEnd, load_found, load_part, gap_found}
+use Rattle.plx_rules.specs.Parts.{followed_by}
+use Rattle.plx_rules.specs.Records.{is_live, applied_of, attached_record}
+use Rattle.plx_rules.specs.Session.{Session, Known, with_session, inserted, first_gap, session_report}
+use Rattle.plx_rules.specs.Settings.{Setting}
+use Rattle.plx_rules.specs.Times.{wait, is_expired}
 use Rattle.law_lease.proofs.LawfulCommands.{IsRest}
 use Rattle.law_headline.proofs.FairParts.{read-held, lease-image, backs-read, backs-timed, backs-at, backs-with, unreached-tells, IsFair, fair-lost, fair-write_failed, fair-ends}
 use Rattle.law_headline.proofs.Harmless.{Harmless}

@@ -29,14 +29,14 @@ use Rattle.plx_geom.specs.Geometry.{IsGeometry, lease_count, image_lease, lease_
 use Rattle.plx_geom.proofs.Places.{lease-lease}
 use Rattle.plx_base.proofs.Tests.{nat_lt-true}
 use Rattle.plx_rules.specs.Part.{Part}
-use Rattle.plx_worlds.specs.Attaching.{image_use, attach_part}
-use Rattle.plx_worlds.specs.Commands.{IsBuilt, IsWellFormed, unless, attached_part, of_attached, detach_part, record_part, create_part, delete_part, read_part, next_write, next_slot, journal_part, write_part, later_of, renewal, renew_part, attached_uses, command_part}
-use Rattle.plx_worlds.specs.Ends.{End, ends, ends_in_time}
-use Rattle.plx_worlds.specs.Holds.{Hold, Nothing, Seen, Wrote, Waited, Held, no_holds, timed, renewed, after_reply}
-use Rattle.plx_worlds.specs.Records.{is_live, generation_of, size_of, made_record}
-use Rattle.plx_worlds.specs.Session.{Session, Known, with_session, new_session, write_count, content, with_write}
-use Rattle.plx_worlds.specs.Settings.{Setting}
-use Rattle.plx_worlds.specs.Times.{term}
+use Rattle.plx_rules.specs.Attaching.{image_use, attach_part}
+use Rattle.plx_rules.specs.Commands.{IsBuilt, IsWellFormed, unless, attached_part, of_attached, detach_part, record_part, create_part, delete_part, read_part, next_write, next_slot, journal_part, write_part, later_of, renewal, renew_part, attached_uses, command_part}
+use Rattle.plx_rules.specs.Ends.{End, ends, ends_in_time}
+use Rattle.plx_rules.specs.Holds.{Hold, Nothing, Seen, Wrote, Waited, Held, no_holds, timed, renewed, after_reply}
+use Rattle.plx_rules.specs.Records.{is_live, generation_of, size_of, made_record}
+use Rattle.plx_rules.specs.Session.{Session, Known, with_session, new_session, write_count, content, with_write}
+use Rattle.plx_rules.specs.Settings.{Setting}
+use Rattle.plx_rules.specs.Times.{term}
 use Rattle.law_headline.proofs.FairAttach.{fair-unattached}
 use Rattle.law_headline.proofs.FairParts.{lease-image, backs-timed, backs-with, replaced, unreached-tells, just-one, names-one, IsFair, fair-lost, fair-write_failed, fair-in-time, fair-ends}
 use Rattle.law_headline.proofs.Harmless.{Harmless}

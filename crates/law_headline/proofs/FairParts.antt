@@ -13,12 +13,12 @@ use Rattle.plx_geom.specs.Geometry.{Geometry, image_lease, lease_at}
 use Rattle.plx_geom.proofs.Places.{lease-lease, image-image}
 use Rattle.plx_base.proofs.Tests.{nat_lt-true, nat_le-true}
 use Rattle.plx_rules.specs.Part.{Part}
-use Rattle.plx_worlds.specs.Attaching.{image_use}
-use Rattle.plx_worlds.specs.Ends.{End, ends, lost, write_failed, in_time, ends_in_time}
-use Rattle.plx_worlds.specs.Holds.{Hold, Held, no_holds, after_first, first_hold, session_at, shown, timed, after_reply}
-use Rattle.plx_worlds.specs.InUse.{InUse, first_reached, unless_reached, earlier}
-use Rattle.plx_worlds.specs.Session.{Session, Known, nothing_known}
-use Rattle.plx_worlds.specs.Settings.{Setting}
+use Rattle.plx_rules.specs.Attaching.{image_use}
+use Rattle.plx_rules.specs.Ends.{End, ends, lost, write_failed, in_time, ends_in_time}
+use Rattle.plx_rules.specs.Holds.{Hold, Held, no_holds, after_first, first_hold, session_at, shown, timed, after_reply}
+use Rattle.plx_rules.specs.InUse.{InUse, first_reached, unless_reached, earlier}
+use Rattle.plx_rules.specs.Session.{Session, Known, nothing_known}
+use Rattle.plx_rules.specs.Settings.{Setting}
 use Rattle.law_headline.proofs.Harmless as harmless
 use Rattle.law_headline.proofs.Held.{attached_of, IsBacking, Backs, is_below, are_below, is_some_slot, just_at, Fair}
 use Rattle.law_headline.proofs.HeldCommands.{lost-listed}

@@ -7,11 +7,11 @@ use Rattle.plx_gate.specs.declared.image.ImageRecord.TheVariants.{Free}
 use Rattle.plx_gate.proofs.Descriptors.{read-zeros}
 use Rattle.plx_geom.specs.Geometry.{Geometry, IsGeometry, image_lease}
 use Rattle.plx_geom.specs.declared.place.Place.TheVariants.{Record, JDesc}
-use Rattle.plx_worlds.specs.Formatted.{IsFormatted}
-use Rattle.plx_worlds.specs.Headline.{HeadlineOfAll, NeverDamaged, model_in}
-use Rattle.plx_worlds.specs.Journal.{finding, finding_of}
-use Rattle.plx_worlds.specs.World as world
-use Rattle.plx_worlds.specs.World.{World, Step, Reached, first_seat, first_world}
+use Rattle.plx_rules.specs.Formatted.{IsFormatted}
+use Rattle.plx_rules.specs.Headline.{HeadlineOfAll, NeverDamaged, model_in}
+use Rattle.plx_rules.specs.Journal.{finding, finding_of}
+use Rattle.plx_rules.specs.World as world
+use Rattle.plx_rules.specs.World.{World, Step, Reached, first_seat, first_world}
 use Rattle.law_lease.proofs.LeaseSteps.{keeps-leases, first-leased}
 use Rattle.law_lease.proofs.Leased.{Leased}
 use Rattle.law_lease.proofs.Open.{open-found}

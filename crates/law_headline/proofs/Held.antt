@@ -21,10 +21,10 @@ use Rattle.plx_gate.specs.declared.image.ImageRecord.{ImageRecord}
 use Rattle.plx_geom.specs.Geometry.{Geometry, lease_count, image_lease, lease_at, record_at, descriptor_at, data_at}
 use Rattle.plx_rules.specs.Part.{Part, Ends, ReadThen, WriteThen, ClockThen, UntilThen}
 use Rattle.plx_rules.specs.declared.journaled.Journaled.{Journaled}
-use Rattle.plx_worlds.specs.Ends.{End}
-use Rattle.plx_worlds.specs.Headline.{IsUndamaged}
-use Rattle.plx_worlds.specs.Holds.{Hold, Waited, Held, no_holds, after_answer, after_write, after_reply, timed}
-use Rattle.plx_worlds.specs.Session.{Session, Known}
+use Rattle.plx_rules.specs.Ends.{End}
+use Rattle.plx_rules.specs.Headline.{IsUndamaged}
+use Rattle.plx_rules.specs.Holds.{Hold, Waited, Held, no_holds, after_answer, after_write, after_reply, timed}
+use Rattle.plx_rules.specs.Session.{Session, Known}
 use Rattle.law_headline.proofs.Harmless.{Harmless, Yields}
 use Rattle.law_headline.proofs.Journals.{IsJournal, IsShown, ShowEither, Keeps}
 use Rattle.law_headline.proofs.ModelFacts.{Differs}

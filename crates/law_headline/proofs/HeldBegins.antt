@@ -14,12 +14,12 @@ use Rattle.plx_geom.specs.Geometry.{IsGeometry, image_lease, lease_at}
 use Rattle.plx_base.proofs.Tests.{nat_lt-true}
 use Rattle.plx_rules.specs.Part.{Part}
 use Rattle.plx_rules.specs.declared.journaled.Journaled.{Journaled}
-use Rattle.plx_worlds.specs.Attaching.{image_use, attach_part}
-use Rattle.plx_worlds.specs.Commands.{IsBuilt, IsWellFormed, attached_part, of_attached, detach_part, create_part, delete_part, read_part, write_part, command_part}
-use Rattle.plx_worlds.specs.Ends.{End}
-use Rattle.plx_worlds.specs.Holds.{Hold, Held}
-use Rattle.plx_worlds.specs.Session.{Session, Known}
-use Rattle.plx_worlds.specs.Settings.{Setting}
+use Rattle.plx_rules.specs.Attaching.{image_use, attach_part}
+use Rattle.plx_rules.specs.Commands.{IsBuilt, IsWellFormed, attached_part, of_attached, detach_part, create_part, delete_part, read_part, write_part, command_part}
+use Rattle.plx_rules.specs.Ends.{End}
+use Rattle.plx_rules.specs.Holds.{Hold, Held}
+use Rattle.plx_rules.specs.Session.{Session, Known}
+use Rattle.plx_rules.specs.Settings.{Setting}
 use Rattle.law_headline.proofs.Held.{Without, With, HeldPart}
 use Rattle.law_headline.proofs.HeldCommands.{slot_no, held-in-time, held-image}
 use Rattle.law_headline.proofs.HeldSessions.{keeps-with, held-detach, held-attach, held-read, held-write, held-create, held-delete}

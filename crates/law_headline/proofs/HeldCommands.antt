@@ -28,15 +28,15 @@ use Rattle.plx_geom.specs.Geometry.{record_at, descriptor_at, data_at}
 use Rattle.plx_base.proofs.Tests.{eqb-true, nat_lt-false, nat_le-false}
 use Rattle.plx_rules.specs.Part.{Part}
 use Rattle.plx_rules.specs.declared.journaled.Journaled.{Journaled}
-use Rattle.plx_worlds.specs.Attaching.{image_use, attach_ends, after_load, load_journal, after_record, load_image}
-use Rattle.plx_worlds.specs.Ends.{End, ends, lost, read_failed, in_time, ends_in_time}
-use Rattle.plx_worlds.specs.InUse.{InUse, first_reached, unless_reached}
-use Rattle.plx_worlds.specs.Journal.{finding, Finding, Unused, Counts}
-use Rattle.plx_worlds.specs.Loading.{LoadEnd, load_found, load_part, gap_found}
-use Rattle.plx_worlds.specs.Parts.{followed_by}
-use Rattle.plx_worlds.specs.Records.{is_live, is_plain, taken_of, applied_of, plain_record, attached_record}
-use Rattle.plx_worlds.specs.Session.{Session, Known, with_session, inserted, first_gap, session_report}
-use Rattle.plx_worlds.specs.Settings.{Setting}
+use Rattle.plx_rules.specs.Attaching.{image_use, attach_ends, after_load, load_journal, after_record, load_image}
+use Rattle.plx_rules.specs.Ends.{End, ends, lost, read_failed, in_time, ends_in_time}
+use Rattle.plx_rules.specs.InUse.{InUse, first_reached, unless_reached}
+use Rattle.plx_rules.specs.Journal.{finding, Finding, Unused, Counts}
+use Rattle.plx_rules.specs.Loading.{LoadEnd, load_found, load_part, gap_found}
+use Rattle.plx_rules.specs.Parts.{followed_by}
+use Rattle.plx_rules.specs.Records.{is_live, is_plain, taken_of, applied_of, plain_record, attached_record}
+use Rattle.plx_rules.specs.Session.{Session, Known, with_session, inserted, first_gap, session_report}
+use Rattle.plx_rules.specs.Settings.{Setting}
 use Rattle.law_lease.proofs.LawfulCommands.{below-tested}
 use Rattle.law_headline.proofs.Held.{Regime, Without, Looks, HasImage, HeldPart}
 use Rattle.plx_gate.proofs.Images.{image-back}

@@ -36,14 +36,14 @@ use Rattle.law_headline.proofs.JournalFacts.{journal_slot-next}
 use Rattle.plx_base.proofs.Tests.{nat_lt-true}
 use Rattle.plx_rules.specs.Part.{Part}
 use Rattle.plx_rules.specs.declared.journaled.Journaled.{Journaled}
-use Rattle.plx_worlds.specs.Attaching.{image_use}
-use Rattle.plx_worlds.specs.Commands.{unless, record_part, create_part, delete_part, read_part, journal_part, write_part}
-use Rattle.plx_worlds.specs.Ends.{End, ends, write_then, ends_in_time}
-use Rattle.plx_worlds.specs.Headline.{IsUndamaged}
-use Rattle.plx_worlds.specs.Journal.{journal_slot}
-use Rattle.plx_worlds.specs.Records.{is_live, is_plain, generation_of, size_of, applied_of, made_record}
-use Rattle.plx_worlds.specs.Session.{Session, Known, with_session, new_session, write_count, content, with_write}
-use Rattle.plx_worlds.specs.Settings.{Setting}
+use Rattle.plx_rules.specs.Attaching.{image_use}
+use Rattle.plx_rules.specs.Commands.{unless, record_part, create_part, delete_part, read_part, journal_part, write_part}
+use Rattle.plx_rules.specs.Ends.{End, ends, write_then, ends_in_time}
+use Rattle.plx_rules.specs.Headline.{IsUndamaged}
+use Rattle.plx_rules.specs.Journal.{journal_slot}
+use Rattle.plx_rules.specs.Records.{is_live, is_plain, generation_of, size_of, applied_of, made_record}
+use Rattle.plx_rules.specs.Session.{Session, Known, with_session, new_session, write_count, content, with_write}
+use Rattle.plx_rules.specs.Settings.{Setting}
 use Rattle.law_headline.proofs.Held.{With, Looks, HasImage, HeldPart}
 use Rattle.law_headline.proofs.HeldFrames.{same-all}
 use Rattle.law_headline.proofs.ImageFacts.{image-drop}

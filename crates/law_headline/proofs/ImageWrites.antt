@@ -11,10 +11,10 @@ use Rattle.plx_geom.proofs.Places.{image-extent, image-image}
 use Rattle.plx_geom.specs.Geometry.{Geometry, IsGeometry, image_lease, extent_lease, record_at, descriptor_at, data_at}
 use Rattle.plx_geom.specs.declared.place.Place.TheVariants as place
 use Rattle.plx_rules.specs.Part.{Part, WriteThen}
-use Rattle.plx_worlds.specs.Ends.{End}
-use Rattle.plx_worlds.specs.Holds.{Hold}
-use Rattle.plx_worlds.specs.Rests.{home_of}
-use Rattle.plx_worlds.specs.Session.{Known}
+use Rattle.plx_rules.specs.Ends.{End}
+use Rattle.plx_rules.specs.Holds.{Hold}
+use Rattle.plx_rules.specs.Rests.{home_of}
+use Rattle.plx_rules.specs.Session.{Known}
 use Rattle.law_lease.proofs.Covers.{Covers, one-cover, lease-uncovered, home-covers, write-covered}
 use Rattle.law_lease.proofs.Frame.{SameUnder}
 use Rattle.law_lease.proofs.Leased.{MayAsk, MayUse, IsPlaced}

@@ -18,8 +18,8 @@ use Rattle.plx_geom.proofs.Places.{record-data, record-descriptor}
 use Rattle.plx_rules.specs.declared.journaled.Journaled.{Journaled}
 use Rattle.law_lease.proofs.Lists.{push-cases}
 use Rattle.plx_base.proofs.Tests.{eqb-true, eqb-false, nat_lt-true}
-use Rattle.plx_worlds.specs.Journal.{journal_slot, is_unapplied, is_placed, counted, counted_of, Outside, Unused, Counts, finding, finding_of}
-use Rattle.plx_worlds.specs.Records.{is_live, is_plain, generation_of, size_of, applied_of}
+use Rattle.plx_rules.specs.Journal.{journal_slot, is_unapplied, is_placed, counted, counted_of, Outside, Unused, Counts, finding, finding_of}
+use Rattle.plx_rules.specs.Records.{is_live, is_plain, generation_of, size_of, applied_of}
 use Rattle.law_headline.proofs.Owners.{both-true}
 use Rattle.law_headline.proofs.Journals.{descriptor_of, IsOld, IsJournal, Keeps, Same}
 

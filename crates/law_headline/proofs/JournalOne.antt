@@ -8,7 +8,7 @@ use Rattle.plx_rules.specs.declared.journaled.Journaled.{Journaled}
 use Rattle.plx_geom.specs.Geometry.{Geometry, descriptor_at}
 use Rattle.plx_gate.specs.Images.{read_image}
 use Rattle.plx_gate.specs.declared.image.ImageRecord.{ImageRecord}
-use Rattle.plx_worlds.specs.Records.{is_live}
+use Rattle.plx_rules.specs.Records.{is_live}
 use Rattle.law_headline.proofs.JournalFacts.{counted-commit, unused-uncounted}
 use Rattle.law_headline.proofs.Journals.{descriptor_of, IsJournal, ShowEither}
 use Rattle.plx_gate.proofs.Images.{image-back}

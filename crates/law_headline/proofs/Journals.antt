@@ -11,9 +11,9 @@ use Rattle.plx_gate.specs.declared.descriptor.Descriptor.{Descriptor}
 use Rattle.plx_gate.specs.declared.image.ImageRecord.{ImageRecord}
 use Rattle.plx_geom.specs.Geometry.{Geometry, record_at, descriptor_at, data_at}
 use Rattle.plx_rules.specs.declared.journaled.Journaled.{Journaled}
-use Rattle.plx_worlds.specs.Journal.{Unused, finding}
-use Rattle.plx_worlds.specs.Records.{is_live, is_plain, generation_of, size_of, applied_of}
-use Rattle.plx_worlds.specs.Session.{latest}
+use Rattle.plx_rules.specs.Journal.{Unused, finding}
+use Rattle.plx_rules.specs.Records.{is_live, is_plain, generation_of, size_of, applied_of}
+use Rattle.plx_rules.specs.Session.{latest}
 
 -- the descriptor of a journalled write of an image with this record
 abbrev pub descriptor_of : ImageRecord → Journaled → Descriptor

@@ -12,9 +12,9 @@ use Rattle.plx_gate.specs.declared.descriptor.Descriptor.{Descriptor}
 use Rattle.plx_gate.specs.declared.image.ImageRecord.{ImageRecord}
 use Rattle.plx_geom.specs.Geometry.{Geometry, descriptor_at}
 use Rattle.plx_rules.specs.declared.journaled.Journaled.{Journaled}
-use Rattle.plx_worlds.specs.Records.{is_plain, taken_of, root_of, applied_of}
-use Rattle.plx_worlds.specs.Session.{latest}
-use Rattle.plx_worlds.specs.Stored.{all_of, Holds, StoredImage, IsCounted, IsWriteCount, IsNewest, IsContent, journalled, unwritten, leads_to, digits_of, Stores, Agrees, StoresEither}
+use Rattle.plx_rules.specs.Records.{is_plain, taken_of, root_of, applied_of}
+use Rattle.plx_rules.specs.Session.{latest}
+use Rattle.plx_rules.specs.Stored.{all_of, Holds, StoredImage, IsCounted, IsWriteCount, IsNewest, IsContent, journalled, unwritten, leads_to, digits_of, Stores, Agrees, StoresEither}
 use Rattle.plx_gate.proofs.Images.{image-back}
 use Rattle.law_lease.proofs.Latest.{IsLast, IsLatest, last-of, latest-is}
 use Rattle.law_headline.proofs.JournalFacts.{counted-commit, unused-uncounted}

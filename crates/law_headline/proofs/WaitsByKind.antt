@@ -7,7 +7,7 @@ use Rattle.plx_base.specs.declared.write_kind.WriteKind.TheVariants as kind
 use Rattle.plx_commands.specs.Replies.{is_in}
 use Rattle.plx_disk.specs.Writes.{no_sectors}
 use Rattle.plx_geom.specs.Geometry.{Geometry}
-use Rattle.plx_worlds.specs.Holds.{Hold}
+use Rattle.plx_rules.specs.Holds.{Hold}
 use Rattle.law_lease.proofs.Frame.{SameUnder}
 use Rattle.law_lease.proofs.Leased.{MayAsk}
 

@@ -2,10 +2,10 @@
 use Rattle.std.specs.Prelude.{◌≡◌, ◌≢◌, ◌+◌, ℕ, [], None}
 use Rattle.plx_base.specs.declared.numbers.ApplianceNo.{ApplianceNo}
 use Rattle.plx_commands.specs.declared.event.Event.TheVariants as event
-use Rattle.plx_worlds.specs.Boot.{Idle}
-use Rattle.plx_worlds.specs.Holds.{no_holds}
-use Rattle.plx_worlds.specs.Session.{nothing_known}
-use Rattle.plx_worlds.specs.World.{World, Reached, Step, stands}
+use Rattle.plx_rules.specs.Boot.{Idle}
+use Rattle.plx_rules.specs.Holds.{no_holds}
+use Rattle.plx_rules.specs.Session.{nothing_known}
+use Rattle.plx_rules.specs.World.{World, Reached, Step, stands}
 
 -- the appliance is in its next boot, whose log is empty; it holds no lease, knows no session and is in no command; no other appliance and no write changes
 pub record CrashLeaves (w v : World) (appliance : ℕ) : Type 0 where

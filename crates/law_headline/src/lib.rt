@@ -5,7 +5,7 @@
 #![tactic(auto)]
 
 ghost use Rattle.law_headline.specs.Crashes.{CrashesLeaveFreshBoots};
-ghost use Rattle.plx_worlds.specs.Headline.{HeadlineOfAll, NeverDamaged};
+ghost use Rattle.plx_rules.specs.Headline.{HeadlineOfAll, NeverDamaged};
 
 /// Every world that events lead to meets the headline: its trace tells of its possible starts and
 /// crashes, the block-list model permits that trace, and the device stores the model's images.

@@ -7,7 +7,7 @@ use Rattle.plx_geom.specs.Geometry.{Geometry, IsGeometry, lease_count, lease_at,
 use Rattle.plx_geom.specs.Places.{IsPlace, block_of}
 use Rattle.plx_geom.specs.declared.place.Place.{Place}
 use Rattle.plx_geom.specs.declared.place.Place.TheVariants.{Super, RootLease, ImageLease, ExtentLease, Record, Log, JDesc, JData, Map, Pool}
-use Rattle.plx_worlds.specs.Rests.{home_of}
+use Rattle.plx_rules.specs.Rests.{home_of}
 use Rattle.law_lease.proofs.Leased.{IsPlaced}
 
 -- the lease under which a place lies: an image's record, log and journal under that image's, and a map under its extent's; nothing else lies under one by its place

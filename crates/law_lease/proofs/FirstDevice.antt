@@ -20,7 +20,7 @@ use Rattle.plx_geom.specs.Places.{IsPlace, block_of}
 use Rattle.plx_geom.specs.Superblock.{superblock_bytes}
 use Rattle.plx_geom.specs.declared.place.Place.{Place}
 use Rattle.plx_geom.specs.declared.place.Place.TheVariants.{Super, RootLease, ImageLease, ExtentLease, Record, Log, JDesc, JData, Map, Pool}
-use Rattle.plx_worlds.specs.Formatted.{empty_map, formatted_block, IsFormatted}
+use Rattle.plx_rules.specs.Formatted.{empty_map, formatted_block, IsFormatted}
 use Rattle.law_lease.specs.FirstDevice.{HasFormatted}
 
 -- the map of an extent fills its block

@@ -15,12 +15,12 @@ use Rattle.plx_disk.proofs.Lists.{set-other, set-same, push-before, push-last}
 use Rattle.plx_disk.specs.Writes.{Issued, MayLand, fresh_write, with_sector, all_sectors}
 use Rattle.plx_geom.proofs.Places.{lease-lease, image-below, extent-below}
 use Rattle.plx_geom.specs.Geometry.{Geometry, lease_count, lease_at, root_lease, image_lease, extent_lease}
-use Rattle.plx_worlds.specs.Boot.{Position, position}
-use Rattle.plx_worlds.specs.Holds.{Held}
-use Rattle.plx_worlds.specs.Owners.{pending_write, first_landed, is_set}
-use Rattle.plx_worlds.specs.Rests.{IsUnder, home_of}
-use Rattle.plx_worlds.specs.Settings.{boot_number}
-use Rattle.plx_worlds.specs.World.{World, Seat, setting_at}
+use Rattle.plx_rules.specs.Boot.{Position, position}
+use Rattle.plx_rules.specs.Holds.{Held}
+use Rattle.plx_rules.specs.Owners.{pending_write, first_landed, is_set}
+use Rattle.plx_rules.specs.Rests.{IsUnder, home_of}
+use Rattle.plx_rules.specs.Settings.{boot_number}
+use Rattle.plx_rules.specs.World.{World, Seat, setting_at}
 use Rattle.law_lease.proofs.Covers.{Covers, lease-uncovered, home-covers, write-covered}
 use Rattle.law_lease.proofs.LeaseFrames.{grip-open, grip_while-open, grip_while-away}
 use Rattle.law_lease.proofs.LeaseLands.{MayBeAsked, unlanded-before, asked-may, grip-asked, first-set, pending-other, not-whole}

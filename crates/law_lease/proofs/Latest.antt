@@ -2,7 +2,7 @@
 use Rattle.std.proofs.Common.{◌≡◌, ◌≢◌, ℕ, ◌+◌, ◌≤◌, List, [], ◌∷◌, ◌++◌, length, zero, suc, refl, ap, sym, ◌∙◌, Some, arith, inl, inr, ◌⊎◌}
 use Rattle.std.specs.Prelude.{slice_get, if◌then◌else◌, ◌==◌}
 use Rattle.std.proofs.lemmas.Bool.Decides.{eqb_tells}
-use Rattle.plx_worlds.specs.Session.{latest}
+use Rattle.plx_rules.specs.Session.{latest}
 use Rattle.plx_rules.specs.declared.journaled.Journaled.{Journaled}
 
 -- the place of the last write

@@ -26,19 +26,19 @@ use Rattle.plx_geom.specs.Geometry.{Geometry, IsGeometry, data_at, descriptor_at
 use Rattle.plx_geom.proofs.Places.{lease-lease, image-below}
 use Rattle.plx_rules.specs.Part.{Part, Ends, ReadThen, WriteThen, ClockThen, UntilThen}
 use Rattle.plx_rules.specs.declared.journaled.Journaled.{Journaled}
-use Rattle.plx_worlds.specs.Attaching.{image_use, after_load, load_journal, after_record, load_image, after_claim, claim_image, attach_part}
-use Rattle.plx_worlds.specs.Claims.{ClaimEnd, ClaimHeld, ClaimBusy, ClaimLost, ClaimReadFault, ClaimWriteFault, ClaimDamaged, claim_of, own_record, own_use, claim_in_time, claim_damaged, reread_by, reread_part, written_part, if_expired, seen_part, claim_part}
-use Rattle.plx_worlds.specs.Commands.{unless, attached_part, detach_part, record_part, create_part, delete_part, read_part, write_part, journal_part, next_slot, next_descriptor, next_write, later_of, renewal, renew_part, attached_uses, IsWellFormed, command_part}
-use Rattle.plx_worlds.specs.Ends.{End, ends, lost, in_time, ends_in_time}
-use Rattle.plx_worlds.specs.Holds.{Hold, Nothing, Seen, Wrote, Waited, Held, after_first, first_hold, session_at, seen_by, shown, timed}
-use Rattle.plx_worlds.specs.InUse.{InUse, first_reached, unless_reached}
-use Rattle.plx_worlds.specs.Journal.{Finding, Outside, Unused, Counts, finding}
-use Rattle.plx_worlds.specs.Loading.{LoadEnd, Loaded, LoadReadFault, LoadDamaged, load_found, load_part}
-use Rattle.plx_worlds.specs.Parts.{followed_by}
-use Rattle.plx_worlds.specs.Records.{is_live, generation_of, size_of, made_record, attached_record}
-use Rattle.plx_worlds.specs.Session.{Session, Known, with_claim, with_session, new_session, with_write, write_count, inserted}
-use Rattle.plx_worlds.specs.Settings.{Setting}
-use Rattle.plx_worlds.specs.Times.{is_expired, term}
+use Rattle.plx_rules.specs.Attaching.{image_use, after_load, load_journal, after_record, load_image, after_claim, claim_image, attach_part}
+use Rattle.plx_rules.specs.Claims.{ClaimEnd, ClaimHeld, ClaimBusy, ClaimLost, ClaimReadFault, ClaimWriteFault, ClaimDamaged, claim_of, own_record, own_use, claim_in_time, claim_damaged, reread_by, reread_part, written_part, if_expired, seen_part, claim_part}
+use Rattle.plx_rules.specs.Commands.{unless, attached_part, detach_part, record_part, create_part, delete_part, read_part, write_part, journal_part, next_slot, next_descriptor, next_write, later_of, renewal, renew_part, attached_uses, IsWellFormed, command_part}
+use Rattle.plx_rules.specs.Ends.{End, ends, lost, in_time, ends_in_time}
+use Rattle.plx_rules.specs.Holds.{Hold, Nothing, Seen, Wrote, Waited, Held, after_first, first_hold, session_at, seen_by, shown, timed}
+use Rattle.plx_rules.specs.InUse.{InUse, first_reached, unless_reached}
+use Rattle.plx_rules.specs.Journal.{Finding, Outside, Unused, Counts, finding}
+use Rattle.plx_rules.specs.Loading.{LoadEnd, Loaded, LoadReadFault, LoadDamaged, load_found, load_part}
+use Rattle.plx_rules.specs.Parts.{followed_by}
+use Rattle.plx_rules.specs.Records.{is_live, generation_of, size_of, made_record, attached_record}
+use Rattle.plx_rules.specs.Session.{Session, Known, with_claim, with_session, new_session, with_write, write_count, inserted}
+use Rattle.plx_rules.specs.Settings.{Setting}
+use Rattle.plx_rules.specs.Times.{is_expired, term}
 use Rattle.plx_gate.proofs.Leases.{length-lease}
 use Rattle.law_lease.proofs.Leased.{IsGranted, Lawful, LawfulRest}
 use Rattle.law_lease.proofs.Rests.{one-in, lease-found, record-found, data-found, descriptor-found}

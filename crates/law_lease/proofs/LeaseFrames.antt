@@ -8,10 +8,10 @@ use Rattle.plx_base.specs.declared.write_kind.WriteKind.{WriteKind}
 use Rattle.plx_base.specs.declared.write_kind.WriteKind.TheVariants as kind
 use Rattle.plx_disk.specs.Writes.{Issued}
 use Rattle.plx_rules.specs.Part.{Ends, ReadThen, WriteThen, ClockThen, UntilThen}
-use Rattle.plx_worlds.specs.Boot.{Place, Idle, Begins, In}
-use Rattle.plx_worlds.specs.Holds.{Hold, Nothing, Seen, Wrote, Waited, Held}
-use Rattle.plx_worlds.specs.Owners.{first_landed}
-use Rattle.plx_worlds.specs.Times.{window}
+use Rattle.plx_rules.specs.Boot.{Place, Idle, Begins, In}
+use Rattle.plx_rules.specs.Holds.{Hold, Nothing, Seen, Wrote, Waited, Held}
+use Rattle.plx_rules.specs.Owners.{first_landed}
+use Rattle.plx_rules.specs.Times.{window}
 use Rattle.law_lease.proofs.Leased.{IsLive, NoneLive, LiveOnly, Clear, Waits, Mine, IsWritten, Good, grip_while, grip_at}
 
 -- every write that is live later was live before

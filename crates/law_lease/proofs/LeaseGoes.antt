@@ -14,20 +14,20 @@ use Rattle.plx_disk.specs.Writes.{Issued, all_sectors}
 use Rattle.plx_commands.specs.Places.{at}
 use Rattle.plx_commands.proofs.Places.{at-all, at-same, at-other}
 use Rattle.plx_rules.specs.Part.{Part, Ends, ReadThen, WriteThen, ClockThen, UntilThen}
-use Rattle.plx_worlds.specs.Session.{Session}
-use Rattle.plx_worlds.specs.Boot.{Happening, Position, position, after_part}
-use Rattle.plx_worlds.specs.Claims.{claim_of}
-use Rattle.plx_worlds.specs.Ends.{End}
-use Rattle.plx_worlds.specs.Holds.{Hold, Nothing, Seen, Wrote, Waited, Held}
+use Rattle.plx_rules.specs.Session.{Session}
+use Rattle.plx_rules.specs.Boot.{Happening, Position, position, after_part}
+use Rattle.plx_rules.specs.Claims.{claim_of}
+use Rattle.plx_rules.specs.Ends.{End}
+use Rattle.plx_rules.specs.Holds.{Hold, Nothing, Seen, Wrote, Waited, Held}
 use Rattle.plx_geom.specs.Geometry.{Geometry, lease_at}
-use Rattle.plx_worlds.specs.Holds.{after_write, after_reply, first_hold, timed, shown, seen_for, seen_by, reread, renewed, wrote}
+use Rattle.plx_rules.specs.Holds.{after_write, after_reply, first_hold, timed, shown, seen_for, seen_by, reread, renewed, wrote}
 use Rattle.plx_gate.specs.Leases.{lease_bytes, read_lease, IsLease, IsClaimed}
-use Rattle.plx_worlds.specs.Times.{wait, term, is_expired}
+use Rattle.plx_rules.specs.Times.{wait, term, is_expired}
 use Rattle.plx_commands.specs.declared.reply.Reply.{Reply}
 use Rattle.plx_commands.specs.declared.reply.Reply.TheVariants as reply
-use Rattle.plx_worlds.specs.Owners.{first_landed, pending_write}
-use Rattle.plx_worlds.specs.Settings.{boot_number}
-use Rattle.plx_worlds.specs.World.{Seat, setting_at}
+use Rattle.plx_rules.specs.Owners.{first_landed, pending_write}
+use Rattle.plx_rules.specs.Settings.{boot_number}
+use Rattle.plx_rules.specs.World.{Seat, setting_at}
 use Rattle.plx_gate.proofs.Leases.{lease-back, lease-same}
 use Rattle.law_lease.proofs.LeaseFrames.{grip-open}
 use Rattle.law_lease.proofs.LeaseLands.{asked-may, grip-asked, first-set}

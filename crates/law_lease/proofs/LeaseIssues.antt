@@ -13,16 +13,16 @@ use Rattle.plx_commands.specs.Places.{at}
 use Rattle.plx_commands.proofs.Places.{at-all}
 use Rattle.plx_disk.proofs.Lists.{push-last}
 use Rattle.law_lease.proofs.Lists.{push-cases}
-use Rattle.plx_worlds.specs.Boot.{Position, position}
-use Rattle.plx_worlds.specs.Claims.{claim_of}
-use Rattle.plx_worlds.specs.Holds.{Hold, Nothing, Seen, Wrote, Waited, Held}
+use Rattle.plx_rules.specs.Boot.{Position, position}
+use Rattle.plx_rules.specs.Claims.{claim_of}
+use Rattle.plx_rules.specs.Holds.{Hold, Nothing, Seen, Wrote, Waited, Held}
 use Rattle.plx_geom.specs.Geometry.{Geometry, IsGeometry, lease_count, lease_at}
 use Rattle.plx_gate.specs.Leases.{IsClaimed}
-use Rattle.plx_worlds.specs.Owners.{first_landed, pending_write}
+use Rattle.plx_rules.specs.Owners.{first_landed, pending_write}
 use Rattle.plx_commands.specs.Replies.{is_in}
 use Rattle.law_lease.proofs.Rests.{rests-or, rests-home, needs-before, needs-last}
-use Rattle.plx_worlds.specs.Settings.{boot_number}
-use Rattle.plx_worlds.specs.World.{Seat, setting_at}
+use Rattle.plx_rules.specs.Settings.{boot_number}
+use Rattle.plx_rules.specs.World.{Seat, setting_at}
 use Rattle.law_lease.proofs.LeaseFrames.{Shrinks, good-shrinks, one-claim, grip-open}
 use Rattle.law_lease.proofs.Leased.{MayAsk, MayUse, IsLive, NoneLive, LiveOnly, IsBacked, IsOfKind, IsClaiming, Good, grip_at, GoodSeat, LeaseOn}
 use Rattle.plx_geom.proofs.Places.{lease-lease}

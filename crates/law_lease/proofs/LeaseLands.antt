@@ -11,18 +11,18 @@ use Rattle.plx_base.specs.declared.write_kind.WriteKind.TheVariants as kind
 use Rattle.plx_disk.specs.Writes.{Issued, with_sector, all_sectors}
 use Rattle.plx_rules.specs.Part.{Ends, ReadThen, WriteThen, ClockThen, UntilThen}
 use Rattle.plx_disk.proofs.Lists.{set-same, set-other}
-use Rattle.plx_worlds.specs.Times.{window, term}
+use Rattle.plx_rules.specs.Times.{window, term}
 use Rattle.law_lease.proofs.Lists.{pending-is, whole-none}
-use Rattle.plx_worlds.specs.Boot.{Place, Idle, Begins, In, position}
-use Rattle.plx_worlds.specs.Holds.{Hold, Held}
+use Rattle.plx_rules.specs.Boot.{Place, Idle, Begins, In, position}
+use Rattle.plx_rules.specs.Holds.{Hold, Held}
 use Rattle.plx_geom.specs.Geometry.{Geometry, lease_count, lease_at}
-use Rattle.plx_worlds.specs.Holds.{renewed}
+use Rattle.plx_rules.specs.Holds.{renewed}
 use Rattle.plx_gate.specs.Leases.{lease_bytes, read_lease, IsLease, IsClaimed}
-use Rattle.plx_worlds.specs.Owners.{first_landed, pending_write, is_set}
-use Rattle.plx_worlds.specs.Rests.{IsUnder, rests_on}
+use Rattle.plx_rules.specs.Owners.{first_landed, pending_write, is_set}
+use Rattle.plx_rules.specs.Rests.{IsUnder, rests_on}
 use Rattle.law_lease.proofs.Rests.{rests-alone}
-use Rattle.plx_worlds.specs.Settings.{boot_number}
-use Rattle.plx_worlds.specs.World.{Seat, setting_at}
+use Rattle.plx_rules.specs.Settings.{boot_number}
+use Rattle.plx_rules.specs.World.{Seat, setting_at}
 use Rattle.plx_gate.proofs.Leases.{lease-back, lease-same}
 use Rattle.law_lease.proofs.LeaseSectors.{sector-first, sector-past}
 use Rattle.law_lease.proofs.LeaseFrames.{Shrinks, good-shrinks, good-changed, claim-alone, claim-clears, renew-clears, grip_while-open, grip_while-away}

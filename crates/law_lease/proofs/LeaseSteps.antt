@@ -25,18 +25,18 @@ use Rattle.plx_geom.specs.Geometry.{Geometry, IsGeometry, lease_count, image_lea
 use Rattle.plx_geom.specs.declared.place.Place.TheVariants as place
 use Rattle.plx_gate.specs.Leases.{lease_bytes}
 use Rattle.plx_rules.specs.Part.{Part, Ends, ReadThen, WriteThen, ClockThen, UntilThen}
-use Rattle.plx_worlds.specs.Boot.{Happening, Began, Asked, Place, Idle, Begins, In, Position, position, place_of, after_part, goes_to, begun, went_on}
-use Rattle.plx_worlds.specs.Claims.{claim_of}
-use Rattle.plx_worlds.specs.Commands.{command_part, IsWellFormed}
-use Rattle.plx_worlds.specs.Ends.{End}
-use Rattle.plx_worlds.specs.Formatted.{IsFormatted}
-use Rattle.plx_worlds.specs.Holds.{Hold, no_holds, after_answer, after_write, after_first, session_at, timed}
-use Rattle.plx_worlds.specs.Rests.{rests_on}
-use Rattle.plx_worlds.specs.Session.{Known}
-use Rattle.plx_worlds.specs.Settings.{Setting, boot_number}
-use Rattle.plx_worlds.specs.World as world
-use Rattle.plx_worlds.specs.World.{World, Seat, Step, Reached, IsReading, first_world, setting_at}
-use Rattle.plx_worlds.specs.Times.{term}
+use Rattle.plx_rules.specs.Boot.{Happening, Began, Asked, Place, Idle, Begins, In, Position, position, place_of, after_part, goes_to, begun, went_on}
+use Rattle.plx_rules.specs.Claims.{claim_of}
+use Rattle.plx_rules.specs.Commands.{command_part, IsWellFormed}
+use Rattle.plx_rules.specs.Ends.{End}
+use Rattle.plx_rules.specs.Formatted.{IsFormatted}
+use Rattle.plx_rules.specs.Holds.{Hold, no_holds, after_answer, after_write, after_first, session_at, timed}
+use Rattle.plx_rules.specs.Rests.{rests_on}
+use Rattle.plx_rules.specs.Session.{Known}
+use Rattle.plx_rules.specs.Settings.{Setting, boot_number}
+use Rattle.plx_rules.specs.World as world
+use Rattle.plx_rules.specs.World.{World, Seat, Step, Reached, IsReading, first_world, setting_at}
+use Rattle.plx_rules.specs.Times.{term}
 use Rattle.law_lease.proofs.LawfulCommands.{lawful-command}
 use Rattle.law_lease.proofs.LeaseFrames.{Shrinks, good-shrinks}
 use Rattle.law_lease.proofs.LeaseGoes.{good-part, good-timed, good-first, lease-log, good-free, good-read, good-written}

@@ -11,19 +11,19 @@ use Rattle.plx_disk.specs.Writes.{Issued, all_sectors}
 use Rattle.plx_disk.specs.declared.ask.Ask.TheVariants as ask
 use Rattle.plx_disk.specs.declared.ask.Answer.TheVariants as answer
 use Rattle.plx_rules.specs.Part.{Part, Ends, ReadThen, WriteThen, ClockThen, UntilThen}
-use Rattle.plx_worlds.specs.Boot.{Place, Idle, Begins, In, Position, position}
-use Rattle.plx_worlds.specs.Claims.{claim_of}
-use Rattle.plx_worlds.specs.Commands.{IsWellFormed}
-use Rattle.plx_worlds.specs.Rests.{IsUnder, rests_on}
+use Rattle.plx_rules.specs.Boot.{Place, Idle, Begins, In, Position, position}
+use Rattle.plx_rules.specs.Claims.{claim_of}
+use Rattle.plx_rules.specs.Commands.{IsWellFormed}
+use Rattle.plx_rules.specs.Rests.{IsUnder, rests_on}
 use Rattle.plx_commands.specs.Replies.{is_in}
 use Rattle.plx_commands.specs.declared.command.Command.{Command}
 use Rattle.plx_geom.specs.Geometry.{Geometry, IsGeometry, lease_count, root_lease, image_lease, extent_lease, map_at, record_at, lease_at, descriptor_at, data_at}
-use Rattle.plx_worlds.specs.Holds.{Hold, Nothing, Seen, Wrote, Waited, Held, no_holds, after_answer, after_write, renewed, timed}
+use Rattle.plx_rules.specs.Holds.{Hold, Nothing, Seen, Wrote, Waited, Held, no_holds, after_answer, after_write, renewed, timed}
 use Rattle.plx_gate.specs.Leases.{lease_bytes, read_lease, IsLease, IsClaimed}
-use Rattle.plx_worlds.specs.Owners.{first_landed, pending_write}
-use Rattle.plx_worlds.specs.Settings.{boot_number}
-use Rattle.plx_worlds.specs.Times.{window, term}
-use Rattle.plx_worlds.specs.World.{World, Seat, setting_at}
+use Rattle.plx_rules.specs.Owners.{first_landed, pending_write}
+use Rattle.plx_rules.specs.Settings.{boot_number}
+use Rattle.plx_rules.specs.Times.{window, term}
+use Rattle.plx_rules.specs.World.{World, Seat, setting_at}
 
 -- a write is where its kind may be, and rests on these leases, its home first
 abbrev pub IsPlaced : Geometry → WriteKind → ℕ → List ℕ → (rests : List ℕ) → Type 0

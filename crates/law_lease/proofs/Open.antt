@@ -8,12 +8,12 @@ use Rattle.plx_commands.specs.Places.{at}
 use Rattle.plx_disk.specs.Writes.{Issued, MayLand}
 use Rattle.plx_geom.specs.Geometry.{Geometry, lease_count, lease_at}
 use Rattle.plx_rules.specs.Part.{Ends, ReadThen, WriteThen, ClockThen, UntilThen}
-use Rattle.plx_worlds.specs.Boot.{Place, Idle, Begins, In, position}
-use Rattle.plx_worlds.specs.Holds.{Hold, Held}
-use Rattle.plx_worlds.specs.Owners.{pending_write}
-use Rattle.plx_worlds.specs.Rests.{IsUnder}
-use Rattle.plx_worlds.specs.Settings.{boot_number}
-use Rattle.plx_worlds.specs.World.{World, Seat, setting_at}
+use Rattle.plx_rules.specs.Boot.{Place, Idle, Begins, In, position}
+use Rattle.plx_rules.specs.Holds.{Hold, Held}
+use Rattle.plx_rules.specs.Owners.{pending_write}
+use Rattle.plx_rules.specs.Rests.{IsUnder}
+use Rattle.plx_rules.specs.Settings.{boot_number}
+use Rattle.plx_rules.specs.World.{World, Seat, setting_at}
 use Rattle.law_lease.proofs.LeaseFrames.{one-claim}
 use Rattle.law_lease.proofs.LeaseIssues.{boots-apart}
 use Rattle.law_lease.proofs.Leased.{IsLive, Unlanded, IsHeld, Good, IsAskedAt, grip_at, Leased}

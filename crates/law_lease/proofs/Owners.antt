@@ -10,13 +10,13 @@ use Rattle.plx_base.specs.declared.write_kind.WriteKind.{WriteKind}
 use Rattle.plx_base.specs.declared.write_kind.WriteKind.TheVariants as kind
 use Rattle.plx_disk.specs.Writes.{Issued}
 use Rattle.plx_rules.specs.Part.{Ends, ReadThen, WriteThen, ClockThen, UntilThen}
-use Rattle.plx_worlds.specs.Boot.{Place, Idle, Begins, In}
-use Rattle.plx_worlds.specs.Holds.{Hold, Held}
+use Rattle.plx_rules.specs.Boot.{Place, Idle, Begins, In}
+use Rattle.plx_rules.specs.Holds.{Hold, Held}
 use Rattle.plx_geom.specs.Geometry.{Geometry, IsGeometry, lease_count, root_lease, image_lease, extent_lease, lease_at}
 use Rattle.plx_geom.proofs.Places.{lease-lease, map-map, record-record, data-data, descriptor-descriptor}
 use Rattle.plx_gate.specs.Leases.{lease_bytes}
-use Rattle.plx_worlds.specs.Owners.{Owns, Needs, RestsAsNeeded, Exclusion, Guarding, held_while, held_at, first_landed, pending_write}
-use Rattle.plx_worlds.specs.World.{World, setting_of, stands}
+use Rattle.plx_rules.specs.Owners.{Owns, Needs, RestsAsNeeded, Exclusion, Guarding, held_while, held_at, first_landed, pending_write}
+use Rattle.plx_rules.specs.World.{World, setting_of, stands}
 use Rattle.plx_commands.specs.Replies.{is_in}
 use Rattle.law_lease.proofs.Rests.{rests-alone, rests-home, in-either, either-in}
 use Rattle.law_lease.proofs.LeaseSectors.{sector-past}

@@ -9,7 +9,7 @@ use Rattle.std.proofs.lemmas.Bool.Decides.{eqb_tells}
 use Rattle.std.proofs.lemmas.Nat.{div-mul-add}
 use Rattle.plx_commands.specs.Replies.{is_in}
 use Rattle.plx_geom.specs.Geometry.{Geometry, lease_at, record_at, journal_start, descriptor_at, data_at, map_at}
-use Rattle.plx_worlds.specs.Rests.{IsUnder, home_of, lease_in, image_of_record, image_of_journal, extent_of}
+use Rattle.plx_rules.specs.Rests.{IsUnder, home_of, lease_in, image_of_record, image_of_journal, extent_of}
 
 -- a write rests on a lease, or doesn't
 pub rests-or : (lease : ℕ) (rests : List ℕ) → (is_in lease rests ≡ true) ⊎ (is_in lease rests ≡ true → ⊥)

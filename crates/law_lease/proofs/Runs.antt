@@ -14,15 +14,15 @@ use Rattle.plx_commands.specs.declared.event.Stop.{Stop}
 use Rattle.plx_disk.proofs.Flags.{all-eight}
 use Rattle.plx_disk.specs.Writes.{Issued, all_sectors}
 use Rattle.plx_rules.specs.Part.{Part, Ends, ReadThen, WriteThen, ClockThen, UntilThen}
-use Rattle.plx_worlds.specs.Boot as boot
-use Rattle.plx_worlds.specs.Boot.{Happening, Place, Idle, Begins, In, asks, writes_out, IsRun}
-use Rattle.plx_worlds.specs.Ends.{End}
-use Rattle.plx_worlds.specs.Sequences as play
-use Rattle.plx_worlds.specs.Sequences.{missing, one_more, landing, next_landing, next_of_write, next_of_part, next_at, next_event, stops, Runs, RunsPartly, Makes, IsPlayed, Plays, MakesPartly, PlaysPartly, RunsGoOn, PlayedIsReached}
-use Rattle.plx_worlds.specs.Session.{Known}
-use Rattle.plx_worlds.specs.Settings.{boot_number}
-use Rattle.plx_worlds.specs.World as world
-use Rattle.plx_worlds.specs.World.{World, Seat, Step, Reached, BootsRun, IsReading, IsBack, setting_at, setting_of, stands, is_boot_of, issued_by}
+use Rattle.plx_rules.specs.Boot as boot
+use Rattle.plx_rules.specs.Boot.{Happening, Place, Idle, Begins, In, asks, writes_out, IsRun}
+use Rattle.plx_rules.specs.Ends.{End}
+use Rattle.plx_rules.specs.Sequences as play
+use Rattle.plx_rules.specs.Sequences.{missing, one_more, landing, next_landing, next_of_write, next_of_part, next_at, next_event, stops, Runs, RunsPartly, Makes, IsPlayed, Plays, MakesPartly, PlaysPartly, RunsGoOn, PlayedIsReached}
+use Rattle.plx_rules.specs.Session.{Known}
+use Rattle.plx_rules.specs.Settings.{boot_number}
+use Rattle.plx_rules.specs.World as world
+use Rattle.plx_rules.specs.World.{World, Seat, Step, Reached, BootsRun, IsReading, IsBack, setting_at, setting_of, stands, is_boot_of, issued_by}
 use Rattle.law_lease.proofs.LeaseSteps.{reached-leased}
 use Rattle.law_lease.proofs.Leased.{IsAskedAt, Leased}
 use Rattle.law_lease.proofs.Lists.{same-some}
@@ -252,3 +252,8 @@ plays-partly (play.next played rest) reached = plays-partly rest (played-to play
 -- and what is played is reached
 pub played-reached : PlayedIsReached
 played-reached w v events reached plays = plays-partly plays reached
+
+-- a whole schedule leads to a world that is reached
+pub reached-plays : {w v : World} {events : List Event} → Plays w events v → Reached w → Reached v
+reached-plays play.over reached = reached
+reached-plays (play.next played rest) reached = reached-plays rest (played-to played reached)

@@ -25,15 +25,15 @@ use Rattle.plx_disk.specs.declared.ask.Answer.{Answer}
 use Rattle.plx_disk.specs.declared.ask.Answer.TheVariants as answer
 use Rattle.plx_geom.specs.Geometry.{Geometry, block_count}
 use Rattle.plx_rules.specs.Part.{Part, Ends, ReadThen, WriteThen, ClockThen, UntilThen, answered}
-use Rattle.plx_worlds.specs.Boot.{Happening, Began, Asked, Place, Idle, Begins, In, Position, position, begun, went_on, goes_to, after_part, place_of}
-use Rattle.plx_worlds.specs.Commands.{IsBuilt, IsWellFormed, command_part}
-use Rattle.plx_worlds.specs.Ends.{End}
-use Rattle.plx_worlds.specs.Holds.{Hold, shown, after_answer, after_write, after_reply, after_first, first_hold, session_at, sample_of}
-use Rattle.plx_worlds.specs.Session.{Known}
-use Rattle.plx_worlds.specs.Settings.{boot_number}
-use Rattle.plx_worlds.specs.World as world
-use Rattle.plx_worlds.specs.Rests.{rests_on}
-use Rattle.plx_worlds.specs.World.{World, Seat, Step, Reached, IsReading, IsBack, setting_at, setting_of, stands, told, with_happening, goes_on, with_surface, after_start, after_issue, issued_by, is_boot_of}
+use Rattle.plx_rules.specs.Boot.{Happening, Began, Asked, Place, Idle, Begins, In, Position, position, begun, went_on, goes_to, after_part, place_of}
+use Rattle.plx_rules.specs.Commands.{IsBuilt, IsWellFormed, command_part}
+use Rattle.plx_rules.specs.Ends.{End}
+use Rattle.plx_rules.specs.Holds.{Hold, shown, after_answer, after_write, after_reply, after_first, first_hold, session_at, sample_of}
+use Rattle.plx_rules.specs.Session.{Known}
+use Rattle.plx_rules.specs.Settings.{boot_number}
+use Rattle.plx_rules.specs.World as world
+use Rattle.plx_rules.specs.Rests.{rests_on}
+use Rattle.plx_rules.specs.World.{World, Seat, Step, Reached, IsReading, IsBack, setting_at, setting_of, stands, told, with_happening, goes_on, with_surface, after_start, after_issue, issued_by, is_boot_of}
 use Rattle.law_lease.proofs.LeaseSteps.{reached-leased}
 use Rattle.law_lease.proofs.Runs.{own-boot}
 

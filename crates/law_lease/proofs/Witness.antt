@@ -30,22 +30,22 @@ use Rattle.plx_gate.specs.declared.image.ImageRecord.TheVariants as image_is
 use Rattle.plx_geom.specs.Geometry.{Geometry, IsGeometry, image_lease, lease_at}
 use Rattle.plx_rules.specs.Part.{Part, Ends, ReadThen, UntilThen}
 use Rattle.plx_rules.specs.declared.journaled.Journaled.{Journaled}
-use Rattle.plx_worlds.specs.Attaching.{image_use, attach_ends, after_load, after_record, load_image, after_claim}
-use Rattle.plx_worlds.specs.Boot.{Place, Idle, Begins, In, Position, position}
-use Rattle.plx_worlds.specs.Claims.{ClaimEnd, ClaimReadFault, claim_of, end_of_term, own_use, claim_in_time, reread_by, reread_part, written_part, seen_part, claim_part}
-use Rattle.plx_worlds.specs.Commands.{record_part, journal_part, next_write}
-use Rattle.plx_worlds.specs.Ends.{End, ends, ends_in_time, lost, write_then}
-use Rattle.plx_worlds.specs.Holds.{Hold, Nothing, Seen, Wrote, Waited, Held, wrote, seen_by, reread}
-use Rattle.plx_worlds.specs.InUse.{InUse}
-use Rattle.plx_worlds.specs.Journal.{finding_of}
-use Rattle.plx_worlds.specs.Loading.{LoadEnd, load_read, load_found, load_part}
-use Rattle.plx_worlds.specs.Owners.{Owns, held_at, pending_write}
-use Rattle.plx_worlds.specs.Parts.{followed_by}
-use Rattle.plx_worlds.specs.Records.{made_record, plain_record}
-use Rattle.plx_worlds.specs.Session.{Session, Known, nothing_known, with_claim, with_session, new_session, with_write, inserted}
-use Rattle.plx_worlds.specs.Settings.{Setting}
-use Rattle.plx_worlds.specs.World as world
-use Rattle.plx_worlds.specs.World.{setting_at}
+use Rattle.plx_rules.specs.Attaching.{image_use, attach_ends, after_load, after_record, load_image, after_claim}
+use Rattle.plx_rules.specs.Boot.{Place, Idle, Begins, In, Position, position}
+use Rattle.plx_rules.specs.Claims.{ClaimEnd, ClaimReadFault, claim_of, end_of_term, own_use, claim_in_time, reread_by, reread_part, written_part, seen_part, claim_part}
+use Rattle.plx_rules.specs.Commands.{record_part, journal_part, next_write}
+use Rattle.plx_rules.specs.Ends.{End, ends, ends_in_time, lost, write_then}
+use Rattle.plx_rules.specs.Holds.{Hold, Nothing, Seen, Wrote, Waited, Held, wrote, seen_by, reread}
+use Rattle.plx_rules.specs.InUse.{InUse}
+use Rattle.plx_rules.specs.Journal.{finding_of}
+use Rattle.plx_rules.specs.Loading.{LoadEnd, load_read, load_found, load_part}
+use Rattle.plx_rules.specs.Owners.{Owns, held_at, pending_write}
+use Rattle.plx_rules.specs.Parts.{followed_by}
+use Rattle.plx_rules.specs.Records.{made_record, plain_record}
+use Rattle.plx_rules.specs.Session.{Session, Known, nothing_known, with_claim, with_session, new_session, with_write, inserted}
+use Rattle.plx_rules.specs.Settings.{Setting}
+use Rattle.plx_rules.specs.World as world
+use Rattle.plx_rules.specs.World.{setting_at}
 use Rattle.law_lease.specs.TakenOver.{one, other, slot, free_report, written_report, trace_before, trace_after, TakenOver}
 use Rattle.law_lease.proofs.FirstDevice.{formatted, formatted-is}
 use Rattle.law_lease.proofs.Stages.{Spot, Stage, world_at, starts-now, first-reading, clocked, waited, read, written, ticked}

@@ -10,8 +10,8 @@ use Rattle.plx_commands.specs.declared.entry.Entry.TheVariants.{Start, Reply}
 use Rattle.plx_commands.specs.declared.reply.Reply.TheVariants as reply
 use Rattle.plx_commands.specs.declared.reply.Report.{Report}
 use Rattle.plx_geom.specs.Geometry.{image_lease}
-use Rattle.plx_worlds.specs.Owners.{Owns}
-use Rattle.plx_worlds.specs.World.{World, Reached}
+use Rattle.plx_rules.specs.Owners.{Owns}
+use Rattle.plx_rules.specs.World.{World, Reached}
 
 -- the two appliances, and the slot
 abbrev pub one : ApplianceNo

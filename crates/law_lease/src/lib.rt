@@ -6,9 +6,9 @@
 
 ghost use Rattle.law_lease.specs.FirstDevice.{HasFormatted};
 ghost use Rattle.law_lease.specs.TakenOver.{TakenOver};
-ghost use Rattle.plx_worlds.specs.Owners.{Exclusion, Guarding, RestsAsNeeded};
-ghost use Rattle.plx_worlds.specs.Sequences.{PlayedIsReached, RunsGoOn};
-ghost use Rattle.plx_worlds.specs.World.{BootsRun};
+ghost use Rattle.plx_rules.specs.Owners.{Exclusion, Guarding, RestsAsNeeded};
+ghost use Rattle.plx_rules.specs.Sequences.{PlayedIsReached, RunsGoOn};
+ghost use Rattle.plx_rules.specs.World.{BootsRun};
 
 /// At most one boot owns a lease, the root's, an image's or an extent's.
 pub fn exclusion()

@@ -12,13 +12,13 @@ use Rattle.plx_disk.specs.declared.ask.Ask.TheVariants as ask
 use Rattle.plx_disk.specs.declared.ask.Answer.TheVariants as answer
 use Rattle.plx_geom.specs.Geometry.{Geometry, lease_count, lease_number, image_lease}
 use Rattle.plx_rules.specs.Part.{Part}
-use Rattle.plx_worlds.specs.Attaching.{image_use}
-use Rattle.plx_worlds.specs.Ends.{End, ends, lost, write_then, ends_in_time}
-use Rattle.plx_worlds.specs.Holds.{Hold, Nothing, Held}
-use Rattle.plx_worlds.specs.InUse.{lease_name}
-use Rattle.plx_worlds.specs.Owners.{Needs}
-use Rattle.plx_worlds.specs.Session.{Known, nothing_known}
-use Rattle.plx_worlds.specs.Settings.{Setting}
+use Rattle.plx_rules.specs.Attaching.{image_use}
+use Rattle.plx_rules.specs.Ends.{End, ends, lost, write_then, ends_in_time}
+use Rattle.plx_rules.specs.Holds.{Hold, Nothing, Held}
+use Rattle.plx_rules.specs.InUse.{lease_name}
+use Rattle.plx_rules.specs.Owners.{Needs}
+use Rattle.plx_rules.specs.Session.{Known, nothing_known}
+use Rattle.plx_rules.specs.Settings.{Setting}
 use Rattle.law_run.specs.AllowedAsks.{WentOn, MayWrite}
 use Rattle.law_run.specs.CommandLogs.{Exchange, Finished, first_reading}
 use Rattle.law_run.specs.Holdings as holdings

@@ -8,12 +8,12 @@ use Rattle.plx_commands.specs.declared.command.Command.TheVariants.{Attach}
 use Rattle.plx_commands.specs.declared.reply.Reply.TheVariants as reply
 use Rattle.plx_geom.specs.Geometry.{image_lease, lease_at}
 use Rattle.plx_rules.specs.Part.{Part}
-use Rattle.plx_worlds.specs.Attaching.{claim_image, attach_held, attach_part}
-use Rattle.plx_worlds.specs.Commands.{command_part}
-use Rattle.plx_worlds.specs.Ends.{End}
-use Rattle.plx_worlds.specs.Holds.{Hold, Nothing, Seen, Wrote, Waited, Held}
-use Rattle.plx_worlds.specs.Session.{Session, Known}
-use Rattle.plx_worlds.specs.Settings.{Setting}
+use Rattle.plx_rules.specs.Attaching.{claim_image, attach_held, attach_part}
+use Rattle.plx_rules.specs.Commands.{command_part}
+use Rattle.plx_rules.specs.Ends.{End}
+use Rattle.plx_rules.specs.Holds.{Hold, Nothing, Seen, Wrote, Waited, Held}
+use Rattle.plx_rules.specs.Session.{Session, Known}
+use Rattle.plx_rules.specs.Settings.{Setting}
 use Rattle.law_run.specs.CommandLogs.{Finished}
 use Rattle.law_run.specs.Holdings.{at_first, holds_after, hold_of}
 use Rattle.law_run.specs.Refusals.{already_attached, no_slot, claims}

@@ -15,18 +15,18 @@ use Rattle.plx_geom.specs.Geometry.{Geometry, lease_count, image_lease, record_a
 use Rattle.plx_geom.proofs.Places.{record-record, record-log, record-descriptor, record-data, log-descriptor, descriptor-descriptor, data-descriptor}
 use Rattle.plx_rules.specs.Part.{Part}
 use Rattle.plx_rules.specs.declared.journaled.Journaled.{Journaled}
-use Rattle.plx_worlds.specs.Attaching.{image_use, attach_ends, after_load, load_journal, after_record, load_image}
-use Rattle.plx_worlds.specs.Ends.{End, read_then, damaged}
-use Rattle.plx_worlds.specs.Journal.{journal_slot, Finding, Outside, Unused, Counts, finding}
-use Rattle.plx_worlds.specs.Loading.{LoadEnd, gap_found, load_found, load_read, load_part}
-use Rattle.plx_worlds.specs.Parts.{followed_by}
-use Rattle.plx_worlds.specs.Records.{is_live, is_plain, size_of, applied_of, plain_record, attached_record}
-use Rattle.plx_worlds.specs.Session.{Session, Known, with_session, inserted, first_gap, session_report}
-use Rattle.plx_worlds.specs.Settings.{Setting}
-use Rattle.plx_worlds.specs.Stored.{Given, record_in, record_on, Stores}
+use Rattle.plx_rules.specs.Attaching.{image_use, attach_ends, after_load, load_journal, after_record, load_image}
+use Rattle.plx_rules.specs.Ends.{End, read_then, damaged}
+use Rattle.plx_rules.specs.Journal.{journal_slot, Finding, Outside, Unused, Counts, finding}
+use Rattle.plx_rules.specs.Loading.{LoadEnd, gap_found, load_found, load_read, load_part}
+use Rattle.plx_rules.specs.Parts.{followed_by}
+use Rattle.plx_rules.specs.Records.{is_live, is_plain, size_of, applied_of, plain_record, attached_record}
+use Rattle.plx_rules.specs.Session.{Session, Known, with_session, inserted, first_gap, session_report}
+use Rattle.plx_rules.specs.Settings.{Setting}
+use Rattle.plx_rules.specs.Stored.{Given, record_in, record_on, Stores}
 use Rattle.law_run.specs.CommandLogs.{Exchange, Finished, IsIn}
 use Rattle.law_run.specs.Holdings.{hold_of, is_lease_read, claims_in, claims_begun}
-use Rattle.plx_worlds.specs.Holds.{Held}
+use Rattle.plx_rules.specs.Holds.{Held}
 use Rattle.law_run.specs.KnownBytes.{nothing_given, with_block, learnt, known_in}
 use Rattle.law_run.specs.Outside.{IsOutside, no_record, not_plain, no_descriptor, misplaced, past_size, past_gap}
 use Rattle.law_run.specs.Replies.{ReadRestsOn, of_record, of_log, of_descriptor, of_data}

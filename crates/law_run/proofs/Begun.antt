@@ -2,7 +2,7 @@
 use Rattle.std.proofs.Common.{◌≤◌, List, arith}
 use Rattle.plx_commands.specs.declared.command.Command.{Command}
 use Rattle.plx_commands.specs.declared.command.Command.TheVariants.{Attach, Detach, Create, Delete, Read, Write, Flush, Reserve, Renew, Retire, Reclaim}
-use Rattle.plx_worlds.specs.Settings.{Setting}
+use Rattle.plx_rules.specs.Settings.{Setting}
 use Rattle.law_run.specs.Bounds.{bound}
 use Rattle.law_run.specs.CommandLogs.{Finished}
 use Rattle.law_run.specs.Positions.{PositionsAgree}

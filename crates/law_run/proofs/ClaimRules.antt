@@ -5,22 +5,24 @@ use Rattle.std.specs.Str.{bytes_eq}
 use Rattle.std.proofs.lemmas.Bool.Decides.{leb_tells}
 use Rattle.std.proofs.lemmas.Slice.Eq.{bytes_eq-Decides}
 use Rattle.plx_base.specs.declared.lease.LeaseRecord.{LeaseRecord}
+use Rattle.plx_disk.specs.declared.ask.Ask.{Ask}
 use Rattle.plx_disk.specs.declared.ask.Answer.TheVariants as answer
 use Rattle.plx_gate.specs.Leases.{lease_bytes, read_lease}
 use Rattle.plx_gate.proofs.Leases.{lease-only}
-use Rattle.plx_rules.specs.Part.{Part, Ends}
-use Rattle.plx_worlds.specs.Claims.{ClaimEnd, ClaimLost, ClaimDamaged, claim_of, own_record, own_use, claim_in_time, claim_damaged, reread_by, reread_part, written_part, if_expired, seen_part, claim_part}
-use Rattle.plx_worlds.specs.Holds.{Held, reread}
-use Rattle.plx_worlds.specs.InUse.{InUse, earlier, first_reached, unless_reached}
-use Rattle.plx_worlds.specs.Settings.{Setting}
-use Rattle.plx_worlds.specs.Times.{window, wait, term, is_expired}
-use Rattle.law_run.specs.AllowedAsks.{WentOn, MayAsk, claim_of_lease}
-use Rattle.law_run.specs.ClaimEnds.{AreInUse, beside, with_own, missed, reached, ShowsClaim, with_exchanges, MayBeginClaim, ClaimsKeepRules}
+use Rattle.plx_geom.specs.Geometry.{lease_at}
+use Rattle.plx_rules.specs.Part.{Part, Ends, standing}
+use Rattle.plx_rules.specs.Claims.{ClaimEnd, ClaimLost, ClaimDamaged, claim_of, own_record, own_use, claim_in_time, claim_damaged, reread_by, reread_part, written_part, if_expired, seen_part, claim_part}
+use Rattle.plx_rules.specs.Holds.{Held, reread}
+use Rattle.plx_rules.specs.InUse.{InUse, earlier, first_reached, unless_reached}
+use Rattle.plx_rules.specs.Settings.{Setting}
+use Rattle.plx_rules.specs.Times.{window, wait, term, is_expired}
+use Rattle.law_run.specs.AllowedAsks.{WentOn, claim_of_lease}
+use Rattle.law_run.specs.ClaimEnds.{AreInUse, beside, with_own, missed, reached, ShowsClaim, claim_bound, MayBeginClaim, IsClaimAsk, IsClaimEnd, ClaimsKeepRules}
 use Rattle.law_run.specs.CommandLogs.{Exchange, CommandLog, IsIn}
 use Rattle.law_run.specs.Replies.{of_clock, of_wait, unexpired, taken}
 use Rattle.law_run.proofs.ClaimSteps.{read_of_lease, after_sight, after_claiming, after_waiting, after_rereading, held-sight, held-claiming, held-waiting, held-rereading}
-use Rattle.law_run.proofs.Machines.{meets-keeps}
-use Rattle.law_run.proofs.Meets.{Meets}
+use Rattle.law_run.specs.Machines.{with_exchanges}
+use Rattle.law_run.proofs.Machines.{MeetsWork, meets-keeps}
 use Rattle.law_run.proofs.Right.{clock}
 use Rattle.law_run.proofs.Runs.{HasFirst}
 use Rattle.law_run.proofs.Spelled.{lease-rest}
@@ -47,13 +49,13 @@ bytes-other a b differ same = clash (bytes_eq a b) ((bytes_eq-Decides a b).1 sam
 
 module _ (s : Setting) (boot_small : s.boot < 2 ^ 128) (log : CommandLog) (others : List InUse) (lease number : ℕ) (may : MayBeginClaim s log lease number) (has : HasFirst log.exchanges) where
   abbrev Claims : List Exchange → Part ClaimEnd → ℕ → Type 0
-  Claims done part n = Meets (λ done'. MayAsk s (with_exchanges log done')) (λ done'. ShowsClaim s others lease (with_exchanges log done')) done part n
+  Claims done part n = MeetsWork s log (lease_at lease) (ShowsClaim s others lease) done part n
 
   -- bytes that are no lease end it after one more reading
   ends-damaged : (done : List Exchange) (bytes : List ℕ) (uses : List InUse) (n : ℕ) → WentOn done → IsIn (read_of_lease lease (answer.Bytes bytes)) done → read_lease bytes ≡ None →
       ((last : ℕ) → AreInUse (with_exchanges log (clock last ∷ done)) others lease uses) → Claims done (claim_damaged uses) (suc n)
   ends-damaged done bytes uses n went read none used = (
-    (went, tt),
+    ((went, tt), tt),
     λ last small. by-reached (λ part. Claims (clock last ∷ done) part n) uses last (Ends ClaimDamaged)
         (λ due is. reached uses (used last) (of_clock (done, refl)) is)
         (λ is. record { bytes = bytes; read = inr read; outside = none; reading = last; last = (done, refl); uses = uses; used = used last; early = is }),
@@ -89,26 +91,32 @@ module _ (s : Setting) (boot_small : s.boot < 2 ^ 128) (log : CommandLog) (other
           let own = claim_of s.boot number sample in
           let held = held-sight s boot_small log.before log.exchanges has lease number may.few sample small bytes may.nothing seen sees is in (
             (
-              (tt, (tt, may.went)),
-              claim_of_lease lease own seen bytes log.exchanges may.within refl (λ c u e. (let P : ⊥ = cc in P)) refl sees is refl may.counted refl
-                  (lease-rest (own_record own) ∙ sym (ap (drop 512) (lease-only bytes seen sees).1 ∙ lease-rest seen)) refl,
+              (
+                (tt, (tt, may.went)),
+                claim_of_lease lease own seen bytes log.exchanges may.within refl (λ c u e. (let P : ⊥ = cc in P)) refl sees is refl may.counted refl
+                    (lease-rest (own_record own) ∙ sym (ap (drop 512) (lease-only bytes seen sees).1 ∙ lease-rest seen)) refl,
+              ),
+              refl,
             ),
             (
               (
-                (tt, (tt, (tt, may.went))),
-                record {
-                  lease = lease;
-                  claim = own;
-                  until = sample + term;
-                  wrote = held-claiming s boot_small log.before log.exchanges has lease number may.few sample small bytes;
-                  after = refl;
-                },
+                (
+                  (tt, (tt, (tt, may.went))),
+                  record {
+                    lease = lease;
+                    claim = own;
+                    until = sample + term;
+                    wrote = held-claiming s boot_small log.before log.exchanges has lease number may.few sample small bytes;
+                    after = refl;
+                  },
+                ),
+                tt,
               ),
               λ reading past small'. by-reached (λ part. Claims (after_waiting log.exchanges s.boot lease number sample bytes reading) part 2) (own_use lease own ∷ others) reading
                   (reread_part (own_use lease own ∷ others) lease own)
                   (λ due e. reached (own_use lease own ∷ others) (with_own own (inr (inl refl))) (of_wait (sample + wait) (after_claiming log.exchanges s.boot lease number sample bytes, refl)) e)
                   (λ e. (
-                    ((tt, (tt, (tt, (tt, may.went)))), tt),
+                    (((tt, (tt, (tt, (tt, may.went)))), tt), refl),
                     λ again long. after-again sample small bytes seen sees reading past (below-first (own_use lease own) others reading e) again (bytes_eq again (lease_bytes (own_record own))) refl (read_lease again) refl,
                     (after_waiting log.exchanges s.boot lease number sample bytes reading, refl),
                   )),
@@ -117,22 +125,29 @@ module _ (s : Setting) (boot_small : s.boot < 2 ^ 128) (log : CommandLog) (other
             λ reading past small'. missed (lease_bytes (own_record own)) (after_sight log.exchanges lease sample bytes, refl) refl,
           )
 
-  claim-meets : Claims log.exchanges (claim_part s.boot others lease number) 6
+  claim-meets : Claims log.exchanges (claim_part s.boot others lease number) claim_bound
   claim-meets = (
-    (may.went, tt),
+    ((may.went, tt), tt),
     λ sample small. by-reached (λ part. Claims (clock sample ∷ log.exchanges) part 5) others sample _
         (λ due e. reached others beside (of_clock (log.exchanges, refl)) e)
         (λ e. (
-          ((tt, may.went), tt),
+          (((tt, may.went), tt), refl),
           λ bytes long. after-read sample small bytes (read_lease bytes) refl,
           (clock sample ∷ log.exchanges, refl),
         )),
   )
 
-begun-first : (done older : List Exchange) (x : Exchange) → done ≡ x ∷ older → HasFirst done
+pub begun-first : (done older : List Exchange) (x : Exchange) → done ≡ x ∷ older → HasFirst done
 begun-first done older x is = subst HasFirst (sym is) tt
 
 pub claims-keep-rules : ClaimsKeepRules
 claims-keep-rules s log others lease number is may =
-    meets-keeps (λ done. MayAsk s (with_exchanges log done)) (λ done. ShowsClaim s others lease (with_exchanges log done)) log.exchanges (claim_part s.boot others lease number) 6
+    meets-keeps s log (lease_at lease) (ShowsClaim s others lease) (claim_part s.boot others lease number) claim_bound
     (claim-meets s is.boot log others lease number may (begun-first log.exchanges may.others may.first may.begun))
+
+-- so does each claim by where it stands
+pub claim-ask : (rest : Part ClaimEnd) (ask : Ask) → Some ask ≡ standing rest → IsClaimAsk rest ask
+claim-ask rest ask stands s log others lease number own is may leads = (claims-keep-rules s log others lease number is may).asks leads ask (sym stands)
+
+pub claim-end : (rest : Part ClaimEnd) (end : ClaimEnd) → rest ≡ Ends end → IsClaimEnd rest end
+claim-end rest end over s log others lease number own is may leads = (claims-keep-rules s log others lease number is may).ends leads end over

@@ -11,10 +11,10 @@ use Rattle.plx_disk.specs.declared.ask.Answer.TheVariants as answer
 use Rattle.plx_gate.specs.Leases.{lease_bytes, read_lease, IsClaimed}
 use Rattle.plx_gate.proofs.Leases.{lease-back}
 use Rattle.plx_geom.specs.Geometry.{Geometry, lease_count, lease_at}
-use Rattle.plx_worlds.specs.Claims.{claim_of, own_record}
-use Rattle.plx_worlds.specs.Holds.{Hold, Nothing, Seen, Wrote, Waited, Held, wrote, reread, seen_by, shown, timed}
-use Rattle.plx_worlds.specs.Settings.{Setting}
-use Rattle.plx_worlds.specs.Times.{window, wait, term, is_expired}
+use Rattle.plx_rules.specs.Claims.{claim_of, own_record}
+use Rattle.plx_rules.specs.Holds.{Hold, Nothing, Seen, Wrote, Waited, Held, wrote, reread, seen_by, shown, timed}
+use Rattle.plx_rules.specs.Settings.{Setting}
+use Rattle.plx_rules.specs.Times.{window, wait, term, is_expired}
 use Rattle.law_run.specs.CommandLogs.{Exchange, Finished}
 use Rattle.law_run.specs.Holdings.{holds_along, holds_after, hold_of, is_lease_read, claims_in}
 use Rattle.law_run.specs.Sessions.{is_attached}

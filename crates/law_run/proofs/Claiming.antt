@@ -21,14 +21,14 @@ use Rattle.plx_gate.proofs.Leases.{lease-only}
 use Rattle.plx_geom.specs.Geometry.{Geometry, lease_count, image_lease, lease_at, descriptor_at}
 use Rattle.plx_geom.proofs.Places.{image-below, lease-record, lease-log, lease-descriptor, lease-data}
 use Rattle.plx_rules.specs.Part.{Part, Ends}
-use Rattle.plx_worlds.specs.Attaching.{load_image, after_claim, claim_image}
-use Rattle.plx_worlds.specs.Claims.{ClaimEnd, ClaimReadFault, ClaimDamaged, claim_of, own_record, own_use, claim_in_time, reread_by, reread_part, written_part, if_expired, seen_part}
-use Rattle.plx_worlds.specs.Ends.{End, ends, lost}
-use Rattle.plx_worlds.specs.Holds.{Hold, Nothing, Seen, Wrote, Waited, Held, reread, timed}
-use Rattle.plx_worlds.specs.Parts.{followed_by}
-use Rattle.plx_worlds.specs.Session.{Known, with_claim, nothing_known}
-use Rattle.plx_worlds.specs.Settings.{Setting}
-use Rattle.plx_worlds.specs.Times.{window, wait, term, is_expired}
+use Rattle.plx_rules.specs.Attaching.{load_image, after_claim, claim_image}
+use Rattle.plx_rules.specs.Claims.{ClaimEnd, ClaimReadFault, ClaimDamaged, claim_of, own_record, own_use, claim_in_time, reread_by, reread_part, written_part, if_expired, seen_part}
+use Rattle.plx_rules.specs.Ends.{End, ends, lost}
+use Rattle.plx_rules.specs.Holds.{Hold, Nothing, Seen, Wrote, Waited, Held, reread, timed}
+use Rattle.plx_rules.specs.Parts.{followed_by}
+use Rattle.plx_rules.specs.Session.{Known, with_claim, nothing_known}
+use Rattle.plx_rules.specs.Settings.{Setting}
+use Rattle.plx_rules.specs.Times.{window, wait, term, is_expired}
 use Rattle.law_run.specs.AllowedAsks.{WentOn, claim_of_lease}
 use Rattle.law_run.specs.CommandLogs.{Exchange, Finished, first_reading}
 use Rattle.law_run.specs.Holdings as holdings

@@ -12,12 +12,12 @@ use Rattle.plx_commands.specs.declared.command.Command.TheVariants.{Create, Writ
 use Rattle.plx_commands.specs.declared.reply.Reply.{Reply}
 use Rattle.plx_gate.specs.declared.image.ImageRecord.{ImageRecord}
 use Rattle.plx_rules.specs.Part.{Part}
-use Rattle.plx_worlds.specs.Commands.{unless}
-use Rattle.plx_worlds.specs.Ends.{End, ends}
-use Rattle.plx_worlds.specs.Records.{is_live, generation_of, size_of, applied_of}
-use Rattle.plx_worlds.specs.Session.{Session, Known, write_count}
-use Rattle.plx_worlds.specs.Settings.{Setting}
-use Rattle.plx_worlds.specs.Stored.{Given, record_on, IsWriteCount}
+use Rattle.plx_rules.specs.Commands.{unless}
+use Rattle.plx_rules.specs.Ends.{End, ends}
+use Rattle.plx_rules.specs.Records.{is_live, generation_of, size_of, applied_of}
+use Rattle.plx_rules.specs.Session.{Session, Known, write_count}
+use Rattle.plx_rules.specs.Settings.{Setting}
+use Rattle.plx_rules.specs.Stored.{Given, record_on, IsWriteCount}
 use Rattle.law_run.specs.CommandLogs.{Exchange, Finished, first_reading}
 use Rattle.law_run.specs.KnownBytes.{known_after, known_from, record_known}
 use Rattle.law_run.specs.Refusals.{NamesBlock, of_read, of_write, NeedsImage, of_delete, of_block}

@@ -4,7 +4,7 @@ use Rattle.plx_commands.specs.Replies.{is_own}
 use Rattle.plx_commands.specs.declared.command.Command.{Command}
 use Rattle.plx_commands.specs.declared.reply.Reply.{Reply}
 use Rattle.plx_commands.specs.declared.reply.Reply.TheVariants as reply
-use Rattle.plx_worlds.specs.Settings.{Setting}
+use Rattle.plx_rules.specs.Settings.{Setting}
 use Rattle.law_run.specs.CommandLogs.{CommandLog}
 use Rattle.law_run.specs.Completeness.{HasCause, fact, failed, missed, reached, busy, outside, OkWithoutCause}
 use Rattle.law_run.specs.Replies.{Comes, IsReplied, refused, worked}

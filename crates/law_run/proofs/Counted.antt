@@ -5,9 +5,9 @@ use Rattle.plx_gate.specs.Descriptors.{read_descriptor, descriptor_bytes}
 use Rattle.plx_gate.specs.declared.descriptor.Descriptor.{Descriptor}
 use Rattle.plx_gate.specs.declared.image.ImageRecord.{ImageRecord}
 use Rattle.plx_geom.specs.Geometry.{Geometry, descriptor_at}
-use Rattle.plx_worlds.specs.Journal.{journal_slot, is_unapplied, is_placed, counted, counted_of}
-use Rattle.plx_worlds.specs.Records.{is_live, generation_of, applied_of}
-use Rattle.plx_worlds.specs.Stored.{Given, counted_in, IsCounted}
+use Rattle.plx_rules.specs.Journal.{journal_slot, is_unapplied, is_placed, counted, counted_of}
+use Rattle.plx_rules.specs.Records.{is_live, generation_of, applied_of}
+use Rattle.plx_rules.specs.Stored.{Given, counted_in, IsCounted}
 use Rattle.plx_base.proofs.Tests.{eqb-true, nat_lt-true}
 use Rattle.law_run.proofs.Tests.{and-parts, eqb-is, lt-is}
 

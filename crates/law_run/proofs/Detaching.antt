@@ -11,10 +11,10 @@ use Rattle.plx_disk.specs.declared.ask.Answer.TheVariants as answer
 use Rattle.plx_gate.specs.Leases.{lease_bytes}
 use Rattle.plx_geom.specs.Geometry.{image_lease, lease_at}
 use Rattle.plx_geom.proofs.Places.{image-below}
-use Rattle.plx_worlds.specs.Commands.{detach_part, command_part}
-use Rattle.plx_worlds.specs.Ends.{ends}
-use Rattle.plx_worlds.specs.Session.{Session, Known, with_session}
-use Rattle.plx_worlds.specs.Settings.{Setting}
+use Rattle.plx_rules.specs.Commands.{detach_part, command_part}
+use Rattle.plx_rules.specs.Ends.{ends}
+use Rattle.plx_rules.specs.Session.{Session, Known, with_session}
+use Rattle.plx_rules.specs.Settings.{Setting}
 use Rattle.law_run.specs.AllowedAsks.{release_of_lease}
 use Rattle.law_run.specs.CommandLogs.{Finished}
 use Rattle.law_run.specs.Refusals.{NamesBlock, of_read, of_write, NeedsImage, of_delete, of_block}

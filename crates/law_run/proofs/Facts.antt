@@ -9,10 +9,10 @@ use Rattle.plx_gate.specs.declared.image.ImageRecord.{ImageRecord}
 use Rattle.plx_gate.proofs.Images.{image-only}
 use Rattle.plx_geom.specs.Geometry.{Geometry, record_at, data_at}
 use Rattle.plx_rules.specs.declared.journaled.Journaled.{Journaled}
-use Rattle.plx_worlds.specs.Journal.{journal_slot}
-use Rattle.plx_worlds.specs.Records.{is_live, generation_of, size_of, taken_of, root_of, applied_of, is_plain}
-use Rattle.plx_worlds.specs.Session.{Session, write_count, latest, content}
-use Rattle.plx_worlds.specs.Stored.{Given, Holds, standing_in, leads_to, digits_of, StoredImage, record_in, record_on, IsCounted, IsWriteCount, IsNewest, IsContent, journalled, unwritten, Stores}
+use Rattle.plx_rules.specs.Journal.{journal_slot}
+use Rattle.plx_rules.specs.Records.{is_live, generation_of, size_of, taken_of, root_of, applied_of, is_plain}
+use Rattle.plx_rules.specs.Session.{Session, write_count, latest, content}
+use Rattle.plx_rules.specs.Stored.{Given, Holds, standing_in, leads_to, digits_of, StoredImage, record_in, record_on, IsCounted, IsWriteCount, IsNewest, IsContent, journalled, unwritten, Stores}
 use Rattle.law_run.proofs.Counted.{counts-tells}
 use Rattle.law_lease.proofs.Latest.{last-of, IsLast, IsLatest, latest-is}
 use Rattle.law_run.proofs.Right.{descriptor_of, Fits}

@@ -10,10 +10,10 @@ use Rattle.plx_gate.proofs.Descriptors.{read-descriptor, descriptor-back}
 use Rattle.plx_geom.specs.Geometry.{Geometry, record_at, descriptor_at, data_at}
 use Rattle.plx_geom.proofs.Places.{record-descriptor, record-data, data-descriptor}
 use Rattle.plx_rules.specs.declared.journaled.Journaled.{Journaled}
-use Rattle.plx_worlds.specs.Journal.{journal_slot}
-use Rattle.plx_worlds.specs.Records.{is_live, is_plain}
-use Rattle.plx_worlds.specs.Session.{Session, write_count, with_write}
-use Rattle.plx_worlds.specs.Stored.{Given, record_in, record_on, counted_in, IsCounted}
+use Rattle.plx_rules.specs.Journal.{journal_slot}
+use Rattle.plx_rules.specs.Records.{is_live, is_plain}
+use Rattle.plx_rules.specs.Session.{Session, write_count, with_write}
+use Rattle.plx_rules.specs.Stored.{Given, record_in, record_on, counted_in, IsCounted}
 use Rattle.law_run.specs.AllowedAsks.{last_known}
 use Rattle.law_run.specs.KnownBytes.{with_block}
 use Rattle.law_run.proofs.Counted.{counts-spelled, no-count}

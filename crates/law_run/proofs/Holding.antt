@@ -10,8 +10,8 @@ use Rattle.plx_disk.specs.declared.ask.Answer.{Answer}
 use Rattle.plx_disk.specs.declared.ask.Answer.TheVariants as answer
 use Rattle.plx_geom.specs.Geometry.{Geometry, image_lease, lease_at}
 use Rattle.plx_commands.specs.Places.{at}
-use Rattle.plx_worlds.specs.Holds.{Hold, Held, after_answer, after_write, shown, timed}
-use Rattle.plx_worlds.specs.Settings.{Setting}
+use Rattle.plx_rules.specs.Holds.{Hold, Held, after_answer, after_write, shown, timed}
+use Rattle.plx_rules.specs.Settings.{Setting}
 use Rattle.law_run.specs.AllowedAsks.{GoesOn, WentOn}
 use Rattle.law_run.specs.CommandLogs.{Exchange, Finished, first_reading}
 use Rattle.law_run.specs.Holdings.{lease_attached, at_first, holds_along, holds_after, hold_of, is_lease_read, claims_in}

@@ -2,7 +2,7 @@
 use Rattle.std.proofs.Common.{◌≡◌, ◌≢◌, ℕ, zero, suc, ◌+◌, ◌≤◌, ◌<◌, List, [], ◌∷◌, length, Bool, true, false, Option, Some, None, refl, ap, sym, subst, ◌∙◌, arith, inl, inr, ◌⊎◌}
 use Rattle.std.specs.Prelude.{slice_get, nat_lt, if◌then◌else◌, ◌==◌}
 use Rattle.std.proofs.lemmas.Bool.Decides.{eqb_tells}
-use Rattle.plx_worlds.specs.Session.{inserted, first_gap}
+use Rattle.plx_rules.specs.Session.{inserted, first_gap}
 use Rattle.plx_rules.specs.declared.journaled.Journaled.{Journaled}
 use Rattle.law_run.proofs.Tests.{lt-cases, eqb-is, eqb-isn't}
 

@@ -12,10 +12,10 @@ use Rattle.plx_gate.specs.declared.descriptor.Descriptor.{Descriptor}
 use Rattle.plx_gate.specs.declared.image.ImageRecord.{ImageRecord}
 use Rattle.plx_geom.specs.Geometry.{Geometry, lease_count, lease_at, record_at, descriptor_at, data_at}
 use Rattle.plx_geom.proofs.Places.{lease-record, lease-descriptor, lease-data, record-descriptor, record-data, data-descriptor}
-use Rattle.plx_worlds.specs.Journal.{journal_slot, is_unapplied, is_placed}
-use Rattle.plx_worlds.specs.Records.{is_plain, size_of, applied_of}
-use Rattle.plx_worlds.specs.Session.{Session}
-use Rattle.plx_worlds.specs.Stored.{Given, IsCounted}
+use Rattle.plx_rules.specs.Journal.{journal_slot, is_unapplied, is_placed}
+use Rattle.plx_rules.specs.Records.{is_plain, size_of, applied_of}
+use Rattle.plx_rules.specs.Session.{Session}
+use Rattle.plx_rules.specs.Stored.{Given, IsCounted}
 use Rattle.law_run.specs.CommandLogs.{Exchange, IsIn}
 use Rattle.law_run.specs.Outside.{IsMissing, IsOutside, no_lease, no_record, not_plain, no_descriptor, misplaced, past_size, past_gap}
 use Rattle.law_run.proofs.Facts.{counts-number}

@@ -35,3 +35,5 @@ pub mod Attaches
 pub mod Machines
 pub mod ClaimSteps
 pub mod ClaimRules
+pub mod RenewalRules
+pub mod ReleaseRules

@@ -17,9 +17,9 @@ use Rattle.plx_disk.specs.declared.ask.Answer.TheVariants as answer
 use Rattle.plx_gate.specs.Leases.{lease_bytes, read_lease, IsClaimed}
 use Rattle.plx_gate.proofs.Leases.{lease-only}
 use Rattle.plx_geom.specs.Geometry.{Geometry, lease_at}
-use Rattle.plx_worlds.specs.Holds.{Hold, Nothing, Seen, Wrote, Waited, Held, wrote, renewed, after_write, reread, seen_by, seen_for, shown, timed, after_answer, after_reply, sample_of}
-use Rattle.plx_worlds.specs.Settings.{Setting}
-use Rattle.plx_worlds.specs.Times.{wait, is_expired}
+use Rattle.plx_rules.specs.Holds.{Hold, Nothing, Seen, Wrote, Waited, Held, wrote, renewed, after_write, reread, seen_by, seen_for, shown, timed, after_answer, after_reply, sample_of}
+use Rattle.plx_rules.specs.Settings.{Setting}
+use Rattle.plx_rules.specs.Times.{wait, is_expired}
 use Rattle.law_run.specs.CommandLogs.{Exchange, Finished}
 use Rattle.law_run.specs.Holdings.{lease_attached, at_first, after_first_answer, holds_along, holds_after, hold_of}
 use Rattle.law_run.specs.Sessions.{is_attached}

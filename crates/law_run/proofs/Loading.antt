@@ -10,10 +10,10 @@ use Rattle.plx_gate.proofs.Descriptors.{descriptor-back, descriptor-only, read-e
 use Rattle.plx_geom.specs.Geometry.{Geometry, record_at, descriptor_at, data_at}
 use Rattle.plx_geom.proofs.Places.{record-descriptor, record-data, data-descriptor}
 use Rattle.plx_rules.specs.declared.journaled.Journaled.{Journaled}
-use Rattle.plx_worlds.specs.Journal.{journal_slot, is_unapplied, is_placed, counted, counted_of, Finding, Outside, Unused, Counts, finding_of}
-use Rattle.plx_worlds.specs.Records.{is_plain, size_of, applied_of}
-use Rattle.plx_worlds.specs.Session.{inserted, first_gap}
-use Rattle.plx_worlds.specs.Stored.{Given, record_in, record_on, counted_in, IsCounted}
+use Rattle.plx_rules.specs.Journal.{journal_slot, is_unapplied, is_placed, counted, counted_of, Finding, Outside, Unused, Counts, finding_of}
+use Rattle.plx_rules.specs.Records.{is_plain, size_of, applied_of}
+use Rattle.plx_rules.specs.Session.{inserted, first_gap}
+use Rattle.plx_rules.specs.Stored.{Given, record_in, record_on, counted_in, IsCounted}
 use Rattle.law_run.specs.AllowedAsks.{last_known}
 use Rattle.law_run.specs.CommandLogs.{Exchange, IsIn}
 use Rattle.law_run.specs.KnownBytes.{with_block}

@@ -1,25 +1,58 @@
 -- Work that meets rules keeps them.
-use Rattle.std.proofs.Common.{◌≡◌, ℕ, ◌+◌, List, length, subst, arith}
+use Rattle.std.proofs.Common.{◌≡◌, ℕ, ◌+◌, List, [], ◌∷◌, ◌++◌, length, sym, subst, arith}
 use Rattle.plx_disk.specs.declared.ask.Ask.{Ask}
-use Rattle.plx_rules.specs.Part.{Part}
-use Rattle.law_run.specs.CommandLogs.{Exchange}
-use Rattle.law_run.specs.Machines.{Leads, begins, goes_on, Keeps}
-use Rattle.law_run.proofs.Meets.{Meets, answers}
+use Rattle.plx_disk.specs.declared.ask.Answer.{Answer}
+use Rattle.plx_rules.specs.Part.{Part, answered, bytes_out}
+use Rattle.plx_rules.specs.Settings.{Setting}
+use Rattle.law_run.specs.AllowedAsks.{MayAsk}
+use Rattle.law_run.specs.CommandLogs.{Exchange, CommandLog}
+use Rattle.law_run.specs.Machines.{HasCome, MovesOn, begins, goes_on, with_exchanges, IsOfBlock, Keeps}
+use Rattle.law_run.specs.Rules.{AllAllowed}
+use Rattle.law_run.proofs.Meets.{Meets, answers, exchange}
 
-module _ {E : Type 0} (May : List Exchange → Ask → List ℕ → Type 0) (Shows : List Exchange → E → Type 0) where
-  -- what holds of some work at its start holds of the rest of it after each list of exchanges to which it leads
-  meets-led : (first : List Exchange) (start : Part E) (n : ℕ) → Meets May Shows first start n → {done : List Exchange} {part : Part E} → Leads first start done part →
-      (left : ℕ) × (length done + left ≡ length first + n) × Meets May Shows done part left
-  meets-led first start n meets begins = (n, omega arith, meets)
-  meets-led first start n meets (goes_on {done = done} {part = part} a x leads stands fits) =
-      let before = meets-led first start n meets leads in
-      let next = answers May Shows part done a before.0 before.2 stands in
-      (next.left, (let sum = before.1 in let fewer = next.fewer in omega arith), next.follows x fits)
+-- a machine that begins has no exchanges yet
+pub comes-first : {E : Type 0} (start rest : Part E) → rest ≡ start → HasCome start [] rest
+comes-first start rest is = subst (λ (p : Part _). HasCome start [] p) (sym is) begins
+
+-- a machine whose rest is answered moves on
+pub moves-on : {E : Type 0} (old : Part E) (x : Answer) (new : Part E) → new ≡ answered old x → MovesOn old x new
+moves-on old x new is start own a come stands fits = subst (λ (p : Part _). HasCome start (exchange a (bytes_out old) x ∷ own) p) (sym is) (goes_on a x come stands fits)
+
+module _ {E : Type 0} (s : Setting) (log : CommandLog) (block : ℕ) (Shows : CommandLog → E → Type 0) where
+  abbrev MayWork : List Exchange → Ask → List ℕ → Type 0
+  MayWork done a bytes = MayAsk s (with_exchanges log done) a bytes × IsOfBlock block a
+
+  abbrev ShowsWork : List Exchange → E → Type 0
+  ShowsWork done end = Shows (with_exchanges log done) end
+
+  -- after these exchanges of the command, with so many answers left, the rest of some work keeps the rules
+  abbrev pub MeetsWork : List Exchange → Part E → ℕ → Type 0
+  MeetsWork done rest n = Meets MayWork ShowsWork done rest n
+
+  abbrev Allowed : List Exchange → Type 0
+  Allowed done = AllAllowed s log.before log.command done
+
+  -- what holds of some work at its start holds of the rest of it after each list of exchanges by which that has come
+  meets-come : (start : Part E) (n : ℕ) → MeetsWork log.exchanges start n → {own : List Exchange} {rest : Part E} → HasCome start own rest →
+      (left : ℕ) × (length own + left ≡ n) × (Allowed log.exchanges → Allowed (own ++ log.exchanges)) × MeetsWork (own ++ log.exchanges) rest left
+  meets-come start n meets begins = (n, omega arith, λ older. older, meets)
+  meets-come start n meets (goes_on {own = own} {rest = rest} a x come stands fits) =
+      let before = meets-come start n meets come in
+      let next = answers MayWork ShowsWork rest (own ++ log.exchanges) a before.0 before.3 stands in
+      (next.left, (let sum = before.1 in let fewer = next.fewer in omega arith), λ older. (next.allowed.0, before.2 older), next.follows x fits)
 
   -- so each ask is allowed, there are so many at most, and each end shows its cause
-  pub meets-keeps : (first : List Exchange) (start : Part E) (n : ℕ) → Meets May Shows first start n → Keeps May Shows first start n
-  meets-keeps first start n meets = record {
-    allowed = λ leads a stands. (let at = meets-led first start n meets leads in (answers May Shows _ _ a at.0 at.2 stands).allowed);
-    bounded = λ leads. (let sum = (meets-led first start n meets leads).1 in omega arith);
-    shown = λ {done} {part} leads end is. (let at = meets-led first start n meets leads in subst (λ (p : Part E). Meets May Shows done p at.0) is at.2);
+  pub meets-keeps : (start : Part E) (n : ℕ) → MeetsWork log.exchanges start n → Keeps s log block n Shows start
+  meets-keeps start n meets = record {
+    asks = λ {own} {rest} come a stands. (
+        let at = meets-come start n meets come in
+        let next = answers MayWork ShowsWork rest (own ++ log.exchanges) a at.0 at.3 stands in
+        record { allowed = next.allowed.0; place = next.allowed.1; bounded = (let sum = at.1 in let fewer = next.fewer in omega arith) });
+    ends = λ {own} {rest} come end is. (
+        let at = meets-come start n meets come in
+        record {
+          allowed = at.2;
+          bounded = (let sum = at.1 in omega arith);
+          shown = subst (λ (p : Part E). MeetsWork (own ++ log.exchanges) p at.0) is at.3;
+        });
   }

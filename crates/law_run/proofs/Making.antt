@@ -20,13 +20,13 @@ use Rattle.plx_gate.specs.declared.image.ImageRecord.TheVariants as image_is
 use Rattle.plx_gate.proofs.Images.{image-back, image-only}
 use Rattle.plx_geom.specs.Geometry.{Geometry, image_lease, record_at, descriptor_at, journal_start}
 use Rattle.plx_geom.proofs.Places.{image-below}
-use Rattle.plx_worlds.specs.Commands.{create_part, delete_part, record_part, command_part}
-use Rattle.plx_worlds.specs.Ends.{ends_in_time}
-use Rattle.plx_worlds.specs.Records.{is_live, generation_of, is_plain, made_record}
-use Rattle.plx_worlds.specs.Session.{Session, Known, with_session, new_session}
-use Rattle.plx_worlds.specs.Settings.{Setting}
-use Rattle.plx_worlds.specs.Attaching.{image_use}
-use Rattle.plx_worlds.specs.Stored.{Given, record_in, record_on, Stores}
+use Rattle.plx_rules.specs.Commands.{create_part, delete_part, record_part, command_part}
+use Rattle.plx_rules.specs.Ends.{ends_in_time}
+use Rattle.plx_rules.specs.Records.{is_live, generation_of, is_plain, made_record}
+use Rattle.plx_rules.specs.Session.{Session, Known, with_session, new_session}
+use Rattle.plx_rules.specs.Settings.{Setting}
+use Rattle.plx_rules.specs.Attaching.{image_use}
+use Rattle.plx_rules.specs.Stored.{Given, record_in, record_on, Stores}
 use Rattle.law_run.specs.AllowedAsks.{last_known, IsFirstSector, MayWrite, record_of_create, record_of_delete}
 use Rattle.law_run.specs.CommandLogs.{Exchange, Finished, first_reading}
 use Rattle.law_run.specs.KnownBytes.{with_block, without_journal, is_making, known_after, known_from, known_in, known_before}

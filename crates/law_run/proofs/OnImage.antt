@@ -12,13 +12,13 @@ use Rattle.plx_commands.specs.declared.reply.Reply.{Reply}
 use Rattle.plx_commands.specs.declared.reply.Reply.TheVariants as reply
 use Rattle.plx_geom.specs.Geometry.{Geometry, image_lease, lease_at}
 use Rattle.plx_rules.specs.Part.{Part}
-use Rattle.plx_worlds.specs.Attaching.{image_use}
-use Rattle.plx_worlds.specs.Commands.{attached_part, of_attached}
-use Rattle.plx_worlds.specs.Ends.{End, ends, lost, in_time}
-use Rattle.plx_worlds.specs.Holds.{Held}
-use Rattle.plx_worlds.specs.InUse.{lease_name}
-use Rattle.plx_worlds.specs.Session.{Session, Known, nothing_known}
-use Rattle.plx_worlds.specs.Settings.{Setting}
+use Rattle.plx_rules.specs.Attaching.{image_use}
+use Rattle.plx_rules.specs.Commands.{attached_part, of_attached}
+use Rattle.plx_rules.specs.Ends.{End, ends, lost, in_time}
+use Rattle.plx_rules.specs.Holds.{Held}
+use Rattle.plx_rules.specs.InUse.{lease_name}
+use Rattle.plx_rules.specs.Session.{Session, Known, nothing_known}
+use Rattle.plx_rules.specs.Settings.{Setting}
 use Rattle.law_run.specs.CommandLogs.{Exchange, Finished, CommandLog, first_reading}
 use Rattle.law_run.specs.Holdings.{holds_after, hold_of}
 use Rattle.law_run.specs.KnownBytes.{known_after}

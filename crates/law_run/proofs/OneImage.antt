@@ -3,9 +3,9 @@ use Rattle.std.proofs.Common.{◌≡◌, ℕ, ◌≤◌, Some, ap, sym, subst, �
 use Rattle.plx_gate.specs.Images.{label_of}
 use Rattle.plx_gate.specs.declared.image.ImageRecord.{ImageRecord}
 use Rattle.plx_geom.specs.Geometry.{Geometry, data_at}
-use Rattle.plx_worlds.specs.Journal.{journal_slot}
-use Rattle.plx_worlds.specs.Records.{is_live, generation_of, size_of, taken_of}
-use Rattle.plx_worlds.specs.Stored.{Given, Content, standing_in, IsWriteCount, IsContent, journalled, unwritten}
+use Rattle.plx_rules.specs.Journal.{journal_slot}
+use Rattle.plx_rules.specs.Records.{is_live, generation_of, size_of, taken_of}
+use Rattle.plx_rules.specs.Stored.{Given, Content, standing_in, IsWriteCount, IsContent, journalled, unwritten}
 use Rattle.law_run.specs.OneImage.{StoresOneImage}
 use Rattle.law_run.proofs.Counted.{counts-tells}
 use Rattle.law_run.proofs.Facts.{count-one}

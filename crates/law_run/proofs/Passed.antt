@@ -9,9 +9,9 @@ use Rattle.plx_commands.specs.Limits.{last_generation, last_write, last_claim}
 use Rattle.plx_commands.specs.declared.command.Command.TheVariants.{Attach, Create, Write}
 use Rattle.plx_commands.specs.declared.reply.Reply.{Reply}
 use Rattle.plx_gate.specs.declared.image.ImageRecord.{ImageRecord}
-use Rattle.plx_worlds.specs.Records.{is_live, generation_of, size_of, applied_of}
-use Rattle.plx_worlds.specs.Settings.{Setting}
-use Rattle.plx_worlds.specs.Stored.{IsWriteCount}
+use Rattle.plx_rules.specs.Records.{is_live, generation_of, size_of, applied_of}
+use Rattle.plx_rules.specs.Settings.{Setting}
+use Rattle.plx_rules.specs.Stored.{IsWriteCount}
 use Rattle.law_run.specs.CommandLogs.{CommandLog}
 use Rattle.law_run.specs.Holdings.{claims_begun}
 use Rattle.law_run.specs.KnownBytes.{known_from, record_known}

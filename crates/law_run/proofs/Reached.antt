@@ -3,10 +3,10 @@ use Rattle.std.proofs.Common.{◌≡◌, ℕ, zero, suc, ◌+◌, ◌≤◌, ◌
 use Rattle.std.proofs.lemmas.Bool.Decides.{leb_tells, eqb_tells}
 use Rattle.plx_base.specs.declared.lease.Claim.{Claim}
 use Rattle.plx_geom.specs.Geometry.{image_lease, lease_at}
-use Rattle.plx_worlds.specs.Commands.{session_use, attached_uses}
-use Rattle.plx_worlds.specs.Holds.{Hold, Nothing, Seen, Wrote, Waited, Held}
-use Rattle.plx_worlds.specs.InUse.{InUse, is_before, earlier, first_reached}
-use Rattle.plx_worlds.specs.Session.{Session, Known}
+use Rattle.plx_rules.specs.Commands.{session_use, attached_uses}
+use Rattle.plx_rules.specs.Holds.{Hold, Nothing, Seen, Wrote, Waited, Held}
+use Rattle.plx_rules.specs.InUse.{InUse, is_before, earlier, first_reached}
+use Rattle.plx_rules.specs.Session.{Session, Known}
 use Rattle.law_run.proofs.Tests.{lt-cases}
 
 -- a lease is among those

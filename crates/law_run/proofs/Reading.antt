@@ -8,11 +8,11 @@ use Rattle.plx_base.specs.declared.numbers.SlotNo.{SlotNo}
 use Rattle.plx_base.proofs.Canonical.{bytes_of-payload_of}
 use Rattle.plx_commands.specs.declared.command.Command.TheVariants.{Read}
 use Rattle.plx_commands.specs.declared.reply.Reply.TheVariants as reply
-use Rattle.plx_worlds.specs.Commands.{read_part, command_part}
-use Rattle.plx_worlds.specs.Records.{is_live, size_of}
-use Rattle.plx_worlds.specs.Session.{Session, Known, content}
-use Rattle.plx_worlds.specs.Settings.{Setting}
-use Rattle.plx_worlds.specs.Stored.{Given, Holds, record_on, IsContent}
+use Rattle.plx_rules.specs.Commands.{read_part, command_part}
+use Rattle.plx_rules.specs.Records.{is_live, size_of}
+use Rattle.plx_rules.specs.Session.{Session, Known, content}
+use Rattle.plx_rules.specs.Settings.{Setting}
+use Rattle.plx_rules.specs.Stored.{Given, Holds, record_on, IsContent}
 use Rattle.law_run.specs.CommandLogs.{Exchange, Finished, first_reading}
 use Rattle.law_run.specs.KnownBytes.{known_after, known_in}
 use Rattle.law_run.specs.Refusals.{NamesBlock, of_read, of_write, of_block, no_image, out_of_range}

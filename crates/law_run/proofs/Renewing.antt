@@ -15,13 +15,13 @@ use Rattle.plx_disk.specs.declared.ask.Answer.TheVariants as answer
 use Rattle.plx_gate.specs.Leases.{lease_bytes, read_lease, IsClaimed}
 use Rattle.plx_gate.proofs.Leases.{lease-back}
 use Rattle.plx_geom.specs.Geometry.{lease_count, image_lease, lease_at}
-use Rattle.plx_worlds.specs.Commands.{later_of, renewal, renew_part, attached_uses, command_part}
-use Rattle.plx_worlds.specs.Ends.{ends, lost}
-use Rattle.plx_worlds.specs.Holds.{Hold, Nothing, Seen, Wrote, Waited, Held, renewed}
-use Rattle.plx_worlds.specs.InUse.{InUse, lease_name, first_reached, unless_reached}
-use Rattle.plx_worlds.specs.Session.{Session, Known, nothing_known}
-use Rattle.plx_worlds.specs.Settings.{Setting}
-use Rattle.plx_worlds.specs.Times.{term}
+use Rattle.plx_rules.specs.Commands.{later_of, renewal, renew_part, attached_uses, command_part}
+use Rattle.plx_rules.specs.Ends.{ends, lost}
+use Rattle.plx_rules.specs.Holds.{Hold, Nothing, Seen, Wrote, Waited, Held, renewed}
+use Rattle.plx_rules.specs.InUse.{InUse, lease_name, first_reached, unless_reached}
+use Rattle.plx_rules.specs.Session.{Session, Known, nothing_known}
+use Rattle.plx_rules.specs.Settings.{Setting}
+use Rattle.plx_rules.specs.Times.{term}
 use Rattle.law_run.specs.AllowedAsks.{WentOn, renewal_of_lease}
 use Rattle.law_run.specs.Bounds.{one_held, count_held}
 use Rattle.law_run.specs.CommandLogs.{Exchange, Finished, IsIn, first_reading}
@@ -141,6 +141,32 @@ later-high until other bound one two = elim (leb_tells until other) [
 lease-one : (l m : ℕ) → l ≢ m → lease_at l ≢ lease_at m
 lease-one l m apart same = apart (omega (arith, same))
 
+-- a renewal that is done
+abbrev pub renewal_write : (lease : ℕ) → Claim → (until reading : ℕ) → Exchange
+renewal_write lease claim until reading =
+    exchange (ask.Write kind.Renew (record { 0 = lease_at lease }) until) (lease_bytes (lease_is.Claimed claim (later_of until (reading + term)))) answer.Done
+
+module _ (s : Setting) (before : List Finished) (done : List Exchange) (lease : ℕ) (claim : Claim) (until reading : ℕ) (small : reading < 2 ^ 48)
+    (held : hold_of s before done lease ≡ Held claim until) where
+  -- it keeps the limits of leases
+  renewal-limits : IsClaimed claim (later_of until (reading + term))
+  renewal-limits =
+      let old : IsClaimed claim until = subst Limited held (limited s before done lease) in record {
+        boot = old.boot;
+        number = old.number;
+        sample = old.sample;
+        low = (let a = old.low in let b = later-low until (reading + term) in omega arith);
+        high = later-high until (reading + term) (2 ^ 49) old.high (omega (arith, small));
+      }
+
+  -- and from there on the lease is held up to the later moment
+  pub held-later : HasFirst done → hold_of s before (renewal_write lease claim until reading ∷ done) lease ≡ Held claim (later_of until (reading + term))
+  held-later has =
+      let H = holds_along s.geometry (is_attached before) (holds_after s.geometry before) done in
+      let record' = lease_is.Claimed claim (later_of until (reading + term)) in
+      ap (λ (h : ℕ → Hold). h (lease_at lease)) (along-more s.geometry (is_attached before) (holds_after s.geometry before) (renewal_write lease claim until reading) done has)
+      ∙ (at-same H (lease_at lease) (renewed (read_lease (lease_bytes record'))) ∙ ap renewed (lease-back record' renewal-limits))
+
 module _ (s : Setting) (before : List Finished) (known : Known) (reading : ℕ) (rests : Rests s before known) (small : reading < 2 ^ 48) (fine : IsFine s before Renew reading) where
   -- all leases are renewed
   all-renewed : (done : List Exchange) → Renewing s before done reading (lease_count s.geometry) → Right s before Renew done (ends reply.Renewed known) 0
@@ -159,25 +185,15 @@ module _ (s : Setting) (before : List Finished) (known : Known) (reading : ℕ) 
   -- one renewal
   one-renewal : (done : List Exchange) (lease : ℕ) (claim : Claim) (until : ℕ) → lease < lease_count s.geometry → Renewing s before done reading lease →
       hold_of s before done lease ≡ Held claim until →
-      Renewing s before
-      (exchange (ask.Write kind.Renew (record { 0 = lease_at lease }) until) (lease_bytes (lease_is.Claimed claim (later_of until (reading + term)))) answer.Done ∷ done) reading (lease + 1)
+      Renewing s before (renewal_write lease claim until reading ∷ done) reading (lease + 1)
   one-renewal done lease claim until within r held =
       let next = later_of until (reading + term) in
       let bytes = lease_bytes (lease_is.Claimed claim next) in
-      let x = exchange (ask.Write kind.Renew (record { 0 = lease_at lease }) until) bytes answer.Done in
+      let x = renewal_write lease claim until reading in
       let H = holds_along s.geometry (is_attached before) (holds_after s.geometry before) done in
-      let old : IsClaimed claim until = subst Limited held (limited s before done lease) in
-      let is : IsClaimed claim next = record {
-        boot = old.boot;
-        number = old.number;
-        sample = old.sample;
-        low = (let a = old.low in let b = later-low until (reading + term) in omega arith);
-        high = later-high until (reading + term) (2 ^ 49) old.high (omega (arith, small));
-      } in
       let step : (l : ℕ) → hold_of s before (x ∷ done) l ≡ _ =
       λ l. ap (λ (h : ℕ → Hold). h (lease_at l)) (along-more s.geometry (is_attached before) (holds_after s.geometry before) x done r.has) in
-      let here : hold_of s before (x ∷ done) lease ≡ Held claim next =
-      step lease ∙ (at-same H (lease_at lease) (renewed (read_lease bytes)) ∙ ap renewed (lease-back (lease_is.Claimed claim next) is)) in
+      let here : hold_of s before (x ∷ done) lease ≡ Held claim next = held-later s before done lease claim until reading small held r.has in
       let apart : (l : ℕ) → l ≢ lease → hold_of s before (x ∷ done) l ≡ hold_of s before done l =
       λ l ne. step l ∙ at-other H (lease_at lease) (lease_at l) (renewed (read_lease bytes)) (lease-one l lease ne) in
       record {

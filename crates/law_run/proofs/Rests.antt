@@ -7,10 +7,10 @@ use Rattle.plx_commands.specs.declared.command.Command.{Command}
 use Rattle.plx_commands.specs.declared.reply.Reply.{Reply}
 use Rattle.plx_commands.specs.declared.reply.Reply.TheVariants as reply
 use Rattle.plx_geom.specs.Geometry.{Geometry, image_lease, lease_at}
-use Rattle.plx_worlds.specs.Holds.{Hold, after_reply}
-use Rattle.plx_worlds.specs.Session.{Session, Known, nothing_known}
-use Rattle.plx_worlds.specs.Settings.{Setting}
-use Rattle.plx_worlds.specs.Stored.{Given}
+use Rattle.plx_rules.specs.Holds.{Hold, after_reply}
+use Rattle.plx_rules.specs.Session.{Session, Known, nothing_known}
+use Rattle.plx_rules.specs.Settings.{Setting}
+use Rattle.plx_rules.specs.Stored.{Given}
 use Rattle.law_run.specs.CommandLogs.{Exchange, Finished}
 use Rattle.law_run.specs.Holdings.{holds_along, holds_after, hold_of, claims_in, claims_begun}
 use Rattle.law_run.specs.KnownBytes.{nothing_given, learnt, known_after, known_from, known_in}

@@ -13,13 +13,13 @@ use Rattle.plx_gate.specs.declared.image.ImageRecord.{ImageRecord}
 use Rattle.plx_geom.specs.Geometry.{Geometry, image_lease, lease_at, descriptor_at, data_at}
 use Rattle.plx_rules.specs.Part.{Part}
 use Rattle.plx_rules.specs.declared.journaled.Journaled.{Journaled}
-use Rattle.plx_worlds.specs.Ends.{End}
-use Rattle.plx_worlds.specs.Holds.{Hold, Held}
-use Rattle.plx_worlds.specs.Journal.{journal_slot}
-use Rattle.plx_worlds.specs.Records.{is_plain, generation_of, applied_of}
-use Rattle.plx_worlds.specs.Session.{Session, Known}
-use Rattle.plx_worlds.specs.Settings.{Setting}
-use Rattle.plx_worlds.specs.Stored.{Given, record_on, IsCounted}
+use Rattle.plx_rules.specs.Ends.{End}
+use Rattle.plx_rules.specs.Holds.{Hold, Held}
+use Rattle.plx_rules.specs.Journal.{journal_slot}
+use Rattle.plx_rules.specs.Records.{is_plain, generation_of, applied_of}
+use Rattle.plx_rules.specs.Session.{Session, Known}
+use Rattle.plx_rules.specs.Settings.{Setting}
+use Rattle.plx_rules.specs.Stored.{Given, record_on, IsCounted}
 use Rattle.law_run.specs.AllowedAsks.{last_known, MayAsk}
 use Rattle.law_run.specs.CommandLogs.{Exchange, Finished, CommandLog}
 use Rattle.law_run.specs.Holdings.{holds_after, claims_begun}

@@ -8,13 +8,13 @@ use Rattle.plx_disk.specs.declared.ask.Answer.{Answer}
 use Rattle.plx_disk.specs.declared.ask.Answer.TheVariants as answer
 use Rattle.plx_geom.specs.Geometry.{Geometry}
 use Rattle.plx_rules.specs.Part.{Part, Ends, ReadThen, WriteThen, ClockThen, UntilThen, answered, standing, bytes_out}
-use Rattle.plx_worlds.specs.Boot as boot
-use Rattle.plx_worlds.specs.Boot.{Happening, Place, Idle, Begins, In, Position, position, place_of, after_part, goes_to, begun, first_read, went_on, asks, writes_out, reply_of, replies_at, Fits, IsRun}
-use Rattle.plx_worlds.specs.Commands.{IsBuilt, IsWellFormed, command_part}
-use Rattle.plx_worlds.specs.Ends.{End}
-use Rattle.plx_worlds.specs.Holds.{Hold, Nothing, Seen, Wrote, Waited, Held, after_answer, sample_of, after_reply, first_hold, after_first}
-use Rattle.plx_worlds.specs.Session.{Session, Known}
-use Rattle.plx_worlds.specs.Settings.{Setting}
+use Rattle.plx_rules.specs.Boot as boot
+use Rattle.plx_rules.specs.Boot.{Happening, Place, Idle, Begins, In, Position, position, place_of, after_part, goes_to, begun, first_read, went_on, asks, writes_out, reply_of, replies_at, Fits, IsRun}
+use Rattle.plx_rules.specs.Commands.{IsBuilt, IsWellFormed, command_part}
+use Rattle.plx_rules.specs.Ends.{End}
+use Rattle.plx_rules.specs.Holds.{Hold, Nothing, Seen, Wrote, Waited, Held, after_answer, sample_of, after_reply, first_hold, after_first}
+use Rattle.plx_rules.specs.Session.{Session, Known}
+use Rattle.plx_rules.specs.Settings.{Setting}
 use Rattle.law_run.specs.AllowedAsks.{WentOn, MayAsk}
 use Rattle.law_run.specs.Bounds.{bound}
 use Rattle.law_run.specs.CommandLogs.{Exchange, Finished, CommandLog, Commands, Between, Within, starting, following, commands}

@@ -2,7 +2,7 @@
 use Rattle.std.proofs.Common.{◌≡◌, ℕ, suc, ◌+◌, ◌-◌, ◌*◌, ◌/◌, ◌%◌, ◌≤◌, ◌<◌, sym, arith, inl, inr}
 use Rattle.std.proofs.Math.Nat.{mod-add-div, mod-lt, mul-suc, mul-le-mul_left}
 use Rattle.std.proofs.lemmas.Bool.Decides.{leb_tells}
-use Rattle.plx_worlds.specs.Journal.{journal_slot}
+use Rattle.plx_rules.specs.Journal.{journal_slot}
 
 -- two numbers with one remainder, less apart than the divisor, are one
 close : (n a b : ℕ) → a ≤ b → b < a + n → a % n ≡ b % n → a ≡ b

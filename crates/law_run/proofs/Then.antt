@@ -2,7 +2,7 @@
 use Rattle.std.proofs.Common.{◌≡◌, ℕ, zero, suc, ◌+◌, List, arith}
 use Rattle.plx_disk.specs.declared.ask.Ask.{Ask}
 use Rattle.plx_rules.specs.Part.{Part, Ends, ReadThen, WriteThen, ClockThen, UntilThen}
-use Rattle.plx_worlds.specs.Parts.{followed_by}
+use Rattle.plx_rules.specs.Parts.{followed_by}
 use Rattle.law_run.specs.CommandLogs.{Exchange}
 use Rattle.law_run.proofs.Meets.{Meets, meets-more}
 

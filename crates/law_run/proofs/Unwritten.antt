@@ -5,7 +5,7 @@ use Rattle.plx_disk.specs.declared.ask.Ask.{Ask}
 use Rattle.plx_disk.specs.declared.ask.Ask.TheVariants as ask
 use Rattle.plx_disk.specs.declared.ask.Answer.{Answer}
 use Rattle.plx_disk.specs.declared.ask.Answer.TheVariants as answer
-use Rattle.plx_worlds.specs.Stored.{Given}
+use Rattle.plx_rules.specs.Stored.{Given}
 use Rattle.law_run.specs.CommandLogs.{Exchange}
 use Rattle.law_run.specs.KnownBytes.{told_by, told, is_write_of, has_written, unwritten}
 

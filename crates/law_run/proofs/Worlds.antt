@@ -1,6 +1,6 @@
 -- The log of each boot keeps the rules.
 use Rattle.std.proofs.Common.{ℕ, ◌<◌, arith}
-use Rattle.plx_worlds.specs.World.{World, Reached, setting_of}
+use Rattle.plx_rules.specs.World.{World, Reached, setting_of}
 use Rattle.law_lease.proofs.LeaseSteps.{reached-leased}
 use Rattle.law_lease.proofs.Runs.{boots-run}
 use Rattle.law_run.specs.Rules.{IsSetting}

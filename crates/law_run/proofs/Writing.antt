@@ -22,14 +22,14 @@ use Rattle.plx_geom.specs.Geometry.{Geometry, image_lease, descriptor_at, data_a
 use Rattle.plx_geom.proofs.Places.{image-below}
 use Rattle.plx_rules.specs.Part.{Part}
 use Rattle.plx_rules.specs.declared.journaled.Journaled.{Journaled}
-use Rattle.plx_worlds.specs.Attaching.{image_use}
-use Rattle.plx_worlds.specs.Commands.{next_write, next_descriptor, write_part, journal_part, command_part}
-use Rattle.plx_worlds.specs.Ends.{End, ends_in_time, write_then}
-use Rattle.plx_worlds.specs.Journal.{journal_slot}
-use Rattle.plx_worlds.specs.Records.{is_live, generation_of, size_of, applied_of}
-use Rattle.plx_worlds.specs.Session.{Session, Known, write_count, latest, with_write, with_session}
-use Rattle.plx_worlds.specs.Settings.{Setting}
-use Rattle.plx_worlds.specs.Stored.{Given, Content, Holds, record_on, IsCounted, IsWriteCount, IsContent, Stores}
+use Rattle.plx_rules.specs.Attaching.{image_use}
+use Rattle.plx_rules.specs.Commands.{next_write, next_descriptor, write_part, journal_part, command_part}
+use Rattle.plx_rules.specs.Ends.{End, ends_in_time, write_then}
+use Rattle.plx_rules.specs.Journal.{journal_slot}
+use Rattle.plx_rules.specs.Records.{is_live, generation_of, size_of, applied_of}
+use Rattle.plx_rules.specs.Session.{Session, Known, write_count, latest, with_write, with_session}
+use Rattle.plx_rules.specs.Settings.{Setting}
+use Rattle.plx_rules.specs.Stored.{Given, Content, Holds, record_on, IsCounted, IsWriteCount, IsContent, Stores}
 use Rattle.law_run.specs.AllowedAsks.{IsNext, last_known, data_of_write, commit_of_write}
 use Rattle.law_run.specs.Changes.{written_on}
 use Rattle.law_run.specs.CommandLogs.{Exchange, Finished, first_reading}

@@ -22,13 +22,13 @@ use Rattle.plx_gate.specs.declared.descriptor.Descriptor.{Descriptor}
 use Rattle.plx_gate.specs.declared.image.ImageRecord.{ImageRecord}
 use Rattle.plx_gate.specs.declared.image.ImageRecord.TheVariants as image_is
 use Rattle.plx_geom.specs.Geometry.{lease_count, lease_at, record_at, descriptor_at, data_at}
-use Rattle.plx_worlds.specs.Commands.{later_of}
-use Rattle.plx_worlds.specs.Holds.{Wrote}
-use Rattle.plx_worlds.specs.Journal.{journal_slot}
-use Rattle.plx_worlds.specs.Records.{is_live, generation_of, made_record}
-use Rattle.plx_worlds.specs.Settings.{Setting}
-use Rattle.plx_worlds.specs.Stored.{Given, record_on, IsCounted, IsWriteCount}
-use Rattle.plx_worlds.specs.Times.{window, wait, term, is_expired}
+use Rattle.plx_rules.specs.Commands.{later_of}
+use Rattle.plx_rules.specs.Holds.{Wrote}
+use Rattle.plx_rules.specs.Journal.{journal_slot}
+use Rattle.plx_rules.specs.Records.{is_live, generation_of, made_record}
+use Rattle.plx_rules.specs.Settings.{Setting}
+use Rattle.plx_rules.specs.Stored.{Given, record_on, IsCounted, IsWriteCount}
+use Rattle.plx_rules.specs.Times.{window, wait, term, is_expired}
 use Rattle.law_run.specs.CommandLogs.{Exchange, CommandLog, WasAnswered, first_reading}
 use Rattle.law_run.specs.Holdings.{hold_of, Holds, HoldsImage, claims_in, claims_begun, IsNotHeld}
 use Rattle.law_run.specs.KnownBytes.{known_in}

@@ -3,8 +3,8 @@ use Rattle.std.specs.Prelude.{ℕ, zero, suc, ◌+◌, ◌*◌, List}
 use Rattle.plx_commands.specs.declared.command.Command.{Command}
 use Rattle.plx_commands.specs.declared.command.Command.TheVariants.{Attach, Detach, Create, Delete, Read, Write, Flush, Reserve, Renew, Retire, Reclaim}
 use Rattle.plx_geom.specs.Geometry.{Geometry, lease_count, lease_at}
-use Rattle.plx_worlds.specs.Holds.{Hold, Nothing, Seen, Wrote, Waited, Held}
-use Rattle.plx_worlds.specs.Settings.{Setting}
+use Rattle.plx_rules.specs.Holds.{Hold, Nothing, Seen, Wrote, Waited, Held}
+use Rattle.plx_rules.specs.Settings.{Setting}
 use Rattle.law_run.specs.CommandLogs.{Finished}
 use Rattle.law_run.specs.Holdings.{holds_after}
 

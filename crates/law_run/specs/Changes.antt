@@ -2,7 +2,7 @@
 use Rattle.std.specs.Prelude.{◌+◌, ℕ, List, [], true, false, if◌then◌else◌, ◌==◌}
 use Rattle.plx_base.specs.Blocks.{zeros}
 use Rattle.plx_commands.specs.declared.reply.Report.{Report}
-use Rattle.plx_worlds.specs.Stored.{Holds, StoredImage}
+use Rattle.plx_rules.specs.Stored.{Holds, StoredImage}
 
 -- the image once one of its blocks is written
 abbrev pub written_on : StoredImage → (vblock : ℕ) → List ℕ → StoredImage

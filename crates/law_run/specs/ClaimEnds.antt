@@ -3,19 +3,21 @@ use Rattle.std.specs.Prelude.{◌≡◌, ◌+◌, ◌^◌, ◌<◌, ℕ, List, [
 use Rattle.plx_base.specs.declared.lease.Claim.{Claim}
 use Rattle.plx_base.specs.declared.lease.LeaseRecord.TheVariants as lease_is
 use Rattle.plx_base.specs.declared.write_kind.WriteKind.TheVariants as kind
+use Rattle.plx_disk.specs.declared.ask.Ask.{Ask}
 use Rattle.plx_disk.specs.declared.ask.Ask.TheVariants as ask
 use Rattle.plx_disk.specs.declared.ask.Answer.TheVariants as answer
 use Rattle.plx_gate.specs.Leases.{lease_bytes, read_lease}
 use Rattle.plx_geom.specs.Geometry.{lease_count, lease_at}
-use Rattle.plx_worlds.specs.Claims.{ClaimEnd, ClaimHeld, ClaimBusy, ClaimLost, ClaimReadFault, ClaimWriteFault, ClaimDamaged, own_use, claim_part}
-use Rattle.plx_worlds.specs.Holds.{Nothing}
-use Rattle.plx_worlds.specs.InUse.{InUse, first_reached}
-use Rattle.plx_worlds.specs.Settings.{Setting}
-use Rattle.plx_worlds.specs.Times.{window, term}
-use Rattle.law_run.specs.AllowedAsks.{WentOn, MayAsk}
+use Rattle.plx_rules.specs.Claims.{ClaimEnd, ClaimHeld, ClaimBusy, ClaimLost, ClaimReadFault, ClaimWriteFault, ClaimDamaged, own_use, claim_part}
+use Rattle.plx_rules.specs.Holds.{Nothing}
+use Rattle.plx_rules.specs.InUse.{InUse, first_reached}
+use Rattle.plx_rules.specs.Part.{Part, bytes_out}
+use Rattle.plx_rules.specs.Settings.{Setting}
+use Rattle.plx_rules.specs.Times.{window, term}
+use Rattle.law_run.specs.AllowedAsks.{WentOn}
 use Rattle.law_run.specs.CommandLogs.{Exchange, CommandLog, WasAnswered, LastAnswered}
 use Rattle.law_run.specs.Holdings.{hold_of, Holds, claims_in, claims_begun}
-use Rattle.law_run.specs.Machines.{Keeps}
+use Rattle.law_run.specs.Machines.{HasCome, IsRightAsk, IsRightEnd, Keeps}
 use Rattle.law_run.specs.Replies.{IsLastReading, IsBusy}
 use Rattle.law_run.specs.Rules.{IsSetting}
 
@@ -52,9 +54,9 @@ ShowsClaim s others lease log ClaimReadFault = LastAnswered log (ask.Read (recor
 ShowsClaim s others lease log ClaimWriteFault = (guard : ℕ) × (bytes : List ℕ) × LastAnswered log (ask.Write kind.Claim (record { 0 = lease_at lease }) guard) bytes answer.Fault
 ShowsClaim s others lease log ClaimDamaged = IsClaimDamaged log others lease
 
--- the log with these exchanges
-abbrev pub with_exchanges : CommandLog → List Exchange → CommandLog
-with_exchanges log done = record { before = log.before; command = log.command; exchanges = done }
+-- how many asks of a claim are answered at most
+abbrev pub claim_bound : ℕ
+claim_bound = 6
 
 -- a claim may begin: nothing is held of its lease, the command has had its first reading and goes on, and the number is that of claims begun before
 pub record MayBeginClaim (s : Setting) (log : CommandLog) (lease number : ℕ) : Type 0 where
@@ -67,7 +69,17 @@ pub record MayBeginClaim (s : Setting) (log : CommandLog) (lease number : ℕ) :
   pub counted : number ≡ claims_in s.geometry log.exchanges + claims_begun s.geometry log.before
   pub few : number < 2 ^ 40
 
+-- an ask of a claim that has come to this rest keeps the rules, by each log that leads there, within any command in which the claim may begin
+abbrev pub IsClaimAsk : (rest : Part ClaimEnd) → Ask → Type 0
+IsClaimAsk rest ask = (s : Setting) (log : CommandLog) (others : List InUse) (lease number : ℕ) (own : List Exchange) → IsSetting s → MayBeginClaim s log lease number →
+    HasCome (claim_part s.boot others lease number) own rest → IsRightAsk s log (lease_at lease) claim_bound own ask (bytes_out rest)
+
+-- the same of its end
+abbrev pub IsClaimEnd : (rest : Part ClaimEnd) → ClaimEnd → Type 0
+IsClaimEnd rest end = (s : Setting) (log : CommandLog) (others : List InUse) (lease number : ℕ) (own : List Exchange) → IsSetting s → MayBeginClaim s log lease number →
+    HasCome (claim_part s.boot others lease number) own rest → IsRightEnd s log claim_bound (ShowsClaim s others lease) own end
+
 -- each claim keeps the rules, whatever its answers are: its asks are allowed, at most six are answered, and its end has its cause
 abbrev pub ClaimsKeepRules : Type 0
 ClaimsKeepRules = (s : Setting) (log : CommandLog) (others : List InUse) (lease number : ℕ) → IsSetting s → MayBeginClaim s log lease number →
-    Keeps (λ done. MayAsk s (with_exchanges log done)) (λ done. ShowsClaim s others lease (with_exchanges log done)) log.exchanges (claim_part s.boot others lease number) 6
+    Keeps s log (lease_at lease) claim_bound (ShowsClaim s others lease) (claim_part s.boot others lease number)

@@ -4,9 +4,9 @@ use Rattle.plx_commands.specs.declared.command.Command.{Command}
 use Rattle.plx_commands.specs.declared.reply.Reply.{Reply}
 use Rattle.plx_disk.specs.declared.ask.Ask.{Ask}
 use Rattle.plx_disk.specs.declared.ask.Answer.{Answer}
-use Rattle.plx_worlds.specs.Boot.{Happening, Began, Asked, position, replies}
-use Rattle.plx_worlds.specs.Holds.{sample_of}
-use Rattle.plx_worlds.specs.Settings.{Setting}
+use Rattle.plx_rules.specs.Boot.{Happening, Began, Asked, position, replies}
+use Rattle.plx_rules.specs.Holds.{sample_of}
+use Rattle.plx_rules.specs.Settings.{Setting}
 
 -- an answered ask, with the bytes that it was to write
 pub record Exchange : Type 0 where

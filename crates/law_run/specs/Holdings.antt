@@ -6,8 +6,8 @@ use Rattle.plx_disk.specs.declared.ask.Ask.TheVariants as ask
 use Rattle.plx_disk.specs.declared.ask.Answer.{Answer}
 use Rattle.plx_disk.specs.declared.ask.Answer.TheVariants as answer
 use Rattle.plx_geom.specs.Geometry.{Geometry, lease_count, image_lease, lease_at}
-use Rattle.plx_worlds.specs.Holds.{Hold, Nothing, Wrote, Waited, Held, no_holds, after_answer, sample_of, after_reply}
-use Rattle.plx_worlds.specs.Settings.{Setting}
+use Rattle.plx_rules.specs.Holds.{Hold, Nothing, Wrote, Waited, Held, no_holds, after_answer, sample_of, after_reply}
+use Rattle.plx_rules.specs.Settings.{Setting}
 use Rattle.law_run.specs.CommandLogs.{Exchange, Finished, CommandLog}
 use Rattle.law_run.specs.Sessions.{is_attached}
 

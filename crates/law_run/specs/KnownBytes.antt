@@ -9,7 +9,7 @@ use Rattle.plx_disk.specs.declared.ask.Answer.{Answer}
 use Rattle.plx_disk.specs.declared.ask.Answer.TheVariants as answer
 use Rattle.plx_gate.specs.declared.image.ImageRecord.{ImageRecord}
 use Rattle.plx_geom.specs.Geometry.{Geometry, record_at, journal_start}
-use Rattle.plx_worlds.specs.Stored.{Given, record_on}
+use Rattle.plx_rules.specs.Stored.{Given, record_on}
 use Rattle.law_run.specs.CommandLogs.{Exchange, Finished, CommandLog}
 use Rattle.law_run.specs.Sessions.{names, is_attached}
 

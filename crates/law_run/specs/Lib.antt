@@ -15,3 +15,5 @@ pub mod Positions
 pub mod Worlds
 pub mod Machines
 pub mod ClaimEnds
+pub mod Renewals
+pub mod Releases

@@ -1,19 +1,56 @@
 -- Work that is done within a command, such as a claim, and the rules that it keeps by itself.
-use Rattle.std.specs.Prelude.{◌≡◌, ◌+◌, ◌≤◌, ℕ, List, ◌∷◌, length, Some}
+use Rattle.std.specs.Prelude.{◌≡◌, ◌≤◌, ◌<◌, ℕ, List, [], ◌∷◌, ◌++◌, length, Some}
 use Rattle.plx_disk.specs.declared.ask.Ask.{Ask}
+use Rattle.plx_disk.specs.declared.ask.Ask.TheVariants as ask
 use Rattle.plx_disk.specs.declared.ask.Answer.{Answer}
 use Rattle.plx_rules.specs.Part.{Part, Ends, answered, standing, bytes_out}
-use Rattle.plx_worlds.specs.Boot.{Fits}
-use Rattle.law_run.specs.CommandLogs.{Exchange}
+use Rattle.plx_rules.specs.Boot.{Fits}
+use Rattle.plx_rules.specs.Settings.{Setting}
+use Rattle.law_run.specs.AllowedAsks.{MayAsk}
+use Rattle.law_run.specs.CommandLogs.{Exchange, CommandLog}
+use Rattle.law_run.specs.Rules.{AllAllowed}
 
--- some work began after the exchanges `first`; with so many by now, the newest first, this is the rest of it
-pub data Leads {E : Type 0} (first : List Exchange) (start : Part E) : List Exchange → Part E → Type 0 where
-  begins : Leads first start first start
-  goes_on : {done : List Exchange} {part : Part E} (ask : Ask) (answer : Answer) → Leads first start done part → standing part ≡ Some ask → Fits ask answer →
-      Leads first start ((record { ask = ask; bytes = bytes_out part; answer = answer }) ∷ done) (answered part answer)
+-- some work that began as `start` has come, by exchanges of its own, the newest first, to this rest of it
+pub data HasCome {E : Type 0} (start : Part E) : List Exchange → Part E → Type 0 where
+  begins : HasCome start [] start
+  goes_on : {own : List Exchange} {rest : Part E} (ask : Ask) (answer : Answer) → HasCome start own rest → standing rest ≡ Some ask → Fits ask answer →
+      HasCome start ((record { ask = ask; bytes = bytes_out rest; answer = answer }) ∷ own) (answered rest answer)
 
--- it keeps rules, however it is answered: each ask that stands is allowed, at most so many are answered, and each end shows its cause
-pub record Keeps {E : Type 0} (May : List Exchange → Ask → List ℕ → Type 0) (Shows : List Exchange → E → Type 0) (first : List Exchange) (start : Part E) (n : ℕ) : Type 0 where
-  pub allowed : {done : List Exchange} {part : Part E} → Leads first start done part → (ask : Ask) → standing part ≡ Some ask → May done ask (bytes_out part)
-  pub bounded : {done : List Exchange} {part : Part E} → Leads first start done part → length done ≤ length first + n
-  pub shown : {done : List Exchange} {part : Part E} → Leads first start done part → (end : E) → part ≡ Ends end → Shows done end
+-- an answer that fits moves on from one rest to another: work that has come to the first has come, with this exchange, to the second
+abbrev pub MovesOn : {E : Type 0} → (old : Part E) → Answer → (new : Part E) → Type 0
+MovesOn old answer new =
+    (start : Part _) (own : List Exchange) (ask : Ask) → HasCome start own old → standing old ≡ Some ask → Fits ask answer →
+    HasCome start ((record { ask = ask; bytes = bytes_out old; answer = answer }) ∷ own) new
+
+-- the log with these exchanges
+abbrev pub with_exchanges : CommandLog → List Exchange → CommandLog
+with_exchanges log done = record { before = log.before; command = log.command; exchanges = done }
+
+-- the log of a command with those of some work within it
+abbrev pub with_work : CommandLog → (own : List Exchange) → CommandLog
+with_work log own = with_exchanges log (own ++ log.exchanges)
+
+-- an ask reads and writes this block alone
+abbrev pub IsOfBlock : (block : ℕ) → Ask → Type 0
+IsOfBlock block (ask.Read read) = read.0 ≡ block
+IsOfBlock block (ask.Write kind written guard) = written.0 ≡ block
+IsOfBlock block ask.Clock = Unit {0}
+IsOfBlock block (ask.Until from) = Unit {0}
+
+-- an ask of some work keeps the rules: it is allowed, it is of the work's block alone, and it is one of so many at most
+pub record IsRightAsk (s : Setting) (log : CommandLog) (block most : ℕ) (own : List Exchange) (ask : Ask) (bytes : List ℕ) : Type 0 where
+  pub allowed : MayAsk s (with_work log own) ask bytes
+  pub place : IsOfBlock block ask
+  pub bounded : length own < most
+
+-- some work kept the rules up to its end: all asks of the command were allowed, if those before the work were; it had so many answers at most;
+-- and the end has its cause
+pub record IsRightEnd {E : Type 0} (s : Setting) (log : CommandLog) (most : ℕ) (Shows : CommandLog → E → Type 0) (own : List Exchange) (end : E) : Type 0 where
+  pub allowed : AllAllowed s log.before log.command log.exchanges → AllAllowed s log.before log.command (own ++ log.exchanges)
+  pub bounded : length own ≤ most
+  pub shown : Shows (with_work log own) end
+
+-- some work on a block, begun after the exchanges of this log, keeps the rules, however it is answered
+pub record Keeps {E : Type 0} (s : Setting) (log : CommandLog) (block most : ℕ) (Shows : CommandLog → E → Type 0) (start : Part E) : Type 0 where
+  pub asks : {own : List Exchange} {rest : Part E} → HasCome start own rest → (ask : Ask) → standing rest ≡ Some ask → IsRightAsk s log block most own ask (bytes_out rest)
+  pub ends : {own : List Exchange} {rest : Part E} → HasCome start own rest → (end : E) → rest ≡ Ends end → IsRightEnd s log most Shows own end

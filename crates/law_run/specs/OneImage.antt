@@ -1,7 +1,7 @@
 -- Given bytes store one image at most.
 use Rattle.std.specs.Prelude.{◌≡◌, ℕ}
 use Rattle.plx_geom.specs.Geometry.{Geometry}
-use Rattle.plx_worlds.specs.Stored.{Given, StoredImage, Stores}
+use Rattle.plx_rules.specs.Stored.{Given, StoredImage, Stores}
 
 -- two images are one, as far as bytes are given
 pub record IsSameImage (i k : StoredImage) : Type 0 where

@@ -6,9 +6,9 @@ use Rattle.plx_gate.specs.Leases.{read_lease}
 use Rattle.plx_gate.specs.declared.descriptor.Descriptor.{Descriptor}
 use Rattle.plx_gate.specs.declared.image.ImageRecord.{ImageRecord}
 use Rattle.plx_geom.specs.Geometry.{Geometry, lease_count, lease_at, record_at, descriptor_at}
-use Rattle.plx_worlds.specs.Journal.{journal_slot, is_unapplied}
-use Rattle.plx_worlds.specs.Records.{is_plain, size_of, applied_of}
-use Rattle.plx_worlds.specs.Stored.{Given, record_on, IsCounted}
+use Rattle.plx_rules.specs.Journal.{journal_slot, is_unapplied}
+use Rattle.plx_rules.specs.Records.{is_plain, size_of, applied_of}
+use Rattle.plx_rules.specs.Stored.{Given, record_on, IsCounted}
 
 -- a write is missing: of those from the last one applied on, the least number that no descriptor counted has
 pub record IsMissing (g : Geometry) (given : Given) (image : ℕ) (kept : ImageRecord) (missing : ℕ) : Type 0 where

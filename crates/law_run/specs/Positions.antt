@@ -1,9 +1,9 @@
 -- What a boot holds, its sessions and its claims, by its commands and by where it stands.
 use Rattle.std.specs.Prelude.{◌≡◌, ℕ, List, is_some}
-use Rattle.plx_worlds.specs.Boot.{Happening, Place, Idle, Begins, In, Position, position, IsRun}
-use Rattle.plx_worlds.specs.Holds.{Hold}
-use Rattle.plx_worlds.specs.Session.{Known}
-use Rattle.plx_worlds.specs.Settings.{Setting}
+use Rattle.plx_rules.specs.Boot.{Happening, Place, Idle, Begins, In, Position, position, IsRun}
+use Rattle.plx_rules.specs.Holds.{Hold}
+use Rattle.plx_rules.specs.Session.{Known}
+use Rattle.plx_rules.specs.Settings.{Setting}
 use Rattle.law_run.specs.CommandLogs.{Finished, Commands, Between, Within, commands}
 use Rattle.law_run.specs.Holdings.{holds_along, holds_after, claims_begun}
 use Rattle.law_run.specs.Rules.{IsSetting}

@@ -13,10 +13,10 @@ use Rattle.plx_commands.specs.declared.reply.Reply.{Reply}
 use Rattle.plx_commands.specs.declared.reply.Reply.TheVariants as reply
 use Rattle.plx_gate.specs.declared.image.ImageRecord.{ImageRecord}
 use Rattle.plx_geom.specs.Geometry.{image_lease, lease_at}
-use Rattle.plx_worlds.specs.Holds.{Held}
-use Rattle.plx_worlds.specs.Records.{is_live, generation_of, size_of, applied_of}
-use Rattle.plx_worlds.specs.Settings.{Setting}
-use Rattle.plx_worlds.specs.Stored.{IsWriteCount}
+use Rattle.plx_rules.specs.Holds.{Held}
+use Rattle.plx_rules.specs.Records.{is_live, generation_of, size_of, applied_of}
+use Rattle.plx_rules.specs.Settings.{Setting}
+use Rattle.plx_rules.specs.Stored.{IsWriteCount}
 use Rattle.law_run.specs.CommandLogs.{CommandLog, first_reading}
 use Rattle.law_run.specs.Holdings.{at_first, holds_after, claims_begun, IsNotHeld}
 use Rattle.law_run.specs.KnownBytes.{known_from, record_known}

@@ -21,11 +21,11 @@ use Rattle.plx_disk.specs.declared.ask.Answer.TheVariants as answer
 use Rattle.plx_gate.specs.Leases.{lease_bytes, read_lease}
 use Rattle.plx_gate.specs.declared.image.ImageRecord.{ImageRecord}
 use Rattle.plx_geom.specs.Geometry.{Geometry, lease_count, lease_number, image_lease, lease_at, record_at, log_at, descriptor_at, data_at}
-use Rattle.plx_worlds.specs.Holds.{Nothing, Waited}
-use Rattle.plx_worlds.specs.Owners.{Needs}
-use Rattle.plx_worlds.specs.Settings.{Setting}
-use Rattle.plx_worlds.specs.Stored.{Holds, StoredImage, record_on, IsContent, Stores}
-use Rattle.plx_worlds.specs.Times.{is_expired}
+use Rattle.plx_rules.specs.Holds.{Nothing, Waited}
+use Rattle.plx_rules.specs.Owners.{Needs}
+use Rattle.plx_rules.specs.Settings.{Setting}
+use Rattle.plx_rules.specs.Stored.{Holds, StoredImage, record_on, IsContent, Stores}
+use Rattle.plx_rules.specs.Times.{is_expired}
 use Rattle.law_run.specs.AllowedAsks.{HasSampled}
 use Rattle.law_run.specs.Changes.{written_on, created_on, deleted_on, report_on}
 use Rattle.law_run.specs.CommandLogs.{Exchange, CommandLog, WasAnswered, NewestIs, LastAnswered}

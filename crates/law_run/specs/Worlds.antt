@@ -1,7 +1,7 @@
 -- The rules in each world that events lead to.
 use Rattle.std.specs.Prelude.{◌<◌, ℕ}
-use Rattle.plx_worlds.specs.Boot.{asks, writes_out}
-use Rattle.plx_worlds.specs.World.{World, Reached, setting_of, stands}
+use Rattle.plx_rules.specs.Boot.{asks, writes_out}
+use Rattle.plx_rules.specs.World.{World, Reached, setting_of, stands}
 use Rattle.law_run.specs.CommandLogs.{commands}
 use Rattle.law_run.specs.Rules.{KeepsRules}
 

@@ -9,6 +9,8 @@ ghost use Rattle.law_run.specs.ClaimEnds.{ClaimsKeepRules};
 ghost use Rattle.law_run.specs.Completeness.{OkWithoutCause};
 ghost use Rattle.law_run.specs.OneImage.{StoresOneImage};
 ghost use Rattle.law_run.specs.Positions.{PositionsAgree};
+ghost use Rattle.law_run.specs.Releases.{ReleasesKeepRules};
+ghost use Rattle.law_run.specs.Renewals.{RenewalsKeepRules};
 ghost use Rattle.law_run.specs.Rules.{RunsKeepRules};
 ghost use Rattle.law_run.specs.Worlds.{BootsKeepRules};
 
@@ -42,4 +44,14 @@ pub fn boots_keep_rules()
 /// answered, and its end has its cause.
 pub fn claims_keep_rules()
     ensures { ClaimsKeepRules }
+{}
+
+/// So does each renewal of a lease: its write is allowed, it is the one ask, and its end has its cause.
+pub fn renewals_keep_rules()
+    ensures { RenewalsKeepRules }
+{}
+
+/// So does each release of a lease: its write is allowed, it is the one ask, and its end has its cause.
+pub fn releases_keep_rules()
+    ensures { ReleasesKeepRules }
 {}

@@ -1,29 +1,74 @@
 -- An appliance, by the log of its boot.
-use Rattle.std.specs.Prelude.{◌≡◌, ℕ, List, IsSome}
-use Rattle.plx_rules.specs.Boot.{Position, Idle, Happening, position, asks}
-use Rattle.plx_appliance.specs.Places.{place_of, left_of, known_in}
+use Rattle.std.specs.Prelude.{◌≡◌, ℕ, List, Bool, true, false, Some, is_some}
+use Rattle.plx_commands.specs.declared.command.Command.{Command}
+use Rattle.plx_disk.specs.declared.ask.Ask.{Ask}
+use Rattle.plx_rules.specs.Boot.{Position, Idle, Begins, In, Happening, asks, position, writes_out}
+use Rattle.plx_rules.specs.Commands.{command_part}
+use Rattle.plx_rules.specs.Holds.{Hold}
+use Rattle.plx_rules.specs.Session.{Known}
+use Rattle.plx_rules.specs.Settings.{Setting}
+use Rattle.plx_appliance.specs.Begins.{begun_part}
+use Rattle.plx_appliance.specs.Giving.{given}
+use Rattle.plx_appliance.specs.Holding.{HoldsAs}
+use Rattle.plx_appliance.specs.Kept.{known_of}
+use Rattle.plx_appliance.specs.Stands.{Inside}
+use Rattle.plx_appliance.specs.Tokens.{leases_of}
+use Rattle.plx_appliance.specs.Works.{work_rest}
 use Rattle.plx_appliance.specs.declared.appliance.Appliance.{Appliance}
+use Rattle.plx_appliance.specs.declared.appliance.Stage.{Stage}
+use Rattle.plx_appliance.specs.declared.appliance.Stage.TheVariants as stage
+use Rattle.plx_appliance.specs.declared.begun.Begun.{Begun}
+use Rattle.plx_appliance.specs.declared.work.Work.{Work}
 
--- how many slots an image's journal has
-abbrev pub journal_slots : Appliance → ℕ
-journal_slots appliance = appliance.slots
+-- what the boot is given
+abbrev pub setting_of : Appliance → Setting
+setting_of a = given a.holdings.setting
 
--- where an appliance stands
-abbrev pub place : Appliance → Position
-place appliance = place_of appliance.slots appliance.state
+-- a command has begun, and asks what its machine will ask
+pub record HasBegun (s : Setting) (known : Known) (begun : Begun) (p : Position) : Type 0 where
+  pub command : Command
+  pub place_is : p.place ≡ Begins known command
+  pub part_is : (holds : ℕ → Hold) (reading : ℕ) → begun_part s known holds reading begun ≡ command_part s known holds reading command
 
--- an appliance stands for a log that leads to where it stands
-abbrev pub StandsFor : Appliance → List Happening → Type 0
-StandsFor appliance log = position appliance.slots log ≡ place appliance
+-- a command has had its first reading, and its machine stands where its log does
+pub record IsIn (known : Known) (w : Work) (p : Position) : Type 0 where
+  pub before : Known
+  pub command : Command
+  pub place_is : p.place ≡ In before command (work_rest known w)
+  pub inside : Inside w p.holds p.sample
 
--- an appliance is in no command
+abbrev pub StandsAt : Setting → Known → Stage → Position → Type 0
+StandsAt s known stage.Idle p = p.place ≡ Idle known
+StandsAt s known (stage.Begun begun) p = HasBegun s known begun p
+StandsAt s known (stage.In w) p = IsIn known w p
+
+-- an appliance stands for a log that leads to where it stands, and its tokens are what the log holds
+pub record StandsFor (a : Appliance) (log : List Happening) : Type 0 where
+  pub at : StandsAt (setting_of a) (known_of a.holdings) a.stage (position (setting_of a) log)
+  pub held : HoldsAs a.holdings.setting.geometry (leases_of a.holdings.leases.leases.items) (position (setting_of a) log).holds
+
+-- this ask stands where the log leads, and these bytes are to be written
+pub record IsStanding (a : Appliance) (log : List Happening) (ask : Ask) (bytes : List ℕ) : Type 0 where
+  pub ask_is : asks (position (setting_of a) log).place ≡ Some ask
+  pub bytes_are : writes_out (position (setting_of a) log).place ≡ bytes
+
+-- an appliance is in no command, or in one
+abbrev pub runs : Stage → Bool
+runs stage.Idle = false
+runs (stage.Begun begun) = true
+runs (stage.In w) = true
+
+-- its command waits for its first reading
+abbrev pub has_begun : Stage → Bool
+has_begun (stage.Begun begun) = true
+has_begun other = false
+
 abbrev pub IsIdle : Appliance → Type 0
-IsIdle appliance = place appliance ≡ Idle (known_in appliance.state)
+IsIdle a = runs a.stage ≡ false
 
--- an appliance is in a command
 abbrev pub IsRunning : Appliance → Type 0
-IsRunning appliance = IsSome (asks (place appliance))
+IsRunning a = runs a.stage ≡ true
 
--- how many asks it has left at most until its reply
-abbrev pub asks_left : Appliance → ℕ
-asks_left appliance = left_of appliance.slots appliance.state
+-- the image in this slot has a session
+abbrev pub has_session : Appliance → ℕ → Bool
+has_session a image = is_some ((known_of a.holdings).sessions image)

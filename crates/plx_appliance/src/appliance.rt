@@ -1,53 +1,59 @@
 //! One boot of an appliance.
-ghost use Rattle.std.specs.Prelude.{◌≡◌, ◌≤◌, IfOk, IfErr};
-ghost use Rattle.plx_rules.specs.Boot.{In};
-ghost use Rattle.plx_rules.specs.Commands.{command_part};
-ghost use Rattle.plx_appliance.specs.Places.{Follows, known_of, place_of, room_of, slots_of};
+ghost use Rattle.std.specs.Prelude.{◌≡◌, ◌<◌, ◌^◌};
+ghost use Rattle.plx_appliance.specs.Ties.{stage_images, stage_setting, stage_slots};
 
-use crate::attach::{after_attaching, after_fetching, after_loading, begin_attach};
-use crate::places::{data_at, descriptor_at};
-use crate::read::{after_opening, after_reading, begin_read};
-use crate::session::Session;
-use crate::state::{State, Turn};
-use crate::write::{
-    NO_GUARD, after_committing, after_confirming, after_filling, after_preparing, begin_write,
-    data_of, descriptor_of,
-};
-use plx_base::{NoMemory, WriteKind};
+use crate::begun::Begun;
+use crate::entering::enter;
+use crate::fitting::fits;
+use crate::holdings::Holdings;
+use crate::setting::Setting;
+use crate::work::Work;
+use plx_base::{NoMemory, SlotNo};
+use plx_commands::{Command, Reply};
 use plx_disk::{Answer, Ask};
-use plx_model::{Command, Reply};
 use std::alloc::Global;
 use std::mem;
 
-/// One boot of an appliance. Of a world with one image it knows a session at most.
+/// Where an appliance stands: in no command, at the first reading of one that has begun, or after it.
+#[derive(Drop)]
+pub enum Stage {
+    Idle,
+    Begun(Begun),
+    In(Work),
+}
+
+/// One boot of an appliance: what it keeps between commands, and the command that runs.
 #[derive(Drop)]
 pub struct Appliance {
-    slots: u32,
-    state: State,
-    ghost low: { 2 ≤ slots },
-    ghost high: { slots ≤ 64 },
-    ghost room: { slots_of slots state ≡ slots },
+    holdings: Holdings,
+    stage: Stage,
+    ghost same: { stage_setting holdings.setting stage ≡ holdings.setting },
+    ghost room: { stage_slots holdings.setting.geometry.slots stage ≡ holdings.setting.geometry.slots },
+    ghost renewals: { stage_images holdings.setting.geometry.images stage ≡ holdings.setting.geometry.images },
 }
 
 impl Appliance {
-    ghost use Rattle.std.specs.Prelude.{◌≡◌, ◌≤◌, ◌<◌, ◌∷◌, [], ℕ, List, true, false, Some, IsTrue, OnOk, OnErr};
+    ghost use Rattle.std.specs.Prelude.{ℕ, List, [], ◌∷◌, Some, None, true, false, IsTrue, IfOk, MatchOption, OnOk, OnErr};
     ghost use Rattle.plx_disk.specs.declared.ask.Ask.{Ask};
-    ghost use Rattle.plx_rules.specs.Boot.{Happening, Began, Asked, asks, writes_out, went_on, replies};
-    ghost use Rattle.plx_appliance.specs.Places.{AreWhole, FitsAsk, IsOnDevice};
-    ghost use Rattle.plx_appliance.specs.Appliance.{IsIdle, IsRunning, StandsFor, asks_left, journal_slots, place};
+    ghost use Rattle.plx_rules.specs.Boot.{Began, Asked, Fits, Happening, asks, position, replies, writes_out};
+    ghost use Rattle.plx_rules.specs.Commands.{IsBuilt, IsWellFormed};
+    ghost use Rattle.plx_rules.specs.Machines.{AreWhole, IsTimely};
+    ghost use Rattle.plx_appliance.specs.Appliance.{IsIdle, IsRunning, IsStanding, StandsFor, has_begun, has_session, setting_of};
+    ghost use Rattle.plx_appliance.specs.declared.work.Work.{Work as Running};
+    ghost use Rattle.plx_appliance.specs.Asking.{IsOnDevice};
+    ghost use Rattle.plx_appliance.specs.declared.begun.Begun.{Begun as Started};
 
-    /// An appliance that was asked nothing yet, where an image's journal has so many slots.
-    pub fn fresh(slots: u32) -> Appliance
-        requires low { 2 ≤ slots }
-        requires high { slots ≤ 64 }
-        ensures log { StandsFor result [] }
-        ensures slots { journal_slots result ≡ slots }
-        ensures idle { IsIdle result }
+    /// An appliance that was asked nothing yet.
+    pub fn fresh(alloc: Global, setting: Setting) -> Result<Appliance, NoMemory>
+        ensures log { IfOk result (λ a. StandsFor a []) }
+        ensures setting { IfOk result (λ a. a.holdings.setting ≡ setting) }
+        ensures idle { IfOk result IsIdle }
     {
-        Appliance {
-            slots,
-            state: State::Idle(None),
-        }
+        let holdings = Holdings::new(alloc, setting)?;
+        Ok(Appliance {
+            holdings,
+            stage: Stage::Idle,
+        })
     }
 
     /// Whether no command runs.
@@ -55,167 +61,150 @@ impl Appliance {
         ensures idle { IsTrue result → IsIdle self.now }
         ensures running { result ≡ false → IsRunning self.now }
     {
-        matches!(&self.state, State::Idle(_))
+        match &self.stage {
+            Stage::Idle => true,
+            Stage::Begun(_) | Stage::In(_) => false,
+        }
     }
 
-    /// A command begins, with all the memory that it can need. Without memory nothing changes.
-    pub fn begin(&mut self, alloc: Global, command: Command) -> Result<(), NoMemory>
-        requires { IsIdle self.old }
-        ensures ok { OnOk result ((log : List Happening) → StandsFor self.old log
-            → StandsFor self.new (Began command ∷ log)) }
-        ensures running { OnOk result (IsRunning self.new) }
-        ensures err { OnErr result ((log : List Happening) → StandsFor self.old log
-            → StandsFor self.new log) }
-        ensures idle { OnErr result (IsIdle self.new) }
-        ensures slots { journal_slots self.new ≡ journal_slots self.old }
+    /// Whether the image in this slot has a session.
+    pub fn is_attached(&self, slot: SlotNo) -> bool
+        ensures { result ≡ has_session self.now slot.0 }
     {
-        let known = match mem::replace(&mut self.state, State::Idle(None)) {
-            State::Idle(known) => known,
-            _ => unreachable!(),
-        };
-        match begun(alloc, self.slots, known, command) {
-            Ok(state) => {
-                self.state = state;
-                Ok(())
-            }
-            Err(known) => {
-                self.state = State::Idle(known);
-                Err(NoMemory)
-            }
-        }
+        self.holdings.sessions.get(slot).is_some()
+    }
+
+    /// Any command that is built begins, with all the memory that it can need. Without memory nothing changes.
+    pub fn begin(&mut self, alloc: Global, command: Command) -> Result<(), NoMemory>
+        requires idle { IsIdle self.old }
+        requires built { IsBuilt command }
+        requires limits { IsWellFormed command }
+        ensures ok { OnOk result ((log : List Happening) → StandsFor self.old log → StandsFor self.new (Began command ∷ log)) }
+        ensures running { OnOk result (IsRunning self.new) }
+        ensures err { OnErr result ((log : List Happening) → StandsFor self.old log → StandsFor self.new log) }
+        ensures idle { OnErr result (IsIdle self.new) }
+        ensures setting { self.new.holdings.setting ≡ self.old.holdings.setting }
+    {
+        let begun = Begun::begin(alloc, &self.holdings.setting, command)?;
+        self.stage = Stage::Begun(begun);
+        Ok(())
     }
 
     /// The ask that stands.
     pub fn ask(&self) -> Ask
         requires { IsRunning self.now }
-        ensures ask { Some result ≡ asks (place self.now) }
-        ensures within { IsOnDevice (journal_slots self.now) result }
+        ensures ask { (log : List Happening) → StandsFor self.now log → Some result ≡ asks (position (setting_of self.now) log).place }
+        ensures within { (log : List Happening) → StandsFor self.now log → IsOnDevice self.now.holdings.setting.geometry result }
     {
-        let slots = self.slots;
-        match &self.state {
-            State::Idle(_) => unreachable!(),
-            State::Refusing(..)
-            | State::Attaching(_)
-            | State::Opening(..)
-            | State::Reading(..)
-            | State::Preparing(_)
-            | State::Confirming(_) => Ask::Clock,
-            State::Loading(load) => {
-                if load.at < slots {
-                    return Ask::Read {
-                        block: descriptor_at(slots, u64::from(load.at)),
-                    };
-                }
-                Ask::Clock
-            }
-            State::Fetching(fetch) => Ask::Read {
-                block: data_at(slots, u64::from(fetch.load.at)),
-            },
-            State::Filling(change) => Ask::Write {
-                kind: WriteKind::JData,
-                block: data_of(slots, change),
-                guard: NO_GUARD,
-            },
-            State::Committing(change) => Ask::Write {
-                kind: WriteKind::JCommit,
-                block: descriptor_of(slots, change),
-                guard: NO_GUARD,
-            },
+        match &self.stage {
+            Stage::Idle => Ask::Clock,
+            Stage::Begun(_) => Ask::Clock,
+            Stage::In(work) => work.ask(),
         }
     }
 
     /// The bytes of the write that is asked for.
     pub fn out(&self) -> &[u8]
         requires { IsRunning self.now }
-        ensures bytes { result.now ≡ writes_out (place self.now) }
-        ensures whole { AreWhole (asks (place self.now)) result.now }
+        ensures bytes { (log : List Happening) → StandsFor self.now log → result.now ≡ writes_out (position (setting_of self.now) log).place }
+        ensures whole { (log : List Happening) → StandsFor self.now log → AreWhole (asks (position (setting_of self.now) log).place) result.now }
     {
-        match &self.state {
-            State::Filling(change) => change.block.as_slice(),
-            State::Committing(change) => change.spelled.as_slice(),
-            _ => &[],
+        match &self.stage {
+            Stage::Idle => &[],
+            Stage::Begun(_) => &[],
+            Stage::In(work) => work.out(),
         }
     }
 
-    /// The ask that stands is answered. An answer that doesn't fit it changes nothing.
+    /// The ask that stands is answered: the reply, where the command ends with it. An answer that doesn't fit the ask
+    /// changes nothing.
     pub fn answer(&mut self, answer: &Answer) -> Option<Reply>
         requires { IsRunning self.old }
-        ensures place { place self.new ≡ went_on answer.now (place self.old) }
-        ensures log { (ask : Ask) (bytes : List ℕ) (log : List Happening) → StandsFor self.old log
-            → StandsFor self.new (Asked ask bytes answer.now ∷ log) }
-        ensures reply { result ≡ replies answer.now (place self.old) }
-        ensures fewer { FitsAsk (asks (place self.old)) answer.now
-            → asks_left self.new < asks_left self.old }
-        ensures slots { journal_slots self.new ≡ journal_slots self.old }
+        ensures stage { MatchOption result (IsRunning self.new) (λ reply. IsIdle self.new) }
+        ensures log { (log : List Happening) (ask : Ask) (bytes : List ℕ) → StandsFor self.old log → IsStanding self.old log ask bytes → Fits ask answer.now → StandsFor self.new (Asked ask bytes answer.now ∷ log) }
+        ensures reply { (log : List Happening) (ask : Ask) (bytes : List ℕ) → StandsFor self.old log → IsStanding self.old log ask bytes → Fits ask answer.now → result ≡ replies (setting_of self.old) answer.now (position (setting_of self.old) log) }
+        ensures unfit { (log : List Happening) (ask : Ask) (bytes : List ℕ) → StandsFor self.old log → IsStanding self.old log ask bytes → ¬ (Fits ask answer.now) → (self.new ≡ self.old) × (result ≡ None) }
+        ensures setting { self.new.holdings.setting ≡ self.old.holdings.setting }
     {
-        let state = mem::replace(&mut self.state, State::Idle(None));
-        match turned(self.slots, state, answer) {
-            Turn::On(state) => {
-                self.state = state;
-                None
+        let ask = self.ask();
+        if !fits(&ask, answer) {
+            return None;
+        }
+        match (self.has_begun(), answer) {
+            (true, Answer::Reading(reading)) => self.first(*reading),
+            (true, _) => None,
+            (false, _) => self.next(answer),
+        }
+    }
+
+    // Whether the command that runs waits for its first reading.
+    fn has_begun(&self) -> bool
+        ensures { result ≡ has_begun self.now.stage }
+    {
+        match &self.stage {
+            Stage::Begun(_) => true,
+            Stage::Idle | Stage::In(_) => false,
+        }
+    }
+
+    // The command that has begun has its first reading.
+    fn first(&mut self, reading: u64) -> Option<Reply>
+        requires { reading < 2 ^ 48 }
+        ensures stage { IsRunning self.old → MatchOption result (IsRunning self.new) (λ reply. IsIdle self.new) }
+        ensures log { (log : List Happening) (begun : Started) → self.old.stage ≡ Stage.Begun begun → StandsFor self.old log → StandsFor self.new (Asked Ask.Clock [] (Answer.Reading reading) ∷ log) }
+        ensures reply { (log : List Happening) (begun : Started) → self.old.stage ≡ Stage.Begun begun → StandsFor self.old log → result ≡ replies (setting_of self.old) (Answer.Reading reading) (position (setting_of self.old) log) }
+        ensures setting { self.new.holdings.setting ≡ self.old.holdings.setting }
+    {
+        match mem::replace(&mut self.stage, Stage::Idle) {
+            Stage::Begun(begun) => {
+                self.holdings.drop_expired(reading);
+                match enter(begun, &mut self.holdings, reading) {
+                    Ok(work) => {
+                        self.stage = Stage::In(work);
+                        None
+                    }
+                    Err(reply) => {
+                        self.holdings.settle(&reply);
+                        Some(reply)
+                    }
+                }
             }
-            Turn::End(known, reply) => {
-                self.state = State::Idle(known);
-                Some(reply)
+            other => {
+                self.stage = other;
+                None
             }
         }
     }
-}
 
-// The state in which a command begins. Without memory what is known comes back.
-fn begun(
-    alloc: Global,
-    slots: u32,
-    known: Option<Session>,
-    command: Command,
-) -> Result<State, Option<Session>>
-    requires room { room_of slots known ≡ slots }
-    requires small { slots ≤ 64 }
-    ensures ok { IfOk result (λ s. place_of slots s
-        ≡ In (command_part slots (known_of known) command)) }
-    ensures room { IfOk result (λ s. slots_of slots s ≡ slots) }
-    ensures err { IfErr result (λ s. s ≡ known) }
-{
-    match command {
-        Command::Attach { slot } => begin_attach(alloc, slots, known, slot),
-        Command::Read { slot, vblock } => begin_read(alloc, slots, known, slot, vblock),
-        Command::Write {
-            slot,
-            vblock,
-            payload,
-        } => begin_write(alloc, slots, known, slot, vblock, &payload),
-    }
-}
-
-// What an answer makes of a state.
-fn turned(slots: u32, state: State, answer: &Answer) -> Turn
-    requires { slots_of slots state ≡ slots }
-    ensures { Follows slots state answer.now result }
-{
-    match state {
-        State::Idle(known) => Turn::On(State::Idle(known)),
-        State::Refusing(known, reply) => after_refusing(slots, known, reply, answer),
-        State::Attaching(load) => after_attaching(slots, load, answer),
-        State::Loading(load) => after_loading(slots, load, answer),
-        State::Fetching(fetch) => after_fetching(slots, fetch, answer),
-        State::Opening(session, block) => after_opening(slots, session, block, answer),
-        State::Reading(session, block) => after_reading(slots, session, block, answer),
-        State::Preparing(change) => after_preparing(slots, change, answer),
-        State::Filling(change) => after_filling(slots, change, answer),
-        State::Committing(change) => after_committing(slots, change, answer),
-        State::Confirming(change) => after_confirming(slots, change, answer),
-    }
-}
-
-// The clock reading after which a command is refused is answered.
-fn after_refusing(slots: u32, known: Option<Session>, reply: Reply, answer: &Answer) -> Turn
-    requires { room_of slots known ≡ slots }
-    ensures { Follows slots (State.Refusing known reply) answer.now result }
-{
-    match answer {
-        Answer::Reading(_) => Turn::End(known, reply),
-        Answer::Bytes(_) | Answer::Done | Answer::Missed(_) | Answer::Fault => Turn::On(
-            State::Refusing(known, reply),
-        ),
+    // The command that runs is answered.
+    fn next(&mut self, answer: &Answer) -> Option<Reply>
+        requires { IsTimely answer.now }
+        ensures stage { IsRunning self.old → MatchOption result (IsRunning self.new) (λ reply. IsIdle self.new) }
+        ensures log { (log : List Happening) (ask : Ask) (bytes : List ℕ) (work : Running) → self.old.stage ≡ Stage.In work → StandsFor self.old log → IsStanding self.old log ask bytes → Fits ask answer.now → StandsFor self.new (Asked ask bytes answer.now ∷ log) }
+        ensures reply { (log : List Happening) (ask : Ask) (bytes : List ℕ) (work : Running) → self.old.stage ≡ Stage.In work → StandsFor self.old log → IsStanding self.old log ask bytes → Fits ask answer.now → result ≡ replies (setting_of self.old) answer.now (position (setting_of self.old) log) }
+        ensures setting { self.new.holdings.setting ≡ self.old.holdings.setting }
+    {
+        match mem::replace(&mut self.stage, Stage::Idle) {
+            Stage::In(running) => {
+                let mut work = running;
+                let ask = work.ask();
+                let reply = work.answer(&mut self.holdings, answer);
+                self.holdings.drop_failed(&ask, answer);
+                match reply {
+                    None => {
+                        self.stage = Stage::In(work);
+                        None
+                    }
+                    Some(reply) => {
+                        self.holdings.settle(&reply);
+                        Some(reply)
+                    }
+                }
+            }
+            other => {
+                self.stage = other;
+                None
+            }
+        }
     }
 }

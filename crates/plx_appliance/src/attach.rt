@@ -1,258 +1,217 @@
-//! An attach reads the journal.
-ghost use Rattle.std.specs.Prelude.{◌≡◌, ◌≤◌, ◌<◌, ◌+◌, ◌++◌, ◌∷◌, [], IfOk, IfErr};
+//! An attach claims the image's lease, unless it is held already, and loads the image.
+ghost use Rattle.std.specs.Prelude.{◌≡◌, ◌<◌, ◌^◌, Some, None};
 ghost use Rattle.std.specs.Vec.{vec_len};
-ghost use Rattle.plx_model.specs.declared.command.Command.TheVariants.{Attach};
-ghost use Rattle.plx_rules.specs.Boot.{In};
-ghost use Rattle.plx_rules.specs.Commands.{command_part};
-ghost use Rattle.plx_rules.specs.Journal.{counted as counted_in, first_record, is_counted};
-ghost use Rattle.plx_rules.specs.Session.{session_report};
-ghost use Rattle.plx_appliance.specs.Places.{Follows, known_of, place_of, room_of, session_of, slots_of};
-ghost use Rattle.plx_appliance.specs.Places.{fetched as fetched_write};
 
-use crate::places::{GENERATION, IMAGE, IMAGE_SIZE, data_at, descriptor_at};
+use crate::lease::Leases;
+use crate::leased::Leased;
+use crate::load::Load;
 use crate::session::Session;
-use crate::state::{Fetch, Load, State, Turn};
-use plx_base::{Block, Label, NoMemory, SlotNo};
-use plx_disk::Answer;
-use plx_gate::{Descriptor, read_descriptor};
-use plx_model::{Reply, Report};
-use plx_rules::Journaled;
+use crate::sessions::Sessions;
+use crate::setting::Setting;
+use plx_base::{BlockNo, LeaseName, SlotNo};
+use plx_commands::Reply;
+use plx_disk::{Answer, Ask};
+use plx_geom::Place;
+use plx_lease::{ClaimEnd, LeaseClaim};
+use plx_token::Image;
 use std::alloc::Global;
 
-/// An attach begins. Without memory what is known comes back.
-pub fn begin_attach(
-    alloc: Global,
-    slots: u32,
-    known: Option<Session>,
-    slot: SlotNo,
-) -> Result<State, Option<Session>>
-    requires room { room_of slots known ≡ slots }
-    ensures ok { IfOk result (λ s. place_of slots s
-        ≡ In (command_part slots (known_of known) (Attach slot))) }
-    ensures room { IfOk result (λ s. slots_of slots s ≡ slots) }
-    ensures err { IfErr result (λ s. s ≡ known) }
-{
-    if slot.0 != IMAGE.0 {
-        return Ok(State::Refusing(known, Reply::NoImage));
-    }
-    match known {
-        Some(session) => Ok(State::Refusing(Some(session), Reply::AlreadyAttached)),
-        None => match new_load(alloc, slots) {
-            Ok(load) => Ok(State::Attaching(load)),
-            Err(_) => Err(None),
-        },
-    }
+/// Where it stands: in the claim, or in the load.
+#[derive(Clone, Copy)]
+pub enum AttachAt {
+    Claim,
+    Load,
 }
 
-// The beginning of a load, with a spare block for each slot.
-fn new_load(alloc: Global, slots: u32) -> Result<Load, NoMemory>
-    ensures at { IfOk result (λ l. l.at ≡ 0) }
-    ensures slots { IfOk result (λ l. l.session.slots ≡ slots) }
-    ensures writes { IfOk result (λ l. l.session.writes.items ≡ []) }
-{
-    let session = Session::new(alloc, slots)?;
-    let spare = spare_blocks(alloc, slots)?;
-    Ok(Load {
-        at: 0,
-        session,
-        spare,
-    })
+/// An attach with the machines of its claim and of its load.
+#[derive(Drop)]
+pub struct Attach {
+    pub at: AttachAt,
+    pub claim: LeaseClaim<Image>,
+    pub load: Load,
 }
 
-// So many blocks.
-fn spare_blocks(alloc: Global, count: u32) -> Result<Vec<Block>, NoMemory>
-    ensures { IfOk result (λ v. vec_len v ≡ count) }
-{
-    let mut blocks = Vec::new(alloc);
-    for _ in 0..count {
-        blocks.push(Block::zeros(alloc)?)?;
-    }
-    Ok(blocks)
-}
+impl Attach {
+    ghost use Rattle.std.specs.Prelude.{ℕ, [], Option};
+    ghost use Rattle.plx_geom.specs.Geometry.{block_count, image_lease, lease_at};
+    ghost use Rattle.plx_rules.specs.Part.{Part, answered, standing, bytes_out};
+    ghost use Rattle.plx_commands.specs.Limits.{last_claim};
+    ghost use Rattle.plx_rules.specs.Attaching.{after_claim, load_image};
+    ghost use Rattle.plx_rules.specs.Claims.{claim_part};
+    ghost use Rattle.plx_rules.specs.Machines.{AreWhole, IsTimely};
+    ghost use Rattle.plx_rules.specs.Parts.{followed_by};
+    ghost use Rattle.plx_rules.specs.Session.{Known};
+    ghost use Rattle.plx_lease.specs.ClaimEnds.{claim_end};
+    ghost use Rattle.plx_lease.specs.Holding.{IsSampled, claim_hold};
+    ghost use Rattle.plx_rules.specs.Holds.{Hold, Nothing};
+    ghost use Rattle.plx_appliance.specs.Asking.{IsOnDevice};
+    ghost use Rattle.plx_appliance.specs.Stands.{inside_at};
+    ghost use Rattle.plx_appliance.specs.Attaches.{attach_rest, attach_spares};
+    ghost use Rattle.plx_appliance.specs.Ending.{after_reply};
+    ghost use Rattle.plx_appliance.specs.Giving.{given};
+    ghost use Rattle.plx_appliance.specs.Kept.{known_by};
+    ghost use Rattle.plx_appliance.specs.Moving.{attach_moves, claimed};
+    ghost use Rattle.plx_appliance.specs.Tokens.{leases_of};
 
-/// The first clock reading of an attach is answered.
-pub fn after_attaching(slots: u32, load: Load, answer: &Answer) -> Turn
-    requires { load.session.slots ≡ slots }
-    ensures { Follows slots (State.Attaching load) answer.now result }
-{
-    match answer {
-        Answer::Reading(_) => Turn::On(State::Loading(load)),
-        Answer::Bytes(_) | Answer::Done | Answer::Missed(_) | Answer::Fault => Turn::On(
-            State::Attaching(load),
-        ),
-    }
-}
-
-/// A descriptor, or the last clock reading after all slots, is answered.
-pub fn after_loading(slots: u32, load: Load, answer: &Answer) -> Turn
-    requires { load.session.slots ≡ slots }
-    ensures { Follows slots (State.Loading load) answer.now result }
-{
-    if load.at < slots {
-        after_descriptor(slots, load, answer)
-    } else {
-        after_last(slots, load, answer)
-    }
-}
-
-// A descriptor is answered.
-fn after_descriptor(slots: u32, load: Load, answer: &Answer) -> Turn
-    requires room { load.session.slots ≡ slots }
-    requires left { load.at < slots }
-    ensures { Follows slots (State.Loading load) answer.now result }
-{
-    match answer {
-        Answer::Bytes(bytes) => after_bytes(slots, load, bytes),
-        Answer::Fault => Turn::End(
-            None,
-            Reply::ReadFault {
-                block: descriptor_at(slots, u64::from(load.at)),
-            },
-        ),
-        Answer::Done | Answer::Reading(_) | Answer::Missed(_) => Turn::On(State::Loading(load)),
-    }
-}
-
-// A descriptor was read.
-fn after_bytes(slots: u32, load: Load, bytes: &Block) -> Turn
-    requires room { load.session.slots ≡ slots }
-    requires left { load.at < slots }
-    ensures { Follows slots (State.Loading load) (Answer.Bytes bytes.now) result }
-{
-    match counted(slots, load.at, bytes) {
-        None => Turn::On(State::Loading(skipped(load))),
-        Some(descriptor) => Turn::On(State::Fetching(Fetch { load, descriptor })),
-    }
-}
-
-// The load without the slot that it stands at.
-fn skipped(load: Load) -> Load
-    requires { load.at < load.session.slots }
-    ensures at { result.at ≡ load.at + 1 }
-    ensures session { result.session ≡ load.session }
-{
-    let Load { at, session, spare } = load;
-    Load {
-        at: at + 1,
-        session,
-        spare,
-    }
-}
-
-// The last clock reading is answered.
-fn after_last(slots: u32, load: Load, answer: &Answer) -> Turn
-    requires room { load.session.slots ≡ slots }
-    requires over { slots ≤ load.at }
-    ensures { Follows slots (State.Loading load) answer.now result }
-{
-    match answer {
-        Answer::Reading(reading) => after_all(slots, load, *reading),
-        Answer::Bytes(_) | Answer::Done | Answer::Missed(_) | Answer::Fault => Turn::On(
-            State::Loading(load),
-        ),
-    }
-}
-
-// All slots were read.
-fn after_all(slots: u32, load: Load, reading: u64) -> Turn
-    requires room { load.session.slots ≡ slots }
-    requires over { slots ≤ load.at }
-    ensures { Follows slots (State.Loading load) (Answer.Reading reading) result }
-{
-    let Load {
-        at: _,
-        session,
-        spare: _,
-    } = load;
-    let report = report_of(&session);
-    Turn::End(Some(session), Reply::Attached { report })
-}
-
-fn report_of(session: &Session) -> Report
-    ensures { result ≡ session_report (session_of session.now) }
-{
-    Report {
-        live: true,
-        generation: GENERATION,
-        size: IMAGE_SIZE,
-        writes: session.count(),
-        taken: 0,
-        dropped: 0,
-        label: Label::empty(),
-    }
-}
-
-/// The data of a slot is answered.
-pub fn after_fetching(slots: u32, fetch: Fetch, answer: &Answer) -> Turn
-    requires { fetch.load.session.slots ≡ slots }
-    ensures { Follows slots (State.Fetching fetch) answer.now result }
-{
-    match answer {
-        Answer::Bytes(bytes) => Turn::On(State::Loading(fetched(fetch, bytes))),
-        Answer::Fault => Turn::End(
-            None,
-            Reply::ReadFault {
-                block: data_at(slots, u64::from(fetch.load.at)),
-            },
-        ),
-        Answer::Done | Answer::Reading(_) | Answer::Missed(_) => Turn::On(State::Fetching(fetch)),
-    }
-}
-
-// The load once the data of its slot was read.
-fn fetched(fetch: Fetch, bytes: &Block) -> Load
-    ensures at { result.at ≡ fetch.load.at + 1 }
-    ensures slots { result.session.slots ≡ fetch.load.session.slots }
-    ensures writes { result.session.writes.items
-        ≡ fetch.load.session.writes.items ++ fetched_write fetch bytes.now ∷ [] }
-{
-    let Fetch { load, descriptor } = fetch;
-    let Load {
-        at,
-        mut session,
-        mut spare,
-    } = load;
-    let mut block = match spare.pop() {
-        Some(block) => block,
-        None => unreachable!(),
-    };
-    block.set(bytes);
-    session.push(Journaled {
-        number: descriptor.number,
-        vblock: descriptor.vblock,
-        block,
-    });
-    Load {
-        at: at + 1,
-        session,
-        spare,
-    }
-}
-
-// The descriptor that counts in a slot, of the bytes that stand there.
-fn counted(slots: u32, slot: u32, bytes: &Block) -> Option<Descriptor>
-    requires { slot < slots }
-    ensures { result ≡ counted_in first_record slots slot bytes.now }
-{
-    let bytes = bytes.as_slice();
-    match read_descriptor(bytes) {
-        None => None,
-        Some(None) => None,
-        Some(Some(descriptor)) => {
-            if counts(slots, slot, &descriptor) {
-                return Some(descriptor);
-            }
-            None
+    /// The lease is to be claimed, by a boot that began so many claims before.
+    pub fn claim(
+        alloc: Global,
+        setting: Setting,
+        slot: SlotNo,
+        number: u64,
+        session: Session,
+    ) -> Attach
+        requires within { slot.0 < setting.geometry.images }
+        requires number { number < last_claim }
+        requires slots { session.slots ≡ setting.geometry.slots }
+        requires empty { vec_len session.writes ≡ 0 }
+        ensures rest { (known : Known) → attach_rest known result ≡ followed_by (claim_part (given setting).boot [] (image_lease slot.0) number) (after_claim (given setting) known slot.0) }
+        ensures number { result.claim.number ≡ image_lease result.load.image.slot.0 }
+        ensures fresh { claim_hold result.claim ≡ Nothing }
+        ensures sampled { (sample : Option ℕ) → IsSampled result.claim sample }
+        ensures at { result.at ≡ AttachAt.Claim }
+        ensures slot { result.load.image.slot ≡ slot }
+        ensures setting { result.load.image.setting ≡ setting }
+        ensures slots { result.load.slots ≡ setting.geometry.slots }
+    {
+        let block = setting.block(Place::ImageLease(slot));
+        Attach {
+            at: AttachAt::Claim,
+            claim: LeaseClaim::begin(Image(slot), block, setting.boot, number, None),
+            load: Load::begin(
+                alloc,
+                Leased {
+                    setting,
+                    slot,
+                    until: 0,
+                },
+                session,
+            ),
         }
     }
-}
 
-// Whether a descriptor counts in this slot.
-fn counts(slots: u32, slot: u32, descriptor: &Descriptor) -> bool
-    requires { slot < slots }
-    ensures { result ≡ is_counted first_record slots slot descriptor.now }
-{
-    descriptor.generation == GENERATION
-        && 0 < descriptor.number
-        && (descriptor.number - 1) % u64::from(slots) == u64::from(slot)
+    /// The lease is held up to this moment.
+    pub fn load(alloc: Global, image: Leased, session: Session) -> Attach
+        requires slots { session.slots ≡ image.setting.geometry.slots }
+        requires empty { vec_len session.writes ≡ 0 }
+        ensures rest { (known : Known) → attach_rest known result ≡ load_image (given image.setting) known image.slot.0 image.until }
+        ensures at { result.at ≡ AttachAt.Load }
+        ensures setting { result.load.image.setting ≡ image.setting }
+        ensures slots { result.load.slots ≡ image.setting.geometry.slots }
+    {
+        let block = image.setting.block(Place::ImageLease(image.slot));
+        Attach {
+            at: AttachAt::Load,
+            claim: LeaseClaim::begin(Image(image.slot), block, image.setting.boot, 0, None),
+            load: Load::begin(alloc, image, session),
+        }
+    }
+
+    /// The ask that stands.
+    pub fn ask(&self) -> Ask
+        requires { self.now.load.slots ≡ self.now.load.image.setting.geometry.slots }
+        ensures ask { (known : Known) → Some result ≡ standing (attach_rest known self.now) }
+        ensures spare { attach_spares self.now.at self.now result }
+        ensures within { (holds : ℕ → Hold) (sample : Option ℕ) → inside_at self.now.at self.now holds sample → IsOnDevice self.now.load.image.setting.geometry result }
+    {
+        match self.at {
+            AttachAt::Claim => self.claim.ask(),
+            AttachAt::Load => self.load.ask(),
+        }
+    }
+
+    /// The bytes of the write that is asked for.
+    pub fn out(&self) -> &[u8]
+        ensures bytes { (known : Known) → result.now ≡ bytes_out (attach_rest known self.now) }
+        ensures whole { (known : Known) → AreWhole (standing (attach_rest known self.now)) result.now }
+    {
+        match self.at {
+            AttachAt::Claim => self.claim.out(),
+            AttachAt::Load => self.load.out(),
+        }
+    }
+
+    /// The ask is answered.
+    pub fn answer(
+        &mut self,
+        sessions: &mut Sessions,
+        leases: &mut Leases,
+        answer: &Answer,
+    ) -> Option<Reply>
+        requires own { self.old.load.slots ≡ self.old.load.image.setting.geometry.slots }
+        requires count { sessions.old.count ≡ self.old.load.image.setting.geometry.images }
+        requires slots { sessions.old.slots ≡ self.old.load.image.setting.geometry.slots }
+        requires leased { leases.old.count ≡ self.old.load.image.setting.geometry.images }
+        requires timely { IsTimely answer.now }
+        ensures rest { (claims : ℕ) → after_reply (attach_rest (known_by sessions.new claims) self.new) (known_by sessions.new claims) result ≡ answered (attach_rest (known_by sessions.old claims) self.old) answer.now }
+        ensures setting { self.new.load.image.setting ≡ self.old.load.image.setting }
+        ensures own { result ≡ None → self.new.load.slots ≡ self.old.load.slots }
+        ensures count { sessions.new.count ≡ sessions.old.count }
+        ensures slots { sessions.new.slots ≡ sessions.old.slots }
+        ensures leased { leases.new.count ≡ leases.old.count }
+        ensures moves { attach_moves self.old.at self.old self.new answer.now (leases_of leases.old.leases.items) (leases_of leases.new.leases.items) result }
+    {
+        match self.at {
+            AttachAt::Claim => match self.claim.answer(answer) {
+                None => None,
+                Some(end) => self.claimed(leases, end),
+            },
+            AttachAt::Load => self.load.answer(sessions, answer),
+        }
+    }
+
+    // The claim has ended.
+    fn claimed(&mut self, leases: &mut Leases, end: ClaimEnd<Image>) -> Option<Reply>
+        requires own { self.old.load.slots ≡ self.old.load.image.setting.geometry.slots }
+        requires leased { leases.old.count ≡ self.old.load.image.setting.geometry.images }
+        ensures rest { (known : Known) → after_reply (attach_rest known self.new) known result ≡ after_claim (given self.old.load.image.setting) known self.old.load.image.slot.0 (claim_end end) }
+        ensures setting { self.new.load.image.setting ≡ self.old.load.image.setting }
+        ensures own { self.new.load.slots ≡ self.old.load.slots }
+        ensures leased { leases.new.count ≡ leases.old.count }
+        ensures leases { leases_of leases.new.leases.items ≡ claimed (claim_end end) self.old.load.image.slot.0 (leases_of leases.old.leases.items) }
+        ensures claim { self.new.claim ≡ self.old.claim }
+        ensures slot { self.new.load.image.slot ≡ self.old.load.image.slot }
+        ensures held { result ≡ None → self.new.at ≡ AttachAt.Load }
+    {
+        let image = self.load.image;
+        match end {
+            ClaimEnd::Held(held) => {
+                self.at = AttachAt::Load;
+                self.load.enter(Leased {
+                    setting: image.setting,
+                    slot: image.slot,
+                    until: held.until(),
+                });
+                leases.put(image.slot, held);
+                None
+            }
+            ClaimEnd::Busy { seen } => Some(Reply::Busy {
+                lease: LeaseName::Image(image.slot),
+                seen,
+            }),
+            ClaimEnd::Lost { due, reading } => Some(Reply::Lost {
+                lease: image.setting.lease_name(due.lease),
+                until: due.until,
+                reading,
+            }),
+            ClaimEnd::ReadFault => Some(Reply::ReadFault {
+                block: self.block(),
+            }),
+            ClaimEnd::WriteFault => Some(Reply::WriteFault {
+                block: self.block(),
+            }),
+            ClaimEnd::Damaged => Some(Reply::Damaged {
+                block: self.block(),
+            }),
+        }
+    }
+
+    // The block of the lease.
+    fn block(&self) -> BlockNo
+        ensures block { result.0 ≡ lease_at (image_lease self.now.load.image.slot.0) }
+        ensures within { result.0 < block_count self.now.load.image.setting.geometry }
+    {
+        let image = self.load.image;
+        image.setting.block(Place::ImageLease(image.slot))
+    }
 }

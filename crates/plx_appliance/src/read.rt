@@ -1,90 +1,79 @@
 //! A read gives what the session knows.
-ghost use Rattle.std.specs.Prelude.{◌≡◌, IfOk, IfErr};
-ghost use Rattle.plx_model.specs.declared.command.Command.TheVariants.{Read};
-ghost use Rattle.plx_rules.specs.Boot.{In};
-ghost use Rattle.plx_rules.specs.Commands.{command_part};
-ghost use Rattle.plx_appliance.specs.Places.{Follows, known_of, place_of, room_of, slots_of};
+ghost use Rattle.std.specs.Prelude.{◌≡◌, Some};
 
-use crate::places::{IMAGE, IMAGE_SIZE};
+use crate::leased::Leased;
 use crate::session::Session;
-use crate::state::{State, Turn};
-use plx_base::{Block, Payload, SlotNo};
-use plx_disk::Answer;
-use plx_model::Reply;
-use std::alloc::Global;
+use plx_base::{Block, Payload};
+use plx_commands::Reply;
+use plx_disk::{Answer, Ask};
+use std::mem;
 
-/// A read begins. Without memory what is known comes back.
-pub fn begin_read(
-    alloc: Global,
-    slots: u32,
-    known: Option<Session>,
-    slot: SlotNo,
-    vblock: u32,
-) -> Result<State, Option<Session>>
-    requires { room_of slots known ≡ slots }
-    ensures ok { IfOk result (λ s. place_of slots s
-        ≡ In (command_part slots (known_of known) (Read slot vblock))) }
-    ensures room { IfOk result (λ s. slots_of slots s ≡ slots) }
-    ensures err { IfErr result (λ s. s ≡ known) }
-{
-    if slot.0 != IMAGE.0 {
-        return Ok(State::Refusing(known, Reply::NotAttached));
-    }
-    match known {
-        None => Ok(State::Refusing(None, Reply::NotAttached)),
-        Some(session) => begin_known_read(alloc, slots, session, vblock),
-    }
+/// A read that gives this payload, at its last reading of the clock.
+#[derive(Drop)]
+pub struct Read {
+    pub image: Leased,
+    pub payload: Payload,
 }
 
-// A read of the session's image begins.
-fn begin_known_read(
-    alloc: Global,
-    slots: u32,
-    session: Session,
-    vblock: u32,
-) -> Result<State, Option<Session>>
-    requires { session.slots ≡ slots }
-    ensures ok { IfOk result (λ s. place_of slots s
-        ≡ In (command_part slots (known_of (Some session)) (Read (record { 0 = 0 }) vblock))) }
-    ensures room { IfOk result (λ s. slots_of slots s ≡ slots) }
-    ensures err { IfErr result (λ s. s ≡ Some session) }
-{
-    if vblock >= IMAGE_SIZE {
-        return Ok(State::Refusing(Some(session), Reply::OutOfRange { size: IMAGE_SIZE }));
-    }
-    match session.content(alloc, vblock) {
-        Ok(block) => Ok(State::Opening(session, block)),
-        Err(_) => Err(Some(session)),
-    }
-}
+impl Read {
+    ghost use Rattle.std.specs.Prelude.{Ok};
+    ghost use Rattle.plx_rules.specs.Part.{answered, standing, bytes_out};
+    ghost use Rattle.plx_rules.specs.Commands.{read_part};
+    ghost use Rattle.plx_rules.specs.Session.{Known};
+    ghost use Rattle.plx_appliance.specs.Ending.{after_reply, entered};
+    ghost use Rattle.plx_appliance.specs.Giving.{given};
+    ghost use Rattle.plx_appliance.specs.Kept.{session_of};
+    ghost use Rattle.plx_appliance.specs.Rests.{read_rest};
 
-/// The first clock reading of a read is answered.
-pub fn after_opening(slots: u32, session: Session, block: Block, answer: &Answer) -> Turn
-    requires { session.slots ≡ slots }
-    ensures { Follows slots (State.Opening session block) answer.now result }
-{
-    match answer {
-        Answer::Reading(_) => Turn::On(State::Reading(session, block)),
-        Answer::Bytes(_) | Answer::Done | Answer::Missed(_) | Answer::Fault => Turn::On(
-            State::Opening(session, block),
-        ),
+    /// The read begins, with a block for what it gives, or is refused.
+    pub fn enter(image: Leased, session: &Session, vblock: u32, block: Block) -> Result<Read, Reply>
+        ensures part { (known : Known) → entered read_rest known result ≡ read_part (given image.setting) known image.slot.0 vblock (session_of session.now) image.until }
+        ensures image { (r : Read) → result ≡ Ok r → r.image ≡ image }
+    {
+        if !session.is_live() {
+            return Err(Reply::NoImage);
+        }
+        let size = session.size();
+        if vblock >= size {
+            return Err(Reply::OutOfRange { size });
+        }
+        let mut block = block;
+        session.read(vblock, &mut block);
+        Ok(Read {
+            image,
+            payload: Payload::holding(block),
+        })
     }
-}
 
-/// The last clock reading of a read is answered.
-pub fn after_reading(slots: u32, session: Session, block: Block, answer: &Answer) -> Turn
-    requires { session.slots ≡ slots }
-    ensures { Follows slots (State.Reading session block) answer.now result }
-{
-    match answer {
-        Answer::Reading(_) => Turn::End(
-            Some(session),
-            Reply::Data {
-                payload: Payload::holding(block),
-            },
-        ),
-        Answer::Bytes(_) | Answer::Done | Answer::Missed(_) | Answer::Fault => Turn::On(
-            State::Reading(session, block),
-        ),
+    /// The ask that stands.
+    pub fn ask(&self) -> Ask
+        ensures ask { (known : Known) → Some result ≡ standing (read_rest known self.now) }
+        ensures clock { result ≡ Ask.Clock }
+    {
+        Ask::Clock
+    }
+
+    /// The ask is answered.
+    pub fn answer(&mut self, answer: &Answer) -> Option<Reply>
+        ensures rest { (known : Known) → after_reply (read_rest known self.new) known result ≡ answered (read_rest known self.old) answer.now }
+        ensures image { self.new.image ≡ self.old.image }
+    {
+        match answer {
+            Answer::Reading(reading) => self.end(*reading),
+            _ => None,
+        }
+    }
+
+    // The read ends at this reading.
+    fn end(&mut self, reading: u64) -> Option<Reply>
+        ensures rest { (known : Known) → after_reply (read_rest known self.new) known result ≡ answered (read_rest known self.old) (Answer.Reading reading) }
+        ensures image { self.new.image ≡ self.old.image }
+    {
+        if let Some(reply) = self.image.reached(reading) {
+            return Some(reply);
+        }
+        Some(Reply::Data {
+            payload: mem::replace(&mut self.payload, Payload::All(0)),
+        })
     }
 }

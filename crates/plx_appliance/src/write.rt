@@ -1,229 +1,201 @@
 //! A write fills a slot of the journal, and commits it.
-ghost use Rattle.std.specs.Prelude.{◌≡◌, ◌<◌, ◌≤◌, ◌+◌, IfOk, IfErr};
-ghost use Rattle.plx_base.specs.Payload.{bytes_of};
-ghost use Rattle.plx_gate.specs.Descriptors.{IsDescriptor, descriptor_bytes};
-ghost use Rattle.plx_model.specs.declared.command.Command.TheVariants.{Write};
-ghost use Rattle.plx_rules.specs.Boot.{In};
-ghost use Rattle.plx_rules.specs.Commands.{command_part, no_guard};
-ghost use Rattle.plx_rules.specs.Journal.{block_count};
-ghost use Rattle.plx_rules.specs.Journal.{data_at as data_block, descriptor_at as descriptor_block};
-ghost use Rattle.plx_appliance.specs.Places.{Follows, known_of, place_of, room_of, slot_of, slots_of};
+ghost use Rattle.std.specs.Prelude.{◌≡◌, ◌<◌, Some};
 
-use crate::places::{GENERATION, IMAGE, IMAGE_SIZE, data_at, descriptor_at};
+use crate::leased::Leased;
 use crate::session::Session;
-use crate::state::{Change, State, Turn};
-use plx_base::{Block, BlockNo, LeaseName, NoMemory, Payload, SlotNo};
-use plx_disk::Answer;
-use plx_gate::{Descriptor, write_descriptor};
-use plx_model::Reply;
-use plx_rules::Journaled;
-use std::alloc::Global;
+use crate::sessions::Sessions;
+use crate::spell::spell_descriptor;
+use plx_base::{Block, BlockNo, WriteKind};
+use plx_commands::Reply;
+use plx_disk::{Answer, Ask};
+use plx_gate::Descriptor;
+use plx_geom::Place;
 
-/// The guard of every write: it may always land.
-pub const NO_GUARD: u64 = (1 << 48) - 1;
+/// The number of an image's last write.
+const LAST_WRITE: u64 = (1 << 48) - 1;
 
-/// A write begins. Without memory what is known comes back.
-pub fn begin_write(
-    alloc: Global,
-    slots: u32,
-    known: Option<Session>,
-    slot: SlotNo,
-    vblock: u32,
-    payload: &Payload,
-) -> Result<State, Option<Session>>
-    requires room { room_of slots known ≡ slots }
-    requires small { slots ≤ 64 }
-    ensures ok { IfOk result (λ s. place_of slots s
-        ≡ In (command_part slots (known_of known) (Write slot vblock payload.now))) }
-    ensures room { IfOk result (λ s. slots_of slots s ≡ slots) }
-    ensures err { IfErr result (λ s. s ≡ known) }
-{
-    if slot.0 != IMAGE.0 {
-        return Ok(State::Refusing(known, Reply::NotAttached));
-    }
-    match known {
-        None => Ok(State::Refusing(None, Reply::NotAttached)),
-        Some(session) => begin_known_write(alloc, slots, session, vblock, payload),
-    }
+/// Where a write stands: at the write of its data or of its descriptor, or at its last reading of the clock.
+#[derive(Clone, Copy, PartialEq, Eq)]
+pub enum WriteAt {
+    Data,
+    Commit,
+    Last,
 }
 
-// A write of the session's image begins.
-fn begin_known_write(
-    alloc: Global,
-    slots: u32,
-    session: Session,
-    vblock: u32,
-    payload: &Payload,
-) -> Result<State, Option<Session>>
-    requires room { session.slots ≡ slots }
-    requires small { slots ≤ 64 }
-    ensures ok { IfOk result (λ s. place_of slots s
-        ≡ In (command_part slots (known_of (Some session))
-        (Write (record { 0 = 0 }) vblock payload.now))) }
-    ensures room { IfOk result (λ s. slots_of slots s ≡ slots) }
-    ensures err { IfErr result (λ s. s ≡ Some session) }
-{
-    if vblock >= IMAGE_SIZE {
-        return Ok(State::Refusing(Some(session), Reply::OutOfRange { size: IMAGE_SIZE }));
-    }
-    if session.count() == u64::from(slots) {
-        return Ok(State::Refusing(Some(session), Reply::Full));
-    }
-    match blocks(alloc, session.count(), vblock, payload) {
-        Ok((block, spelled)) => Ok(State::Preparing(Change {
-            session,
+/// A write into a journal slot, with its data and the block that spells its descriptor.
+#[derive(Drop)]
+pub struct Write {
+    pub at: WriteAt,
+    pub image: Leased,
+    pub index: u32,
+    pub number: u64,
+    pub vblock: u32,
+    pub block: Block,
+    pub spelled: Block,
+    ghost placed: { index < image.setting.geometry.slots },
+}
+
+impl Write {
+    ghost use Rattle.std.specs.Prelude.{ℕ, Ok};
+    ghost use Rattle.plx_geom.specs.Geometry.{block_count, data_at, descriptor_at};
+    ghost use Rattle.plx_rules.specs.Part.{answered, standing, bytes_out};
+    ghost use Rattle.plx_rules.specs.Commands.{write_part};
+    ghost use Rattle.plx_rules.specs.Session.{Known};
+    ghost use Rattle.plx_appliance.specs.Asking.{IsOnDevice, IsSpare};
+    ghost use Rattle.plx_rules.specs.Machines.{AreWhole};
+    ghost use Rattle.plx_appliance.specs.Ending.{after_reply, entered};
+    ghost use Rattle.plx_appliance.specs.Giving.{given};
+    ghost use Rattle.plx_appliance.specs.Kept.{known_by, session_of};
+    ghost use Rattle.plx_appliance.specs.Rests.{write_rest};
+
+    /// The write begins, with a block of what it writes and one for its descriptor, or is refused.
+    pub fn enter(
+        image: Leased,
+        session: &Session,
+        vblock: u32,
+        block: Block,
+        spelled: Block,
+    ) -> Result<Write, Reply>
+        requires { session.now.slots ≡ image.setting.geometry.slots }
+        ensures part { (known : Known) → known.sessions image.slot.0 ≡ Some (session_of session.now) → entered write_rest known result ≡ write_part (given image.setting) known image.slot.0 vblock block (session_of session.now) image.until }
+        ensures image { (w : Write) → result ≡ Ok w → w.image ≡ image }
+    {
+        if !session.is_live() {
+            return Err(Reply::NoImage);
+        }
+        let size = session.size();
+        if vblock >= size {
+            return Err(Reply::OutOfRange { size });
+        }
+        let count = session.count();
+        if count >= LAST_WRITE {
+            return Err(Reply::WornOut { count: LAST_WRITE });
+        }
+        let slots = image.setting.geometry.slots;
+        if session.writes.len() == slots as usize {
+            return Err(Reply::Full);
+        }
+        let number = count + 1;
+        let mut spelled = spelled;
+        spell_descriptor(
+            &Descriptor {
+                generation: session.generation(),
+                vblock,
+                number,
+            },
+            &mut spelled,
+        );
+        Ok(Write {
+            at: WriteAt::Data,
+            image,
+            index: ((number - 1) % u64::from(slots)) as u32,
+            number,
             vblock,
             block,
             spelled,
-        })),
-        Err(_) => Err(Some(session)),
+        })
     }
-}
 
-// The block of a write's data, and the one that spells its descriptor, after so many writes.
-fn blocks(
-    alloc: Global,
-    count: u64,
-    vblock: u32,
-    payload: &Payload,
-) -> Result<(Block, Block), NoMemory>
-    requires small { count < 64 }
-    requires within { vblock < 8 }
-    ensures data { IfOk result (λ bs. bs.0 ≡ bytes_of payload.now) }
-    ensures spelled { IfOk result (λ bs. bs.1
-        ≡ descriptor_bytes (record { generation = 1; vblock = vblock; number = count + 1 })) }
-{
-    let block = payload.to_block(alloc)?;
-    let spelled = spelling(
-        alloc,
-        &Descriptor {
-            generation: GENERATION,
-            vblock,
-            number: count + 1,
-        },
-    )?;
-    Ok((block, spelled))
-}
-
-// A block that spells a descriptor.
-fn spelling(alloc: Global, descriptor: &Descriptor) -> Result<Block, NoMemory>
-    requires { IsDescriptor descriptor.now }
-    ensures { IfOk result (λ b. b ≡ descriptor_bytes descriptor.now) }
-{
-    let mut bytes = [0; 4096];
-    write_descriptor(descriptor, &mut bytes);
-    let mut block = Block::zeros(alloc)?;
-    block.copy_from(0, &bytes);
-    Ok(block)
-}
-
-/// The first clock reading of a write is answered.
-pub fn after_preparing(slots: u32, change: Change, answer: &Answer) -> Turn
-    requires { change.session.slots ≡ slots }
-    ensures { Follows slots (State.Preparing change) answer.now result }
-{
-    match answer {
-        Answer::Reading(_) => Turn::On(State::Filling(change)),
-        Answer::Bytes(_) | Answer::Done | Answer::Missed(_) | Answer::Fault => Turn::On(
-            State::Preparing(change),
-        ),
-    }
-}
-
-/// The write of the data is answered.
-pub fn after_filling(slots: u32, change: Change, answer: &Answer) -> Turn
-    requires { change.session.slots ≡ slots }
-    ensures { Follows slots (State.Filling change) answer.now result }
-{
-    match answer {
-        Answer::Done => Turn::On(State::Committing(change)),
-        Answer::Fault => Turn::End(
-            None,
-            Reply::WriteFault {
-                block: data_of(slots, &change),
+    /// The ask that stands.
+    pub fn ask(&self) -> Ask
+        ensures ask { (known : Known) → Some result ≡ standing (write_rest known self.now) }
+        ensures within { IsOnDevice self.now.image.setting.geometry result }
+        ensures spare { IsSpare self.now.image.setting.geometry result }
+    {
+        match self.at {
+            WriteAt::Data => Ask::Write {
+                kind: WriteKind::JData,
+                block: self.data_block(),
+                guard: self.image.until,
             },
-        ),
-        Answer::Missed(reading) => Turn::End(None, missed(*reading)),
-        Answer::Bytes(_) | Answer::Reading(_) => Turn::On(State::Filling(change)),
-    }
-}
-
-/// The write of the descriptor is answered.
-pub fn after_committing(slots: u32, change: Change, answer: &Answer) -> Turn
-    requires { change.session.slots ≡ slots }
-    ensures { Follows slots (State.Committing change) answer.now result }
-{
-    match answer {
-        Answer::Done => Turn::On(State::Confirming(change)),
-        Answer::Fault => Turn::End(
-            None,
-            Reply::WriteFault {
-                block: descriptor_of(slots, &change),
+            WriteAt::Commit => Ask::Write {
+                kind: WriteKind::JCommit,
+                block: self.descriptor_block(),
+                guard: self.image.until,
             },
-        ),
-        Answer::Missed(reading) => Turn::End(None, missed(*reading)),
-        Answer::Bytes(_) | Answer::Reading(_) => Turn::On(State::Committing(change)),
+            WriteAt::Last => Ask::Clock,
+        }
     }
-}
 
-/// The last clock reading of a write is answered.
-pub fn after_confirming(slots: u32, change: Change, answer: &Answer) -> Turn
-    requires { change.session.slots ≡ slots }
-    ensures { Follows slots (State.Confirming change) answer.now result }
-{
-    match answer {
-        Answer::Reading(reading) => confirmed(slots, change, *reading),
-        Answer::Bytes(_) | Answer::Done | Answer::Missed(_) | Answer::Fault => Turn::On(
-            State::Confirming(change),
-        ),
+    /// The bytes of the write that is asked for.
+    pub fn out(&self) -> &[u8]
+        ensures bytes { (known : Known) → result.now ≡ bytes_out (write_rest known self.now) }
+        ensures whole { (known : Known) → AreWhole (standing (write_rest known self.now)) result.now }
+    {
+        match self.at {
+            WriteAt::Data => self.block.as_slice(),
+            WriteAt::Commit => self.spelled.as_slice(),
+            WriteAt::Last => &[],
+        }
     }
-}
 
-// The write is acknowledged, and the session holds it.
-fn confirmed(slots: u32, change: Change, reading: u64) -> Turn
-    requires { change.session.slots ≡ slots }
-    ensures { Follows slots (State.Confirming change) (Answer.Reading reading) result }
-{
-    let Change {
-        mut session,
-        vblock,
-        block,
-        spelled: _,
-    } = change;
-    let number = session.count() + 1;
-    session.push(Journaled {
-        number,
-        vblock,
-        block,
-    });
-    Turn::End(Some(session), Reply::Written { number })
-}
-
-// The reply to a write that came too late.
-fn missed(reading: u64) -> Reply
-    ensures { result ≡ Reply.Lost (LeaseName.Image (record { 0 = 0 })) no_guard reading }
-{
-    Reply::Lost {
-        lease: LeaseName::Image(IMAGE),
-        until: NO_GUARD,
-        reading,
+    /// The ask is answered.
+    pub fn answer(&mut self, sessions: &mut Sessions, answer: &Answer) -> Option<Reply>
+        requires count { sessions.old.count ≡ self.old.image.setting.geometry.images }
+        requires slots { sessions.old.slots ≡ self.old.image.setting.geometry.slots }
+        ensures rest { (claims : ℕ) → after_reply (write_rest (known_by sessions.new claims) self.new) (known_by sessions.new claims) result ≡ answered (write_rest (known_by sessions.old claims) self.old) answer.now }
+        ensures image { self.new.image ≡ self.old.image }
+        ensures count { sessions.new.count ≡ sessions.old.count }
+        ensures slots { sessions.new.slots ≡ sessions.old.slots }
+    {
+        match (self.at, answer) {
+            (WriteAt::Data, Answer::Done) => {
+                self.at = WriteAt::Commit;
+                None
+            }
+            (WriteAt::Commit, Answer::Done) => {
+                self.at = WriteAt::Last;
+                None
+            }
+            (WriteAt::Data, Answer::Fault) => Some(Reply::WriteFault {
+                block: self.data_block(),
+            }),
+            (WriteAt::Commit, Answer::Fault) => Some(Reply::WriteFault {
+                block: self.descriptor_block(),
+            }),
+            (WriteAt::Data | WriteAt::Commit, Answer::Missed(reading)) => {
+                Some(self.image.lost(*reading))
+            }
+            (WriteAt::Last, Answer::Reading(reading)) => self.end(sessions, *reading),
+            _ => None,
+        }
     }
-}
 
-/// The block of a write's data.
-pub fn data_of(slots: u32, change: &Change) -> BlockNo
-    requires { change.now.session.slots ≡ slots }
-    ensures block { result.0 ≡ data_block slots 0 (slot_of slots change.now) }
-    ensures within { result.0 < block_count slots }
-{
-    data_at(slots, change.session.count())
-}
+    // The write ends at this reading.
+    fn end(&self, sessions: &mut Sessions, reading: u64) -> Option<Reply>
+        requires at { self.now.at ≡ WriteAt.Last }
+        requires count { sessions.old.count ≡ self.now.image.setting.geometry.images }
+        requires slots { sessions.old.slots ≡ self.now.image.setting.geometry.slots }
+        ensures rest { (claims : ℕ) → after_reply (write_rest (known_by sessions.new claims) self.now) (known_by sessions.new claims) result ≡ answered (write_rest (known_by sessions.old claims) self.now) (Answer.Reading reading) }
+        ensures count { sessions.new.count ≡ sessions.old.count }
+        ensures slots { sessions.new.slots ≡ sessions.old.slots }
+    {
+        if let Some(reply) = self.image.reached(reading) {
+            return Some(reply);
+        }
+        sessions.push(self.image.slot, self.number, self.vblock, &self.block);
+        Some(Reply::Written {
+            number: self.number,
+        })
+    }
 
-/// The block of its descriptor.
-pub fn descriptor_of(slots: u32, change: &Change) -> BlockNo
-    requires { change.now.session.slots ≡ slots }
-    ensures block { result.0 ≡ descriptor_block slots 0 (slot_of slots change.now) }
-    ensures within { result.0 < block_count slots }
-{
-    descriptor_at(slots, change.session.count())
+    // The block of the data.
+    fn data_block(&self) -> BlockNo
+        ensures block { result.0 ≡ data_at self.now.image.setting.geometry self.now.image.slot.0 self.now.index }
+        ensures within { result.0 < block_count self.now.image.setting.geometry }
+    {
+        self.image
+            .setting
+            .block(Place::JData(self.image.slot, self.index))
+    }
+
+    // The block of the descriptor.
+    fn descriptor_block(&self) -> BlockNo
+        ensures block { result.0 ≡ descriptor_at self.now.image.setting.geometry self.now.image.slot.0 self.now.index }
+        ensures within { result.0 < block_count self.now.image.setting.geometry }
+    {
+        self.image
+            .setting
+            .block(Place::JDesc(self.image.slot, self.index))
+    }
 }

@@ -1,7 +1,8 @@
 -- What is read of a source that tells what it has left, and which statuses follow.
 use Rattle.std.proofs.Common.{◌≡◌, ◌≤◌, ◌+◌, ◌∙◌, ◌⊎◌, inl, inr, ℕ, List, Option, None, Some, length, ap, sym, subst, arith}
 use Rattle.std.proofs.lemmas.List.{drop_all}
-use Rattle.plx_model.specs.declared.event.Event.{Event}
+use Rattle.plx_commands.specs.declared.event.Event.{Event}
+use Rattle.plx_geom.specs.Geometry.{Geometry}
 use Rattle.plx_port.specs.Faults.{Rose}
 use Rattle.plx_port.specs.Streams.{ReadsToEnd, TakesCount}
 use Rattle.plx_text.proofs.ScheduleFiles.{no-schedule}
@@ -40,17 +41,17 @@ module _ (status : Status) (read bytes : List ℕ) (held held' : Option (List �
   answers-bad line (inr others) done same first = others
   answers-bad line (inl finished) done same first =
       let played = (done finished).1 in
-      let P : List ℕ → Type 0 = λ l. IsSchedule l played.slots played.events in
-      absurd (no-schedule bytes line played.slots played.events first (subst P same played.schedule))
+      let P : List ℕ → Type 0 = λ l. IsSchedule l played.first played.events in
+      absurd (no-schedule bytes line played.first played.events first (subst P same played.schedule))
 
   -- where there is a schedule, no bad line is named, and without a fault of the sink the work is done
-  pub answers-schedule : (before after slots : ℕ) (events : List Event) → (status ≡ Done) ⊎ (status ≡ BadLine) ⊎ (status ≡ SinkFault) ⊎ (status ≡ NoMemory) →
-      (status ≡ BadLine → Appended IsBad read held held') → (status ≡ SinkFault → Rose before after) → read ≡ bytes → IsSchedule bytes slots events → ¬ Rose before after →
+  pub answers-schedule : (before after : ℕ) (first : Geometry × ℕ) (events : List Event) → (status ≡ Done) ⊎ (status ≡ BadLine) ⊎ (status ≡ SinkFault) ⊎ (status ≡ NoMemory) →
+      (status ≡ BadLine → Appended IsBad read held held') → (status ≡ SinkFault → Rose before after) → read ≡ bytes → IsSchedule bytes first events → ¬ Rose before after →
       (status ≡ Done) ⊎ (status ≡ NoMemory)
-  answers-schedule before after slots events (inl finished) bad sink same schedule sound = inl finished
-  answers-schedule before after slots events (inr (inl named)) bad sink same schedule sound =
+  answers-schedule before after first events (inl finished) bad sink same schedule sound = inl finished
+  answers-schedule before after first events (inr (inl named)) bad sink same schedule sound =
       let line = (bad named).1 in
       let P : List ℕ → Type 0 = λ l. IsFirstBad schedule_grammar l line.line in
-      absurd (no-schedule bytes line.line slots events (subst P same line.first) schedule)
-  answers-schedule before after slots events (inr (inr (inl failed))) bad sink same schedule sound = absurd (sound (sink failed))
-  answers-schedule before after slots events (inr (inr (inr short))) bad sink same schedule sound = inr short
+      absurd (no-schedule bytes line.line first events (subst P same line.first) schedule)
+  answers-schedule before after first events (inr (inr (inl failed))) bad sink same schedule sound = absurd (sound (sink failed))
+  answers-schedule before after first events (inr (inr (inr short))) bad sink same schedule sound = inr short

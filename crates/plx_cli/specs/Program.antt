@@ -1,12 +1,15 @@
 -- What the program makes of its words and its input.
 use Rattle.std.specs.Prelude.{◌≡◌, ◌<◌, ◌≤◌, ℕ, List, [], ◌∷◌, length, take, reverse, Option, Some, codes, String, string_bytes, ◌⊎◌}
 use Rattle.std.specs.Io.KnownBytes.{Appends}
-use Rattle.plx_model.specs.declared.event.Event.{Event}
+use Rattle.plx_base.specs.Sectors.{Device}
+use Rattle.plx_commands.specs.declared.event.Event.{Event}
+use Rattle.plx_geom.specs.Geometry.{Geometry}
 use Rattle.plx_port.specs.Faults.{Rose}
 use Rattle.plx_port.specs.Streams.{ReadsToEnd}
-use Rattle.plx_rules.specs.Headline.{Headline}
+use Rattle.plx_rules.specs.Formatted.{IsFormatted}
 use Rattle.plx_rules.specs.Sequences.{Plays}
-use Rattle.plx_rules.specs.World.{World, Reached, first_world}
+use Rattle.plx_rules.specs.World.{World, first_world}
+use Rattle.plx_world.specs.Playing.{IsLawful}
 use Rattle.plx_text.specs.Once.{SameTrace}
 use Rattle.plx_text.specs.Schedules.{IsSchedule, schedule_grammar}
 use Rattle.plx_text.specs.Traces.{bad_line_text, trace_lines, trace_text}
@@ -25,27 +28,28 @@ module _ {A : Type 0} where
   IsReplay (name ∷ word ∷ []) = string_bytes word ≡ codes "replay"
   IsReplay words = ⊥
 
--- a world to which the events lead, in order: the headline holds of it, this is the text of its trace and of its two counts, and the words of
--- the text tell their values
-pub record IsTold (slots : ℕ) (events : List Event) (text : List ℕ) : Type 0 where
+-- a world to which the events lead, in order, from a formatted device: the laws hold of it, this is the text of its trace and of its two counts, and
+-- the words of the text tell their values
+pub record IsTold (first : Geometry × ℕ) (events : List Event) (text : List ℕ) : Type 0 where
+  pub device : Device
+  pub formatted : IsFormatted first.0 device
   pub world : World
-  pub plays : Plays (first_world slots) events world
-  pub reached : Reached world
-  pub headline : Headline world
-  pub trace : text ≡ trace_text slots (reverse world.trace) 0 0
-  pub tells : LinesTell (trace_lines slots (reverse world.trace) 0 0)
+  pub plays : Plays (first_world first.0 first.1 device) events world
+  pub lawful : IsLawful world
+  pub trace : text ≡ trace_text first.0 first.1 (reverse world.trace) 0 0
+  pub tells : LinesTell (trace_lines first.0 first.1 (reverse world.trace) 0 0)
 
--- a text that was written tells of one number of journal slots and of one trace alone
+-- a text that was written tells of one geometry, one number of appliances and one trace alone
 abbrev pub ToldOnce : Type 0
-ToldOnce = (slots slots' : ℕ) (events events' : List Event) (text : List ℕ) (told : IsTold slots events text) (told' : IsTold slots' events' text)
-    → SameTrace slots (reverse told.world.trace) 0 0 slots' (reverse told'.world.trace) 0 0
+ToldOnce = (first first' : Geometry × ℕ) (events events' : List Event) (text : List ℕ) (told : IsTold first events text) (told' : IsTold first' events' text)
+    → SameTrace first (reverse told.world.trace) 0 0 first' (reverse told'.world.trace) 0 0
 
 -- the bytes are a schedule, and this text tells of the world to which its events lead
 pub record IsTrace (bytes text : List ℕ) : Type 0 where
-  pub slots : ℕ
+  pub first : Geometry × ℕ
   pub events : List Event
-  pub schedule : IsSchedule bytes slots events
-  pub told : IsTold slots events text
+  pub schedule : IsSchedule bytes first events
+  pub told : IsTold first events text
 
 -- the bytes have a first line that isn't in the grammar, and this text names it
 pub record IsBad (bytes text : List ℕ) : Type 0 where

@@ -1,10 +1,14 @@
 //! The top call.
 ghost use Rattle.std.specs.Prelude.{◌≡◌, ◌≢◌, ◌≤◌, ◌+◌, ◌⊎◌, ◌↔◌, ℕ, List};
+ghost use Rattle.law_headline.specs.Crashes.{CrashesLeaveFreshBoots};
+ghost use Rattle.law_run.specs.Worlds.{BootsKeepRules};
 ghost use Rattle.plx_cli.specs.Program.{Appended, AppendedPart, IsAnswer, IsBad, IsGiven, IsTrace, IsReplay, ReadsSuch, ToldOnce, input_limit};
-ghost use Rattle.plx_model.specs.declared.event.Event.{Event};
+ghost use Rattle.plx_commands.specs.declared.event.Event.{Event};
 ghost use Rattle.plx_port.specs.Faults.{Rose};
 ghost use Rattle.plx_port.specs.Streams.{TakesCount};
-ghost use Rattle.plx_rules.specs.Headline.{HeadlineOfAll};
+ghost use Rattle.plx_geom.specs.Geometry.{Geometry};
+ghost use Rattle.plx_rules.specs.Headline.{HeadlineOfAll, NeverDamaged};
+ghost use Rattle.plx_rules.specs.Owners.{Exclusion, Guarding};
 ghost use Rattle.plx_text.specs.Once.{ScheduleOnce, TraceOnce};
 ghost use Rattle.plx_text.specs.Schedules.{IsSchedule, schedule_grammar};
 ghost use Rattle.plx_words.specs.Files.{IsFirstBad};
@@ -13,7 +17,9 @@ use crate::once::told_once;
 use crate::replay::replay;
 use crate::status::Status;
 use crate::words::is_replay;
-use plx_headline::headline;
+use law_headline::{crash_leaves_a_fresh_boot, headline, never_damaged};
+use law_lease::{exclusion, guarding};
+use law_run::boots_keep_rules;
 use plx_port::{Failed, ReadError, Sink, Source, read_all, write_all};
 use plx_text::{schedule_once, trace_once};
 use std::alloc::Global;
@@ -35,6 +41,11 @@ pub fn run<S: Source, K: Sink>(
     // The laws on all worlds, and on all texts: a trace's is that of no other trace, nor is what was
     // written, and a schedule's bytes are those of no other schedule.
     ensures headline { HeadlineOfAll }
+    ensures undamaged { NeverDamaged }
+    ensures exclusion { Exclusion }
+    ensures guarding { Guarding }
+    ensures crash { CrashesLeaveFreshBoots }
+    ensures rules { BootsKeepRules }
     ensures once { TraceOnce }
     ensures told { ToldOnce }
     ensures schedule { ScheduleOnce }
@@ -65,9 +76,9 @@ pub fn run<S: Source, K: Sink>(
         → IsGiven bytes (S.left source.old) (S.faults source.old) (S.faults source.new)
         → IsFirstBad schedule_grammar bytes line
         → (result ≡ Status.BadLine) ⊎ (result ≡ Status.SinkFault) ⊎ (result ≡ Status.NoMemory) }
-    ensures complete { (bytes : List ℕ) (slots : ℕ) (events : List Event) → IsReplay words.now.items
+    ensures complete { (bytes : List ℕ) (first : Geometry × ℕ) (events : List Event) → IsReplay words.now.items
         → IsGiven bytes (S.left source.old) (S.faults source.old) (S.faults source.new)
-        → IsSchedule bytes slots events
+        → IsSchedule bytes first events
         → ¬ Rose (K.faults sink.old) (K.faults sink.new) → (result ≡ Status.Done)
         ⊎ (result ≡ Status.NoMemory) }
 
@@ -76,6 +87,11 @@ pub fn run<S: Source, K: Sink>(
         × (K.faults sink.old ≤ K.faults sink.new) }
 {
     headline();
+    never_damaged();
+    exclusion();
+    guarding();
+    crash_leaves_a_fresh_boot();
+    boots_keep_rules();
     trace_once();
     schedule_once();
     told_once();

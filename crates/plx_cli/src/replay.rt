@@ -1,10 +1,12 @@
 //! A schedule is played, in memory.
 ghost use Rattle.std.specs.Prelude.{◌≤◌, IfOk};
+ghost use Rattle.plx_geom.specs.Geometry.{IsGeometry};
 ghost use Rattle.plx_cli.specs.Program.{IsOutcome, IsTold};
 
 use crate::status::Status;
+use law_headline::{headline, never_damaged};
+use law_lease::{exclusion, guarding};
 use plx_base::NoMemory;
-use plx_headline::headline;
 use plx_text::{Schedule, Text, TextError, print_bad_line, print_trace, read_schedule};
 use plx_world::World;
 use std::alloc::{AllocError, Global};
@@ -41,14 +43,26 @@ pub(crate) fn replay(alloc: Global, bytes: &[u8]) -> Result<Answer, NoMemory>
 
 // The trace of the world to which the events of a schedule lead.
 fn play(alloc: Global, schedule: &Schedule) -> Result<Text, NoMemory>
-    requires low { 2 ≤ schedule.now.slots }
-    requires high { schedule.now.slots ≤ 64 }
-    ensures { IfOk result (λ text. IsTold schedule.now.slots schedule.now.events text) }
+    requires geometry { IsGeometry schedule.now.geometry }
+    requires low { 1 ≤ schedule.now.appliances }
+    requires high { schedule.now.appliances ≤ 8 }
+    ensures { IfOk result (λ text. IsTold (schedule.now.geometry, schedule.now.appliances)
+        schedule.now.events.items text) }
 {
     headline();
-    let mut world = World::new(alloc, schedule.slots)?;
+    never_damaged();
+    exclusion();
+    guarding();
+    let mut world = World::new(alloc, schedule.geometry, schedule.appliances)?;
     world.play(schedule.events.as_slice())?;
     let reachable = world.reachable()?;
     let allocated = world.allocated();
-    print_trace(alloc, schedule.slots, world.trace(), reachable, allocated)
+    print_trace(
+        alloc,
+        &schedule.geometry,
+        schedule.appliances,
+        world.trace(),
+        reachable,
+        allocated,
+    )
 }

@@ -1,5 +1,5 @@
 -- Each place of a lease machine asks, and what it asks.
-use Rattle.plx_worlds.specs.Machines.{Asks}
+use Rattle.plx_rules.specs.Machines.{Asks}
 use Rattle.plx_lease.specs.Claiming.{claim_at, claim_rest}
 use Rattle.plx_lease.specs.Releasing.{release_rest}
 use Rattle.plx_lease.specs.Renewing.{renewal_rest}

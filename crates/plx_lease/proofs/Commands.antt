@@ -4,15 +4,16 @@ use Rattle.plx_base.specs.declared.lease.Claim.{Claim}
 use Rattle.plx_commands.specs.declared.reply.Reply.TheVariants as reply
 use Rattle.plx_geom.specs.Geometry.{image_lease}
 use Rattle.plx_rules.specs.Part.{Part}
-use Rattle.plx_worlds.specs.Commands.{detach_part, later_of, renewal}
-use Rattle.plx_worlds.specs.Ends.{End, ends}
-use Rattle.plx_worlds.specs.Holds.{Held}
-use Rattle.plx_worlds.specs.Parts.{followed_by}
-use Rattle.plx_worlds.specs.Session.{Session, Known, with_session}
-use Rattle.plx_worlds.specs.Settings.{Setting}
-use Rattle.plx_worlds.specs.Times.{term}
-use Rattle.plx_lease.specs.Releases.{after_release, release_part}
-use Rattle.plx_lease.specs.Renewals.{after_renewal, renewal_part}
+use Rattle.plx_rules.specs.Commands.{detach_part, later_of, renewal}
+use Rattle.plx_rules.specs.Ends.{End, ends}
+use Rattle.plx_rules.specs.Holds.{Held}
+use Rattle.plx_rules.specs.Parts.{followed_by}
+use Rattle.plx_rules.specs.Session.{Session, Known, with_session}
+use Rattle.plx_rules.specs.Settings.{Setting}
+use Rattle.plx_rules.specs.Times.{term}
+use Rattle.law_run.specs.Releases.{release_part}
+use Rattle.law_run.specs.Renewals.{renewal_part}
+use Rattle.plx_lease.specs.Following.{after_release, after_renewal}
 
 -- a held lease is renewed, and the command goes on
 pub renewal-followed : (s : Setting) (known : Known) (reading lease : ℕ) (claim : Claim) (until : ℕ) (rest : Part End) →

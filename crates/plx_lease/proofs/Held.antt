@@ -6,10 +6,10 @@ use Rattle.plx_disk.specs.declared.ask.Answer.TheVariants as answer
 use Rattle.plx_geom.specs.Geometry.{lease_at}
 use Rattle.plx_gate.specs.Leases.{read_lease}
 use Rattle.plx_rules.specs.Part.{bytes_out, standing}
-use Rattle.plx_worlds.specs.Claims.{end_of_term}
-use Rattle.plx_worlds.specs.Holds.{Hold, Nothing, Wrote, after_answer, renewed, sample_of, shown, wrote}
-use Rattle.plx_worlds.specs.Machines.{AsksOnly}
-use Rattle.plx_worlds.specs.Times.{wait}
+use Rattle.plx_rules.specs.Claims.{end_of_term}
+use Rattle.plx_rules.specs.Holds.{Hold, Nothing, Wrote, after_answer, renewed, sample_of, shown, wrote}
+use Rattle.plx_rules.specs.Machines.{AsksOnly}
+use Rattle.plx_rules.specs.Times.{wait}
 use Rattle.plx_lease.specs.Claiming.{claim_at, claim_rest}
 use Rattle.plx_lease.specs.Holding.{IsSampled, IsSampledAt, LeavesClaim, ask_at, claim_ask, claim_hold, claim_sample, hold_at, lease_after, sample_at}
 use Rattle.plx_lease.specs.Releasing.{release_ask, release_rest}

@@ -8,8 +8,8 @@ use Rattle.plx_disk.specs.declared.ask.Ask.TheVariants as ask
 use Rattle.plx_disk.specs.declared.ask.Answer.{Answer}
 use Rattle.plx_disk.specs.declared.ask.Answer.TheVariants as answer
 use Rattle.plx_gate.specs.Leases.{read_lease}
-use Rattle.plx_worlds.specs.Holds.{Hold, after_answer, after_write, renewed, shown, wrote, Nothing}
-use Rattle.plx_worlds.specs.Machines.{AsksOnly}
+use Rattle.plx_rules.specs.Holds.{Hold, after_answer, after_write, renewed, shown, wrote, Nothing}
+use Rattle.plx_rules.specs.Machines.{AsksOnly}
 use Rattle.plx_lease.specs.Holding.{lease_after, other_after, written}
 
 -- a write that is done

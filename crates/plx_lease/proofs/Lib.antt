@@ -5,3 +5,4 @@ pub mod Holding
 pub mod Others
 pub mod Own
 pub mod Rereads
+pub mod Shells

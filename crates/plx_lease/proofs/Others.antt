@@ -9,9 +9,9 @@ use Rattle.plx_base.specs.declared.write_kind.WriteKind.TheVariants as kind
 use Rattle.plx_gate.specs.Leases.{lease_bytes, read_lease}
 use Rattle.plx_geom.specs.Geometry.{lease_at}
 use Rattle.plx_rules.specs.Part.{Part, Ends, ReadThen, WriteThen, ClockThen, UntilThen}
-use Rattle.plx_worlds.specs.Claims.{ClaimEnd, ClaimHeld, ClaimBusy, ClaimLost, ClaimReadFault, ClaimWriteFault, ClaimDamaged, claim_of, claim_part, end_of_term, if_expired, own_record, own_use, reread_by, reread_part, seen_part, written_part}
-use Rattle.plx_worlds.specs.InUse.{InUse, earlier, first_reached, is_before, unless_reached}
-use Rattle.plx_worlds.specs.Times.{is_expired, wait, window}
+use Rattle.plx_rules.specs.Claims.{ClaimEnd, ClaimHeld, ClaimBusy, ClaimLost, ClaimReadFault, ClaimWriteFault, ClaimDamaged, claim_of, claim_part, end_of_term, if_expired, own_record, own_use, reread_by, reread_part, seen_part, written_part}
+use Rattle.plx_rules.specs.InUse.{InUse, earlier, first_reached, is_before, unless_reached}
+use Rattle.plx_rules.specs.Times.{is_expired, wait, window}
 
 -- the one to be named first of all
 abbrev pub first_of : List InUse → Option InUse

@@ -3,8 +3,8 @@ use Rattle.std.proofs.Common.{◌≡◌, ap, ◌∙◌, arith}
 use Rattle.plx_base.specs.declared.lease.LeaseRecord.TheVariants.{Claimed}
 use Rattle.plx_gate.proofs.Leases.{lease-back}
 use Rattle.plx_gate.specs.Leases.{IsLease, read_lease}
-use Rattle.plx_worlds.specs.Claims.{end_of_term, own_record}
-use Rattle.plx_worlds.specs.Holds.{Held, Wrote, renewed, wrote}
+use Rattle.plx_rules.specs.Claims.{end_of_term, own_record}
+use Rattle.plx_rules.specs.Holds.{Held, Wrote, renewed, wrote}
 use Rattle.plx_lease.specs.declared.claim.LeaseClaim.{LeaseClaim}
 use Rattle.plx_lease.specs.declared.renewal.LeaseRenewal.{LeaseRenewal}
 

@@ -7,9 +7,9 @@ use Rattle.plx_base.specs.declared.lease.LeaseRecord.{LeaseRecord}
 use Rattle.plx_gate.proofs.Leases.{lease-back, lease-only}
 use Rattle.plx_gate.specs.Leases.{IsLease, lease_bytes, read_lease}
 use Rattle.plx_rules.specs.Part.{Ends}
-use Rattle.plx_worlds.specs.Claims.{ClaimHeld, ClaimBusy, end_of_term, own_record, reread_by}
-use Rattle.plx_worlds.specs.Holds.{Hold, Nothing, reread}
-use Rattle.plx_worlds.specs.InUse.{InUse}
+use Rattle.plx_rules.specs.Claims.{ClaimHeld, ClaimBusy, end_of_term, own_record, reread_by}
+use Rattle.plx_rules.specs.Holds.{Hold, Nothing, reread}
+use Rattle.plx_rules.specs.InUse.{InUse}
 
 -- a test is true or false
 either : (b : Bool) → (b ≡ true) ⊎ (b ≡ false)

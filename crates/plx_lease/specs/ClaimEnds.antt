@@ -1,5 +1,5 @@
 -- How a claim ends, as the definitions see it.
-use Rattle.plx_worlds.specs.Claims.{ClaimEnd, ClaimHeld, ClaimBusy, ClaimLost, ClaimReadFault, ClaimWriteFault, ClaimDamaged}
+use Rattle.plx_rules.specs.Claims.{ClaimEnd, ClaimHeld, ClaimBusy, ClaimLost, ClaimReadFault, ClaimWriteFault, ClaimDamaged}
 use Rattle.plx_lease.specs.Uses.{use_of}
 use Rattle.plx_lease.specs.declared.claim_end.ClaimEnd.{ClaimEnd as End}
 use Rattle.plx_lease.specs.declared.claim_end.ClaimEnd.TheVariants as end

@@ -4,9 +4,9 @@ use Rattle.plx_base.specs.declared.lease.Claim.{Claim}
 use Rattle.plx_gate.specs.Leases.{read_lease}
 use Rattle.plx_geom.specs.Geometry.{lease_at}
 use Rattle.plx_rules.specs.Part.{Part, Ends, ReadThen, UntilThen}
-use Rattle.plx_worlds.specs.Claims.{ClaimEnd, ClaimReadFault, claim_damaged, claim_in_time, claim_part, own_use, reread_part, seen_part, written_part}
-use Rattle.plx_worlds.specs.InUse.{InUse}
-use Rattle.plx_worlds.specs.Times.{wait}
+use Rattle.plx_rules.specs.Claims.{ClaimEnd, ClaimReadFault, claim_damaged, claim_in_time, claim_part, own_use, reread_part, seen_part, written_part}
+use Rattle.plx_rules.specs.InUse.{InUse}
+use Rattle.plx_rules.specs.Times.{wait}
 use Rattle.plx_lease.specs.Uses.{uses_of}
 use Rattle.plx_lease.specs.declared.claim.ClaimAt.{ClaimAt}
 use Rattle.plx_lease.specs.declared.claim.ClaimAt.TheVariants as at

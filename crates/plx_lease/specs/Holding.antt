@@ -9,9 +9,9 @@ use Rattle.plx_disk.specs.declared.ask.Answer.{Answer}
 use Rattle.plx_disk.specs.declared.ask.Answer.TheVariants as answer
 use Rattle.plx_gate.specs.Leases.{read_lease}
 use Rattle.plx_geom.specs.Geometry.{lease_at}
-use Rattle.plx_worlds.specs.Claims.{ClaimEnd, ClaimHeld, ClaimBusy, ClaimLost, ClaimReadFault, ClaimWriteFault, ClaimDamaged, end_of_term}
-use Rattle.plx_worlds.specs.Holds.{Hold, Nothing, Seen, Wrote, Waited, Held, renewed, shown, timed, wrote}
-use Rattle.plx_worlds.specs.Times.{wait, window}
+use Rattle.plx_rules.specs.Claims.{ClaimEnd, ClaimHeld, ClaimBusy, ClaimLost, ClaimReadFault, ClaimWriteFault, ClaimDamaged, end_of_term}
+use Rattle.plx_rules.specs.Holds.{Hold, Nothing, Seen, Wrote, Waited, Held, renewed, shown, timed, wrote}
+use Rattle.plx_rules.specs.Times.{wait, window}
 use Rattle.plx_lease.specs.ClaimEnds.{claim_end}
 use Rattle.plx_lease.specs.declared.claim.ClaimAt.{ClaimAt}
 use Rattle.plx_lease.specs.declared.claim.ClaimAt.TheVariants as at

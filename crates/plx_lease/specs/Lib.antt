@@ -1,10 +1,10 @@
 pub mod ClaimEnds
 pub mod Claiming
+pub mod Following
 pub mod Holding
-pub mod Releases
 pub mod Releasing
-pub mod Renewals
 pub mod Renewing
 pub mod Shells
+pub mod Slots
 pub mod Tables
 pub mod Uses

@@ -4,7 +4,7 @@ use Rattle.plx_disk.specs.declared.ask.Ask.{Ask}
 use Rattle.plx_disk.specs.declared.ask.Ask.TheVariants as ask
 use Rattle.plx_geom.specs.Geometry.{lease_at}
 use Rattle.plx_rules.specs.Part.{Part}
-use Rattle.plx_lease.specs.Releases.{ReleaseEnd, Released, ReleaseLost, ReleaseWriteFault, release_part}
+use Rattle.law_run.specs.Releases.{ReleaseEnd, Released, ReleaseLost, ReleaseWriteFault, release_part}
 use Rattle.plx_lease.specs.Uses.{use_of}
 use Rattle.plx_lease.specs.declared.release.LeaseRelease.{LeaseRelease}
 use Rattle.plx_lease.specs.declared.release.ReleaseEnd.{ReleaseEnd as End}

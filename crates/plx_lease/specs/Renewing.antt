@@ -5,8 +5,8 @@ use Rattle.plx_disk.specs.declared.ask.Ask.{Ask}
 use Rattle.plx_disk.specs.declared.ask.Ask.TheVariants as ask
 use Rattle.plx_geom.specs.Geometry.{lease_at}
 use Rattle.plx_rules.specs.Part.{Part}
-use Rattle.plx_worlds.specs.Holds.{Hold, Nothing, Held}
-use Rattle.plx_lease.specs.Renewals.{RenewalEnd, Renewed, RenewalLost, RenewalWriteFault, renewal_part}
+use Rattle.plx_rules.specs.Holds.{Hold, Nothing, Held}
+use Rattle.law_run.specs.Renewals.{RenewalEnd, Renewed, RenewalLost, RenewalWriteFault, renewal_part}
 use Rattle.plx_lease.specs.Uses.{use_of}
 use Rattle.plx_lease.specs.declared.renewal.LeaseRenewal.{LeaseRenewal}
 use Rattle.plx_lease.specs.declared.renewal.RenewalEnd.{RenewalEnd as End}

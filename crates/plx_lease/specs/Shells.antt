@@ -1,13 +1,13 @@
 -- Machines that keep their end: what they have left to ask, and how they end.
 use Rattle.std.specs.Prelude.{◌≡◌}
 use Rattle.plx_rules.specs.Part.{Part}
-use Rattle.plx_worlds.specs.Claims.{ClaimEnd}
-use Rattle.plx_worlds.specs.Machines.{after}
+use Rattle.plx_rules.specs.Claims.{ClaimEnd}
+use Rattle.plx_rules.specs.Machines.{after}
 use Rattle.plx_lease.specs.ClaimEnds.{claim_end}
 use Rattle.plx_lease.specs.Claiming.{claim_rest}
-use Rattle.plx_lease.specs.Releases.{ReleaseEnd}
+use Rattle.law_run.specs.Releases.{ReleaseEnd}
 use Rattle.plx_lease.specs.Releasing.{release_end, release_rest}
-use Rattle.plx_lease.specs.Renewals.{RenewalEnd, Renewed, RenewalLost, RenewalWriteFault}
+use Rattle.law_run.specs.Renewals.{RenewalEnd, Renewed, RenewalLost, RenewalWriteFault}
 use Rattle.plx_lease.specs.Renewing.{renewal_end, renewal_rest}
 use Rattle.plx_lease.specs.Uses.{use_of}
 use Rattle.plx_lease.specs.declared.claiming.Claiming.{Claiming}

@@ -1,6 +1,6 @@
 -- Leases in use, as the definitions see them.
 use Rattle.std.specs.Prelude.{List, [], ◌∷◌, Option, Some, None}
-use Rattle.plx_worlds.specs.InUse.{InUse}
+use Rattle.plx_rules.specs.InUse.{InUse}
 use Rattle.plx_lease.specs.declared.in_use.InUse.{InUse as Use}
 
 -- a lease in use

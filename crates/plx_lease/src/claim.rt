@@ -2,9 +2,9 @@
 ghost use Rattle.std.specs.Prelude.{◌≡◌, ◌≤◌, ◌<◌, ◌+◌, ◌^◌, ◌∷◌, ℕ, Option, Some, None};
 ghost use Rattle.plx_gate.specs.Leases.{lease_bytes};
 ghost use Rattle.plx_rules.specs.Part.{Ends};
-ghost use Rattle.plx_worlds.specs.Claims.{ClaimLost, ClaimDamaged, own_record as own};
-ghost use Rattle.plx_worlds.specs.InUse.{first_reached as first, unless_reached};
-ghost use Rattle.plx_worlds.specs.Times.{is_expired as is_expired_for};
+ghost use Rattle.plx_rules.specs.Claims.{ClaimLost, ClaimDamaged, own_record as own};
+ghost use Rattle.plx_rules.specs.InUse.{first_reached as first, unless_reached};
+ghost use Rattle.plx_rules.specs.Times.{is_expired as is_expired_for};
 ghost use Rattle.plx_lease.specs.Uses.{named as reached_lease};
 ghost use Rattle.plx_lease.specs.ClaimEnds.{claim_end as claim_end_of};
 
@@ -69,11 +69,11 @@ impl<K: LeaseKind> LeaseClaim<K> {
     ghost use Rattle.plx_geom.specs.Geometry.{lease_at};
     ghost use Rattle.plx_gate.specs.Leases.{read_lease as lease_in};
     ghost use Rattle.plx_rules.specs.Part.{answered, standing, bytes_out};
-    ghost use Rattle.plx_worlds.specs.Boot.{Fits};
-    ghost use Rattle.plx_worlds.specs.Claims.{claim_in_time, claim_of, claim_part, end_of_term, own_use, reread_by, reread_part, seen_part};
-    ghost use Rattle.plx_worlds.specs.Holds.{Hold, Nothing, Wrote, Held, sample_of, seen_by, timed, wrote, reread as confirmed};
-    ghost use Rattle.plx_worlds.specs.Machines.{AreWhole, AsksOnly, IsTimely, after};
-    ghost use Rattle.plx_worlds.specs.Times.{wait};
+    ghost use Rattle.plx_rules.specs.Boot.{Fits};
+    ghost use Rattle.plx_rules.specs.Claims.{claim_in_time, claim_of, claim_part, end_of_term, own_use, reread_by, reread_part, seen_part};
+    ghost use Rattle.plx_rules.specs.Holds.{Hold, Nothing, Wrote, Held, sample_of, seen_by, timed, wrote, reread as confirmed};
+    ghost use Rattle.plx_rules.specs.Machines.{AreWhole, AsksOnly, IsTimely, after};
+    ghost use Rattle.plx_rules.specs.Times.{wait};
     ghost use Rattle.plx_lease.specs.Uses.{use_of, uses_of};
     ghost use Rattle.plx_lease.specs.ClaimEnds.{claim_end};
     ghost use Rattle.plx_lease.specs.Claiming.{KeepsLease, claim_rest, read_part, wait_part};

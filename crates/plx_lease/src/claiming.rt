@@ -18,9 +18,12 @@ impl<K: LeaseKind> Claiming<K> {
     ghost use Rattle.plx_disk.specs.declared.turn.Turn.{Turn};
     ghost use Rattle.plx_geom.specs.Geometry.{lease_at};
     ghost use Rattle.plx_rules.specs.Part.{Ends, answered, standing, bytes_out};
-    ghost use Rattle.plx_worlds.specs.Claims.{claim_part};
-    ghost use Rattle.plx_worlds.specs.Machines.{IsTimely, turn_of};
+    ghost use Rattle.plx_rules.specs.Claims.{claim_part};
+    ghost use Rattle.plx_rules.specs.Machines.{IsTimely, turn_of};
+    ghost use Rattle.law_run.specs.ClaimEnds.{IsClaimAsk, IsClaimEnd};
+    ghost use Rattle.law_run.specs.Machines.{HasCome, MovesOn};
     ghost use Rattle.plx_lease.specs.ClaimEnds.{claim_end};
+    ghost use Rattle.plx_lease.specs.Claiming.{KeepsLease};
     ghost use Rattle.plx_lease.specs.Shells.{claiming_rest};
 
     /// The claim of a lease in this block by a boot that began so many claims before.
@@ -28,7 +31,11 @@ impl<K: LeaseKind> Claiming<K> {
         requires low { 1 ≤ block.0 }
         requires high { block.0 ≤ 2 ^ 32 }
         requires number { number < 2 ^ 40 }
-        ensures { (place : ℕ) → block.0 ≡ lease_at place → claiming_rest result ≡ claim_part boot.0 [] place number }
+        ensures rest { (place : ℕ) → block.0 ≡ lease_at place
+            → claiming_rest result ≡ claim_part boot.0 [] place number }
+        ensures log { (place : ℕ) → block.0 ≡ lease_at place
+            → HasCome (claim_part boot.0 [] place number) [] (claiming_rest result) }
+        ensures lease { result.work.lease ≡ lease }
     {
         Claiming {
             work: LeaseClaim::begin(lease, block, boot, number, None),
@@ -38,7 +45,7 @@ impl<K: LeaseKind> Claiming<K> {
 
     /// To the first ask.
     pub fn turn(&mut self) -> Turn
-        ensures rest { claiming_rest self.new ≡ claiming_rest self.old }
+        ensures kept { self.new ≡ self.old }
         ensures turn { result ≡ turn_of (claiming_rest self.new) }
     {
         self.stands()
@@ -47,7 +54,8 @@ impl<K: LeaseKind> Claiming<K> {
     /// The ask that stands.
     pub fn ask(&self) -> Ask
         requires { turn_of (claiming_rest self.now) ≡ Turn.Again }
-        ensures { Some result ≡ standing (claiming_rest self.now) }
+        ensures ask { Some result ≡ standing (claiming_rest self.now) }
+        ensures rules { IsClaimAsk (claiming_rest self.now) result }
     {
         self.work.ask()
     }
@@ -65,7 +73,9 @@ impl<K: LeaseKind> Claiming<K> {
         requires asks { turn_of (claiming_rest self.old) ≡ Turn.Again }
         requires timely { IsTimely answer.now }
         ensures rest { claiming_rest self.new ≡ answered (claiming_rest self.old) answer.now }
+        ensures log { MovesOn (claiming_rest self.old) answer.now (claiming_rest self.new) }
         ensures turn { result ≡ turn_of (claiming_rest self.new) }
+        ensures kept { KeepsLease self.old.work self.new.work self.new.end }
     {
         self.end = self.work.answer(answer);
         self.stands()
@@ -74,7 +84,9 @@ impl<K: LeaseKind> Claiming<K> {
     /// Its end, once it has ended.
     pub fn end(self) -> ClaimEnd<K>
         requires { turn_of (claiming_rest self) ≡ Turn.Ended }
-        ensures { claiming_rest self ≡ Ends (claim_end result) }
+        ensures end { claiming_rest self ≡ Ends (claim_end result) }
+        ensures rules { IsClaimEnd (claiming_rest self) (claim_end result) }
+        ensures kept { self.end ≡ Some result }
     {
         match self.end {
             Some(end) => end,

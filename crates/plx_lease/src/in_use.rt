@@ -1,7 +1,7 @@
 //! Leases in use, and which of them a reading has reached.
 ghost use Rattle.std.specs.Prelude.{◌≡◌, nat_le, if◌then◌else◌, Some};
 ghost use Rattle.plx_lease.specs.Uses.{named as reached_lease, uses_of};
-ghost use Rattle.plx_worlds.specs.InUse.{first_reached as first};
+ghost use Rattle.plx_rules.specs.InUse.{first_reached as first};
 
 /// A lease in use.
 #[derive(Clone, Copy, PartialEq, Eq, Debug)]
@@ -15,7 +15,7 @@ pub struct InUse {
 
 impl InUse {
     ghost use Rattle.plx_lease.specs.Uses.{use_of, named};
-    ghost use Rattle.plx_worlds.specs.InUse.{is_before as is_named_before, earlier as earlier_of};
+    ghost use Rattle.plx_rules.specs.InUse.{is_before as is_named_before, earlier as earlier_of};
 
     /// Whether this lease is to be named before another: it is held up to an earlier moment, or to
     /// the same and comes first.

@@ -17,6 +17,6 @@ pub use claiming::Claiming;
 pub use in_use::{InUse, first_reached};
 pub use release::{LeaseRelease, ReleaseEnd};
 pub use releasing::Releasing;
-pub use renewal::{LeaseRenewal, RenewalEnd};
+pub use renewal::{LeaseRenewal, RenewalEnd, later};
 pub use renewing::{Renewing, RenewingEnd};
 pub use tokens::Tokens;

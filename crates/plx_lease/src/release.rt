@@ -34,10 +34,10 @@ impl LeaseRelease {
     ghost use Rattle.plx_disk.specs.declared.ask.Answer.{Answer};
     ghost use Rattle.plx_geom.specs.Geometry.{lease_at};
     ghost use Rattle.plx_rules.specs.Part.{answered, standing, bytes_out};
-    ghost use Rattle.plx_worlds.specs.Boot.{Fits};
-    ghost use Rattle.plx_worlds.specs.Holds.{Hold, Nothing};
-    ghost use Rattle.plx_worlds.specs.Machines.{AreWhole, AsksOnly, after};
-    ghost use Rattle.plx_lease.specs.Releases.{release_part};
+    ghost use Rattle.plx_rules.specs.Boot.{Fits};
+    ghost use Rattle.plx_rules.specs.Holds.{Hold, Nothing};
+    ghost use Rattle.plx_rules.specs.Machines.{AreWhole, AsksOnly, after};
+    ghost use Rattle.law_run.specs.Releases.{release_part};
     ghost use Rattle.plx_lease.specs.Releasing.{release_ask, release_end, release_rest};
     ghost use Rattle.plx_lease.specs.Holding.{lease_after};
 

@@ -1,5 +1,5 @@
 //! A release as a machine of five calls.
-ghost use Rattle.std.specs.Prelude.{◌≡◌, ◌≤◌, ◌^◌, ℕ, Some, None};
+ghost use Rattle.std.specs.Prelude.{◌≡◌, ◌≤◌, ◌^◌, ℕ, Some, None, []};
 
 use crate::release::{LeaseRelease, ReleaseEnd};
 use plx_base::BlockNo;
@@ -19,8 +19,9 @@ impl<K: LeaseKind> Releasing<K> {
     ghost use Rattle.plx_disk.specs.declared.turn.Turn.{Turn};
     ghost use Rattle.plx_geom.specs.Geometry.{lease_at};
     ghost use Rattle.plx_rules.specs.Part.{Ends, answered, standing, bytes_out};
-    ghost use Rattle.plx_worlds.specs.Machines.{turn_of};
-    ghost use Rattle.plx_lease.specs.Releases.{release_part};
+    ghost use Rattle.plx_rules.specs.Machines.{turn_of};
+    ghost use Rattle.law_run.specs.Machines.{HasCome, MovesOn};
+    ghost use Rattle.law_run.specs.Releases.{IsReleaseAsk, IsReleaseEnd, release_part};
     ghost use Rattle.plx_lease.specs.Releasing.{release_end};
     ghost use Rattle.plx_lease.specs.Shells.{releasing_rest};
 
@@ -28,7 +29,10 @@ impl<K: LeaseKind> Releasing<K> {
     pub fn begin(held: Held<K>, block: BlockNo) -> Releasing<K>
         requires low { 1 ≤ block.0 }
         requires high { block.0 ≤ 2 ^ 32 }
-        ensures { (place : ℕ) → block.0 ≡ lease_at place → releasing_rest result ≡ release_part place held.until }
+        ensures rest { (place : ℕ) → block.0 ≡ lease_at place
+            → releasing_rest result ≡ release_part place held.until }
+        ensures log { (place : ℕ) → block.0 ≡ lease_at place
+            → HasCome (release_part place held.until) [] (releasing_rest result) }
     {
         Releasing {
             work: LeaseRelease::begin(held, block),
@@ -39,7 +43,7 @@ impl<K: LeaseKind> Releasing<K> {
 
     /// To the first ask.
     pub fn turn(&mut self) -> Turn
-        ensures rest { releasing_rest self.new ≡ releasing_rest self.old }
+        ensures kept { self.new ≡ self.old }
         ensures turn { result ≡ turn_of (releasing_rest self.new) }
     {
         self.stands()
@@ -48,7 +52,8 @@ impl<K: LeaseKind> Releasing<K> {
     /// The ask that stands.
     pub fn ask(&self) -> Ask
         requires { turn_of (releasing_rest self.now) ≡ Turn.Again }
-        ensures { Some result ≡ standing (releasing_rest self.now) }
+        ensures ask { Some result ≡ standing (releasing_rest self.now) }
+        ensures rules { IsReleaseAsk (releasing_rest self.now) result }
     {
         self.work.ask()
     }
@@ -65,6 +70,7 @@ impl<K: LeaseKind> Releasing<K> {
     pub fn answer(&mut self, answer: &Answer) -> Turn
         requires { turn_of (releasing_rest self.old) ≡ Turn.Again }
         ensures rest { releasing_rest self.new ≡ answered (releasing_rest self.old) answer.now }
+        ensures log { MovesOn (releasing_rest self.old) answer.now (releasing_rest self.new) }
         ensures turn { result ≡ turn_of (releasing_rest self.new) }
     {
         self.end = self.work.answer(answer);
@@ -74,7 +80,8 @@ impl<K: LeaseKind> Releasing<K> {
     /// Its end, once it has ended.
     pub fn end(self) -> ReleaseEnd
         requires { turn_of (releasing_rest self) ≡ Turn.Ended }
-        ensures { releasing_rest self ≡ Ends (release_end result) }
+        ensures end { releasing_rest self ≡ Ends (release_end result) }
+        ensures rules { IsReleaseEnd (releasing_rest self) (release_end result) }
     {
         match self.end {
             Some(end) => end,

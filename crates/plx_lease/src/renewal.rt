@@ -2,7 +2,7 @@
 ghost use Rattle.std.specs.Prelude.{◌≡◌, ◌≤◌, ◌<◌, ◌+◌, ◌^◌, ℕ, Some, None};
 ghost use Rattle.plx_base.specs.declared.lease.LeaseRecord.TheVariants.{Claimed};
 ghost use Rattle.plx_gate.specs.Leases.{IsClaimed, lease_bytes};
-ghost use Rattle.plx_worlds.specs.Commands.{later_of as later_one};
+ghost use Rattle.plx_rules.specs.Commands.{later_of as later_one};
 
 use crate::in_use::InUse;
 use plx_base::{BLOCK_LEN, BlockNo, Claim, LeaseRecord, WriteKind};
@@ -42,11 +42,11 @@ impl LeaseRenewal {
     ghost use Rattle.plx_disk.specs.declared.ask.Answer.{Answer};
     ghost use Rattle.plx_geom.specs.Geometry.{lease_at};
     ghost use Rattle.plx_rules.specs.Part.{answered, standing, bytes_out};
-    ghost use Rattle.plx_worlds.specs.Boot.{Fits};
-    ghost use Rattle.plx_worlds.specs.Commands.{later_of};
-    ghost use Rattle.plx_worlds.specs.Machines.{AreWhole, AsksOnly, after};
-    ghost use Rattle.plx_worlds.specs.Times.{term};
-    ghost use Rattle.plx_lease.specs.Renewals.{renewal_part};
+    ghost use Rattle.plx_rules.specs.Boot.{Fits};
+    ghost use Rattle.plx_rules.specs.Commands.{later_of};
+    ghost use Rattle.plx_rules.specs.Machines.{AreWhole, AsksOnly, after};
+    ghost use Rattle.plx_rules.specs.Times.{term};
+    ghost use Rattle.law_run.specs.Renewals.{renewal_part};
     ghost use Rattle.plx_lease.specs.Renewing.{LeavesRenewal, renewal_ask, renewal_end, renewal_hold, renewal_rest};
     ghost use Rattle.plx_lease.specs.Holding.{lease_after};
 
@@ -88,6 +88,13 @@ impl LeaseRenewal {
         self.later
     }
 
+    /// The block of the lease.
+    pub fn block(&self) -> BlockNo
+        ensures { result.0 ≡ lease_at self.now.number }
+    {
+        BlockNo(1 + u64::from(self.number))
+    }
+
     /// The ask that stands.
     pub fn ask(&self) -> Ask
         ensures ask { Some result ≡ standing (renewal_rest self.now) }
@@ -95,7 +102,7 @@ impl LeaseRenewal {
     {
         Ask::Write {
             kind: WriteKind::Renew,
-            block: BlockNo(1 + u64::from(self.number)),
+            block: self.block(),
             guard: self.until,
         }
     }
@@ -129,8 +136,8 @@ impl LeaseRenewal {
     }
 }
 
-// The later of two moments.
-fn later(until: u64, end: u64) -> u64
+/// The later of two moments, in milliseconds.
+pub fn later(until: u64, end: u64) -> u64
     ensures { result ≡ later_one until end }
 {
     if until <= end { end } else { until }

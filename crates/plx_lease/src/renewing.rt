@@ -1,5 +1,5 @@
 //! A renewal as a machine of five calls.
-ghost use Rattle.std.specs.Prelude.{◌≡◌, ◌≤◌, ◌<◌, ◌+◌, ◌^◌, ℕ, Some, None};
+ghost use Rattle.std.specs.Prelude.{◌≡◌, ◌≤◌, ◌<◌, ◌+◌, ◌^◌, ℕ, Some, None, []};
 
 use crate::in_use::InUse;
 use crate::renewal::{LeaseRenewal, RenewalEnd};
@@ -32,10 +32,9 @@ impl<K: LeaseKind> Renewing<K> {
     ghost use Rattle.plx_disk.specs.declared.turn.Turn.{Turn};
     ghost use Rattle.plx_geom.specs.Geometry.{lease_at};
     ghost use Rattle.plx_rules.specs.Part.{Ends, answered, standing, bytes_out};
-    ghost use Rattle.plx_worlds.specs.Commands.{later_of};
-    ghost use Rattle.plx_worlds.specs.Machines.{turn_of};
-    ghost use Rattle.plx_worlds.specs.Times.{term};
-    ghost use Rattle.plx_lease.specs.Renewals.{renewal_part};
+    ghost use Rattle.plx_rules.specs.Machines.{turn_of};
+    ghost use Rattle.law_run.specs.Machines.{HasCome, MovesOn};
+    ghost use Rattle.law_run.specs.Renewals.{IsRenewalAsk, IsRenewalEnd, renewal_part, renewal_until};
     ghost use Rattle.plx_lease.specs.Shells.{IsRenewed, renewing_end, renewing_rest};
 
     /// The renewal of a lease that is held, in this block, by the command's first reading.
@@ -43,9 +42,13 @@ impl<K: LeaseKind> Renewing<K> {
         requires low { 1 ≤ block.0 }
         requires high { block.0 ≤ 2 ^ 32 }
         requires reading { reading < 2 ^ 48 }
-        ensures rest { (place : ℕ) → block.0 ≡ lease_at place → renewing_rest result ≡ renewal_part place held.claim held.until (later_of held.until (reading + term)) }
+        ensures rest { (place : ℕ) → block.0 ≡ lease_at place → renewing_rest result
+            ≡ renewal_part place held.claim held.until (renewal_until held.until reading) }
+        ensures log { (place : ℕ) → block.0 ≡ lease_at place → HasCome
+            (renewal_part place held.claim held.until (renewal_until held.until reading))
+            [] (renewing_rest result) }
         ensures held { result.held ≡ held }
-        ensures later { result.work.later ≡ later_of held.until (reading + term) }
+        ensures later { result.work.later ≡ renewal_until held.until reading }
     {
         let work = LeaseRenewal::begin(&held, block, reading);
         Renewing {
@@ -57,10 +60,8 @@ impl<K: LeaseKind> Renewing<K> {
 
     /// To the first ask.
     pub fn turn(&mut self) -> Turn
-        ensures rest { renewing_rest self.new ≡ renewing_rest self.old }
+        ensures kept { self.new ≡ self.old }
         ensures turn { result ≡ turn_of (renewing_rest self.new) }
-        ensures held { self.new.held ≡ self.old.held }
-        ensures later { self.new.work.later ≡ self.old.work.later }
     {
         self.stands()
     }
@@ -68,7 +69,8 @@ impl<K: LeaseKind> Renewing<K> {
     /// The ask that stands.
     pub fn ask(&self) -> Ask
         requires { turn_of (renewing_rest self.now) ≡ Turn.Again }
-        ensures { Some result ≡ standing (renewing_rest self.now) }
+        ensures ask { Some result ≡ standing (renewing_rest self.now) }
+        ensures rules { IsRenewalAsk (renewing_rest self.now) result }
     {
         self.work.ask()
     }
@@ -85,6 +87,7 @@ impl<K: LeaseKind> Renewing<K> {
     pub fn answer(&mut self, answer: &Answer) -> Turn
         requires { turn_of (renewing_rest self.old) ≡ Turn.Again }
         ensures rest { renewing_rest self.new ≡ answered (renewing_rest self.old) answer.now }
+        ensures log { MovesOn (renewing_rest self.old) answer.now (renewing_rest self.new) }
         ensures turn { result ≡ turn_of (renewing_rest self.new) }
         ensures held { self.new.held ≡ self.old.held }
         ensures later { self.new.work.later ≡ self.old.work.later }
@@ -97,6 +100,7 @@ impl<K: LeaseKind> Renewing<K> {
     pub fn end(self) -> RenewingEnd<K>
         requires { turn_of (renewing_rest self) ≡ Turn.Ended }
         ensures end { renewing_rest self ≡ Ends (renewing_end result) }
+        ensures rules { IsRenewalEnd (renewing_rest self) (renewing_end result) }
         ensures held { IsRenewed self result }
     {
         match self.end {

@@ -1,5 +1,6 @@
 //! The leases that a boot holds.
 ghost use Rattle.std.specs.Prelude.{◌≡◌, ◌<◌, IfOk, None, Some, length, option_copied, slice_set, replicate};
+ghost use Rattle.plx_lease.specs.Slots.{AreInPlace};
 
 use plx_base::{NoMemory, SlotNo};
 use plx_token::{Held, Image, Root};
@@ -10,6 +11,7 @@ use std::alloc::Global;
 pub struct Tokens {
     root: Option<Held<Root>>,
     images: Vec<Option<Held<Image>>>,
+    ghost own: { AreInPlace images.items },
 }
 
 impl Tokens {

@@ -1,6 +1,6 @@
-pub mod Places
+mod Effects
 mod Filled
-mod Fits
+mod Founded
 mod Numbered
 mod OnResult
 mod Pictures

@@ -1,24 +1,24 @@
 -- The rules by their numbers.
 use Rattle.std.proofs.Common.{◌≡◌, ◌<◌, ℕ, zero, suc, ◌+◌, refl, sym, subst, arith, below_more, Bool, true, false, IsTrue, ◌↔◌, Option, Some, IsSome}
 use Rattle.plx_base.specs.declared.numbers.ApplianceNo.{ApplianceNo}
-use Rattle.plx_model.specs.Judge.{Breaks, InCommand, IsByOwner, IsFounded, IsLeastBroken, IsListed, IsReplyInCommand, IsStartOfIdle, IsUnrefused, IsValue, appliance_of}
-use Rattle.plx_model.specs.Judge.{known, idle, running, listed, owner, value, refusal, unrefused}
-use Rattle.plx_model.specs.Model.{Model}
-use Rattle.plx_model.specs.declared.command.Command.{Command}
-use Rattle.plx_model.specs.declared.reply.Reply.{Reply}
-use Rattle.plx_model.specs.declared.entry.Entry.{Entry}
-use Rattle.plx_model.specs.declared.entry.Entry.TheVariants as entry
+use Rattle.plx_commands.specs.Judge.{Accepts, Breaks, InCommand, IsByOwner, IsFounded, IsLeastBroken, IsListed, IsReplyInCommand, IsStartOfIdle, IsUnrefused, IsValue, appliance_of}
+use Rattle.plx_commands.specs.Judge.{known, idle, running, listed, owner, value, refusal, unrefused}
+use Rattle.plx_commands.specs.Model.{Model}
+use Rattle.plx_commands.specs.declared.command.Command.{Command}
+use Rattle.plx_commands.specs.declared.reply.Reply.{Reply}
+use Rattle.plx_commands.specs.declared.entry.Entry.{Entry}
+use Rattle.plx_commands.specs.declared.entry.Entry.TheVariants as entry
 
 abbrev pub Rule : Model → Entry → ℕ → Type 0
 Rule m e zero = Unit {0}
 Rule m e (suc zero) = appliance_of e < m.appliances
 Rule m e (suc (suc zero)) = IsStartOfIdle m e
 Rule m e (suc (suc (suc zero))) = IsReplyInCommand m e
-Rule m e (suc (suc (suc (suc zero)))) = InCommand (λ appliance command reply. IsListed command reply) m e
-Rule m e (suc (suc (suc (suc (suc zero))))) = InCommand (IsByOwner m) m e
-Rule m e (suc (suc (suc (suc (suc (suc zero)))))) = InCommand (λ appliance command reply. IsValue m command reply) m e
-Rule m e (suc (suc (suc (suc (suc (suc (suc zero))))))) = InCommand (IsFounded m) m e
-Rule m e (suc (suc (suc (suc (suc (suc (suc (suc zero)))))))) = InCommand (IsUnrefused m) m e
+Rule m e (suc (suc (suc (suc zero)))) = InCommand IsListed m e
+Rule m e (suc (suc (suc (suc (suc zero))))) = InCommand IsByOwner m e
+Rule m e (suc (suc (suc (suc (suc (suc zero)))))) = InCommand IsValue m e
+Rule m e (suc (suc (suc (suc (suc (suc (suc zero))))))) = InCommand IsFounded m e
+Rule m e (suc (suc (suc (suc (suc (suc (suc (suc zero)))))))) = InCommand IsUnrefused m e
 Rule m e (suc (suc (suc (suc (suc (suc (suc (suc (suc n))))))))) = Unit {0}
 
 broken : {m : Model} {e : Entry} {n : ℕ} → Breaks m e n → ¬ Rule m e n
@@ -30,6 +30,17 @@ broken (owner h) = h
 broken (value h) = h
 broken (refusal h) = h
 broken (unrefused h) = h
+
+-- an entry that is accepted breaks no rule
+pub accepted_keeps : {m : Model} {e : Entry} {n : ℕ} → Breaks m e n → ¬ Accepts m e
+accepted_keeps (known h) a = h a.known
+accepted_keeps (idle h) a = h a.idle
+accepted_keeps (running h) a = h a.running
+accepted_keeps (listed h) a = h a.listed
+accepted_keeps (owner h) a = h a.owner
+accepted_keeps (value h) a = h a.value
+accepted_keeps (refusal h) a = h a.refusal
+accepted_keeps (unrefused h) a = h a.unrefused
 
 -- what a test denies
 pub denied : {P : Type 0} (b : Bool) → IsTrue b ↔ P → b ≡ false → ¬ P
@@ -51,12 +62,12 @@ pub least_of : (m : Model) (e : Entry) (n : ℕ) → Below m e n → Breaks m e 
 least_of m e n below here = record { broken = here; least = λ k h b. broken b (below k h) }
 
 -- what holds of the command that an appliance is in
-pub in_command : (Holds : ℕ → Command → Reply → Type 0) (m : Model) (a : ApplianceNo) (command : Command) (reply : Reply) → m.running a.0 ≡ Some command → Holds a.0 command reply → InCommand Holds m (entry.Reply a reply)
+pub in_command : (Holds : Model → ℕ → Command → Reply → Type 0) (m : Model) (a : ApplianceNo) (command : Command) (reply : Reply) → m.running a.0 ≡ Some command → Holds m a.0 command reply → InCommand Holds m (entry.Reply a reply)
 in_command Holds m a command reply runs h other also =
     let same : command ≡ other = cc in
-    subst (λ (c : Command). Holds a.0 c reply) same h
+    subst (λ (c : Command). Holds m a.0 c reply) same h
 
-pub not_in_command : (Holds : ℕ → Command → Reply → Type 0) (m : Model) (a : ApplianceNo) (command : Command) (reply : Reply) → m.running a.0 ≡ Some command → ¬ Holds a.0 command reply → ¬ InCommand Holds m (entry.Reply a reply)
+pub not_in_command : (Holds : Model → ℕ → Command → Reply → Type 0) (m : Model) (a : ApplianceNo) (command : Command) (reply : Reply) → m.running a.0 ≡ Some command → ¬ Holds m a.0 command reply → ¬ InCommand Holds m (entry.Reply a reply)
 not_in_command Holds m a command reply runs fails h = fails (h command runs)
 
 pub is_running : (o : Option Command) (command : Command) → o ≡ Some command → IsSome o
@@ -65,5 +76,22 @@ is_running o command e = subst (λ (p : Option Command). IsSome p) (sym e) refl
 pub below_three : (m : Model) (a : ApplianceNo) (reply : Reply) → a.0 < m.appliances → Below m (entry.Reply a reply) 3
 below_three m a reply at_hand = below_next m (entry.Reply a reply) 2 (below_next m (entry.Reply a reply) 1 (below_one m (entry.Reply a reply)) at_hand) tt
 
-pub below_four : (m : Model) (a : ApplianceNo) (command : Command) (reply : Reply) → a.0 < m.appliances → m.running a.0 ≡ Some command → Below m (entry.Reply a reply) 4
-below_four m a command reply at_hand runs = below_next m (entry.Reply a reply) 3 (below_three m a reply at_hand) (is_running _ command runs)
+-- the appliance is in this command
+pub record IsIn (m : Model) (a : ApplianceNo) (command : Command) : Type 0 where
+  pub known : a.0 < m.appliances
+  pub runs : m.running a.0 ≡ Some command
+
+pub below_four : (m : Model) (a : ApplianceNo) (command : Command) (reply : Reply) → IsIn m a command → Below m (entry.Reply a reply) 4
+below_four m a command reply is = below_next m (entry.Reply a reply) 3 (below_three m a reply is.known) (is_running _ command is.runs)
+
+pub below_five : (m : Model) (a : ApplianceNo) (command : Command) (reply : Reply) → IsIn m a command → IsListed m a.0 command reply → Below m (entry.Reply a reply) 5
+below_five m a command reply is h = below_next m (entry.Reply a reply) 4 (below_four m a command reply is) (in_command IsListed m a command reply is.runs h)
+
+pub below_six : (m : Model) (a : ApplianceNo) (command : Command) (reply : Reply) → IsIn m a command → IsListed m a.0 command reply → IsByOwner m a.0 command reply → Below m (entry.Reply a reply) 6
+below_six m a command reply is row h = below_next m (entry.Reply a reply) 5 (below_five m a command reply is row) (in_command IsByOwner m a command reply is.runs h)
+
+pub below_seven : (m : Model) (a : ApplianceNo) (command : Command) (reply : Reply) → IsIn m a command → IsListed m a.0 command reply → IsByOwner m a.0 command reply → IsValue m a.0 command reply → Below m (entry.Reply a reply) 7
+below_seven m a command reply is row own h = below_next m (entry.Reply a reply) 6 (below_six m a command reply is row own) (in_command IsValue m a command reply is.runs h)
+
+pub below_eight : (m : Model) (a : ApplianceNo) (command : Command) (reply : Reply) → IsIn m a command → IsListed m a.0 command reply → IsByOwner m a.0 command reply → IsValue m a.0 command reply → IsFounded m a.0 command reply → Below m (entry.Reply a reply) 8
+below_eight m a command reply is row own has h = below_next m (entry.Reply a reply) 7 (below_seven m a command reply is row own has) (in_command IsFounded m a command reply is.runs h)

@@ -1,14 +1,7 @@
--- Facts of one variant of a result follow from one another.
-use Rattle.std.proofs.Common.{Result, Ok, Err, OnOk, OnErr}
+-- Facts of one variant of a result.
+use Rattle.std.proofs.Common.{Result, Ok, Err, OnErr}
 
-pub on_ok : {T E P Q : Type 0} → (r : Result T E) → (P → Q) → OnOk r P → OnOk r Q
-on_ok (Ok x) f p = f p
-on_ok (Err e) f p = p
-
-pub on_err : {T E P Q : Type 0} → (r : Result T E) → (P → Q) → OnErr r P → OnErr r Q
-on_err (Ok x) f p = p
-on_err (Err e) f p = f p
-
+-- what holds anyway holds where the result is an error
 pub any_err : {T E P : Type 0} → (r : Result T E) → P → OnErr r P
 any_err (Ok x) p = tt
 any_err (Err e) p = p

@@ -1,32 +1,19 @@
 -- The test whether two lists of bytes are the same.
 use Rattle.std.proofs.Common.{◌≡◌, ◌↔◌, ℕ, List, [], ◌∷◌, refl, sym, ap₂, subst, Bool, true, false, IsTrue}
 use Rattle.std.specs.Prelude.{◌==◌, ◌&&◌}
-use Rattle.std.proofs.lemmas.Bool.{eqb-true, eq-eqb}
-use Rattle.plx_model.specs.Image.{same_bytes}
-
--- both parts of a conjunction that holds
-pub and_first : (a b : Bool) → (a && b) ≡ true → a ≡ true
-and_first true b h = refl
-and_first false b h = h
-
-pub and_second : (a b : Bool) → (a && b) ≡ true → b ≡ true
-and_second true b h = h
-and_second false b h = cc
-
-pub and_both : (a b : Bool) → a ≡ true → b ≡ true → (a && b) ≡ true
-and_both true b p q = q
-and_both false b p q = p
+use Rattle.std.proofs.lemmas.Bool.{and_from, and_parts, eqb-true, eq-eqb}
+use Rattle.plx_commands.specs.Reports.{same_bytes}
 
 pub same_bytes-same : (xs : List ℕ) → same_bytes xs xs ≡ true
 same_bytes-same [] = refl
-same_bytes-same (x ∷ xs) = and_both (x == x) (same_bytes xs xs) (eq-eqb x x refl) (same_bytes-same xs)
+same_bytes-same (x ∷ xs) = and_from (x == x) (same_bytes xs xs) (eq-eqb x x refl) (same_bytes-same xs)
 
 pub same_bytes-equal : (xs ys : List ℕ) → same_bytes xs ys ≡ true → xs ≡ ys
 same_bytes-equal [] [] h = refl
 same_bytes-equal [] (y ∷ ys) h = cc
 same_bytes-equal (x ∷ xs) [] h = cc
 same_bytes-equal (x ∷ xs) (y ∷ ys) h =
-    ap₂ (λ (z : ℕ) (zs : List ℕ). z ∷ zs) (eqb-true x y (and_first (x == y) (same_bytes xs ys) h)) (same_bytes-equal xs ys (and_second (x == y) (same_bytes xs ys) h))
+    ap₂ (λ (z : ℕ) (zs : List ℕ). z ∷ zs) (eqb-true x y (and_parts (x == y) (same_bytes xs ys) h).0) (same_bytes-equal xs ys (and_parts (x == y) (same_bytes xs ys) h).1)
 
 not_same : (t : Bool) → (t ≡ true → ⊥) → false ≡ t
 not_same true n = absurd (n refl)

@@ -5,7 +5,8 @@ use Rattle.std.proofs.Math.Path.{fun_ext}
 use Rattle.std.proofs.lemmas.Bool.Decides.{eqb_tells}
 use Rattle.std.proofs.lemmas.List.{get_or-set_other, get_or-replicate, get_or_past, length-replicate, get_or-map}
 use Rattle.std.proofs.lemmas.Grind.{get_or-set_at}
-use Rattle.plx_model.specs.Places.{at, table}
+use Rattle.plx_commands.specs.Places.{at}
+use Rattle.plx_model.specs.Tables.{table}
 
 below_or_past : (k n : ℕ) → (k < n) ⊎ (n ≤ k)
 below_or_past k zero = inr (omega arith)
@@ -43,3 +44,11 @@ table-at f xs k x d within e = get_or-map f xs k x d within ∙ ap f (sym e)
 -- and past the list
 pub table-past : {X : Type 0} (xs : List X) (k : ℕ) (d : X) → length xs ≤ k → table xs d k ≡ d
 table-past xs k d past = get_or_past xs k d past
+
+-- what stands at a place may be written there again
+pub at-again : {X : Type 0} (f : ℕ → X) (k : ℕ) (x : X) → f k ≡ x → at f k x ≡ f
+at-again {X} f k x e = fun_ext (λ j. each j (eqb_tells j k))
+  where
+    each : (j : ℕ) → (((j == k) ≡ true) × (j ≡ k)) ⊎ (((j == k) ≡ false) × (j ≢ k)) → (if j == k then x else f j) ≡ f j
+    each j (inl h) = rw h.0 (sym e ∙ ap f (sym h.1))
+    each j (inr h) = rw h.0 refl

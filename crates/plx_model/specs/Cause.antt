@@ -1,7 +1,8 @@
 -- Why the judge doesn't take an entry.
-use Rattle.plx_model.specs.Judge.{Accepts, IsLeastBroken}
-use Rattle.plx_model.specs.Model.{Model}
-use Rattle.plx_model.specs.declared.entry.Entry.{Entry}
+use Rattle.std.specs.Prelude.{Result, Ok, Err}
+use Rattle.plx_commands.specs.Judge.{Accepts, IsLeastBroken}
+use Rattle.plx_commands.specs.Model.{Model}
+use Rattle.plx_commands.specs.declared.entry.Entry.{Entry}
 use Rattle.plx_model.specs.declared.judge.JudgeError.{JudgeError}
 use Rattle.plx_model.specs.declared.judge.JudgeError.TheVariants.{NotPermitted, NoMemory}
 
@@ -9,3 +10,9 @@ use Rattle.plx_model.specs.declared.judge.JudgeError.TheVariants.{NotPermitted, 
 abbrev pub IsCause : JudgeError → Model → Entry → Type 0
 IsCause (NotPermitted rule) m entry = IsLeastBroken m entry rule
 IsCause NoMemory m entry = Accepts m entry
+
+-- no rule is named
+abbrev pub IsTaken : {T : Type 0} → Result T JudgeError → Type 0
+IsTaken (Ok done) = Unit {0}
+IsTaken (Err (NotPermitted rule)) = ⊥
+IsTaken (Err NoMemory) = Unit {0}

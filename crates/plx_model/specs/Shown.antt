@@ -1,25 +1,37 @@
 -- What the judge's tables show.
-use Rattle.std.specs.Prelude.{ℕ, List, [], ◌∷◌, ◌++◌, length, map, Bool, false, ◌&&◌, ◌==◌, Option, Some, None, unwrap_or}
+use Rattle.std.specs.Prelude.{◌≡◌, ◌<◌, ℕ, List, [], ◌∷◌, ◌++◌, length, map, Bool, true, false, Option, Some, None, unwrap_or, ◌⊎◌}
 use Rattle.std.specs.Ordering.{nat_cmp}
 use Rattle.std.specs.BTreeMap.{BTreeMap, get}
 use Rattle.plx_base.specs.Blocks.{zeros}
-use Rattle.plx_model.specs.Image.{Image, written, report_of, resolved, same_flag, same_bytes, same_report}
-use Rattle.plx_model.specs.Model.{Slot, Model, first_slot}
-use Rattle.plx_model.specs.Places.{table}
-use Rattle.plx_model.specs.Refusals.{where_holds}
-use Rattle.plx_model.specs.declared.command.Command.{Command}
+use Rattle.plx_commands.specs.Facts.{where_holds, IsAmong}
+use Rattle.plx_commands.specs.Images.{Frozen, Image, free_image, new_image, report_of}
+use Rattle.plx_commands.specs.Limits.{last_generation, last_write, last_claim}
+use Rattle.plx_commands.specs.Model.{Slot, Model, first_slot}
+use Rattle.plx_commands.specs.Places.{at}
+use Rattle.plx_commands.specs.Replies.{number_of, rests_on_fact}
+use Rattle.plx_commands.specs.Reports.{same_report}
+use Rattle.plx_commands.specs.declared.command.Command.{Command}
+use Rattle.plx_commands.specs.declared.command.Command.TheVariants.{Create, Delete, Write}
+use Rattle.plx_commands.specs.declared.reply.Reply.{Reply}
+use Rattle.plx_commands.specs.declared.reply.Reply.TheVariants.{NotAttached, AlreadyAttached, NoImage, Exists, OutOfRange, WornOut}
+use Rattle.plx_commands.specs.declared.reply.Report.{Report}
+use Rattle.plx_model.specs.Tables.{table}
+use Rattle.plx_model.specs.declared.frozen.Frozen as kept
 use Rattle.plx_model.specs.declared.model.Model as code
+use Rattle.plx_model.specs.declared.refusals.ImageRefusals.{ImageRefusals}
 use Rattle.plx_model.specs.declared.refusals.Refusals.{Refusals}
-use Rattle.plx_model.specs.declared.reply.Reply.{Reply}
-use Rattle.plx_model.specs.declared.reply.Reply.TheVariants.{NotAttached, AlreadyAttached, NoImage, OutOfRange}
-use Rattle.plx_model.specs.declared.reply.Report.{Report}
 use Rattle.plx_model.specs.declared.seat.Seat.{Seat}
 use Rattle.plx_model.specs.declared.slot.Change.{Change}
+use Rattle.plx_model.specs.declared.slot.Change.TheVariants as change
 use Rattle.plx_model.specs.declared.slot.SlotState.{SlotState}
 
 -- what each virtual block holds: zeros where none is kept
 abbrev pub content_of : BTreeMap ℕ (List ℕ) → ℕ → List ℕ
 content_of blocks = λ v. unwrap_or (get nat_cmp blocks v) zeros
+
+-- what is kept of a snapshot
+abbrev pub frozen_of : kept.Frozen → Frozen
+frozen_of snapshot = record { content = content_of snapshot.content; dropped = snapshot.dropped }
 
 -- the image in a slot
 abbrev pub image_of : SlotState → Image
@@ -30,16 +42,23 @@ image_of slot = record {
   label = slot.label;
   writes = slot.writes;
   content = content_of slot.content;
+  frozen = map frozen_of slot.frozen.items;
 }
 
--- the image that a write makes of this one
-abbrev pub changed : Image → Option Change → Option Image
-changed image None = None
-changed image (Some change) = Some (written image change.vblock change.block)
+-- the image that a change makes of this one
+abbrev pub changed_image : Image → Change → Image
+changed_image image (change.Write number vblock block) = record image { writes = number; content = at image.content vblock block }
+changed_image image (change.Create generation size label) = new_image generation size label
+changed_image image change.Delete = free_image image.generation
+
+-- the image that the change under way makes, if there is one
+abbrev pub changed_by : Image → Option Change → Option Image
+changed_by image None = None
+changed_by image (Some change) = Some (changed_image image change)
 
 -- what is kept of a slot, as the rules speak of it
 abbrev pub slot_of : SlotState → Slot
-slot_of slot = record { image = image_of slot; change = changed (image_of slot) slot.change; owner = slot.owner }
+slot_of slot = record { image = image_of slot; change = changed_by (image_of slot) slot.change; owner = slot.owner }
 
 -- of which slots an appliance has a session
 abbrev pub sessions_of : Seat → ℕ → Bool
@@ -59,27 +78,46 @@ shown model = record {
   running = table (map running_of model.seats.items) None;
 }
 
--- the refusal of a block that isn't below this size
+-- the command changes an image, and the count that it raises isn't at its last value
+abbrev pub CanChange : Image → Command → Type 0
+CanChange image (Create slot size label) = image.generation < last_generation
+CanChange image (Delete slot) = Unit {0}
+CanChange image (Write slot vblock payload) = image.writes < last_write
+CanChange image command = ⊥
+
+-- there is such an image, and the report is its own
+abbrev pub reported : Option Image → Report → Bool
+reported None report = false
+reported (Some image) report = same_report report (report_of image)
+
+-- the refusal that names this size
 abbrev pub beyond : Option ℕ → List Reply
 beyond None = []
 beyond (Some size) = OutOfRange size ∷ []
 
+-- the refusal that names this count
+abbrev pub worn : Option ℕ → List Reply
+worn None = []
+worn (Some count) = WornOut count ∷ []
+
+-- the refusals by images whose facts hold, in their order
+abbrev pub listed_images : ImageRefusals → List Reply
+listed_images facts =
+    where_holds facts.no_image NoImage ++ (where_holds facts.exists Exists ++ (beyond facts.range ++ worn facts.worn))
+
 -- the refusals whose facts hold, in their order
 abbrev pub listed : Refusals → List Reply
 listed facts =
-    where_holds facts.attached AlreadyAttached
-    ++ (where_holds facts.not_attached NotAttached ++ (where_holds facts.no_image NoImage ++ beyond facts.size))
+    (where_holds facts.attached AlreadyAttached ++ where_holds facts.not_attached NotAttached) ++ listed_images facts.images
 
--- two reports are equal but for their numbers of writes
-abbrev pub is_alike : Report → Report → Bool
-is_alike r s =
-    (r.generation == s.generation) && ((r.size == s.size) && ((r.taken == s.taken) && ((r.dropped == s.dropped) && (same_flag r.live s.live && same_bytes r.label s.label))))
+-- the refusal of a command that may find that no claim is left
+abbrev pub listed_claims : Refusals → List Reply
+listed_claims facts = where_holds facts.claims (WornOut last_claim)
 
--- whether there is such an image, and the report is its own
-abbrev pub is_report_of : Option Image → Report → Bool
-is_report_of None report = false
-is_report_of (Some image) report = same_report report (report_of image)
+-- a refusal that rests on a fact is among those whose fact holds
+abbrev pub IsFoundedIn : List Reply → Reply → Type 0
+IsFoundedIn facts reply = rests_on_fact (number_of reply) ≡ true → IsAmong reply facts
 
--- the slot once a report decided which image it is
-abbrev pub decided : Slot → Report → Slot
-decided slot report = record { image = resolved slot.image slot.change report; change = None; owner = slot.owner }
+-- the count is the one that is worn, or that of claims
+abbrev pub IsWornAt : Option ℕ → Bool → ℕ → Type 0
+IsWornAt count_worn claims count = (count_worn ≡ Some count) ⊎ ((claims ≡ true) × (count ≡ last_claim))

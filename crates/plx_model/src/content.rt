@@ -2,7 +2,7 @@
 ghost use Rattle.std.specs.Prelude.{◌≡◌, ◌↔◌, IsTrue};
 ghost use Rattle.plx_base.specs.Blocks.{zeros};
 ghost use Rattle.plx_base.specs.Payload.{bytes_of};
-ghost use Rattle.plx_model.specs.Image.{same_bytes};
+ghost use Rattle.plx_commands.specs.Reports.{same_bytes};
 ghost use Rattle.plx_model.specs.Shown.{content_of};
 
 use plx_base::{Block, Label, Payload};

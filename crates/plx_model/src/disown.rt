@@ -1,6 +1,6 @@
 //! Slots that an appliance owns no longer.
 ghost use Rattle.std.specs.Prelude.{◌≡◌, map};
-ghost use Rattle.plx_model.specs.Moves.{given_back};
+ghost use Rattle.plx_commands.specs.Moves.{given_back};
 ghost use Rattle.plx_model.specs.Shown.{slot_of};
 
 use crate::slot::SlotState;

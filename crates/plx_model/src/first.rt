@@ -1,6 +1,6 @@
 //! The tables of a model before the first entry.
 ghost use Rattle.std.specs.Prelude.{◌≡◌, IfOk, map, replicate, None, false};
-ghost use Rattle.plx_model.specs.Model.{first_slot};
+ghost use Rattle.plx_commands.specs.Model.{first_slot};
 ghost use Rattle.plx_model.specs.Shown.{running_of, sessions_of, slot_of};
 
 use crate::seat::Seat;

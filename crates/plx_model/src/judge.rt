@@ -1,7 +1,8 @@
 //! The judge of a trace.
-use crate::listed::is_listed;
-use crate::{Command, Entry, Model, Reply};
+use crate::Model;
+use crate::replies::is_listed;
 use plx_base::ApplianceNo;
+use plx_commands::{Command, Entry, Reply};
 use thiserror::Error;
 
 /// Why an entry isn't taken.
@@ -17,17 +18,19 @@ pub enum JudgeError {
 
 impl Model {
     ghost use Rattle.std.specs.Prelude.{◌≡◌, ◌<◌, ◌↔◌, IsTrue, OnOk, OnErr, IfErr, IfSome, IfNone, Some, length};
-    ghost use Rattle.plx_model.specs.Cause.{IsCause};
-    ghost use Rattle.plx_model.specs.Judge.{Accepts, IsLeastBroken};
-    ghost use Rattle.plx_model.specs.Moves.{moved};
+    ghost use Rattle.plx_model.specs.Cause.{IsCause, IsTaken};
+    ghost use Rattle.plx_commands.specs.Judge.{Accepts, IsLeastBroken};
+    ghost use Rattle.plx_commands.specs.Moves.{moved};
     ghost use Rattle.plx_model.specs.Shown.{shown};
 
     /// Takes the next entry of a trace, where it keeps all rules. Else the model stays as it is.
+    #[tactic(auto, using(crate::proofs::Numbered::accepted_keeps))]
     pub fn judge(&mut self, entry: &Entry) -> Result<(), JudgeError>
         ensures accepted { OnOk result (Accepts (shown self.old) entry.now) }
         ensures moved { OnOk result (shown self.new ≡ moved (shown self.old) entry.now) }
         ensures cause { IfErr result (λ error. IsCause error (shown self.old) entry.now) }
         ensures kept { OnErr result (shown self.new ≡ shown self.old) }
+        ensures taken { Accepts (shown self.old) entry.now → IsTaken result }
     {
         if let Some(rule) = self.broken(entry) {
             return Err(JudgeError::NotPermitted { rule });

@@ -1,27 +1,20 @@
-//! Commands, replies and events, and what the plain block-list model permits.
+//! The block-list model, and the judge of a trace: what appliances may answer.
 #![tactic(auto)]
 
-mod command;
 mod content;
 mod disown;
-mod entry;
-mod event;
+mod effect;
 mod first;
+mod frozen;
 mod judge;
-mod list;
-mod listed;
 mod model;
 mod moves;
 mod refusals;
-mod reply;
+mod replies;
+mod report;
 mod rules;
 mod seat;
 mod slot;
 
-pub use command::Command;
-pub use entry::Entry;
-pub use event::{Event, Region, Stop};
 pub use judge::JudgeError;
-pub use list::EventList;
 pub use model::Model;
-pub use reply::{Reply, Report};

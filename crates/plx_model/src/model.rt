@@ -19,7 +19,7 @@ pub struct Model {
 
 impl Model {
     ghost use Rattle.std.specs.Prelude.{◌≡◌, ◌≤◌, IfOk};
-    ghost use Rattle.plx_model.specs.Model.{first_model};
+    ghost use Rattle.plx_commands.specs.Model.{first_model};
     ghost use Rattle.plx_model.specs.Shown.{shown};
 
     /// The model before the first entry, of 1 to 256 images and 1 to 8 appliances.

@@ -1,14 +1,20 @@
 //! How an entry moves the model.
+use crate::Model;
 use crate::disown::disown_all;
-use crate::{Command, Entry, Model, Reply, Report};
+use crate::effect::{Effect, named};
+use crate::replies::{ends_sessions, is_own};
 use plx_base::{ApplianceNo, NoMemory};
+use plx_commands::{Command, Entry, Reply, Report};
 
 impl Model {
-    ghost use Rattle.std.specs.Prelude.{◌≡◌, ◌<◌, ◌+◌, IsTrue, OnOk, OnErr, length, true, None, Some};
-    ghost use Rattle.plx_model.specs.Judge.{Accepts, IsFitFor, IsReported};
-    ghost use Rattle.plx_model.specs.Model.{is_changing, named, owns};
-    ghost use Rattle.plx_model.specs.Moves.{begins_change, entered, forgotten, made, moved, replied, rested, slots_refused, slots_started};
-    ghost use Rattle.plx_model.specs.Places.{at};
+    ghost use Rattle.std.specs.Prelude.{◌≡◌, ◌<◌, IsTrue, OnOk, OnErr, length, true, None, Some};
+    ghost use Rattle.plx_commands.specs.Judge.{Accepts};
+    ghost use Rattle.plx_commands.specs.Model.{owns};
+    ghost use Rattle.plx_commands.specs.Moves.{begins_change, done_at, entered, forgotten, given_back, left, moved, refused_at, rested, started_at};
+    ghost use Rattle.plx_commands.specs.Places.{at};
+    ghost use Rattle.plx_commands.specs.Replies.{ends_sessions, number_of};
+    ghost use Rattle.plx_commands.specs.Slots.{changed};
+    ghost use Rattle.plx_model.specs.Effects.{IsAtHand, brought, ended};
     ghost use Rattle.plx_model.specs.Shown.{shown};
 
     // The model moves by an entry that it accepts.
@@ -44,31 +50,29 @@ impl Model {
         requires { appliance.0 < length self.old.seats.items }
         ensures ok { OnOk result (shown self.new
             ≡ record (shown self.old) {
-              slots = slots_started
-                  (shown self.old) appliance.0 command.now;
+              slots = started_at
+                  (shown self.old) appliance.0 command.now (changed command.now);
             }) }
         ensures err { OnErr result (shown self.new ≡ shown self.old) }
         ensures seats { length self.new.seats.items ≡ length self.old.seats.items }
     {
+        let Some(slot) = Effect::of(command).changed() else {
+            return Ok(());
+        };
         if !self.begins_change(appliance, command) {
             return Ok(());
         }
         let alloc = self.alloc;
-        let slot = &mut self.slots[command.slot() as usize];
-        slot.begin(alloc, command)
+        let state = &mut self.slots[slot as usize];
+        state.begin(alloc, command)
     }
 
-    // Whether the command is the owner's, changes an image, and has no refusal whose fact holds.
+    // Whether the command is the owner's, and has no refusal whose fact holds.
     fn begins_change(&self, appliance: ApplianceNo, command: &Command) -> bool
         requires { appliance.0 < length self.now.seats.items }
-        ensures begins { result ≡ begins_change (shown self.now) appliance.0 command.now }
-        ensures changing { IsTrue result → is_changing command.now ≡ true }
-        ensures within { IsTrue result → named command.now < length self.now.slots.items }
+        ensures { result ≡ begins_change (shown self.now) appliance.0 command.now }
     {
-        if !command.is_changing() {
-            return false;
-        }
-        if !self.is_owner(command.slot(), appliance.0) {
+        if !self.owns_all(appliance.0, named(command)) {
             return false;
         }
         let refusals = self.refusals(appliance, command);
@@ -98,62 +102,75 @@ impl Model {
         let Some(command) = &seat.running else {
             return Ok(());
         };
-        let slot = command.slot();
-        let changes = command.is_changing();
-        self.end(appliance, slot, changes, reply)
+        let effect = Effect::of(command);
+        let own = is_own(command, reply);
+        self.end(appliance, effect, own, reply)
     }
 
-    // The appliance's command ends with this reply.
+    // A command of this effect ends with this reply, its own Ok or another one.
     fn end(
         &mut self,
         appliance: ApplianceNo,
-        slot: u32,
-        changes: bool,
+        effect: Effect,
+        own: bool,
         reply: &Reply,
     ) -> Result<(), NoMemory>
         requires known { appliance.0 < length self.old.seats.items }
-        requires fit { IsFitFor (shown self.old) slot reply.now }
+        requires at_hand { own ≡ true → IsAtHand (shown self.old) effect }
         ensures ok { OnOk result (shown self.new
-            ≡ replied (shown self.old) appliance.0 slot changes reply.now) }
+            ≡ ended (shown self.old) appliance.0 effect own (ends_sessions (number_of reply.now))
+            reply.now) }
+        ensures err { OnErr result (shown self.new ≡ shown self.old) }
+    {
+        if own {
+            return self.bring(appliance, effect, reply);
+        }
+        if ends_sessions(reply) {
+            self.forget(appliance);
+            return Ok(());
+        }
+        self.refuse(appliance, effect.changed());
+        Ok(())
+    }
+
+    // The effect comes with this Ok.
+    fn bring(
+        &mut self,
+        appliance: ApplianceNo,
+        effect: Effect,
+        reply: &Reply,
+    ) -> Result<(), NoMemory>
+        requires known { appliance.0 < length self.old.seats.items }
+        requires at_hand { IsAtHand (shown self.old) effect }
+        ensures ok { OnOk result (shown self.new
+            ≡ brought (shown self.old) appliance.0 effect reply.now) }
+        ensures err { OnErr result (shown self.new ≡ shown self.old) }
+    {
+        match effect {
+            Effect::Enter(slot) => self.attach(appliance, slot, reply),
+            Effect::Leave(slot) => {
+                self.leave(appliance, slot);
+                Ok(())
+            }
+            Effect::Change(slot) => self.make(appliance, slot),
+            Effect::Rest => {
+                self.run(appliance, None);
+                Ok(())
+            }
+        }
+    }
+
+    fn attach(&mut self, appliance: ApplianceNo, slot: u32, reply: &Reply) -> Result<(), NoMemory>
+        requires known { appliance.0 < length self.old.seats.items }
+        requires within { slot < length self.old.slots.items }
+        ensures ok { OnOk result (shown self.new
+            ≡ brought (shown self.old) appliance.0 (Effect.Enter slot) reply.now) }
         ensures err { OnErr result (shown self.new ≡ shown self.old) }
     {
         match reply {
             Reply::Attached { report } => self.enter(appliance, slot, report),
-            Reply::Written { number } => self.make(appliance, slot, *number),
-            Reply::Data { .. } => {
+            _ => {
                 self.run(appliance, None);
-                Ok(())
-            }
-            Reply::Lost { .. } => {
-                self.forget(appliance);
-                Ok(())
-            }
-            Reply::WriteFault { .. } => {
-                self.forget(appliance);
-                Ok(())
-            }
-            Reply::NotAttached => {
-                self.refuse(appliance, slot, changes);
-                Ok(())
-            }
-            Reply::AlreadyAttached => {
-                self.refuse(appliance, slot, changes);
-                Ok(())
-            }
-            Reply::NoImage => {
-                self.refuse(appliance, slot, changes);
-                Ok(())
-            }
-            Reply::OutOfRange { .. } => {
-                self.refuse(appliance, slot, changes);
-                Ok(())
-            }
-            Reply::ReadFault { .. } => {
-                self.refuse(appliance, slot, changes);
-                Ok(())
-            }
-            Reply::Full => {
-                self.refuse(appliance, slot, changes);
                 Ok(())
             }
         }
@@ -163,54 +180,81 @@ impl Model {
     fn enter(&mut self, appliance: ApplianceNo, slot: u32, report: &Report) -> Result<(), NoMemory>
         requires known { appliance.0 < length self.old.seats.items }
         requires within { slot < length self.old.slots.items }
-        requires reported { IsReported ((shown self.old).slots slot) report.now }
         ensures ok { OnOk result (shown self.new
             ≡ entered (shown self.old) appliance.0 slot report.now) }
         ensures err { OnErr result (shown self.new ≡ shown self.old) }
     {
+        let alloc = self.alloc;
         let state = &mut self.slots[slot as usize];
-        state.attach(report, appliance.0)?;
+        state.attach(alloc, report, appliance.0)?;
         let seat = &mut self.seats[appliance.0 as usize];
         seat.open(slot);
         seat.running = None;
         Ok(())
     }
 
-    // The change under way is made, as the image's write of this number.
-    fn make(&mut self, appliance: ApplianceNo, slot: u32, number: u64) -> Result<(), NoMemory>
+    // The appliance's session of the slot has ended, and it owns it no longer.
+    fn leave(&mut self, appliance: ApplianceNo, slot: u32)
+        requires { appliance.0 < length self.old.seats.items }
+        ensures { shown self.new ≡ left (shown self.old) appliance.0 slot }
+    {
+        self.disown(appliance, slot);
+        let seat = &mut self.seats[appliance.0 as usize];
+        seat.close(slot);
+        seat.running = None;
+    }
+
+    fn disown(&mut self, appliance: ApplianceNo, slot: u32)
+        ensures moved { shown self.new ≡ record
+            (shown self.old) {
+              slots = at (shown self.old).slots slot
+                  (given_back ((shown self.old).slots slot) appliance.0);
+            } }
+        ensures seats { length self.new.seats.items ≡ length self.old.seats.items }
+    {
+        let index = slot as usize;
+        if self.slots.len() <= index {
+            return;
+        }
+        let state = &mut self.slots[index];
+        state.disown(appliance.0);
+    }
+
+    // The change under way is made.
+    fn make(&mut self, appliance: ApplianceNo, slot: u32) -> Result<(), NoMemory>
         requires known { appliance.0 < length self.old.seats.items }
         requires within { slot < length self.old.slots.items }
-        requires next { number ≡ ((shown self.old).slots slot).image.writes + 1 }
         ensures ok { OnOk result (shown self.new
-            ≡ rested (shown self.old) appliance.0
-            (at (shown self.old).slots slot (made ((shown self.old).slots slot)))) }
+            ≡ rested (shown self.old) appliance.0 (done_at (shown self.old) (Some slot))
+            ((shown self.old).sessions appliance.0)) }
         ensures err { OnErr result (shown self.new ≡ shown self.old) }
     {
+        let alloc = self.alloc;
         let state = &mut self.slots[slot as usize];
-        state.make(number)?;
+        state.make(alloc)?;
         let seat = &mut self.seats[appliance.0 as usize];
         seat.running = None;
         Ok(())
     }
 
     // The command is refused, and a change of its own is given up.
-    fn refuse(&mut self, appliance: ApplianceNo, slot: u32, changes: bool)
+    fn refuse(&mut self, appliance: ApplianceNo, slot: Option<u32>)
         requires { appliance.0 < length self.old.seats.items }
         ensures { shown self.new ≡ rested (shown self.old) appliance.0
-            (slots_refused (shown self.old) appliance.0 slot changes) }
+            (refused_at (shown self.old) appliance.0 slot) ((shown self.old).sessions appliance.0) }
     {
-        self.give_up(appliance, slot, changes);
+        self.give_up(appliance, slot);
         self.run(appliance, None);
     }
 
-    fn give_up(&mut self, appliance: ApplianceNo, slot: u32, changes: bool)
+    fn give_up(&mut self, appliance: ApplianceNo, slot: Option<u32>)
         ensures moved { shown self.new ≡ record
-            (shown self.old) { slots = slots_refused (shown self.old) appliance.0 slot changes } }
+            (shown self.old) { slots = refused_at (shown self.old) appliance.0 slot } }
         ensures seats { length self.new.seats.items ≡ length self.old.seats.items }
     {
-        if !changes {
+        let Some(slot) = slot else {
             return;
-        }
+        };
         if !self.is_owner(slot, appliance.0) {
             return;
         }

@@ -1,31 +1,59 @@
 //! The rules of a reply to the command that an appliance is in.
+use crate::Model;
 use crate::content::holds;
-use crate::refusals::Refusals;
-use crate::{Command, Model, Reply, Report};
-use plx_base::{ApplianceNo, Payload};
+use crate::effect::{is_attach, named, of_owner};
+use crate::refusals::{ImageRefusals, Refusals};
+use crate::replies::{OK, may_claim, number_of};
+use crate::slot::SlotState;
+use plx_base::{ApplianceNo, Payload, SlotNo};
+use plx_commands::{Command, Reply, Report};
 
 impl Model {
-    ghost use Rattle.std.specs.Prelude.{◌≡◌, ◌<◌, ◌+◌, ◌↔◌, ℕ, IsTrue, length};
+    ghost use Rattle.std.specs.Prelude.{◌≡◌, ◌<◌, ◌≤◌, ◌+◌, ◌↔◌, IsTrue, IfSome, IfNone, length};
     ghost use Rattle.plx_base.specs.Payload.{bytes_of};
-    ghost use Rattle.plx_model.specs.Judge.{IsByOwner, IsDataFor, IsNumberFor, IsReportFor, IsReported, IsValue};
-    ghost use Rattle.plx_model.specs.Model.{owns};
-    ghost use Rattle.plx_model.specs.Refusals.{of_access, refusals};
-    ghost use Rattle.plx_model.specs.Shown.{listed, shown};
+    ghost use Rattle.plx_commands.specs.Facts.{of_images, refusals};
+    ghost use Rattle.plx_commands.specs.Judge.{HasValue, IsByOwner};
+    ghost use Rattle.plx_commands.specs.Model.{has_all, owns, owns_all};
+    ghost use Rattle.plx_commands.specs.Replies.{may_claim, number_of};
+    ghost use Rattle.plx_commands.specs.Reports.{IsReported};
+    ghost use Rattle.plx_model.specs.Effects.{slots_in};
+    ghost use Rattle.plx_model.specs.Shown.{listed, listed_images, shown, slot_of};
+
+    // What is kept of the slot, if there is such a slot.
+    fn state(&self, slot: u32) -> Option<&SlotState>
+        ensures within { IfSome result (λ state. slot < length self.now.slots.items) }
+        ensures shown { IfSome result (λ state. (shown self.now).slots slot ≡ slot_of state.now) }
+        ensures past { IfNone result (length self.now.slots.items ≤ slot) }
+    {
+        let index = slot as usize;
+        if self.slots.len() <= index {
+            return None;
+        }
+        Some(&self.slots[index])
+    }
 
     // Whether the appliance owns the image of the slot.
     pub(crate) fn is_owner(&self, slot: u32, appliance: u32) -> bool
         ensures owner { result ≡ owns ((shown self.now).slots slot).owner appliance }
         ensures within { IsTrue result → slot < length self.now.slots.items }
     {
-        let index = slot as usize;
-        if self.slots.len() <= index {
-            return false;
+        match self.state(slot) {
+            Some(state) => state.is_owned_by(appliance),
+            None => false,
         }
-        let state = &self.slots[index];
-        state.is_owned_by(appliance)
     }
 
-    // Whether the reply comes from the owner, where it is data or the number of a write.
+    // Whether the appliance owns the image of the slot, if one is named.
+    pub(crate) fn owns_all(&self, appliance: u32, slot: Option<u32>) -> bool
+        ensures { result ≡ owns_all (shown self.now) appliance (slots_in slot) }
+    {
+        match slot {
+            Some(slot) => self.is_owner(slot, appliance),
+            None => true,
+        }
+    }
+
+    // Whether the reply comes from the owner, where it is an Ok.
     pub(crate) fn is_by_owner(
         &self,
         appliance: ApplianceNo,
@@ -34,121 +62,143 @@ impl Model {
     ) -> bool
         ensures { IsTrue result ↔ IsByOwner (shown self.now) appliance.0 command.now reply.now }
     {
-        match reply {
-            Reply::Data { .. } => self.is_owner(command.slot(), appliance.0),
-            Reply::Written { .. } => self.is_owner(command.slot(), appliance.0),
-            Reply::Attached { .. } => true,
-            Reply::NotAttached => true,
-            Reply::AlreadyAttached => true,
-            Reply::NoImage => true,
-            Reply::OutOfRange { .. } => true,
-            Reply::Lost { .. } => true,
-            Reply::ReadFault { .. } => true,
-            Reply::WriteFault { .. } => true,
-            Reply::Full => true,
-        }
+        number_of(reply) != OK || self.owns_all(appliance.0, of_owner(command))
     }
 
-    // Whether the reply's value is the one that the model has.
+    // Whether the reply's value is the one that the model has, where it is an Ok.
     pub(crate) fn is_value(&self, command: &Command, reply: &Reply) -> bool
-        ensures { IsTrue result ↔ IsValue (shown self.now) command.now reply.now }
+        ensures { IsTrue result ↔ (number_of reply.now ≡ 0
+            → HasValue (shown self.now) command.now reply.now) }
+    {
+        number_of(reply) != OK || self.has_value(command, reply)
+    }
+
+    // Whether the reply is the command's Ok, with the value that the model has.
+    fn has_value(&self, command: &Command, reply: &Reply) -> bool
+        ensures { IsTrue result ↔ HasValue (shown self.now) command.now reply.now }
+    {
+        match command {
+            Command::Attach { slot } => self.is_attached(*slot, reply),
+            Command::Detach { .. } => matches!(reply, Reply::Detached),
+            Command::Create { slot, .. } => {
+                matches!(reply, Reply::Created) && self.is_slot(*slot)
+            }
+            Command::Delete { slot } => matches!(reply, Reply::Deleted) && self.is_slot(*slot),
+            Command::Read { slot, vblock } => self.is_data(*slot, *vblock, reply),
+            Command::Write { slot, .. } => match reply {
+                Reply::Written { number } => self.is_next(*slot, *number),
+                _ => false,
+            },
+            Command::Flush { slot } => self.is_flushed(*slot, reply),
+            Command::Reserve { .. } => matches!(reply, Reply::Reserved),
+            Command::Renew => matches!(reply, Reply::Renewed),
+            Command::Retire => matches!(reply, Reply::Retired),
+            Command::Reclaim => matches!(reply, Reply::Reclaimed { .. }),
+        }
+    }
+
+    fn is_slot(&self, slot: SlotNo) -> bool
+        ensures { IsTrue result ↔ (slot.0 < length self.now.slots.items) }
+    {
+        (slot.0 as usize) < self.slots.len()
+    }
+
+    // Whether the reply is a report of the image in the slot, or of its change.
+    fn is_attached(&self, slot: SlotNo, reply: &Reply) -> bool
+        ensures { IsTrue result ↔ HasValue (shown self.now) (Command.Attach slot) reply.now }
     {
         match reply {
-            Reply::Attached { report } => self.is_report(command, report),
-            Reply::Data { payload } => self.is_data(command, payload),
-            Reply::Written { number } => self.is_number(command, *number),
-            Reply::NotAttached => true,
-            Reply::AlreadyAttached => true,
-            Reply::NoImage => true,
-            Reply::OutOfRange { .. } => true,
-            Reply::Lost { .. } => true,
-            Reply::ReadFault { .. } => true,
-            Reply::WriteFault { .. } => true,
-            Reply::Full => true,
+            Reply::Attached { report } => self.is_reported(slot, report),
+            _ => false,
         }
     }
 
-    fn is_report(&self, command: &Command, report: &Report) -> bool
-        ensures { IsTrue result ↔ IsReportFor (shown self.now) command.now report.now }
+    fn is_reported(&self, slot: SlotNo, report: &Report) -> bool
+        ensures { IsTrue result ↔ ((slot.0 < length self.now.slots.items) × IsReported
+            ((shown self.now).slots slot.0).image ((shown self.now).slots slot.0).change
+            report.now) }
     {
-        match command {
-            Command::Attach { slot } => self.is_report_of(slot.0, report),
-            Command::Read { .. } => true,
-            Command::Write { .. } => true,
+        match self.state(slot.0) {
+            Some(state) => state.is_reported(report),
+            None => false,
         }
     }
 
-    fn is_report_of(&self, slot: u32, report: &Report) -> bool
-        ensures { IsTrue result ↔ ((slot < length self.now.slots.items)
-            × IsReported ((shown self.now).slots slot) report.now) }
+    // Whether the reply has the bytes of the virtual block.
+    fn is_data(&self, slot: SlotNo, vblock: u32, reply: &Reply) -> bool
+        ensures { IsTrue result ↔ HasValue (shown self.now) (Command.Read slot vblock) reply.now }
     {
-        let index = slot as usize;
-        if self.slots.len() <= index {
-            return false;
-        }
-        let state = &self.slots[index];
-        state.is_reported(report)
-    }
-
-    fn is_data(&self, command: &Command, payload: &Payload) -> bool
-        ensures { IsTrue result ↔ IsDataFor (shown self.now) command.now payload.now }
-    {
-        match command {
-            Command::Attach { .. } => true,
-            Command::Read { slot, vblock } => self.is_data_of(slot.0, *vblock, payload),
-            Command::Write { .. } => true,
+        match reply {
+            Reply::Data { payload } => self.is_content(slot, vblock, payload),
+            _ => false,
         }
     }
 
-    fn is_data_of(&self, slot: u32, vblock: u32, payload: &Payload) -> bool
-        ensures { IsTrue result ↔ ((slot < length self.now.slots.items)
-            × (bytes_of payload.now ≡ ((shown self.now).slots slot).image.content vblock)) }
+    fn is_content(&self, slot: SlotNo, vblock: u32, payload: &Payload) -> bool
+        ensures { IsTrue result ↔ ((slot.0 < length self.now.slots.items)
+            × (bytes_of payload.now ≡ ((shown self.now).slots slot.0).image.content vblock)) }
     {
-        let index = slot as usize;
-        if self.slots.len() <= index {
-            return false;
-        }
-        let state = &self.slots[index];
-        holds(&state.content, vblock, payload)
-    }
-
-    fn is_number(&self, command: &Command, number: u64) -> bool
-        ensures { IsTrue result ↔ IsNumberFor (shown self.now) command.now number }
-    {
-        match command {
-            Command::Attach { .. } => true,
-            Command::Read { .. } => true,
-            Command::Write { slot, .. } => self.is_number_of(slot.0, number),
+        match self.state(slot.0) {
+            Some(state) => holds(&state.content, vblock, payload),
+            None => false,
         }
     }
 
-    fn is_number_of(&self, slot: u32, number: u64) -> bool
-        ensures { IsTrue result ↔ ((slot < length self.now.slots.items)
-            × (number ≡ ((shown self.now).slots slot).image.writes + 1)) }
+    // Whether the number is that of the image's next write.
+    fn is_next(&self, slot: SlotNo, number: u64) -> bool
+        ensures { IsTrue result ↔ ((slot.0 < length self.now.slots.items)
+            × (number ≡ ((shown self.now).slots slot.0).image.writes + 1)) }
     {
-        let index = slot as usize;
-        if self.slots.len() <= index {
-            return false;
+        match self.state(slot.0) {
+            Some(state) => number.checked_sub(1) == Some(state.writes),
+            None => false,
         }
-        let state = &self.slots[index];
-        state.is_next(number)
+    }
+
+    // Whether the reply has the number of the image's last write.
+    fn is_flushed(&self, slot: SlotNo, reply: &Reply) -> bool
+        ensures { IsTrue result ↔ HasValue (shown self.now) (Command.Flush slot) reply.now }
+    {
+        match reply {
+            Reply::Flushed { applied, .. } => self.is_last(slot, *applied),
+            _ => false,
+        }
+    }
+
+    fn is_last(&self, slot: SlotNo, number: u64) -> bool
+        ensures { IsTrue result ↔ ((slot.0 < length self.now.slots.items)
+            × (number ≡ ((shown self.now).slots slot.0).image.writes)) }
+    {
+        match self.state(slot.0) {
+            Some(state) => number == state.writes,
+            None => false,
+        }
     }
 
     // Which refusals' facts hold of the appliance's command.
     pub(crate) fn refusals(&self, appliance: ApplianceNo, command: &Command) -> Refusals
         requires { appliance.0 < length self.now.seats.items }
-        ensures { listed result ≡ refusals (shown self.now) appliance.0 command.now }
+        ensures listed { listed result ≡ refusals (shown self.now) appliance.0 command.now }
+        ensures claims { result.claims ≡ may_claim command.now }
     {
-        let session = self.has_session(appliance, command.slot());
-        match command {
-            Command::Attach { slot } => Refusals {
-                attached: session,
-                not_attached: false,
-                no_image: self.slots.len() <= slot.0 as usize,
-                size: None,
-            },
-            Command::Read { slot, vblock } => self.refusals_of(session, slot.0, *vblock),
-            Command::Write { slot, vblock, .. } => self.refusals_of(session, slot.0, *vblock),
+        let has = self.has_all(appliance, named(command));
+        let attaches = is_attach(command);
+        Refusals {
+            attached: attaches && has,
+            not_attached: !attaches && !has,
+            images: self.of_images(command),
+            claims: may_claim(command),
+        }
+    }
+
+    // Whether the appliance has a session of the slot, if one is named.
+    fn has_all(&self, appliance: ApplianceNo, slot: Option<u32>) -> bool
+        requires { appliance.0 < length self.now.seats.items }
+        ensures { result ≡ has_all ((shown self.now).sessions appliance.0) (slots_in slot) }
+    {
+        match slot {
+            Some(slot) => self.has_session(appliance, slot),
+            None => true,
         }
     }
 
@@ -160,29 +210,42 @@ impl Model {
         seat.has(slot)
     }
 
-    fn refusals_of(&self, session: bool, slot: u32, vblock: u32) -> Refusals
-        ensures { (appliance : ℕ) → session ≡ (shown self.now).sessions appliance slot
-            → listed result ≡ of_access (shown self.now) appliance slot vblock }
+    // Which refusals' facts hold of the image in the slot that the command names.
+    fn of_images(&self, command: &Command) -> ImageRefusals
+        ensures { listed_images result ≡ of_images (shown self.now) command.now }
     {
-        let index = slot as usize;
-        if self.slots.len() <= index {
-            return Refusals {
-                attached: false,
-                not_attached: !session,
-                no_image: false,
-                size: None,
-            };
-        }
-        let state = &self.slots[index];
-        Refusals {
-            attached: false,
-            not_attached: !session,
-            no_image: !state.live,
-            size: if state.size <= vblock {
-                Some(state.size)
-            } else {
-                None
+        match command {
+            Command::Attach { slot } => ImageRefusals {
+                no_image: self.slots.len() <= slot.0 as usize,
+                exists: false,
+                range: None,
+                worn: None,
             },
+            Command::Create { slot, size, .. } => match self.state(slot.0) {
+                Some(state) => state.of_create(*size),
+                None => ImageRefusals::none(),
+            },
+            Command::Delete { slot } => match self.state(slot.0) {
+                Some(state) => state.of_use(),
+                None => ImageRefusals::none(),
+            },
+            Command::Read { slot, vblock } => match self.state(slot.0) {
+                Some(state) => state.of_read(*vblock),
+                None => ImageRefusals::none(),
+            },
+            Command::Write { slot, vblock, .. } => match self.state(slot.0) {
+                Some(state) => state.of_write(*vblock),
+                None => ImageRefusals::none(),
+            },
+            Command::Flush { slot } => match self.state(slot.0) {
+                Some(state) => state.of_use(),
+                None => ImageRefusals::none(),
+            },
+            Command::Detach { .. } => ImageRefusals::none(),
+            Command::Reserve { .. } => ImageRefusals::none(),
+            Command::Renew => ImageRefusals::none(),
+            Command::Retire => ImageRefusals::none(),
+            Command::Reclaim => ImageRefusals::none(),
         }
     }
 }

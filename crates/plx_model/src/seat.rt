@@ -1,5 +1,5 @@
 //! What the model keeps of one appliance.
-use crate::Command;
+use plx_commands::Command;
 
 /// The most images of a model.
 pub const MAX_IMAGES: usize = 256;
@@ -13,7 +13,7 @@ pub struct Seat {
 
 impl Seat {
     ghost use Rattle.std.specs.Prelude.{◌≡◌, ◌<◌, None, true, false};
-    ghost use Rattle.plx_model.specs.Places.{at};
+    ghost use Rattle.plx_commands.specs.Places.{at};
     ghost use Rattle.plx_model.specs.Shown.{sessions_of};
 
     // The seat of an appliance without a session, and in no command.
@@ -46,6 +46,17 @@ impl Seat {
         ensures running { self.new.running ≡ self.old.running }
     {
         self.sessions[slot as usize] = true;
+    }
+
+    // The appliance has no session of the slot any more.
+    pub fn close(&mut self, slot: u32)
+        ensures sessions { sessions_of self.new ≡ at (sessions_of self.old) slot false }
+        ensures running { self.new.running ≡ self.old.running }
+    {
+        let index = slot as usize;
+        if index < MAX_IMAGES {
+            self.sessions[index] = false;
+        }
     }
 
     // The appliance has no session, and is in no command.

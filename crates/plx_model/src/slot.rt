@@ -1,15 +1,31 @@
 //! One slot of the model: its image, the change of it that is under way, and its owner.
-use crate::content::is_label;
-use crate::{Command, Report};
+ghost use Rattle.std.specs.Prelude.{◌<◌, ◌^◌, length};
+
+use crate::frozen::{Frozen, count_dropped};
+use crate::refusals::ImageRefusals;
+use crate::report::is_same;
 use plx_base::{Block, Label, NoMemory};
+use plx_commands::{Command, GREATEST_SIZE, LAST_GENERATION, LAST_WRITE, Report};
 use std::alloc::Global;
 use std::collections::BTreeMap;
 
-/// A write of one virtual block.
+/// A change of an image.
 #[derive(Drop)]
-pub struct Change {
-    pub vblock: u32,
-    pub block: Block,
+pub enum Change {
+    /// The image's write of this number.
+    Write {
+        number: u64,
+        vblock: u32,
+        block: Block,
+    },
+    /// The image of this generation is made.
+    Create {
+        generation: u32,
+        size: u32,
+        label: Label,
+    },
+    /// The slot is made free.
+    Delete,
 }
 
 /// What is kept of a slot. A virtual block without an entry is zeros.
@@ -21,29 +37,35 @@ pub struct SlotState {
     pub label: Label,
     pub writes: u64,
     pub content: BTreeMap<u32, Block>,
+    pub frozen: Vec<Frozen>,
     pub change: Option<Change>,
     pub owner: Option<u32>,
+    ghost few_taken: { length frozen.items < 2 ^ 32 },
 }
 
 impl SlotState {
-    ghost use Rattle.std.specs.Prelude.{◌≡◌, ◌==◌, ◌+◌, ◌↔◌, IsTrue, OnOk, OnErr, if◌then◌else◌};
-    ghost use Rattle.plx_model.specs.Image.{report_of, same_report};
-    ghost use Rattle.plx_model.specs.Judge.{IsReported};
-    ghost use Rattle.plx_model.specs.Model.{first_slot, is_changing, owns};
-    ghost use Rattle.plx_model.specs.Moves.{attached, given_back, given_up, made, under_way};
-    ghost use Rattle.plx_model.specs.Shown.{decided, image_of, is_alike, is_report_of, slot_of};
+    ghost use Rattle.std.specs.Prelude.{◌≡◌, ◌++◌, ◌↔◌, [], IsTrue, OnOk, OnErr, IfOk, Some};
+    ghost use Rattle.plx_base.specs.Blocks.{zeros};
+    ghost use Rattle.plx_commands.specs.Facts.{of_block, of_generation, of_none, of_size, of_some, of_writes};
+    ghost use Rattle.plx_commands.specs.Images.{report_of};
+    ghost use Rattle.plx_commands.specs.Model.{first_slot, owns};
+    ghost use Rattle.plx_commands.specs.Moves.{attached, given_back, given_up, made, under_way};
+    ghost use Rattle.plx_commands.specs.Reports.{IsReported};
+    ghost use Rattle.plx_commands.specs.Slots.{after};
+    ghost use Rattle.plx_model.specs.Shown.{CanChange, changed_by, changed_image, image_of, listed_images, reported, slot_of};
 
     // A slot before the first entry.
     pub fn new(alloc: Global) -> SlotState
         ensures { slot_of result ≡ first_slot }
     {
         SlotState {
-            live: true,
-            generation: 1,
-            size: 8,
+            live: false,
+            generation: 0,
+            size: 0,
             label: Label::empty(),
             writes: 0,
             content: BTreeMap::new(alloc),
+            frozen: Vec::new(alloc),
             change: None,
             owner: None,
         }
@@ -59,70 +81,131 @@ impl SlotState {
         }
     }
 
+    // What an attach reports of the image.
+    fn report(&self) -> Report
+        ensures { result ≡ report_of (image_of self.now) }
+    {
+        Report {
+            live: self.live,
+            generation: self.generation,
+            size: self.size,
+            writes: self.writes,
+            taken: self.frozen.len() as u32,
+            dropped: count_dropped(&self.frozen),
+            label: self.label.copy(),
+        }
+    }
+
+    // What an attach reports of the image that the change makes.
+    fn report_after(&self, change: &Change) -> Report
+        ensures { result ≡ report_of (changed_image (image_of self.now) change.now) }
+    {
+        match change {
+            Change::Write { number, .. } => {
+                let mut report = self.report();
+                report.writes = *number;
+                report
+            }
+            Change::Create {
+                generation,
+                size,
+                label,
+            } => Report {
+                live: true,
+                generation: *generation,
+                size: *size,
+                writes: 0,
+                taken: 0,
+                dropped: 0,
+                label: label.copy(),
+            },
+            Change::Delete => Report {
+                live: false,
+                generation: self.generation,
+                size: 0,
+                writes: 0,
+                taken: 0,
+                dropped: 0,
+                label: Label::empty(),
+            },
+        }
+    }
+
     // Whether the report is the image's, or that of its change.
     pub fn is_reported(&self, report: &Report) -> bool
-        ensures { IsTrue result ↔ IsReported (slot_of self.now) report.now }
+        ensures { IsTrue result ↔ IsReported (slot_of self.now).image (slot_of self.now).change report.now }
     {
         self.is_own(report) || self.is_of_change(report)
     }
 
     fn is_own(&self, report: &Report) -> bool
-        ensures { result ≡ same_report report.now (report_of (image_of self.now)) }
+        ensures { result ≡ reported (Some (image_of self.now)) report.now }
     {
-        report.writes == self.writes && self.is_alike(report)
+        is_same(report, &self.report())
     }
 
     fn is_of_change(&self, report: &Report) -> bool
-        ensures { result ≡ is_report_of (slot_of self.now).change report.now }
+        ensures { result ≡ reported (slot_of self.now).change report.now }
     {
-        if self.change.is_none() {
-            return false;
+        match &self.change {
+            Some(change) => is_same(report, &self.report_after(change)),
+            None => false,
         }
-        self.is_next(report.writes) && self.is_alike(report)
     }
 
-    // Whether the number is that of the image's next write.
-    pub fn is_next(&self, number: u64) -> bool
-        ensures { result ≡ (number == self.now.writes + 1) }
-    {
-        number.checked_sub(1) == Some(self.writes)
-    }
-
-    // Whether the report is the image's but for the number of writes.
-    fn is_alike(&self, report: &Report) -> bool
-        ensures { result ≡ is_alike report.now (report_of (image_of self.now)) }
-    {
-        report.generation == self.generation
-            && report.size == self.size
-            && report.taken == 0
-            && report.dropped == 0
-            && report.live == self.live
-            && is_label(&report.label, &self.label)
-    }
-
-    // A command's change is under way.
-    pub fn begin(&mut self, alloc: Global, command: &Command) -> Result<(), NoMemory>
-        ensures ok { OnOk result (slot_of self.new
-            ≡ (if is_changing command.now then under_way
-            (slot_of self.old) command.now else slot_of self.old)) }
-        ensures err { OnErr result (slot_of self.new ≡ slot_of self.old) }
+    // The change that a command makes of the image.
+    fn change_by(&self, alloc: Global, command: &Command) -> Result<Option<Change>, NoMemory>
+        ensures { IfOk result (λ change. CanChange (image_of self.now) command.now
+            → changed_by (image_of self.now) change
+            ≡ Some (after (λ slot. image_of self.now) 0 command.now)) }
     {
         match command {
-            Command::Attach { .. } => Ok(()),
-            Command::Read { .. } => Ok(()),
+            Command::Create { size, label, .. } => {
+                let Some(generation) = self.generation.checked_add(1) else {
+                    return Ok(None);
+                };
+                Ok(Some(Change::Create {
+                    generation,
+                    size: *size,
+                    label: label.copy(),
+                }))
+            }
+            Command::Delete { .. } => Ok(Some(Change::Delete)),
             Command::Write {
                 vblock,
                 payload,
                 ..
             } => {
+                let Some(number) = self.writes.checked_add(1) else {
+                    return Ok(None);
+                };
                 let block = payload.to_block(alloc)?;
-                self.change = Some(Change {
+                Ok(Some(Change::Write {
+                    number,
                     vblock: *vblock,
                     block,
-                });
-                Ok(())
+                }))
             }
+            Command::Attach { .. } => Ok(None),
+            Command::Detach { .. } => Ok(None),
+            Command::Read { .. } => Ok(None),
+            Command::Flush { .. } => Ok(None),
+            Command::Reserve { .. } => Ok(None),
+            Command::Renew => Ok(None),
+            Command::Retire => Ok(None),
+            Command::Reclaim => Ok(None),
         }
+    }
+
+    // A command's change is under way.
+    pub fn begin(&mut self, alloc: Global, command: &Command) -> Result<(), NoMemory>
+        ensures ok { OnOk result (CanChange (image_of self.old) command.now → slot_of self.new
+            ≡ under_way (slot_of self.old) (after (λ slot. image_of self.old) 0 command.now)) }
+        ensures err { OnErr result (slot_of self.new ≡ slot_of self.old) }
+    {
+        let change = self.change_by(alloc, command)?;
+        self.change = change;
+        Ok(())
     }
 
     // The change under way is given up.
@@ -132,49 +215,86 @@ impl SlotState {
         self.change = None;
     }
 
-    // The change under way is made, as the image's write of this number.
-    pub fn make(&mut self, number: u64) -> Result<(), NoMemory>
-        ensures ok { OnOk result (number ≡ self.old.writes + 1 → slot_of self.new
-            ≡ made (slot_of self.old)) }
+    // The change under way is made.
+    pub fn make(&mut self, alloc: Global) -> Result<(), NoMemory>
+        ensures ok { OnOk result (slot_of self.new ≡ made (slot_of self.old)) }
         ensures err { OnErr result (slot_of self.new ≡ slot_of self.old) }
     {
-        let Some(Change { vblock, block }) = self.change.take() else {
-            return Ok(());
-        };
-        match self.content.insert(vblock, block) {
-            Ok(_) => {
-                self.writes = number;
+        match self.change.take() {
+            None => Ok(()),
+            Some(
+                Change::Write {
+                    number,
+                    vblock,
+                    block,
+                },
+            ) => match self.content.insert(vblock, block) {
+                Ok(_) => {
+                    self.writes = number;
+                    Ok(())
+                }
+                Err(failed) => {
+                    let (vblock, block) = failed.value;
+                    self.change = Some(Change::Write {
+                        number,
+                        vblock,
+                        block,
+                    });
+                    Err(NoMemory)
+                }
+            },
+            Some(
+                Change::Create {
+                    generation,
+                    size,
+                    label,
+                },
+            ) => {
+                self.live = true;
+                self.generation = generation;
+                self.size = size;
+                self.label = label;
+                self.empty(alloc);
                 Ok(())
             }
-            Err(failed) => {
-                let (vblock, block) = failed.value;
-                self.change = Some(Change { vblock, block });
-                Err(NoMemory)
+            Some(Change::Delete) => {
+                self.live = false;
+                self.size = 0;
+                self.label = Label::empty();
+                self.empty(alloc);
+                Ok(())
             }
         }
     }
 
-    // The report decides which image it is, and the appliance owns it.
-    pub fn attach(&mut self, report: &Report, appliance: u32) -> Result<(), NoMemory>
-        ensures ok { OnOk result (IsReported (slot_of self.old) report.now → slot_of self.new
-            ≡ attached (slot_of self.old) appliance report.now) }
-        ensures err { OnErr result (slot_of self.new ≡ slot_of self.old) }
+    // The image was never written, and has no snapshot.
+    fn empty(&mut self, alloc: Global)
+        ensures image { image_of self.new ≡ record (image_of self.old) {
+          writes = 0;
+          content = λ vblock. zeros;
+          frozen = [];
+        } }
+        ensures change { self.new.change ≡ self.old.change }
+        ensures owner { self.new.owner ≡ self.old.owner }
     {
-        self.decide(report)?;
-        self.owner = Some(appliance);
-        Ok(())
+        self.writes = 0;
+        self.content = BTreeMap::new(alloc);
+        self.frozen = Vec::new(alloc);
     }
 
-    fn decide(&mut self, report: &Report) -> Result<(), NoMemory>
-        ensures ok { OnOk result (IsReported (slot_of self.old) report.now → slot_of self.new
-            ≡ decided (slot_of self.old) report.now) }
+    // The report decides which image it is, and the appliance owns it.
+    pub fn attach(&mut self, alloc: Global, report: &Report, appliance: u32) -> Result<(), NoMemory>
+        ensures ok { OnOk result (slot_of self.new
+            ≡ attached (slot_of self.old) appliance report.now) }
         ensures err { OnErr result (slot_of self.new ≡ slot_of self.old) }
     {
         if self.is_own(report) {
             self.give_up();
-            return Ok(());
+        } else {
+            self.make(alloc)?;
         }
-        self.make(report.writes)
+        self.owner = Some(appliance);
+        Ok(())
     }
 
     // The appliance owns the image no longer.
@@ -183,6 +303,76 @@ impl SlotState {
     {
         if self.is_owned_by(appliance) {
             self.owner = None;
+        }
+    }
+
+    // What is refused of a command that wants an image.
+    pub fn of_use(&self) -> ImageRefusals
+        ensures { listed_images result ≡ of_none (image_of self.now) }
+    {
+        ImageRefusals {
+            no_image: !self.live,
+            exists: false,
+            range: None,
+            worn: None,
+        }
+    }
+
+    // What is refused of a read of the block.
+    pub fn of_read(&self, vblock: u32) -> ImageRefusals
+        ensures { listed_images result ≡ of_none (image_of self.now) ++ of_block (image_of self.now) vblock }
+    {
+        ImageRefusals {
+            no_image: !self.live,
+            exists: false,
+            range: if self.size <= vblock {
+                Some(self.size)
+            } else {
+                None
+            },
+            worn: None,
+        }
+    }
+
+    // What is refused of a write of the block.
+    pub fn of_write(&self, vblock: u32) -> ImageRefusals
+        ensures { listed_images result ≡ of_none (image_of self.now)
+            ++ (of_block (image_of self.now) vblock ++ of_writes (image_of self.now)) }
+    {
+        ImageRefusals {
+            no_image: !self.live,
+            exists: false,
+            range: if self.size <= vblock {
+                Some(self.size)
+            } else {
+                None
+            },
+            worn: if LAST_WRITE <= self.writes {
+                Some(LAST_WRITE)
+            } else {
+                None
+            },
+        }
+    }
+
+    // What is refused of a create of an image of this size.
+    pub fn of_create(&self, size: u32) -> ImageRefusals
+        ensures { listed_images result ≡ of_some (image_of self.now)
+            ++ (of_size size ++ of_generation (image_of self.now)) }
+    {
+        ImageRefusals {
+            no_image: false,
+            exists: self.live,
+            range: if 0 < size && size <= GREATEST_SIZE {
+                None
+            } else {
+                Some(GREATEST_SIZE)
+            },
+            worn: if LAST_GENERATION <= self.generation {
+                Some(u64::from(LAST_GENERATION))
+            } else {
+                None
+            },
         }
     }
 }

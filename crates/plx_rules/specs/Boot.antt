@@ -1,62 +1,91 @@
--- One boot of an appliance by its log: what it was asked and answered, and where that leads.
-use Rattle.std.specs.Prelude.{◌≡◌, ◌+◌, ◌*◌, ◌≤◌, ◌<◌, ℕ, List, [], ◌∷◌, length, Option, Some, None}
-use Rattle.plx_base.specs.Payload.{bytes_of}
+-- One boot of an appliance by its log: what it was asked and answered, where that leads, and what it holds.
+use Rattle.std.specs.Prelude.{◌≡◌, ◌^◌, ◌≤◌, ◌<◌, ℕ, List, [], ◌∷◌, length, Option, Some, None}
+use Rattle.plx_commands.specs.declared.command.Command.{Command}
+use Rattle.plx_commands.specs.declared.reply.Reply.{Reply}
 use Rattle.plx_disk.specs.declared.ask.Ask.{Ask}
 use Rattle.plx_disk.specs.declared.ask.Ask.TheVariants as ask
 use Rattle.plx_disk.specs.declared.ask.Answer.{Answer}
 use Rattle.plx_disk.specs.declared.ask.Answer.TheVariants as answer
-use Rattle.plx_model.specs.declared.command.Command.{Command}
-use Rattle.plx_model.specs.declared.command.Command.TheVariants.{Attach, Read, Write}
-use Rattle.plx_model.specs.declared.reply.Reply.{Reply}
-use Rattle.plx_rules.specs.Commands.{End, command_part}
 use Rattle.plx_rules.specs.Part.{Part, Ends, ReadThen, WriteThen, ClockThen, UntilThen, answered, standing, bytes_out}
+use Rattle.plx_rules.specs.Commands.{IsBuilt, IsWellFormed, command_part}
+use Rattle.plx_rules.specs.Ends.{End}
+use Rattle.plx_rules.specs.Holds.{Hold, no_holds, after_answer, sample_of, after_reply, after_first}
 use Rattle.plx_rules.specs.Session.{Known, nothing_known}
+use Rattle.plx_rules.specs.Settings.{Setting}
 
 -- what happened to a boot: a command began, or an ask, with the bytes to be written, was answered
 pub data Happening : Type 0 where
   Began : Command → Happening
   Asked : Ask → List ℕ → Answer → Happening
 
--- a boot is in no command, or in one of which this is the rest
-pub data Position : Type 0 where
-  Idle : Known → Position
-  In : Part End → Position
+-- a boot is in no command; or has begun one and asks for its first reading; or is in one, of which this is the rest; with what was known as it began
+pub data Place : Type 0 where
+  Idle : Known → Place
+  Begins : Known → Command → Place
+  In : Known → Command → Part End → Place
 
--- the position at a part: at its ask, or idle where it has ended
-abbrev pub settled : Part End → Position
-settled (Ends end) = Idle end.known
-settled (ReadThen block rest fault) = In (ReadThen block rest fault)
-settled (WriteThen kind block bytes guard done fault missed) = In (WriteThen kind block bytes guard done fault missed)
-settled (ClockThen rest) = In (ClockThen rest)
-settled (UntilThen from rest) = In (UntilThen from rest)
+-- what a boot holds, by the block of each lease; its last answer, where that was a reading; and where it stands
+pub record Position : Type 0 where
+  pub holds : ℕ → Hold
+  pub sample : Option ℕ
+  pub place : Place
 
--- the position after a command began
-abbrev pub began : ℕ → Command → Position → Position
-began slots command (Idle known) = In (command_part slots known command)
-began slots command (In part) = In part
+-- the place of a boot that is in a command of which this is the rest: where that is over, in none
+abbrev pub place_of : Known → Command → Part End → Place
+place_of known command (Ends end) = Idle end.known
+place_of known command (ReadThen block rest fault) = In known command (ReadThen block rest fault)
+place_of known command (WriteThen kind block bytes guard done fault missed) = In known command (WriteThen kind block bytes guard done fault missed)
+place_of known command (ClockThen rest) = In known command (ClockThen rest)
+place_of known command (UntilThen from rest) = In known command (UntilThen from rest)
 
--- the position after an answer
-abbrev pub went_on : Answer → Position → Position
-went_on answer (Idle known) = Idle known
-went_on answer (In part) = settled (answered part answer)
+-- what is held where this is the rest of a command: its reply may drop all
+abbrev pub after_part : Part End → (ℕ → Hold) → ℕ → Hold
+after_part (Ends end) holds = after_reply end.reply holds
+after_part other holds = holds
 
--- where a boot stands after its log, whose newest happening stands first; the journal has so many slots
-abbrev pub position : ℕ → List Happening → Position
-position slots [] = Idle nothing_known
-position slots (Began command ∷ older) = began slots command (position slots older)
-position slots (Asked ask bytes answer ∷ older) = went_on answer (position slots older)
+-- the position at which this is the rest of a command
+abbrev pub goes_to : Known → Command → (ℕ → Hold) → Option ℕ → Part End → Position
+goes_to known command holds sample part = record { holds = after_part part holds; sample = sample; place = place_of known command part }
 
--- the ask that stands at a position, and the bytes that it writes
-abbrev pub asks : Position → Option Ask
+-- the place once a command begins; it begins where none runs
+abbrev pub begun : Command → Place → Place
+begun command (Idle known) = Begins known command
+begun command other = other
+
+-- the first reading of a command drops expired leases, and then the command asks
+abbrev pub first_read : Setting → Known → Command → Answer → Position → Position
+first_read s known command (answer.Reading reading) p =
+    goes_to known command (after_first s.geometry known reading p.holds) (Some reading)
+    (command_part s known (after_first s.geometry known reading p.holds) reading command)
+first_read s known command other p = p
+
+-- where an answer leads from a place
+abbrev pub went_on : Setting → Ask → List ℕ → Answer → Position → Place → Position
+went_on s ask bytes answer p (Idle known) = p
+went_on s ask bytes answer p (Begins known command) = first_read s known command answer p
+went_on s ask bytes answer p (In known command part) =
+    goes_to known command (after_answer p.sample ask bytes answer p.holds) (sample_of answer) (answered part answer)
+
+-- where a boot stands after its log, whose newest happening stands first
+abbrev pub position : Setting → List Happening → Position
+position s [] = record { holds = no_holds; sample = None; place = Idle (nothing_known 0) }
+position s (Began command ∷ older) =
+    record { holds = (position s older).holds; sample = None; place = begun command (position s older).place }
+position s (Asked ask bytes answer ∷ older) = went_on s ask bytes answer (position s older) (position s older).place
+
+-- the ask that stands at a place
+abbrev pub asks : Place → Option Ask
 asks (Idle known) = None
-asks (In part) = standing part
+asks (Begins known command) = Some ask.Clock
+asks (In known command part) = standing part
 
--- the bytes of the write that is asked for, if one is
-abbrev pub writes_out : Position → List ℕ
+-- the bytes that the ask at a place writes
+abbrev pub writes_out : Place → List ℕ
 writes_out (Idle known) = []
-writes_out (In part) = bytes_out part
+writes_out (Begins known command) = []
+writes_out (In known command part) = bytes_out part
 
--- the reply to which an answer leads
+-- the reply to which a rest has come, if it has
 abbrev pub reply_of : Part End → Option Reply
 reply_of (Ends end) = Some end.reply
 reply_of (ReadThen block rest fault) = None
@@ -64,37 +93,38 @@ reply_of (WriteThen kind block bytes guard done fault missed) = None
 reply_of (ClockThen rest) = None
 reply_of (UntilThen from rest) = None
 
--- the reply to which an answer leads, if the command ends
-abbrev pub replies : Answer → Position → Option Reply
-replies answer (Idle known) = None
-replies answer (In part) = reply_of (answered part answer)
+-- the reply to which an answer leads
+abbrev pub first_reply : Setting → Known → Command → Answer → Position → Option Reply
+first_reply s known command (answer.Reading reading) p =
+    reply_of (command_part s known (after_first s.geometry known reading p.holds) reading command)
+first_reply s known command other p = None
 
--- an answer fits an ask
+-- the same, at any place
+abbrev pub replies_at : Setting → Answer → Position → Place → Option Reply
+replies_at s answer p (Idle known) = None
+replies_at s answer p (Begins known command) = first_reply s known command answer p
+replies_at s answer p (In known command part) = reply_of (answered part answer)
+
+-- the same, at a position
+abbrev pub replies : Setting → Answer → Position → Option Reply
+replies s answer p = replies_at s answer p p.place
+
+-- an answer fits an ask: a block of 4,096 bytes, a reading below 2 ^ 48 that is past the guard where a write is missed, and at least `from` where it was waited for
 abbrev pub Fits : Ask → Answer → Type 0
 Fits (ask.Read block) (answer.Bytes bytes) = length bytes ≡ 4096
 Fits (ask.Read block) answer.Fault = Unit {0}
 Fits (ask.Write kind block guard) answer.Done = Unit {0}
 Fits (ask.Write kind block guard) answer.Fault = Unit {0}
-Fits (ask.Write kind block guard) (answer.Missed reading) = guard < reading
-Fits ask.Clock (answer.Reading reading) = Unit {0}
-Fits (ask.Until from) (answer.Reading reading) = from ≤ reading
+Fits (ask.Write kind block guard) (answer.Missed reading) = (guard < reading) × (reading < 2 ^ 48)
+Fits ask.Clock (answer.Reading reading) = reading < 2 ^ 48
+Fits (ask.Until from) (answer.Reading reading) = (from ≤ reading) × (reading < 2 ^ 48)
 Fits ask other = ⊥
 
 -- a log is a run: each command began where none ran, and each answer is to the ask that stood there
-pub data IsRun (slots : ℕ) : List Happening → Type 0 where
-  empty : IsRun slots []
-  begins : {log : List Happening} {command : Command} (known : Known) → IsRun slots log → position slots log ≡ Idle known →
-      IsRun slots (Began command ∷ log)
-  goes_on : {log : List Happening} {ask : Ask} {bytes : List ℕ} {answer : Answer} → IsRun slots log →
-      asks (position slots log) ≡ Some ask → writes_out (position slots log) ≡ bytes → Fits ask answer →
-      IsRun slots (Asked ask bytes answer ∷ log)
-
--- the payload of a command is a block of 4,096 bytes
-abbrev pub IsWhole : Command → Type 0
-IsWhole (Attach slot) = Unit {0}
-IsWhole (Read slot vblock) = Unit {0}
-IsWhole (Write slot vblock payload) = length (bytes_of payload) ≡ 4096
-
--- the number of an appliance's boot, where so many came before
-abbrev pub boot_number : ℕ → ℕ → ℕ
-boot_number appliance boots = 256 * boots + appliance + 1
+pub data IsRun (s : Setting) : List Happening → Type 0 where
+  empty : IsRun s []
+  begins : {log : List Happening} {command : Command} (known : Known) → IsRun s log → (position s log).place ≡ Idle known →
+      IsWellFormed command → IsBuilt command → IsRun s (Began command ∷ log)
+  goes_on : {log : List Happening} {ask : Ask} {bytes : List ℕ} {answer : Answer} → IsRun s log →
+      asks (position s log).place ≡ Some ask → writes_out (position s log).place ≡ bytes → Fits ask answer →
+      IsRun s (Asked ask bytes answer ∷ log)

@@ -1,135 +1,194 @@
 -- What each command asks, in order, and what it makes of the answers.
-use Rattle.std.specs.Prelude.{◌+◌, ◌-◌, ◌^◌, ℕ, List, [], ◌∷◌, ◌++◌, Option, Some, None, zero, suc, nat_lt, if◌then◌else◌, ◌==◌}
+use Rattle.std.specs.Prelude.{◌+◌, ℕ, zero, suc, List, [], ◌∷◌, length, Bool, true, false, Option, Some, None, nat_lt, nat_le, if◌then◌else◌, ◌==◌, ◌≡◌, ◌≤◌, not}
 use Rattle.plx_base.specs.Canonical.{payload_of}
+use Rattle.plx_base.specs.Labels.{IsLabel}
 use Rattle.plx_base.specs.Payload.{bytes_of}
-use Rattle.plx_base.specs.declared.lease.LeaseName.TheVariants as lease
-use Rattle.plx_base.specs.declared.write_kind.WriteKind.{WriteKind}
+use Rattle.plx_base.specs.declared.lease.LeaseRecord.TheVariants as record_is
 use Rattle.plx_base.specs.declared.write_kind.WriteKind.TheVariants as kind
+use Rattle.plx_commands.specs.Facts.{is_size, is_worn}
+use Rattle.plx_commands.specs.Limits.{last_generation, last_write, greatest_size}
+use Rattle.plx_commands.specs.declared.command.Command.{Command}
+use Rattle.plx_commands.specs.declared.command.Command.TheVariants.{Attach, Detach, Create, Delete, Read, Write, Flush, Reserve, Renew, Retire, Reclaim}
+use Rattle.plx_commands.specs.declared.reply.Reply.{Reply}
+use Rattle.plx_commands.specs.declared.reply.Reply.TheVariants as reply
 use Rattle.plx_gate.specs.Descriptors.{descriptor_bytes}
+use Rattle.plx_gate.specs.Images.{image_bytes}
+use Rattle.plx_gate.specs.Leases.{lease_bytes}
 use Rattle.plx_gate.specs.declared.descriptor.Descriptor.{Descriptor}
-use Rattle.plx_model.specs.declared.command.Command.{Command}
-use Rattle.plx_model.specs.declared.command.Command.TheVariants.{Attach, Read, Write}
-use Rattle.plx_model.specs.declared.reply.Reply.{Reply}
-use Rattle.plx_model.specs.declared.reply.Reply.TheVariants as reply
-use Rattle.plx_model.specs.Model.{named}
-use Rattle.plx_rules.specs.Journal.{image_count, descriptor_at, data_at, journal_slot, ImageRecord, first_record, counted}
-use Rattle.plx_rules.specs.Part.{Part, Ends, ReadThen, WriteThen, ClockThen}
-use Rattle.plx_rules.specs.Session.{Session, Known, nothing_known, session_of, with_session, write_count, session_report, content, with_write}
+use Rattle.plx_gate.specs.declared.image.ImageRecord.{ImageRecord}
+use Rattle.plx_gate.specs.declared.image.ImageRecord.TheVariants as image_is
+use Rattle.plx_geom.specs.Geometry.{lease_count, image_lease, lease_at, record_at, descriptor_at, data_at}
+use Rattle.plx_rules.specs.Part.{Part}
 use Rattle.plx_rules.specs.declared.journaled.Journaled.{Journaled}
+use Rattle.plx_rules.specs.Attaching.{image_use, attach_part}
+use Rattle.plx_rules.specs.Ends.{End, ends, write_then, in_time, ends_in_time}
+use Rattle.plx_rules.specs.Holds.{Hold, Held}
+use Rattle.plx_rules.specs.InUse.{InUse}
+use Rattle.plx_rules.specs.Journal.{journal_slot}
+use Rattle.plx_rules.specs.Records.{is_live, generation_of, size_of, made_record}
+use Rattle.plx_rules.specs.Session.{Session, Known, with_session, new_session, write_count, content, with_write}
+use Rattle.plx_rules.specs.Settings.{Setting}
+use Rattle.plx_rules.specs.Times.{term}
 
--- how a command ends: its reply, and what is known from then on
-pub record End : Type 0 where
-  pub reply : Reply
-  pub known : Known
+-- ---- commands of an attached image
 
--- a command ends with a reply, and this is known from then on
-abbrev pub ends : Reply → Known → Part End
-ends reply known = Ends (record { reply = reply; known = known })
+-- a refusal where its fact doesn't fail
+abbrev pub unless : (refused : Bool) → Reply → Known → Part End → Part End
+unless true refusal known part = ends refusal known
+unless false refusal known part = part
 
--- the guard of every write: it may always land
-abbrev pub no_guard : ℕ
-no_guard = 2 ^ 48 - 1
+-- the reading is below the end of the image's lease
+abbrev pub held_part : Setting → Known → (image : ℕ) → Hold → (reading : ℕ) → (until_then : ℕ → Part End) → Part End
+held_part s known image (Held claim until) reading rest = in_time s known (image_use image until) reading (rest until)
+held_part s known image other reading rest = ends reply.NotAttached known
 
--- after a failed read what is known stays; after a failed or a missed write nothing is known
-abbrev pub read_failed : ℕ → Known → Part End
-read_failed block known = ends (reply.ReadFault (record { 0 = block })) known
+-- the image has a session, by whether there is such a slot and what is held of its lease; a session's lease is always held
+abbrev pub attached_part : Setting → Known → (image : ℕ) → Option Session → (within : Bool) → Hold → (reading : ℕ) →
+    (Session → (until : ℕ) → Part End) → Part End
+attached_part s known image None within hold reading rest = ends reply.NotAttached known
+attached_part s known image (Some session) false hold reading rest = ends reply.NotAttached known
+attached_part s known image (Some session) true hold reading rest = held_part s known image hold reading (rest session)
 
--- a command whose write of that block failed ends, and nothing is known
-abbrev pub write_failed : ℕ → Part End
-write_failed block = ends (reply.WriteFault (record { 0 = block })) nothing_known
+-- a detach gives the lease back
+abbrev pub detach_part : Setting → Known → (image : ℕ) → Session → (until : ℕ) → Part End
+detach_part s known image session until =
+    write_then s known (record { lease = image_lease image; until = until }) kind.Release (lease_at (image_lease image)) (lease_bytes record_is.Free)
+    (ends reply.Detached (with_session known image None))
 
--- a command whose write came too late ends, and nothing is known
-abbrev pub missed : ℕ → ℕ → Part End
-missed slot reading = ends (reply.Lost (lease.Image (record { 0 = slot })) no_guard reading) nothing_known
+-- a record is written, and the command ends with its session
+abbrev pub record_part : Setting → Known → (image until : ℕ) → ImageRecord → Reply → Part End
+record_part s known image until made done =
+    write_then s known (record { lease = image_lease image; until = until }) kind.Record (record_at s.geometry image) (image_bytes made)
+    (ends_in_time s known (image_use image until) done (with_session known image (Some (new_session made))))
 
--- a block is read, and what follows its bytes; a failed read ends the command
-abbrev pub read_then : ℕ → Known → (List ℕ → Part End) → Part End
-read_then block known rest = ReadThen block rest (read_failed block known)
+-- an image is made in a free slot
+abbrev pub create_part : Setting → Known → (image size : ℕ) → (label : List ℕ) → Session → (until : ℕ) → Part End
+create_part s known image size label session until =
+    unless (is_live session.image) reply.Exists known
+    (unless (not (is_size size)) (reply.OutOfRange greatest_size) known
+    (unless (is_worn last_generation (generation_of session.image)) (reply.WornOut last_generation) known
+    (record_part s known image until (made_record (generation_of session.image + 1) size label) reply.Created)))
 
--- a write that rests on the image in this slot
-abbrev pub write_then : WriteKind → ℕ → List ℕ → ℕ → Part End → Part End
-write_then kind block bytes slot done = WriteThen kind block bytes no_guard done (write_failed block) (missed slot)
-
--- what is asked where a descriptor counts, and where none does
-abbrev pub if_counts : Option Descriptor → Part End → (Descriptor → Part End) → Part End
-if_counts None otherwise counts = otherwise
-if_counts (Some d) otherwise counts = counts d
-
--- an attach ends: the session is there, with what was read
-abbrev pub attach_ends : Known → Session → Part End
-attach_ends known session =
-    ClockThen (λ reading. ends (reply.Attached (session_report session)) (record { sessions = with_session known.sessions session }))
-
--- an attach reads each descriptor in order of slot, and its data where it counts: `left` slots are left, from `slot` on
-abbrev pub load : ℕ → Known → ℕ → ImageRecord → ℕ → ℕ → List Journaled → Part End
-load slots known image kept zero slot writes = attach_ends known (record { slot = image; image = kept; writes = writes })
-load slots known image kept (suc left) slot writes =
-    read_then (descriptor_at slots image slot) known (λ bytes. if_counts (counted kept slots slot bytes)
-    (load slots known image kept left (slot + 1) writes)
-    (λ d. read_then (data_at slots image slot) known (λ data'.
-    load slots known image kept left (slot + 1) (writes ++ (record { number = d.number; vblock = d.vblock; block = data' }) ∷ []))))
+-- an image is deleted
+abbrev pub delete_part : Setting → Known → (image : ℕ) → Session → (until : ℕ) → Part End
+delete_part s known image session until =
+    unless (not (is_live session.image)) reply.NoImage known
+    (record_part s known image until (image_is.Free (generation_of session.image)) reply.Deleted)
 
 -- a read gives the block that the session knows
-abbrev pub read_part : Known → Session → ℕ → Part End
-read_part known session vblock = ClockThen (λ reading. ends (reply.Data (payload_of (content session vblock))) known)
+abbrev pub read_part : Setting → Known → (image vblock : ℕ) → Session → (until : ℕ) → Part End
+read_part s known image vblock session until =
+    unless (not (is_live session.image)) reply.NoImage known
+    (unless (nat_le (size_of session.image) vblock) (reply.OutOfRange (size_of session.image)) known
+    (ends_in_time s known (image_use image until) (reply.Data (payload_of (content session vblock))) known))
 
--- a write fills its journal slot, and its descriptor commits it
-abbrev pub next_write : Session → ℕ → List ℕ → Journaled
+-- the write that comes next
+abbrev pub next_write : Session → (vblock : ℕ) → List ℕ → Journaled
 next_write session vblock bytes = record { number = write_count session + 1; vblock = vblock; block = bytes }
 
--- the descriptor of a session's next write
-abbrev pub descriptor_for : Session → ℕ → Descriptor
-descriptor_for session vblock = record { generation = session.image.generation; vblock = vblock; number = write_count session + 1 }
+-- the descriptor that commits it
+abbrev pub next_descriptor : Session → (vblock : ℕ) → Descriptor
+next_descriptor session vblock = record { generation = generation_of session.image; vblock = vblock; number = write_count session + 1 }
 
--- the last clock reading of a write, and its reply
-abbrev pub write_ends : Known → Session → ℕ → List ℕ → Part End
-write_ends known session vblock bytes =
-    ClockThen (λ reading. ends (reply.Written (write_count session + 1))
-    (record { sessions = with_session known.sessions (with_write session (next_write session vblock bytes)) }))
+-- the journal slot of the next write
+abbrev pub next_slot : Setting → Session → ℕ
+next_slot s session = journal_slot s.geometry.slots (write_count session + 1)
 
--- the write of the descriptor, which commits, and the rest
-abbrev pub commit_part : ℕ → Known → Session → ℕ → List ℕ → Part End
-commit_part slots known session vblock bytes =
-    write_then kind.JCommit (descriptor_at slots session.slot (journal_slot slots (write_count session + 1)))
-    (descriptor_bytes (descriptor_for session vblock)) session.slot (write_ends known session vblock bytes)
+-- a write fills its journal slot, and then its descriptor commits it
+abbrev pub journal_part : Setting → Known → (image vblock : ℕ) → List ℕ → Session → (until : ℕ) → Part End
+journal_part s known image vblock bytes session until =
+    write_then s known (record { lease = image_lease image; until = until }) kind.JData (data_at s.geometry image (next_slot s session)) bytes
+    (write_then s known (record { lease = image_lease image; until = until }) kind.JCommit (descriptor_at s.geometry image (next_slot s session))
+    (descriptor_bytes (next_descriptor session vblock))
+    (ends_in_time s known (image_use image until) (reply.Written (write_count session + 1))
+    (with_session known image (Some (with_write session (next_write session vblock bytes))))))
 
--- the write of the data, and the rest
-abbrev pub write_part : ℕ → Known → Session → ℕ → List ℕ → Part End
-write_part slots known session vblock bytes =
-    write_then kind.JData (data_at slots session.slot (journal_slot slots (write_count session + 1))) bytes session.slot
-    (commit_part slots known session vblock bytes)
+-- a write: its journal is full where it holds as many unapplied writes as it has slots
+abbrev pub write_part : Setting → Known → (image vblock : ℕ) → List ℕ → Session → (until : ℕ) → Part End
+write_part s known image vblock bytes session until =
+    unless (not (is_live session.image)) reply.NoImage known
+    (unless (nat_le (size_of session.image) vblock) (reply.OutOfRange (size_of session.image)) known
+    (unless (is_worn last_write (write_count session)) (reply.WornOut last_write) known
+    (unless (length session.writes == s.geometry.slots) reply.Full known
+    (journal_part s known image vblock bytes session until))))
 
--- the first refusal of a command whose fact holds, by the session of the slot that it names
-abbrev pub past_the_end : Session → ℕ → Option Reply
-past_the_end session vblock = if nat_lt vblock session.image.size then None else Some (reply.OutOfRange session.image.size)
+-- ---- renew
 
--- the refusal of a command, if there is one, by the session of the image that it names
-abbrev pub refused : Option Session → Command → Option Reply
-refused (Some session) (Attach slot) = Some reply.AlreadyAttached
-refused None (Attach slot) = if nat_lt slot.0 image_count then None else Some reply.NoImage
-refused None (Read slot vblock) = Some reply.NotAttached
-refused (Some session) (Read slot vblock) = past_the_end session vblock
-refused None (Write slot vblock payload) = Some reply.NotAttached
-refused (Some session) (Write slot vblock payload) = past_the_end session vblock
+-- the greater of two moments
+abbrev pub later_of : ℕ → ℕ → ℕ
+later_of one other = if nat_le one other then other else one
 
--- the work of a command that isn't refused
-abbrev pub work : ℕ → Known → Option Session → Command → Part End
-work slots known None (Attach slot) = load slots known slot.0 first_record slots 0 []
-work slots known (Some session) (Read slot vblock) = read_part known session vblock
-work slots known (Some session) (Write slot vblock payload) =
-    if write_count session == slots then ends reply.Full known else write_part slots known session vblock (bytes_of payload)
-work slots known session command = ends reply.NotAttached known
+-- the renewal of a lease that is held
+abbrev pub renewal : Setting → Known → (reading lease : ℕ) → Hold → (rest : Part End) → Part End
+renewal s known reading lease (Held claim until) rest =
+    write_then s known (record { lease = lease; until = until }) kind.Renew (lease_at lease)
+    (lease_bytes (record_is.Claimed claim (later_of until (reading + term)))) rest
+renewal s known reading lease other rest = rest
 
--- a refusal, or else the part
-abbrev pub unless_refused : Option Reply → Known → Part End → Part End
-unless_refused (Some refusal) known part = ends refusal known
-unless_refused None known part = part
+-- each lease that is held is renewed, of `left` leases from this one on
+abbrev pub renew_part : Setting → Known → (holds : ℕ → Hold) → (reading left lease : ℕ) → Part End
+renew_part s known holds reading zero lease = ends reply.Renewed known
+renew_part s known holds reading (suc left) lease =
+    renewal s known reading lease (holds (lease_at lease)) (renew_part s known holds reading left (lease + 1))
 
--- a command that begins with these sessions known: a reading of the clock, and then the refusal or the work
-abbrev pub begun_with : ℕ → Known → Option Session → Command → Part End
-begun_with slots known session command =
-    ClockThen (λ reading. unless_refused (refused session command) known (work slots known session command))
+-- the leases of attached images are in use, of `left` images from this one on
+abbrev pub session_use : Option Session → Hold → (image : ℕ) → List InUse → List InUse
+session_use (Some session) (Held claim until) image others = record { lease = image_lease image; until = until } ∷ others
+session_use session hold image others = others
 
--- what a command asks, one ask after another, from what is known
-abbrev pub command_part : ℕ → Known → Command → Part End
-command_part slots known command = begun_with slots known (session_of known.sessions (named command)) command
+-- all of them, in order
+abbrev pub attached_uses : Known → (holds : ℕ → Hold) → (left image : ℕ) → List InUse
+attached_uses known holds zero image = []
+attached_uses known holds (suc left) image =
+    session_use (known.sessions image) (holds (lease_at (image_lease image))) image (attached_uses known holds left (image + 1))
+
+-- ---- all commands
+
+-- the commands that are built; no other one starts
+abbrev pub IsBuilt : Command → Type 0
+IsBuilt (Attach slot) = Unit {0}
+IsBuilt (Detach slot) = Unit {0}
+IsBuilt (Create slot size label) = Unit {0}
+IsBuilt (Delete slot) = Unit {0}
+IsBuilt (Read slot vblock) = Unit {0}
+IsBuilt (Write slot vblock payload) = Unit {0}
+IsBuilt (Flush slot) = ⊥
+IsBuilt (Reserve count) = ⊥
+IsBuilt Renew = Unit {0}
+IsBuilt Retire = ⊥
+IsBuilt Reclaim = ⊥
+
+-- what a command carries is within its limits: a label, a block of 4,096 bytes, a count from 1 to 256
+abbrev pub IsWellFormed : Command → Type 0
+IsWellFormed (Attach slot) = Unit {0}
+IsWellFormed (Detach slot) = Unit {0}
+IsWellFormed (Create slot size label) = IsLabel label
+IsWellFormed (Delete slot) = Unit {0}
+IsWellFormed (Read slot vblock) = Unit {0}
+IsWellFormed (Write slot vblock payload) = length (bytes_of payload) ≡ 4096
+IsWellFormed (Flush slot) = Unit {0}
+IsWellFormed (Reserve count) = (1 ≤ count) × (count ≤ 256)
+IsWellFormed Renew = Unit {0}
+IsWellFormed Retire = Unit {0}
+IsWellFormed Reclaim = Unit {0}
+
+-- a command of an attached image, by its slot
+abbrev pub of_attached : Setting → Known → (holds : ℕ → Hold) → (reading image : ℕ) → (Session → (until : ℕ) → Part End) → Part End
+of_attached s known holds reading image rest =
+    attached_part s known image (known.sessions image) (nat_lt image s.geometry.images) (holds (lease_at (image_lease image))) reading rest
+
+-- what a command asks after its first reading; one that isn't built asks nothing
+abbrev pub command_part : Setting → Known → (holds : ℕ → Hold) → (reading : ℕ) → Command → Part End
+command_part s known holds reading (Attach slot) =
+    attach_part s known slot.0 (known.sessions slot.0) (nat_lt slot.0 s.geometry.images) (holds (lease_at (image_lease slot.0)))
+command_part s known holds reading (Detach slot) = of_attached s known holds reading slot.0 (detach_part s known slot.0)
+command_part s known holds reading (Create slot size label) = of_attached s known holds reading slot.0 (create_part s known slot.0 size label)
+command_part s known holds reading (Delete slot) = of_attached s known holds reading slot.0 (delete_part s known slot.0)
+command_part s known holds reading (Read slot vblock) = of_attached s known holds reading slot.0 (read_part s known slot.0 vblock)
+command_part s known holds reading (Write slot vblock payload) = of_attached s known holds reading slot.0 (write_part s known slot.0 vblock (bytes_of payload))
+command_part s known holds reading Renew =
+    in_time s known (attached_uses known holds s.geometry.images 0) reading (renew_part s known holds reading (lease_count s.geometry) 0)
+command_part s known holds reading (Flush slot) = ends reply.NotAttached known
+command_part s known holds reading (Reserve count) = ends reply.NotAttached known
+command_part s known holds reading Retire = ends reply.NotAttached known
+command_part s known holds reading Reclaim = ends reply.NotAttached known

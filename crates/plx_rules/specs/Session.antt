@@ -1,57 +1,72 @@
--- What an appliance knows between commands: its sessions, one for each attached image.
-use Rattle.std.specs.Prelude.{◌+◌, ℕ, List, [], ◌∷◌, ◌++◌, length, Option, Some, None, true, if◌then◌else◌, ◌==◌}
+-- What an appliance knows between commands: its sessions, and how many claims it began.
+use Rattle.std.specs.Prelude.{◌+◌, ℕ, List, [], ◌∷◌, ◌++◌, length, Option, Some, None, nat_lt, if◌then◌else◌, ◌==◌}
 use Rattle.plx_base.specs.Blocks.{zeros}
-use Rattle.plx_model.specs.declared.reply.Report.{Report}
-use Rattle.plx_rules.specs.Journal.{ImageRecord}
+use Rattle.plx_commands.specs.declared.reply.Report.{Report}
+use Rattle.plx_commands.specs.Places.{at}
 use Rattle.plx_rules.specs.declared.journaled.Journaled.{Journaled}
+use Rattle.plx_gate.specs.Images.{label_of}
+use Rattle.plx_gate.specs.declared.image.ImageRecord.{ImageRecord}
+use Rattle.plx_rules.specs.Records.{is_live, generation_of, size_of, applied_of, taken_of}
 
--- a session: the slot of its image, the image's record, and the writes that its journal holds, in order
+-- a session: the image's record, and the writes that its journal holds, in order of number
 pub record Session : Type 0 where
-  pub slot : ℕ
   pub image : ImageRecord
   pub writes : List Journaled
 
--- what is known: the sessions
+-- what is known: the session of each attached image, and how many claims the boot began
 pub record Known : Type 0 where
-  pub sessions : List Session
+  pub sessions : ℕ → Option Session
+  pub claims : ℕ
 
--- an appliance that knows no session
-abbrev pub nothing_known : Known
-nothing_known = record { sessions = [] }
+-- no session, after so many claims
+abbrev pub nothing_known : ℕ → Known
+nothing_known claims = record { sessions = λ image. None; claims = claims }
 
--- the session of a slot
-abbrev pub session_of : List Session → ℕ → Option Session
-session_of [] slot = None
-session_of (session ∷ others) slot = if session.slot == slot then Some session else session_of others slot
+-- what is known once the session of an image is this one, or there is none
+abbrev pub with_session : Known → ℕ → Option Session → Known
+with_session known image session = record known { sessions = at known.sessions image session }
 
--- the sessions once that slot's is this one
-abbrev pub with_session : List Session → Session → List Session
-with_session [] new = new ∷ []
-with_session (session ∷ others) new = if session.slot == new.slot then new ∷ others else session ∷ with_session others new
+-- what is known once one more claim is begun
+abbrev pub with_claim : Known → Known
+with_claim known = record known { claims = known.claims + 1 }
+
+-- a session of an image that was just made or deleted
+abbrev pub new_session : ImageRecord → Session
+new_session image = record { image = image; writes = [] }
+
+-- the writes once one more was read from the journal, in order of number
+abbrev pub inserted : Journaled → List Journaled → List Journaled
+inserted new [] = new ∷ []
+inserted new (write ∷ writes) = if nat_lt new.number write.number then new ∷ write ∷ writes else write ∷ inserted new writes
+
+-- the number of the first of these writes, in order of number, that doesn't follow on the one before it
+abbrev pub first_gap : (before : ℕ) → List Journaled → Option ℕ
+first_gap before [] = None
+first_gap before (write ∷ writes) = if write.number == before + 1 then first_gap (before + 1) writes else Some write.number
 
 -- how often the image was written
 abbrev pub write_count : Session → ℕ
-write_count session = session.image.applied + length session.writes
+write_count session = applied_of session.image + length session.writes
 
--- what an attach reports of it; no snapshot was taken
+-- what an attach reports of it; no snapshot of it was dropped
 abbrev pub session_report : Session → Report
 session_report session = record {
-  live = true;
-  generation = session.image.generation;
-  size = session.image.size;
+  live = is_live session.image;
+  generation = generation_of session.image;
+  size = size_of session.image;
   writes = write_count session;
-  taken = 0;
+  taken = taken_of session.image;
   dropped = 0;
-  label = session.image.label;
+  label = label_of session.image;
 }
 
 -- what the writes leave in a virtual block that held `before`: the last one counts
-abbrev pub latest : List ℕ → ℕ → List Journaled → List ℕ
+abbrev pub latest : (before : List ℕ) → (vblock : ℕ) → List Journaled → List ℕ
 latest before vblock [] = before
 latest before vblock (write ∷ writes) = latest (if vblock == write.vblock then write.block else before) vblock writes
 
 -- what a virtual block of the image holds
-abbrev pub content : Session → ℕ → List ℕ
+abbrev pub content : Session → (vblock : ℕ) → List ℕ
 content session vblock = latest zeros vblock session.writes
 
 -- the session once one more write is journalled

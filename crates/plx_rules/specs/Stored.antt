@@ -1,45 +1,124 @@
--- The image that a device stores.
-use Rattle.std.specs.Prelude.{◌≡◌, ◌≢◌, ◌≤◌, ◌<◌, ℕ, List, Some, true, ◌⊎◌}
+-- The image that given bytes store.
+use Rattle.std.specs.Prelude.{◌≡◌, ◌≢◌, ◌≤◌, ◌<◌, ◌*◌, ◌/◌, ◌%◌, ◌^◌, ◌⊎◌, ℕ, List, [], ◌∷◌, length, Bool, if◌then◌else◌, ◌==◌, Option, Some, None}
 use Rattle.plx_base.specs.Blocks.{zeros}
+use Rattle.plx_base.specs.Fields.{number_at}
+use Rattle.plx_base.specs.Pointers.{unmarked}
 use Rattle.plx_base.specs.Sectors.{Device}
+use Rattle.plx_commands.specs.Images.{Image}
+use Rattle.plx_commands.specs.Model.{Slot}
+use Rattle.plx_gate.specs.Images.{label_of, read_image}
 use Rattle.plx_gate.specs.declared.descriptor.Descriptor.{Descriptor}
-use Rattle.plx_model.specs.Image.{Image}
-use Rattle.plx_model.specs.Model.{Slot}
-use Rattle.plx_rules.specs.Journal.{ImageRecord, first_record, descriptor_at, data_at, counted}
+use Rattle.plx_gate.specs.declared.image.ImageRecord.{ImageRecord}
+use Rattle.plx_geom.specs.Geometry.{Geometry, record_at, descriptor_at, data_at}
+use Rattle.plx_rules.specs.Journal.{counted}
+use Rattle.plx_rules.specs.Records.{is_live, generation_of, size_of, taken_of, root_of, applied_of}
+
+-- the blocks whose bytes are given
+abbrev pub Given : Type 0
+Given = ℕ → Option (List ℕ)
+
+-- a device gives them all
+abbrev pub all_of : Device → Given
+all_of device = λ block. Some (device block)
+
+-- what a virtual block of an image holds, as far as bytes are given: bytes, or what lies below this block by these digits
+pub data Content : Type 0 where
+  Holds : List ℕ → Content
+  Below : (block : ℕ) → (digits : List ℕ) → Content
+
+-- an image as far as bytes are given, with the number of its snapshots
+pub record StoredImage : Type 0 where
+  pub live : Bool
+  pub generation : ℕ
+  pub size : ℕ
+  pub label : List ℕ
+  pub writes : ℕ
+  pub content : ℕ → Content
+  pub taken : ℕ
+
+-- what a block says that is given
+abbrev pub record_in : Option (List ℕ) → Option ImageRecord
+record_in None = None
+record_in (Some bytes) = read_image bytes
+
+-- the record of an image
+abbrev pub record_on : Geometry → Given → (image : ℕ) → Option ImageRecord
+record_on g given image = record_in (given (record_at g image))
+
+-- the descriptor that counts, of the bytes of a journal slot; one that isn't given doesn't count
+abbrev pub counted_in : ImageRecord → (slots slot : ℕ) → Option (List ℕ) → Option Descriptor
+counted_in kept slots slot None = None
+counted_in kept slots slot (Some bytes) = counted kept slots slot bytes
 
 -- a journal slot of an image counts, with this descriptor
-pub record Counts (slots : ℕ) (device : Device) (image : ℕ) (kept : ImageRecord) (slot : ℕ) (d : Descriptor) : Type 0 where
-  pub within : slot < slots
-  pub found : counted kept slots slot (device (descriptor_at slots image slot)) ≡ Some d
+pub record IsCounted (g : Geometry) (given : Given) (image : ℕ) (kept : ImageRecord) (slot : ℕ) (d : Descriptor) : Type 0 where
+  pub within : slot < g.slots
+  pub found : counted_in kept g.slots slot (given (descriptor_at g image slot)) ≡ Some d
 
 -- the number of writes: the greatest number counted, or the last one applied
-pub record IsWriteCount (slots : ℕ) (device : Device) (image : ℕ) (kept : ImageRecord) (count : ℕ) : Type 0 where
-  pub greatest : (slot : ℕ) (d : Descriptor) → Counts slots device image kept slot d → d.number ≤ count
-  pub reached : (count ≡ kept.applied) ⊎ ((slot : ℕ) × (d : Descriptor) × Counts slots device image kept slot d × (d.number ≡ count))
+pub record IsWriteCount (g : Geometry) (given : Given) (image : ℕ) (kept : ImageRecord) (count : ℕ) : Type 0 where
+  pub greatest : (slot : ℕ) (d : Descriptor) → IsCounted g given image kept slot d → d.number ≤ count
+  pub least : applied_of kept ≤ count
+  pub reached : (count ≡ applied_of kept) ⊎ ((slot : ℕ) × (d : Descriptor) × IsCounted g given image kept slot d × (d.number ≡ count))
 
 -- a counted descriptor names this virtual block, and none with a greater number does
-pub record IsNewest (slots : ℕ) (device : Device) (image : ℕ) (kept : ImageRecord) (vblock slot : ℕ) (d : Descriptor) : Type 0 where
-  pub counts : Counts slots device image kept slot d
+pub record IsNewest (g : Geometry) (given : Given) (image : ℕ) (kept : ImageRecord) (vblock slot : ℕ) (d : Descriptor) : Type 0 where
+  pub counts : IsCounted g given image kept slot d
   pub names : d.vblock ≡ vblock
-  pub newest : (other : ℕ) (e : Descriptor) → Counts slots device image kept other e → e.vblock ≡ vblock → e.number ≤ d.number
+  pub newest : (other : ℕ) (e : Descriptor) → IsCounted g given image kept other e → e.vblock ≡ vblock → e.number ≤ d.number
 
--- the content of a virtual block: the data of the newest counted descriptor that names it, else zeros
-abbrev pub IsContent : ℕ → Device → ℕ → ImageRecord → ℕ → List ℕ → Type 0
-IsContent slots device image kept vblock bytes =
-    ((slot : ℕ) × (d : Descriptor) × IsNewest slots device image kept vblock slot d × (bytes ≡ device (data_at slots image slot)))
-    ⊎ (((slot : ℕ) (d : Descriptor) → Counts slots device image kept slot d → d.vblock ≢ vblock) × (bytes ≡ zeros))
+-- what stands in a block
+abbrev pub standing_in : (block : ℕ) → Option (List ℕ) → Content
+standing_in block None = Below block []
+standing_in block (Some bytes) = Holds bytes
 
--- the device stores this image in a slot whose record is `kept`
-pub record Stores (slots : ℕ) (device : Device) (image : ℕ) (kept : ImageRecord) (i : Image) : Type 0 where
-  pub live : i.live ≡ true
-  pub generation : i.generation ≡ kept.generation
-  pub size : i.size ≡ kept.size
-  pub label : i.label ≡ kept.label
-  pub writes : IsWriteCount slots device image kept i.writes
-  pub content : (vblock : ℕ) → IsContent slots device image kept vblock (i.content vblock)
+-- the three digits of a virtual block, the highest first: the entry of each node on its way
+abbrev pub digits_of : (vblock : ℕ) → List ℕ
+digits_of vblock = vblock / 2 ^ 18 ∷ (vblock / 2 ^ 9) % 512 ∷ vblock % 512 ∷ []
 
--- the device stores the model's image, without its change or with it
-abbrev pub StoresEither : ℕ → Device → ℕ → Slot → Type 0
-StoresEither slots device image slot =
-    Stores slots device image first_record slot.image
-    ⊎ ((i : Image) × (slot.change ≡ Some i) × Stores slots device image first_record i)
+-- a node, by one digit: the pointer that stands there is followed, where the node is given
+abbrev pub through : (block digit : ℕ) → (digits : List ℕ) → Option (List ℕ) → (ℕ → Content) → Content
+through block digit digits None follow = Below block (digit ∷ digits)
+through block digit digits (Some bytes) follow = follow (number_at 8 (8 * digit) bytes)
+
+-- what a pointer leads to by these digits: a hole reads as zeros, with or without its mark
+abbrev pub leads_to : Given → (pointer : ℕ) → (digits : List ℕ) → Content
+leads_to given pointer [] = if unmarked pointer == 0 then Holds zeros else standing_in (unmarked pointer) (given (unmarked pointer))
+leads_to given pointer (digit ∷ digits) =
+    if unmarked pointer == 0 then Holds zeros
+    else through (unmarked pointer) digit digits (given (unmarked pointer)) (λ next. leads_to given next digits)
+
+-- the content of a virtual block: the data of the newest counted descriptor that names it, else what the record's root leads to
+pub data IsContent (g : Geometry) (given : Given) (image : ℕ) (kept : ImageRecord) (vblock : ℕ) : Content → Type 0 where
+  journalled : {content : Content} (slot : ℕ) (d : Descriptor) → IsNewest g given image kept vblock slot d →
+      content ≡ standing_in (data_at g image slot) (given (data_at g image slot)) → IsContent g given image kept vblock content
+  unwritten : {content : Content} → ((slot : ℕ) (d : Descriptor) → IsCounted g given image kept slot d → d.vblock ≢ vblock) →
+      content ≡ leads_to given (root_of kept) (digits_of vblock) → IsContent g given image kept vblock content
+
+-- these bytes store this image in a slot
+pub record Stores (g : Geometry) (given : Given) (image : ℕ) (i : StoredImage) : Type 0 where
+  pub kept : ImageRecord
+  pub found : record_on g given image ≡ Some kept
+  pub live : i.live ≡ is_live kept
+  pub generation : i.generation ≡ generation_of kept
+  pub size : i.size ≡ size_of kept
+  pub label : i.label ≡ label_of kept
+  pub writes : IsWriteCount g given image kept i.writes
+  pub content : (vblock : ℕ) → IsContent g given image kept vblock (i.content vblock)
+  pub taken : i.taken ≡ taken_of kept
+
+-- a stored image agrees with a model's. What its snapshots hold comes in with their logs; until then there are none
+pub record Agrees (stored : StoredImage) (i : Image) : Type 0 where
+  pub live : stored.live ≡ i.live
+  pub generation : stored.generation ≡ i.generation
+  pub size : stored.size ≡ i.size
+  pub label : stored.label ≡ i.label
+  pub writes : stored.writes ≡ i.writes
+  pub content : (vblock : ℕ) → stored.content vblock ≡ Holds (i.content vblock)
+  pub taken : stored.taken ≡ length i.frozen
+
+-- the device stores an image that agrees with the model's, without its change or with it
+abbrev pub StoresEither : Geometry → Device → (image : ℕ) → Slot → Type 0
+StoresEither g device image slot =
+    (stored : StoredImage) × Stores g (all_of device) image stored
+    × (Agrees stored slot.image ⊎ ((i : Image) × (slot.change ≡ Some i) × Agrees stored i))

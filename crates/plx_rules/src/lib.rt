@@ -1,7 +1,6 @@
-//! What appliances and their world are allowed to do, and the theorem on every schedule.
+//! What appliances and their world are allowed to do: the definitions.
 //!
-//! Definitions stand in `specs/`. The functions of this crate are laws: they have no parameters and an empty
-//! body, and their contracts are the theorems.
+//! They stand in `specs/`; the code is the one type that they share with it.
 #![tactic(auto)]
 
 mod journaled;

@@ -1,98 +1,48 @@
 //! One large schedule: a body that wants memory past a small size fails here.
-use crate::program::in_pieces;
-use plx_cli::Status;
-use std::alloc::AllocError;
+use crate::program::Story;
+use std::alloc::Global;
 use std::test::Fail;
 
-/// A number below 100, in decimal.
-fn push_number(text: &mut Vec<u8>, number: u8) -> Result<(), AllocError> {
-    if number >= 10 {
-        text.push(b'0' + number / 10)?;
-    }
-    text.push(b'0' + number % 10)?;
-    Ok(())
-}
-
-/// A byte whose two digits are those of a number below 100.
-fn push_data(text: &mut Vec<u8>, number: u8) -> Result<(), AllocError> {
-    text.extend_from_slice(b" all:")?;
-    text.push(b'0' + number / 10)?;
-    text.push(b'0' + number % 10)?;
-    Ok(())
-}
-
-/// The line that starts a write to the virtual block `number % 8`.
-fn push_write(text: &mut Vec<u8>, number: u8) -> Result<(), AllocError> {
-    text.extend_from_slice(b"start 0 write 0 ")?;
-    push_number(text, number % 8)?;
-    push_data(text, number)?;
-    text.push(b'\n')?;
-    Ok(())
-}
-
-/// An attach, a write and a crash, with 27 lines of events that aren't possible.
-fn push_round(schedule: &mut Vec<u8>, number: u8) -> Result<(), AllocError> {
-    schedule.extend_from_slice(b"start 0 attach 0\nrun 0\n")?;
+/// Events that aren't possible: 27 lines.
+fn push_nothing(story: &mut Story) -> Result<(), Fail> {
     for _ in 0..27 {
-        schedule.extend_from_slice(b"land 4294967295 18446744073709551615 255\n")?;
+        story.play(b"land 4294967295 18446744073709551615 255\n")?;
     }
-    push_write(schedule, number)?;
-    schedule.extend_from_slice(b"run 0\ncrash 0\n")
-}
-
-/// An attach, with its report.
-fn push_attached(trace: &mut Vec<u8>, writes: u8) -> Result<(), AllocError> {
-    trace.extend_from_slice(b"start 0 attach 0\nreply 0 attached live=1 gen=1 size=8 writes=")?;
-    push_number(trace, writes)?;
-    trace.extend_from_slice(b" taken=0 dropped=0 label=-\n")
-}
-
-/// What a round tells.
-fn push_told(trace: &mut Vec<u8>, number: u8) -> Result<(), AllocError> {
-    push_attached(trace, number)?;
-    push_write(trace, number)?;
-    trace.extend_from_slice(b"reply 0 written ")?;
-    push_number(trace, number.saturating_add(1))?;
-    trace.extend_from_slice(b"\ncrash 0\n")
-}
-
-/// A read of a virtual block.
-fn push_read(text: &mut Vec<u8>, vblock: u8) -> Result<(), AllocError> {
-    text.extend_from_slice(b"start 0 read 0 ")?;
-    push_number(text, vblock)?;
-    text.push(b'\n')?;
     Ok(())
 }
 
-/// Each of 64 boots attaches and writes once. A last one finds the journal full, and reads what was
-/// written last to each virtual block.
+/// Appliance 0 writes the virtual block `number % 8`, and is answered so.
+fn write(alloc: Global, story: &mut Story, number: u32, reply: &[u8]) -> Result<(), Fail> {
+    let command = format!(in alloc; "write 0 {} all:{:02}", number % 8, number % 100)?;
+    story.call(b"0", command.as_bytes(), reply)?;
+    Ok(())
+}
+
+/// Each of 64 boots writes once, and dies. The next one waits until the lease is expired, and attaches
+/// the image. The last one finds the journal full, and reads what was written last to each virtual block.
 #[test]
 fn a_full_journal_is_filled_over_crashes(rt: HostRuntime) -> Result<(), Fail> {
     let alloc = rt.alloc();
-    let mut schedule = Vec::from_slice(alloc, b"world 1 1 16 64 1\n")?;
-    let mut trace = Vec::from_slice(alloc, b"world 1 1 16 64 1\n")?;
-    for number in 0..64u8 {
-        push_round(&mut schedule, number)?;
-        push_told(&mut trace, number)?;
+    let mut story = Story::new(alloc, b"1 1 16 64 1")?;
+    story.open(b"0")?;
+    for number in 0..64u32 {
+        push_nothing(&mut story)?;
+        let written = number.saturating_add(1);
+        let reply = format!(in alloc; "written {written}")?;
+        write(alloc, &mut story, number, reply.as_bytes())?;
+        story.both(b"crash 0\n")?;
+        story.play(b"tick 9500\n")?;
+        let report = format!(in alloc;
+            "attached live=1 gen=1 size=8 writes={written} taken=0 dropped=0 label=a"
+        )?;
+        story.wait(b"0", b"attach 0", report.as_bytes())?;
     }
-    schedule.extend_from_slice(b"start 0 attach 0\nrun 0\n")?;
-    push_attached(&mut trace, 64)?;
-    push_write(&mut schedule, 0)?;
-    push_write(&mut trace, 0)?;
-    schedule.extend_from_slice(b"run 0\n")?;
-    trace.extend_from_slice(b"reply 0 full\n")?;
-    for vblock in 0..8u8 {
-        push_read(&mut schedule, vblock)?;
-        push_read(&mut trace, vblock)?;
-        schedule.extend_from_slice(b"run 0\n")?;
-        trace.extend_from_slice(b"reply 0 data")?;
-        push_data(&mut trace, 56 + vblock)?;
-        trace.push(b'\n')?;
+    write(alloc, &mut story, 0, b"full")?;
+    for vblock in 0..8u32 {
+        let command = format!(in alloc; "read 0 {vblock}")?;
+        let reply = format!(in alloc; "data all:{:02}", vblock.saturating_add(56))?;
+        story.call(b"0", command.as_bytes(), reply.as_bytes())?;
     }
-    trace.extend_from_slice(b"end reachable=0 allocated=0\n")?;
-    assert!(rt; schedule.len() > 65_536);
-    let outcome = in_pieces(alloc, schedule.as_slice(), 100)?;
-    assert_eq!(rt; outcome.status, Status::Done);
-    assert_eq!(rt; outcome.written.as_slice(), trace.as_slice());
-    Ok(())
+    assert!(rt; story.schedule.len() > 65_536);
+    story.ends_in_pieces(&rt, 100)
 }

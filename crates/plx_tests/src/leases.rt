@@ -22,14 +22,14 @@ const CLAIM: Claim = Claim {
 };
 
 /// A lease's block that no one holds.
-fn free(alloc: Global) -> Result<Block, NoMemory> {
+pub(crate) fn free(alloc: Global) -> Result<Block, NoMemory> {
     let mut block = Block::zeros(alloc)?;
     block.copy_from(0, b"PLXLEAS1");
     Ok(block)
 }
 
 /// A lease's block with a claim.
-fn record(
+pub(crate) fn record(
     alloc: Global,
     boot: u8,
     number: u64,

@@ -4,7 +4,15 @@
 #[cfg(test)]
 mod asks;
 #[cfg(test)]
+mod boot;
+#[cfg(test)]
+mod contention;
+#[cfg(test)]
+mod damage;
+#[cfg(test)]
 mod device;
+#[cfg(test)]
+mod formatted;
 #[cfg(test)]
 mod gated;
 #[cfg(test)]
@@ -12,15 +20,13 @@ mod geometry;
 #[cfg(test)]
 mod judge;
 #[cfg(test)]
-mod judged;
-#[cfg(test)]
 mod large;
-#[cfg(test)]
-mod lease_texts;
 #[cfg(test)]
 mod leases;
 #[cfg(test)]
 mod lines;
+#[cfg(test)]
+mod maps;
 #[cfg(test)]
 mod program;
 #[cfg(test)]
@@ -28,6 +34,10 @@ mod records;
 #[cfg(test)]
 mod schedules;
 #[cfg(test)]
+mod statuses;
+#[cfg(test)]
 mod streams;
 #[cfg(test)]
 mod texts;
+#[cfg(test)]
+mod trouble;

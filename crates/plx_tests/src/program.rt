@@ -1,6 +1,8 @@
-//! A run of the top call in memory.
+//! A run of the top call in memory, and schedules beside the traces that they are to give.
 use plx_cli::{MemSink, MemSource, Status, run};
 use std::alloc::{AllocError, Global};
+use std::process::Abort;
+use std::test::Fail;
 
 /// What a run gave: its status, and what it wrote.
 #[derive(Drop)]
@@ -9,33 +11,155 @@ pub(crate) struct Outcome {
     pub(crate) written: Vec<u8>,
 }
 
-/// The words `plx` and this one.
-pub(crate) fn words(alloc: Global, word: &str) -> Result<Vec<String>, AllocError> {
+/// The program's name, and these words.
+pub(crate) fn words(alloc: Global, given: &[&str]) -> Result<Vec<String>, AllocError> {
     let mut words = Vec::new(alloc);
     words.push(String::from_str(alloc, "plx")?)?;
-    words.push(String::from_str(alloc, word)?)?;
+    for word in given {
+        words.push(String::from_str(alloc, word)?)?;
+    }
     Ok(words)
 }
 
-/// `replay` of an input, where each call of the streams gives or takes at most `piece` bytes.
-pub(crate) fn in_pieces(alloc: Global, input: &[u8], piece: usize) -> Result<Outcome, AllocError> {
+/// A run on an input, where each call of the streams gives or takes at most `piece` bytes.
+pub(crate) fn run_in_memory(
+    alloc: Global,
+    words: &Vec<String>,
+    input: &[u8],
+    piece: usize,
+) -> Result<Outcome, AllocError> {
     let piece = piece.max(1);
-    let words = words(alloc, "replay")?;
     let mut source = MemSource::new(Vec::from_slice(alloc, input)?, piece, Vec::new(alloc));
     let mut sink = MemSink::new(alloc, piece, 1 << 20, Vec::new(alloc))?;
-    let status = run(alloc, &words, &mut source, &mut sink);
+    let status = run(alloc, words, &mut source, &mut sink);
     let written = Vec::from_slice(alloc, sink.held())?;
     Ok(Outcome { status, written })
 }
 
 /// `replay` of an input.
 pub(crate) fn replay(alloc: Global, input: &[u8]) -> Result<Outcome, AllocError> {
-    in_pieces(alloc, input, 4096)
+    run_in_memory(alloc, &words(alloc, &["replay"])?, input, 4096)
 }
 
-/// The lines of a schedule after one that attaches image 0.
-pub(crate) fn attached(alloc: Global, lines: &[u8]) -> Result<Vec<u8>, AllocError> {
-    let mut schedule = Vec::from_slice(alloc, b"world 1 1 16 2 1\nstart 0 attach 0\nrun 0\n")?;
-    schedule.extend_from_slice(lines)?;
-    Ok(schedule)
+/// A schedule, and the trace that it is to give, whose last line is left out.
+#[derive(Drop)]
+pub(crate) struct Story {
+    alloc: Global,
+    pub(crate) schedule: Vec<u8>,
+    pub(crate) trace: Vec<u8>,
+}
+
+/// What an attach reports of a slot in which no image was made.
+pub(crate) const FREE: &[u8] = b"attached live=0 gen=0 size=0 writes=0 taken=0 dropped=0 label=-";
+
+impl Story {
+    /// A world of these numbers.
+    pub(crate) fn new(alloc: Global, world: &[u8]) -> Result<Story, AllocError> {
+        let mut line = Vec::from_slice(alloc, b"world ")?;
+        line.extend_from_slice(world)?;
+        line.push(b'\n')?;
+        let trace = Vec::from_slice(alloc, line.as_slice())?;
+        Ok(Story {
+            alloc,
+            schedule: line,
+            trace,
+        })
+    }
+
+    /// Lines of the schedule alone.
+    pub(crate) fn play(&mut self, lines: &[u8]) -> Result<(), AllocError> {
+        self.schedule.extend_from_slice(lines)
+    }
+
+    /// Lines of the trace alone.
+    pub(crate) fn tell(&mut self, lines: &[u8]) -> Result<(), AllocError> {
+        self.trace.extend_from_slice(lines)
+    }
+
+    /// Lines of both: starts and crashes.
+    pub(crate) fn both(&mut self, lines: &[u8]) -> Result<(), AllocError> {
+        self.play(lines)?;
+        self.tell(lines)
+    }
+
+    /// The line of the trace with an appliance's reply.
+    pub(crate) fn reply(&mut self, appliance: &[u8], reply: &[u8]) -> Result<(), AllocError> {
+        self.tell(b"reply ")?;
+        self.tell(appliance)?;
+        self.tell(b" ")?;
+        self.tell(reply)?;
+        self.tell(b"\n")
+    }
+
+    /// A command starts.
+    pub(crate) fn start(&mut self, appliance: &[u8], command: &[u8]) -> Result<(), AllocError> {
+        self.both(b"start ")?;
+        self.both(appliance)?;
+        self.both(b" ")?;
+        self.both(command)?;
+        self.both(b"\n")
+    }
+
+    /// An appliance runs.
+    pub(crate) fn run(&mut self, appliance: &[u8]) -> Result<(), AllocError> {
+        self.play(b"run ")?;
+        self.play(appliance)?;
+        self.play(b"\n")
+    }
+
+    /// A command runs at one stretch to its reply.
+    pub(crate) fn call(
+        &mut self,
+        appliance: &[u8],
+        command: &[u8],
+        reply: &[u8],
+    ) -> Result<(), AllocError> {
+        self.start(appliance, command)?;
+        self.run(appliance)?;
+        self.reply(appliance, reply)
+    }
+
+    /// A command runs to its wait, and 601 ms later to its reply.
+    pub(crate) fn wait(
+        &mut self,
+        appliance: &[u8],
+        command: &[u8],
+        reply: &[u8],
+    ) -> Result<(), AllocError> {
+        self.start(appliance, command)?;
+        self.run(appliance)?;
+        self.play(b"tick 601\n")?;
+        self.run(appliance)?;
+        self.reply(appliance, reply)
+    }
+
+    /// An appliance attaches slot 0, which is free, and makes an image of eight blocks there, named `a`.
+    /// It takes 601 ms.
+    pub(crate) fn open(&mut self, appliance: &[u8]) -> Result<(), AllocError> {
+        self.wait(appliance, b"attach 0", FREE)?;
+        self.call(appliance, b"create 0 8 a", b"created")
+    }
+
+    /// The schedule gives the trace.
+    pub(crate) fn ends(self, rt: &impl Abort) -> Result<(), Fail> {
+        self.ends_in_pieces(rt, 4096)
+    }
+
+    /// The schedule gives the trace, where each call of the streams gives or takes at most `piece` bytes.
+    pub(crate) fn ends_in_pieces(mut self, rt: &impl Abort, piece: usize) -> Result<(), Fail> {
+        self.tell(b"end reachable=0 allocated=0\n")?;
+        let words = words(self.alloc, &["replay"])?;
+        let outcome = run_in_memory(self.alloc, &words, self.schedule.as_slice(), piece)?;
+        assert_eq!(rt; outcome.status, Status::Done);
+        assert_eq!(rt;
+            as_text(outcome.written.as_slice()),
+            as_text(self.trace.as_slice())
+        );
+        Ok(())
+    }
+}
+
+/// The bytes as text.
+fn as_text(bytes: &[u8]) -> &str {
+    str::from_utf8(bytes).unwrap_or("")
 }

@@ -1,6 +1,4 @@
 //! Streams that are interrupted, give little, take nothing or fail.
-use crate::program::words;
-use plx_cli::{MemSink, MemSource, Status, run};
 use plx_port::{Failed, ReadError, ReadSource, WriteSink, read_all, write_all};
 use std::io;
 use std::io::{BufReader, ErrorKind, Read, Write};
@@ -125,46 +123,5 @@ fn a_writer_is_given_what_it_has_not_taken(rt: HostRuntime) -> Result<(), Fail> 
     assert_eq!(rt; write_all(&mut sink, b"you"), Err(Failed));
     assert_eq!(rt; writer.taken.as_slice(), b"hello".as_slice());
     assert_eq!(rt; writer.at, 7);
-    Ok(())
-}
-
-#[test]
-fn a_source_that_fails_at_any_call_gives_nothing(rt: HostRuntime) -> Result<(), Fail> {
-    let alloc = rt.alloc();
-    let words = words(alloc, "replay")?;
-    for call in 0..18u64 {
-        let mut source = MemSource::new(
-            Vec::from_slice(alloc, b"world 1 1 16 2 1\n")?,
-            1,
-            Vec::from_slice(alloc, &[call])?,
-        );
-        let mut sink = MemSink::new(alloc, 8, 64, Vec::new(alloc))?;
-        assert_eq!(rt;
-            run(alloc, &words, &mut source, &mut sink),
-            Status::SourceFault
-        );
-        assert_eq!(rt; sink.held(), b"".as_slice());
-    }
-    Ok(())
-}
-
-#[test]
-fn a_sink_that_fails_at_any_call_holds_a_front_of_the_trace(rt: HostRuntime) -> Result<(), Fail> {
-    let alloc = rt.alloc();
-    let words = words(alloc, "replay")?;
-    let whole = b"world 1 1 16 2 1\nend reachable=0 allocated=0\n".as_slice();
-    for call in 0..45u64 {
-        let mut source = MemSource::new(
-            Vec::from_slice(alloc, b"world 1 1 16 2 1\n")?,
-            64,
-            Vec::new(alloc),
-        );
-        let mut sink = MemSink::new(alloc, 1, 64, Vec::from_slice(alloc, &[call])?)?;
-        assert_eq!(rt;
-            run(alloc, &words, &mut source, &mut sink),
-            Status::SinkFault
-        );
-        assert_eq!(rt; Some(sink.held()), whole.get(..call as usize));
-    }
     Ok(())
 }

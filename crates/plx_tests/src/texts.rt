@@ -1,14 +1,20 @@
-//! Texts written out by hand: each line of a schedule and of a trace, and lines that are refused.
-use crate::program::replay;
+//! Traces whose text is written out by hand, line by line.
 use plx_base::{
-    ApplianceNo, Block, BlockNo, ExtentNo, Label, LeaseName, NoMemory, Payload, SlotNo,
+    ApplianceNo, Block, BlockNo, Boot, Claim, ExtentNo, Label, LeaseName, LeaseRecord, NoMemory,
+    Payload, SlotNo,
 };
-use plx_cli::Status;
-use plx_model::{Command, Entry, Reply, Report};
-use plx_text::{print_trace, read_schedule};
-use std::test::Fail;
+use plx_commands::{Command, Entry, Reply, Report};
+use plx_geom::Geometry;
+use plx_text::print_trace;
 
 const SLOT: SlotNo = SlotNo(3);
+
+const SMALL: Geometry = Geometry {
+    images: 1,
+    extents: 1,
+    extent_blocks: 16,
+    slots: 2,
+};
 
 fn started(command: Command) -> Entry {
     let appliance = ApplianceNo(0);
@@ -16,8 +22,12 @@ fn started(command: Command) -> Entry {
 }
 
 fn replied(reply: Reply) -> Entry {
-    let appliance = ApplianceNo(4_294_967_295);
+    let appliance = ApplianceNo(7);
     Entry::Reply { appliance, reply }
+}
+
+fn busy(lease: LeaseName, seen: LeaseRecord) -> Entry {
+    replied(Reply::Busy { lease, seen })
 }
 
 fn lost(lease: LeaseName) -> Entry {
@@ -28,27 +38,61 @@ fn lost(lease: LeaseName) -> Entry {
     })
 }
 
-fn attached(live: bool, label: Label) -> Entry {
+fn claimed(boot: u128) -> LeaseRecord {
+    let claim = Claim {
+        boot: Boot(boot),
+        number: 18_446_744_073_709_551_615,
+        sample: 5,
+    };
+    LeaseRecord::Claimed {
+        claim,
+        until: 10_005,
+    }
+}
+
+/// The report of an image.
+fn live() -> Reply {
     let report = Report {
-        live,
-        generation: 1,
+        live: true,
+        generation: 4_294_967_295,
         size: 8,
         writes: 18_446_744_073_709_551_615,
         taken: 2,
-        dropped: 0,
-        label,
+        dropped: 1,
+        label: Label::new(b"disk-1").unwrap_or(Label::empty()),
     };
-    replied(Reply::Attached { report })
+    Reply::Attached { report }
 }
 
 #[test]
 fn commands_and_their_replies_have_their_words(rt: HostRuntime) -> Result<(), NoMemory> {
-    let mut entries = Vec::new(rt.alloc());
-    let label = Label::new(b"disk-1").unwrap_or(Label::empty());
+    let alloc = rt.alloc();
+    let mut entries = Vec::new(alloc);
+    let report = Report {
+        live: false,
+        generation: 2,
+        size: 0,
+        writes: 0,
+        taken: 0,
+        dropped: 0,
+        label: Label::empty(),
+    };
     let list = [
         started(Command::Attach { slot: SLOT }),
-        attached(true, label),
-        attached(false, Label::empty()),
+        replied(Reply::Attached { report }),
+        replied(live()),
+        started(Command::Create {
+            slot: SLOT,
+            size: 134_217_728,
+            label: Label::new(b"a-b").unwrap_or(Label::empty()),
+        }),
+        replied(Reply::Created),
+        started(Command::Create {
+            slot: SLOT,
+            size: 0,
+            label: Label::empty(),
+        }),
+        replied(Reply::Exists),
         started(Command::Read {
             slot: SLOT,
             vblock: 10,
@@ -56,29 +100,51 @@ fn commands_and_their_replies_have_their_words(rt: HostRuntime) -> Result<(), No
         replied(Reply::Data {
             payload: Payload::All(0xa0),
         }),
-        Entry::Crash {
-            appliance: ApplianceNo(12),
-        },
         started(Command::Write {
             slot: SLOT,
             vblock: 7,
             payload: Payload::All(0x0f),
         }),
-        replied(Reply::Written { number: 10 }),
+        replied(Reply::Written { number: 1 }),
+        started(Command::Renew),
+        replied(Reply::Renewed),
+        started(Command::Delete { slot: SLOT }),
+        replied(Reply::Deleted),
+        started(Command::Detach { slot: SLOT }),
+        replied(Reply::Detached),
+        Entry::Crash {
+            appliance: ApplianceNo(7),
+        },
     ];
     for entry in list {
         entries.push(entry)?;
     }
-    let text = print_trace(rt.alloc(), 16, entries.as_slice(), 20, 3)?;
-    let expected = b"world 1 1 16 16 1
+    let geometry = Geometry {
+        images: 256,
+        extents: 512,
+        extent_blocks: 32_768,
+        slots: 64,
+    };
+    let text = print_trace(alloc, &geometry, 8, entries.as_slice(), 20, 3)?;
+    let expected = b"world 256 512 32768 64 8
 start 0 attach 3
-reply 4294967295 attached live=1 gen=1 size=8 writes=18446744073709551615 taken=2 dropped=0 label=disk-1
-reply 4294967295 attached live=0 gen=1 size=8 writes=18446744073709551615 taken=2 dropped=0 label=-
+reply 7 attached live=0 gen=2 size=0 writes=0 taken=0 dropped=0 label=-
+reply 7 attached live=1 gen=4294967295 size=8 writes=18446744073709551615 taken=2 dropped=1 label=disk-1
+start 0 create 3 134217728 a-b
+reply 7 created
+start 0 create 3 0 -
+reply 7 exists
 start 0 read 3 10
-reply 4294967295 data all:a0
-crash 12
+reply 7 data all:a0
 start 0 write 3 7 all:0f
-reply 4294967295 written 10
+reply 7 written 1
+start 0 renew
+reply 7 renewed
+start 0 delete 3
+reply 7 deleted
+start 0 detach 3
+reply 7 detached
+crash 7
 end reachable=20 allocated=3
 ";
     assert_eq!(rt; text.as_slice(), expected.as_slice());
@@ -86,35 +152,51 @@ end reachable=20 allocated=3
 }
 
 #[test]
-fn refusals_and_failures_have_their_words(rt: HostRuntime) -> Result<(), NoMemory> {
-    let mut entries = Vec::new(rt.alloc());
+fn refusals_have_their_words(rt: HostRuntime) -> Result<(), NoMemory> {
+    let alloc = rt.alloc();
+    let mut entries = Vec::new(alloc);
     let list = [
         replied(Reply::NotAttached),
         replied(Reply::AlreadyAttached),
         replied(Reply::NoImage),
-        replied(Reply::OutOfRange { size: 8 }),
-        replied(Reply::Full),
+        replied(Reply::OutOfRange { size: 134_217_728 }),
+        busy(LeaseName::Root, LeaseRecord::Free),
+        busy(LeaseName::Image(SLOT), claimed(257)),
+        busy(
+            LeaseName::Extent(ExtentNo(511)),
+            claimed(340_282_366_920_938_463_463_374_607_431_768_211_455),
+        ),
         lost(LeaseName::Root),
-        lost(LeaseName::Image(SlotNo(0))),
+        lost(LeaseName::Image(SlotNo(255))),
         lost(LeaseName::Extent(ExtentNo(17))),
         replied(Reply::ReadFault { block: BlockNo(6) }),
         replied(Reply::WriteFault { block: BlockNo(7) }),
+        replied(Reply::Full),
+        replied(Reply::Damaged { block: BlockNo(0) }),
+        replied(Reply::WornOut {
+            count: 4_294_967_295,
+        }),
     ];
     for entry in list {
         entries.push(entry)?;
     }
-    let text = print_trace(rt.alloc(), 64, entries.as_slice(), 0, 0)?;
-    let expected = b"world 1 1 16 64 1
-reply 4294967295 not-attached
-reply 4294967295 already-attached
-reply 4294967295 no-image
-reply 4294967295 out-of-range size=8
-reply 4294967295 full
-reply 4294967295 lost lease=root until=1400 reading=1401
-reply 4294967295 lost lease=image:0 until=1400 reading=1401
-reply 4294967295 lost lease=extent:17 until=1400 reading=1401
-reply 4294967295 read-fault block=6
-reply 4294967295 write-fault block=7
+    let text = print_trace(alloc, &SMALL, 1, entries.as_slice(), 0, 0)?;
+    let expected = b"world 1 1 16 2 1
+reply 7 not-attached
+reply 7 already-attached
+reply 7 no-image
+reply 7 out-of-range size=134217728
+reply 7 busy lease=root free
+reply 7 busy lease=image:3 boot=257 claim=18446744073709551615 sample=5 until=10005
+reply 7 busy lease=extent:511 boot=340282366920938463463374607431768211455 claim=18446744073709551615 sample=5 until=10005
+reply 7 lost lease=root until=1400 reading=1401
+reply 7 lost lease=image:255 until=1400 reading=1401
+reply 7 lost lease=extent:17 until=1400 reading=1401
+reply 7 read-fault block=6
+reply 7 write-fault block=7
+reply 7 full
+reply 7 damaged block=0
+reply 7 worn count=4294967295
 end reachable=0 allocated=0
 ";
     assert_eq!(rt; text.as_slice(), expected.as_slice());
@@ -131,115 +213,13 @@ fn a_block_is_spelled_by_one_byte_or_by_all(rt: HostRuntime) -> Result<(), NoMem
         let payload = Payload::Whole(block);
         entries.push(replied(Reply::Data { payload }))?;
     }
-    let text = print_trace(alloc, 2, entries.as_slice(), 0, 0)?;
+    let text = print_trace(alloc, &SMALL, 1, entries.as_slice(), 0, 0)?;
     let start = b"world 1 1 16 2 1
-reply 4294967295 data all:ff
-reply 4294967295 data hex:ababab";
+reply 7 data all:ff
+reply 7 data hex:ababab";
     let end = b"abab09\nend reachable=0 allocated=0\n";
     assert!(rt; text.as_slice().starts_with(start.as_slice()));
     assert!(rt; text.as_slice().ends_with(end.as_slice()));
-    assert_eq!(rt; text.as_slice().len(), 17 + 29 + 26 + 8192 + 1 + 28);
-    Ok(())
-}
-
-#[test]
-fn each_line_of_a_schedule_is_read(rt: HostRuntime) -> Result<(), Fail> {
-    let bytes = b"world 1 1 16 64 1
-tick 1
-tick 4294967295
-start 4294967295 attach 0
-start 0 read 1 2
-start 0 write 4294967295 4294967295 all:ff
-read 0
-issue 0
-done 0
-crash 0
-land 0 18446744073709551615 255
-clock 0 281474976710655
-clock 4294967295 0
-run 0
-upto 0 jdata
-upto 0 jcommit
-upto 0 r-journal
-";
-    let schedule = read_schedule(rt.alloc(), bytes)?;
-    assert_eq!(rt; schedule.slots, 64);
-    assert_eq!(rt; schedule.events.as_slice().len(), 16);
-    Ok(())
-}
-
-#[test]
-fn the_first_bad_line_is_named(rt: HostRuntime) -> Result<(), Fail> {
-    let alloc = rt.alloc();
-    let cases: [(&[u8], &[u8]); 11] = [
-        (b"", b"bad line 1\n"),
-        (b"run 0\n", b"bad line 1\n"),
-        (b"world 1 1 16 2 1", b"bad line 1\n"),
-        (b"world 0 1 16 2 1\n", b"bad line 1\n"),
-        (b"world 2 1 16 2 1\n", b"bad line 1\n"),
-        (b"world 1 1 16 1 1\n", b"bad line 1\n"),
-        (b"world 1 1 16 65 1\n", b"bad line 1\n"),
-        (b"world 1 1 16 08 1\n", b"bad line 1\n"),
-        (
-            b"world 1 1 16 8 1\nrun 0\nrun 00\nrun 00\n",
-            b"bad line 3\n",
-        ),
-        (b"world 1 1 16 8 1\nrun 0\nrun 0\nrun", b"bad line 4\n"),
-        (b"world 1 1 16 8 1\nrun 0\nrun 0\nrun 0", b"bad line 4\n"),
-    ];
-    for (input, want) in cases {
-        let outcome = replay(alloc, input)?;
-        assert_eq!(rt; outcome.status, Status::BadLine);
-        assert_eq!(rt; outcome.written.as_slice(), want);
-    }
-    Ok(())
-}
-
-#[test]
-fn a_line_outside_the_grammar_is_refused(rt: HostRuntime) -> Result<(), Fail> {
-    let alloc = rt.alloc();
-    let cases: [&[u8]; 33] = [
-        b"world 1 1 16 8 1",
-        b"run  0",
-        b"run 0 ",
-        b" run 0",
-        b"run\t0",
-        b"run 0\r",
-        b"run 00",
-        b"run +1",
-        b"run -1",
-        b"run 4294967296",
-        b"run 18446744073709551616",
-        b"run",
-        b"run ",
-        b"run 0 0",
-        b"RUN 0",
-        b"stop 0",
-        b"tick 0",
-        b"tick 05",
-        b"tick 4294967296",
-        b"land 0 0",
-        b"land 0 18446744073709551616 0",
-        b"land 0 0 256",
-        b"clock 0 281474976710656",
-        b"start 0 attach",
-        b"start 0 flush 0",
-        b"start 0 write 0 0 all:AB",
-        b"start 0 write 0 0 all:a",
-        b"start 0 write 0 0 all:abc",
-        b"start 0 write 0 0 hex:00",
-        b"upto 0 log",
-        b"run 0\0",
-        b"run \xff",
-        b"run \xd9\xa1",
-    ];
-    for line in cases {
-        let mut input = Vec::from_slice(alloc, b"world 1 1 16 8 1\nrun 0\n")?;
-        input.extend_from_slice(line)?;
-        input.extend_from_slice(b"\nrun 0\n")?;
-        let outcome = replay(alloc, input.as_slice())?;
-        assert_eq!(rt; outcome.status, Status::BadLine);
-        assert_eq!(rt; outcome.written.as_slice(), b"bad line 3\n".as_slice());
-    }
+    assert_eq!(rt; text.as_slice().len(), 17 + 20 + 17 + 8192 + 1 + 28);
     Ok(())
 }

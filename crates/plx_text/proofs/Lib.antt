@@ -2,3 +2,4 @@ mod Found
 mod OnceSchedule
 mod OnceTrace
 pub mod ScheduleFiles
+pub mod Worlds

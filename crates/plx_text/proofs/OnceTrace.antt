@@ -1,12 +1,13 @@
 -- A printed trace spells one trace alone.
 use Rattle.std.proofs.Common.{◌≡◌, ◌∙◌, ℕ, true, List, [], ◌∷◌, ◌++◌, map, codes, refl, ap, sym}
 use Rattle.plx_base.specs.declared.lease.LeaseName.TheVariants.{Root, Image, Extent}
-use Rattle.plx_model.specs.declared.command.Command.{Command}
-use Rattle.plx_model.specs.declared.command.Command.TheVariants.{Attach}
-use Rattle.plx_model.specs.declared.entry.Entry.{Entry}
-use Rattle.plx_model.specs.declared.entry.Entry.TheVariants as entry
-use Rattle.plx_model.specs.declared.reply.Reply.{Reply}
-use Rattle.plx_model.specs.declared.reply.Reply.TheVariants.{Lost}
+use Rattle.plx_base.specs.declared.lease.LeaseRecord.TheVariants.{Free, Claimed}
+use Rattle.plx_commands.specs.declared.command.Command.{Command}
+use Rattle.plx_commands.specs.declared.command.Command.TheVariants.{Attach}
+use Rattle.plx_commands.specs.declared.entry.Entry.{Entry}
+use Rattle.plx_commands.specs.declared.entry.Entry.TheVariants as entry
+use Rattle.plx_commands.specs.declared.reply.Reply.{Reply}
+use Rattle.plx_commands.specs.declared.reply.Reply.TheVariants.{Busy, Lost}
 use Rattle.plx_words.specs.Candidates.{named_at}
 use Rattle.plx_text.specs.Commands.{command_line}
 use Rattle.plx_words.specs.Pieces.{AllTell, Piece, all_spelled}
@@ -27,6 +28,12 @@ command-sound (Attach slot) = refl
 command-sound other = refl
 
 reply-sound : (reply : Reply) → all_sound (reply_line reply) ≡ true
+reply-sound (Busy Root Free) = refl
+reply-sound (Busy Root (Claimed claim until)) = refl
+reply-sound (Busy (Image slot) Free) = refl
+reply-sound (Busy (Image slot) (Claimed claim until)) = refl
+reply-sound (Busy (Extent extent) Free) = refl
+reply-sound (Busy (Extent extent) (Claimed claim until)) = refl
 reply-sound (Lost Root until reading) = refl
 reply-sound (Lost (Image slot) until reading) = refl
 reply-sound (Lost (Extent extent) until reading) = refl
@@ -77,12 +84,12 @@ rest-same (one ∷ entries) (other ∷ entries') reachable reachable' allocated 
     (ap (λ (e : Entry). e ∷ map plain_entry entries) first ∙ ap (λ (es : List Entry). plain_entry other ∷ es) others.0, others.1, others.2)
 
 pub once : TraceOnce
-once slots slots' entries entries' reachable reachable' allocated allocated' told told' same =
-    let lines = same-words (trace_lines slots entries reachable allocated) (trace_lines slots' entries' reachable' allocated')
-    (clean-line (world_line slots) refl told.0, are-rest entries reachable allocated told.1)
-    (clean-line (world_line slots') refl told'.0, are-rest entries' reachable' allocated' told'.1) same in
-    let parts = heads (all_spelled (world_line slots)) (all_spelled (world_line slots'))
+once world world' entries entries' reachable reachable' allocated allocated' told told' same =
+    let lines = same-words (trace_lines world.0 world.1 entries reachable allocated) (trace_lines world'.0 world'.1 entries' reachable' allocated')
+    (clean-line (world_line world.0 world.1) refl told.0, are-rest entries reachable allocated told.1)
+    (clean-line (world_line world'.0 world'.1) refl told'.0, are-rest entries' reachable' allocated' told'.1) same in
+    let parts = heads (all_spelled (world_line world.0 world.1)) (all_spelled (world_line world'.0 world'.1))
     (map all_spelled (rest entries reachable allocated)) (map all_spelled (rest entries' reachable' allocated')) lines in
-    let first = some-same slots slots' (sym (world-found slots _ (told.0, refl)) ∙ (ap world_of parts.0 ∙ world-found slots' _ (told'.0, refl))) in
+    let first = some-same world world' (sym (world-found world _ (told.0, refl)) ∙ (ap world_of parts.0 ∙ world-found world' _ (told'.0, refl))) in
     let others = rest-same entries entries' reachable reachable' allocated allocated' told.1 told'.1 parts.1 in
-    record { slots_same = first; entries_same = others.0; reachable_same = others.1; allocated_same = others.2 }
+    record { world_same = first; entries_same = others.0; reachable_same = others.1; allocated_same = others.2 }

@@ -1,21 +1,23 @@
 -- How events are spelled.
 use Rattle.std.specs.Prelude.{ℕ, ◌^◌, List, [], ◌∷◌, codes, get_or, drop, Option, Some, option_map}
 use Rattle.plx_base.specs.declared.numbers.ApplianceNo.{ApplianceNo}
-use Rattle.plx_model.specs.declared.event.Event.{Event}
-use Rattle.plx_model.specs.declared.event.Event.TheVariants as event
+use Rattle.plx_commands.specs.declared.event.Event.{Event}
+use Rattle.plx_commands.specs.declared.event.Event.TheVariants as event
 use Rattle.plx_words.specs.Candidates.{Reads, by_first, number_at}
-use Rattle.plx_text.specs.Commands.{command_line, command_of}
+use Rattle.plx_text.specs.Commands.{built_line, built_of}
 use Rattle.plx_words.specs.Pieces.{Piece, word, number, small, Spell}
 use Rattle.plx_text.specs.Stops.{stop_of, stop_piece}
 
 -- the line of an event, by its pieces
 abbrev pub event_line : Event → List Piece
 event_line (event.Tick by) = word (codes "tick") ∷ number 1 (2 ^ 32) by ∷ []
-event_line (event.Start appliance command) = word (codes "start") ∷ small appliance.0 ∷ command_line command
+event_line (event.Start appliance command) = word (codes "start") ∷ small appliance.0 ∷ built_line command
 event_line (event.Read appliance) = word (codes "read") ∷ small appliance.0 ∷ []
 event_line (event.Issue appliance) = word (codes "issue") ∷ small appliance.0 ∷ []
 event_line (event.Land appliance back sector) = word (codes "land") ∷ small appliance.0 ∷ number 0 (2 ^ 64) back ∷ number 0 256 sector ∷ []
 event_line (event.Done appliance) = word (codes "done") ∷ small appliance.0 ∷ []
+event_line (event.Fault appliance) = word (codes "fault") ∷ small appliance.0 ∷ []
+event_line (event.Miss appliance reading) = word (codes "miss") ∷ small appliance.0 ∷ number 0 (2 ^ 48) reading ∷ []
 event_line (event.Reading appliance reading) = word (codes "clock") ∷ small appliance.0 ∷ number 0 (2 ^ 48) reading ∷ []
 event_line (event.Crash appliance) = word (codes "crash") ∷ small appliance.0 ∷ []
 event_line (event.Run appliance) = word (codes "run") ∷ small appliance.0 ∷ []
@@ -33,11 +35,13 @@ appliance_at k words = record { 0 = number_at k words }
 abbrev pub event_of : List (List ℕ) → Option Event
 event_of words = by_first words (
     (codes "tick", Some (event.Tick (number_at 1 words)))
-    ∷ (codes "start", option_map (λ command. event.Start (appliance_at 1 words) command) (command_of (drop 2 words)))
+    ∷ (codes "start", option_map (λ command. event.Start (appliance_at 1 words) command) (built_of (drop 2 words)))
     ∷ (codes "read", Some (event.Read (appliance_at 1 words)))
     ∷ (codes "issue", Some (event.Issue (appliance_at 1 words)))
     ∷ (codes "land", Some (event.Land (appliance_at 1 words) (number_at 2 words) (number_at 3 words)))
     ∷ (codes "done", Some (event.Done (appliance_at 1 words)))
+    ∷ (codes "fault", Some (event.Fault (appliance_at 1 words)))
+    ∷ (codes "miss", Some (event.Miss (appliance_at 1 words) (number_at 2 words)))
     ∷ (codes "clock", Some (event.Reading (appliance_at 1 words) (number_at 2 words)))
     ∷ (codes "crash", Some (event.Crash (appliance_at 1 words)))
     ∷ (codes "run", Some (event.Run (appliance_at 1 words)))

@@ -3,12 +3,13 @@ use Rattle.std.specs.Prelude.{◌^◌, ℕ, List, [], ◌∷◌, ◌++◌, codes
 use Rattle.plx_base.specs.Canonical.{payload_of}
 use Rattle.plx_base.specs.Payload.{bytes_of}
 use Rattle.plx_base.specs.declared.payload.Payload.{Payload}
-use Rattle.plx_model.specs.declared.command.Command.{Command}
-use Rattle.plx_model.specs.declared.command.Command.TheVariants.{Attach, Read, Write}
-use Rattle.plx_model.specs.declared.entry.Entry.{Entry}
-use Rattle.plx_model.specs.declared.entry.Entry.TheVariants as entry
-use Rattle.plx_model.specs.declared.reply.Reply.{Reply}
-use Rattle.plx_model.specs.declared.reply.Reply.TheVariants.{Data}
+use Rattle.plx_commands.specs.declared.command.Command.{Command}
+use Rattle.plx_commands.specs.declared.command.Command.TheVariants.{Write}
+use Rattle.plx_commands.specs.declared.entry.Entry.{Entry}
+use Rattle.plx_commands.specs.declared.entry.Entry.TheVariants as entry
+use Rattle.plx_commands.specs.declared.reply.Reply.{Reply}
+use Rattle.plx_commands.specs.declared.reply.Reply.TheVariants.{Data}
+use Rattle.plx_geom.specs.Geometry.{Geometry}
 use Rattle.plx_words.specs.Candidates.{by_first}
 use Rattle.plx_text.specs.Commands.{command_line, command_of}
 use Rattle.plx_text.specs.Events.{appliance_at}
@@ -38,9 +39,8 @@ plain payload = payload_of (bytes_of payload)
 
 -- a command with plain data
 abbrev pub plain_command : Command → Command
-plain_command (Attach slot) = Attach slot
-plain_command (Read slot vblock) = Read slot vblock
 plain_command (Write slot vblock payload) = Write slot vblock (plain payload)
+plain_command other = other
 
 -- a reply with plain data
 abbrev pub plain_reply : Reply → Reply
@@ -62,12 +62,12 @@ abbrev pub end_line : ℕ → ℕ → List Piece
 end_line reachable allocated = word (codes "end") ∷ named (codes "reachable=") (2 ^ 64) reachable ∷ named (codes "allocated=") (2 ^ 64) allocated ∷ []
 
 -- the lines of a trace
-abbrev pub trace_lines : ℕ → List Entry → ℕ → ℕ → List (List Piece)
-trace_lines slots entries reachable allocated = world_line slots ∷ (entry_lines entries ++ end_line reachable allocated ∷ [])
+abbrev pub trace_lines : Geometry → ℕ → List Entry → ℕ → ℕ → List (List Piece)
+trace_lines g appliances entries reachable allocated = world_line g appliances ∷ (entry_lines entries ++ end_line reachable allocated ∷ [])
 
 -- the text of a trace, and of the two counts of its last line
-abbrev pub trace_text : ℕ → List Entry → ℕ → ℕ → List ℕ
-trace_text slots entries reachable allocated = text_of (trace_lines slots entries reachable allocated)
+abbrev pub trace_text : Geometry → ℕ → List Entry → ℕ → ℕ → List ℕ
+trace_text g appliances entries reachable allocated = text_of (trace_lines g appliances entries reachable allocated)
 
 -- what is said of a text whose line with this number isn't in the grammar
 abbrev pub bad_line : ℕ → List Piece

@@ -4,7 +4,7 @@ ghost use Rattle.std.specs.Prelude.{◌∷◌, IfOk, codes};
 ghost use Rattle.plx_text.specs.Commands.{ReadsCommand};
 
 use plx_base::{NoMemory, SlotNo};
-use plx_model::Command;
+use plx_commands::Command;
 use plx_words::{Words, read_data};
 use std::alloc::Global;
 
@@ -18,11 +18,23 @@ pub(crate) fn read_command(alloc: Global, words: &mut Words) -> Result<Option<Co
     if word == b"attach".as_slice() {
         return Ok(read_attach(words));
     }
+    if word == b"detach".as_slice() {
+        return Ok(read_detach(words));
+    }
+    if word == b"create".as_slice() {
+        return Ok(read_create(words));
+    }
+    if word == b"delete".as_slice() {
+        return Ok(read_delete(words));
+    }
     if word == b"read".as_slice() {
         return Ok(read_read(words));
     }
     if word == b"write".as_slice() {
         return read_write(alloc, words);
+    }
+    if word == b"renew".as_slice() {
+        return Ok(read_renew(words));
     }
     Ok(None)
 }
@@ -33,6 +45,32 @@ fn read_attach(words: &mut Words) -> Option<Command>
     let slot = SlotNo(words.small()?);
     words.end()?;
     Some(Command::Attach { slot })
+}
+
+fn read_detach(words: &mut Words) -> Option<Command>
+    ensures { ReadsCommand result (codes "detach" ∷ words.old) }
+{
+    let slot = SlotNo(words.small()?);
+    words.end()?;
+    Some(Command::Detach { slot })
+}
+
+fn read_create(words: &mut Words) -> Option<Command>
+    ensures { ReadsCommand result (codes "create" ∷ words.old) }
+{
+    let slot = SlotNo(words.small()?);
+    let size = words.small()?;
+    let label = words.label(b"")?;
+    words.end()?;
+    Some(Command::Create { slot, size, label })
+}
+
+fn read_delete(words: &mut Words) -> Option<Command>
+    ensures { ReadsCommand result (codes "delete" ∷ words.old) }
+{
+    let slot = SlotNo(words.small()?);
+    words.end()?;
+    Some(Command::Delete { slot })
 }
 
 fn read_read(words: &mut Words) -> Option<Command>
@@ -65,4 +103,11 @@ fn read_write(alloc: Global, words: &mut Words) -> Result<Option<Command>, NoMem
         vblock,
         payload,
     }))
+}
+
+fn read_renew(words: &mut Words) -> Option<Command>
+    ensures { ReadsCommand result (codes "renew" ∷ words.old) }
+{
+    words.end()?;
+    Some(Command::Renew)
 }

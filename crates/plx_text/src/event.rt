@@ -8,12 +8,16 @@ ghost use Rattle.plx_words.specs.Words.{words_of};
 use crate::command::read_command;
 use crate::stop::read_stop;
 use plx_base::{ApplianceNo, NoMemory};
-use plx_model::Event;
+use plx_commands::Event;
+use plx_geom::Geometry;
 use plx_words::Words;
 use std::alloc::Global;
 
 // The greatest number below 2^32.
 const MOST_SMALL: u64 = (1 << 32) - 1;
+
+// The most appliances of a world.
+const MOST_APPLIANCES: u64 = 8;
 
 // The highest reading of a clock, in milliseconds.
 const MOST_READING: u64 = (1 << 48) - 1;
@@ -43,6 +47,12 @@ pub(crate) fn read_event(alloc: Global, line: &[u8]) -> Result<Option<Event>, No
     }
     if word == b"done".as_slice() {
         return Ok(read_done(&mut words));
+    }
+    if word == b"fault".as_slice() {
+        return Ok(read_fault(&mut words));
+    }
+    if word == b"miss".as_slice() {
+        return Ok(read_miss(&mut words));
     }
     if word == b"clock".as_slice() {
         return Ok(read_clock(&mut words));
@@ -118,6 +128,23 @@ fn read_done(words: &mut Words) -> Option<Event>
     Some(Event::Done { appliance })
 }
 
+fn read_fault(words: &mut Words) -> Option<Event>
+    ensures { ReadsEvent result (codes "fault" ∷ words.old) }
+{
+    let appliance = ApplianceNo(words.small()?);
+    words.end()?;
+    Some(Event::Fault { appliance })
+}
+
+fn read_miss(words: &mut Words) -> Option<Event>
+    ensures { ReadsEvent result (codes "miss" ∷ words.old) }
+{
+    let appliance = ApplianceNo(words.small()?);
+    let reading = words.number(0, MOST_READING)?;
+    words.end()?;
+    Some(Event::Miss { appliance, reading })
+}
+
 fn read_clock(words: &mut Words) -> Option<Event>
     ensures { ReadsEvent result (codes "clock" ∷ words.old) }
 {
@@ -151,17 +178,20 @@ fn read_upto(words: &mut Words) -> Option<Event>
     Some(Event::Upto { appliance, stop })
 }
 
-/// The number of journal slots that a world line gives.
-pub(crate) fn read_world(line: &[u8]) -> Option<u32>
+/// The geometry and the number of appliances that a world line gives.
+pub(crate) fn read_world(line: &[u8]) -> Option<(Geometry, u32)>
     ensures { ReadsWorld result (words_of line.now) }
 {
     let mut words = Words::of(line);
     words.exactly(b"world")?;
-    words.exactly(b"1")?;
-    words.exactly(b"1")?;
-    words.exactly(b"16")?;
-    let slots = words.number(2, 64)?;
-    words.exactly(b"1")?;
+    let images = words.small()?;
+    let extents = words.small()?;
+    let extent_blocks = words.small()?;
+    let slots = words.small()?;
+    let appliances = words.number(1, MOST_APPLIANCES)?;
     words.end()?;
-    Some(slots as u32)
+    let Ok(geometry) = Geometry::new(images, extents, extent_blocks, slots) else {
+        return None;
+    };
+    Some((geometry, appliances as u32))
 }

@@ -8,25 +8,28 @@ ghost use Rattle.plx_words.specs.Written.{AddsLine, AddsLines, AddsWords};
 
 use crate::print_reply::push_reply;
 use plx_base::NoMemory;
-use plx_model::{Command, Entry};
+use plx_commands::{Command, Entry};
+use plx_geom::Geometry;
 use plx_words::{Text, Word};
 use std::alloc::Global;
 
-/// The trace of a world of one image with so many journal slots, and of the two counts of its
+/// The trace of a world of this geometry with so many appliances, and of the two counts of its
 /// last line: the blocks of the pool that can be reached, and those that are allocated.
 pub fn print_trace(
     alloc: Global,
-    slots: u32,
+    geometry: &Geometry,
+    appliances: u32,
     entries: &[Entry],
     reachable: u64,
     allocated: u64,
 ) -> Result<Text, NoMemory>
-    ensures text { IfOk result (λ text. text ≡ trace_text slots entries.now reachable allocated) }
+    ensures text { IfOk result
+        (λ text. text ≡ trace_text geometry.now appliances entries.now reachable allocated) }
     ensures tells { IfOk result
-        (λ text. LinesTell (trace_lines slots entries.now reachable allocated)) }
+        (λ text. LinesTell (trace_lines geometry.now appliances entries.now reachable allocated)) }
 {
     let mut text = Text::new(alloc);
-    push_world(&mut text, slots)?;
+    push_world(&mut text, geometry, appliances)?;
     push_entries(&mut text, entries)?;
     push_end(&mut text, reachable, allocated)?;
     Ok(text)
@@ -41,17 +44,17 @@ pub fn print_bad_line(alloc: Global, line: u64) -> Result<Text, NoMemory>
     Ok(text)
 }
 
-fn push_world(text: &mut Text, slots: u32) -> Result<(), NoMemory>
-    ensures { OnOk result (AddsLine text.old text.new (world_line slots)) }
+fn push_world(text: &mut Text, geometry: &Geometry, appliances: u32) -> Result<(), NoMemory>
+    ensures { OnOk result (AddsLine text.old text.new (world_line geometry.now appliances)) }
 {
     text.line(
         b"world",
         &[
-            Word::Plain(b"1"),
-            Word::Plain(b"1"),
-            Word::Plain(b"16"),
-            Word::Small(slots),
-            Word::Plain(b"1"),
+            Word::Small(geometry.images),
+            Word::Small(geometry.extents),
+            Word::Small(geometry.extent_blocks),
+            Word::Small(geometry.slots),
+            Word::Small(appliances),
         ],
     )
 }
@@ -102,6 +105,14 @@ fn push_command(text: &mut Text, command: &Command) -> Result<(), NoMemory>
 {
     match command {
         Command::Attach { slot } => text.words(&[Word::Plain(b"attach"), Word::Small(slot.0)]),
+        Command::Detach { slot } => text.words(&[Word::Plain(b"detach"), Word::Small(slot.0)]),
+        Command::Create { slot, size, label } => text.words(&[
+            Word::Plain(b"create"),
+            Word::Small(slot.0),
+            Word::Small(*size),
+            Word::Label(b"", label),
+        ]),
+        Command::Delete { slot } => text.words(&[Word::Plain(b"delete"), Word::Small(slot.0)]),
         Command::Read { slot, vblock } => {
             text.words(&[
                 Word::Plain(b"read"),
@@ -121,5 +132,12 @@ fn push_command(text: &mut Text, command: &Command) -> Result<(), NoMemory>
                 Word::Data(payload),
             ])
         }
+        Command::Flush { slot } => text.words(&[Word::Plain(b"flush"), Word::Small(slot.0)]),
+        Command::Reserve { count } => {
+            text.words(&[Word::Plain(b"reserve"), Word::Small(u32::from(*count))])
+        }
+        Command::Renew => text.words(&[Word::Plain(b"renew")]),
+        Command::Retire => text.words(&[Word::Plain(b"retire")]),
+        Command::Reclaim => text.words(&[Word::Plain(b"reclaim")]),
     }
 }

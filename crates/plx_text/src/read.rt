@@ -5,13 +5,12 @@ ghost use Rattle.plx_text.specs.Schedules.{IsSchedule, NamesFirstBad, SaysNoSche
 
 use crate::event::{read_event, read_world};
 use crate::schedule::{Schedule, TextError};
-use plx_model::EventList;
 use plx_words::Lines;
 use std::alloc::Global;
 
 /// Reads the text of a schedule.
 pub fn read_schedule(alloc: Global, bytes: &[u8]) -> Result<Schedule, TextError>
-    ensures ok { IfOk result (λ schedule. IsSchedule bytes.now schedule.slots schedule.events) }
+    ensures ok { IfOk result (λ schedule. IsSchedule bytes.now (schedule.geometry, schedule.appliances) schedule.events.items) }
     ensures bad { IfErr result (λ error. NamesFirstBad bytes.now error) }
     ensures none { IfErr result (λ error. SaysNoSchedule bytes.now error) }
 {
@@ -21,10 +20,10 @@ pub fn read_schedule(alloc: Global, bytes: &[u8]) -> Result<Schedule, TextError>
             line: lines.number + 1,
         });
     };
-    let Some(slots) = read_world(first.text) else {
+    let Some(world) = read_world(first.text) else {
         return Err(TextError::BadLine { line: first.number });
     };
-    let mut events = EventList::new(alloc);
+    let mut events = Vec::new(alloc);
     while let Some(line) = lines.next() {
         let Ok(found) = read_event(alloc, line.text) else {
             return Err(TextError::NoMemory);
@@ -41,5 +40,10 @@ pub fn read_schedule(alloc: Global, bytes: &[u8]) -> Result<Schedule, TextError>
             line: lines.number + 1,
         });
     }
-    Ok(Schedule { slots, events })
+    let (geometry, appliances) = world;
+    Ok(Schedule {
+        geometry,
+        appliances,
+        events,
+    })
 }

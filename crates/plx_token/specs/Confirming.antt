@@ -5,7 +5,7 @@ use Rattle.plx_base.specs.declared.lease.LeaseRecord.{LeaseRecord}
 use Rattle.plx_token.specs.declared.claimed.Unconfirmed.{Unconfirmed}
 use Rattle.plx_token.specs.declared.claimed.Unconfirmed.TheVariants.{NotMine, TooLate}
 use Rattle.plx_token.specs.declared.held.Held.{Held}
-use Rattle.plx_worlds.specs.Claims.{end_of_term, own_record}
+use Rattle.plx_rules.specs.Claims.{end_of_term, own_record}
 
 -- a lease is held by a claim, for the term of claims
 pub record IsHeldBy {K : Type 0} (which : K) (claimed : Claim) (held : Held K) : Type 0 where

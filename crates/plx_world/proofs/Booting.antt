@@ -1,92 +1,136 @@
 -- An appliance is given a command, or loses what it has in memory.
-use Rattle.std.proofs.Common.{◌≡◌, ◌+◌, ◌^◌, ◌<◌, ℕ, List, [], ◌∷◌, ◌++◌, length, reverse, IsSome, Option, Some, None, true, false, ap, sym, subst, ◌∙◌, arith}
-use Rattle.std.proofs.lemmas.Grind.{reverse_onto}
-use Rattle.plx_appliance.specs.Appliance.{IsIdle, IsRunning, StandsFor, place}
-use Rattle.plx_appliance.specs.Places.{known_in}
+use Rattle.std.proofs.Common.{◌≡◌, ◌+◌, ◌^◌, ◌≤◌, ◌<◌, ℕ, List, [], ◌∷◌, ◌++◌, length, Some, None, true, false, refl, ap, sym, subst, ◌∙◌, arith}
+use Rattle.std.specs.Prelude.{slice_get, slice_set}
+use Rattle.plx_appliance.specs.Appliance.{IsIdle, IsRunning, StandsFor, setting_of}
+use Rattle.plx_appliance.specs.Giving as giving
+use Rattle.plx_appliance.specs.declared.setting.Setting.{Setting as Own}
 use Rattle.plx_base.proofs.Uniform.{length-filled}
 use Rattle.plx_base.specs.Payload.{bytes_of}
-use Rattle.plx_base.specs.declared.numbers.SlotNo.{SlotNo}
+use Rattle.plx_base.specs.declared.numbers.ApplianceNo.{ApplianceNo}
 use Rattle.plx_base.specs.declared.payload.Payload.{Payload}
 use Rattle.plx_base.specs.declared.payload.Payload.TheVariants as payload
-use Rattle.plx_disk.specs.Standing.{Turns}
-use Rattle.plx_disk.specs.Standing.{Stands as DiskStands}
-use Rattle.plx_disk.specs.declared.ask.Ask.{Ask}
+use Rattle.plx_commands.proofs.Places.{at-other, at-same}
+use Rattle.plx_commands.specs.declared.command.Command.{Command}
+use Rattle.plx_commands.specs.declared.entry.Entry.TheVariants as entry
+use Rattle.plx_commands.specs.declared.event.Event.TheVariants as event
+use Rattle.plx_disk.specs.Standing.{Stands as DiskStands, Stays as DiskStays}
 use Rattle.plx_disk.specs.declared.disk.Disk.{Disk}
-use Rattle.plx_model.specs.declared.command.Command.{Command}
-use Rattle.plx_model.specs.declared.command.Command.TheVariants as command
-use Rattle.plx_model.specs.declared.entry.Entry.{Entry}
-use Rattle.plx_model.specs.declared.entry.Entry.TheVariants as entry
-use Rattle.plx_model.specs.declared.event.Event.TheVariants as event
-use Rattle.plx_rules.specs.Boot.{Happening, Began, IsWhole, asks}
-use Rattle.plx_rules.specs.World.{after_crash, after_start, crashes, starts, without_pending}
-use Rattle.plx_world.specs.Standing.{Steps, the_first}
+use Rattle.plx_geom.specs.Geometry.{Geometry}
+use Rattle.plx_rules.specs.Boot.{Happening, Began}
+use Rattle.plx_rules.specs.Commands.{IsBuilt, IsWellFormed}
+use Rattle.plx_rules.specs.World as rules
+use Rattle.plx_rules.specs.World.{after_crash, after_start, crashes, setting_at, starts, with_happening}
+use Rattle.plx_world.specs.Fresh.{IsFresh}
+use Rattle.plx_world.specs.Seats.{KeepsSeat}
+use Rattle.plx_world.specs.Standing.{Stays, Steps}
+use Rattle.plx_world.specs.declared.seat.Seat.{Seat}
 use Rattle.plx_world.specs.declared.world.World.{World}
-use Rattle.plx_world.proofs.Asked.{position-of}
+use Rattle.plx_world.proofs.Answered.{one-more, seats-changed}
 use Rattle.plx_world.proofs.Inverted.{step-crash, step-start}
-use Rattle.plx_world.proofs.Stepping.{first-there, impossible, asks-of}
+use Rattle.plx_world.proofs.Seating.{busy-at, idle-at, seat-at}
+use Rattle.plx_world.proofs.Stepping.{impossible}
 
 -- one byte throughout is a whole payload
-pub whole-all : (c : Command) (slot : SlotNo) (vblock : ℕ) (p : Payload) (byte : ℕ) → c ≡ command.Write slot vblock p → p ≡ payload.All byte → IsWhole c
-whole-all c slot vblock p byte e f =
-    let P : Command → Type 0 = λ x. IsWhole x in
-    let Q : Payload → Type 0 = λ x. length (bytes_of x) ≡ 4096 in
-    subst P (sym e) (subst Q (sym f) (length-filled byte))
+pub whole-all : (p : Payload) (byte : ℕ) → p ≡ payload.All byte → length (bytes_of p) ≡ 4096
+whole-all p byte e = let Q : Payload → Type 0 = λ x. length (bytes_of x) ≡ 4096 in subst Q (sym e) (length-filled byte)
 
--- one more entry of a trace
-pub one-more : (trace new : List Entry) (old : List Entry) (one : Entry) → new ≡ trace ++ one ∷ [] → trace ≡ reverse old → new ≡ reverse (one ∷ old)
-one-more trace new old one is same = is ∙ ap (λ (xs : List Entry). xs ++ one ∷ []) same ∙ sym (reverse_onto old one [])
+-- what the code's change of one seat has to leave
+pub record Changes (old new : World) (n : ℕ) (after : Seat) : Type 0 where
+  pub geometry : new.geometry ≡ old.geometry
+  pub disk : new.disk ≡ old.disk
+  pub seats : new.seats.items ≡ slice_set old.seats.items n after
+  pub count : length new.seats.items ≡ length old.seats.items
+
+-- the same, where the device may have changed in what nobody sees
+pub record Leaves (old new : World) (n : ℕ) (after : Seat) : Type 0 where
+  pub geometry : new.geometry ≡ old.geometry
+  pub disk : DiskStays old.disk new.disk
+  pub seats : new.seats.items ≡ slice_set old.seats.items n after
+  pub count : length new.seats.items ≡ length old.seats.items
 
 -- a command begins
-pub starts-command : (old new : World) (c told given : Command) → told ≡ c → given ≡ c → old.appliance.slots ≡ old.slots → IsIdle old.appliance → IsWhole c → new.slots ≡ old.slots → new.disk ≡ old.disk → new.boots ≡ old.boots →
-    new.pending ≡ None → new.trace.items ≡ old.trace.items ++ entry.Start the_first told ∷ [] →
-    ((log : List Happening) → StandsFor old.appliance log → StandsFor new.appliance (Began given ∷ log)) → Steps old new (event.Start the_first c) true
-starts-command old new c told given told-is given-is same idle whole slots disk boots pending trace begins w h =
+pub starts-command : (old new : World) (a : ApplianceNo) (c told given : Command) (before after : Seat) → slice_get old.seats.items a.0 ≡ Some before → a.0 < length old.seats.items →
+    told ≡ c → given ≡ c → IsIdle before.appliance → IsBuilt c → IsWellFormed c → Changes old new a.0 after → KeepsSeat before after → after.pending ≡ None →
+    new.trace.items ≡ old.trace.items ++ entry.Start a told ∷ [] →
+    ((log : List Happening) → StandsFor before.appliance log → StandsFor after.appliance (Began given ∷ log)) → Steps old new (event.Start a c) true
+starts-command old new a c told given before after at below told-is given-is idle built formed left kept pending trace begins w h =
+    let n = a.0 in
+    let one = h.seats n before at in
+    let count = h.count in
+    let s = with_happening (w.seats n) (Began c) in
+    let v = after_start w a c in
+    let place = idle-at w n before one idle in
+    let same : setting_of after.appliance ≡ setting_of before.appliance = ap (λ (s : Own). giving.given s) kept.setting in
     let D : Disk → Type 0 = λ x. DiskStands x w.surface in
-    let B : Command → Type 0 = λ x. StandsFor new.appliance (Began x ∷ (w.seats 0).log) in
-    let T : Command → Type 0 = λ x. new.trace.items ≡ old.trace.items ++ entry.Start the_first x ∷ [] in (
-      after_start w the_first c,
-      starts (known_in old.appliance.state) (first-there h) (position-of old w same h ∙ idle) whole,
+    let B : Command → Type 0 = λ x. StandsFor after.appliance (Began x ∷ (w.seats n).log) in
+    let T : Command → Type 0 = λ x. new.trace.items ≡ old.trace.items ++ entry.Start a x ∷ [] in (
+      v,
+      starts place.0 (omega (arith, count, below)) place.1 formed built,
       record {
-        slots = slots ∙ h.slots;
-        single = h.single;
-        surface = subst D (sym disk) h.surface;
-        boots = boots ∙ h.boots;
-        log = subst B given-is (begins (w.seats 0).log h.log);
-        pending = pending;
-        trace = one-more old.trace.items new.trace.items w.trace (entry.Start the_first c) (subst T told-is trace) h.trace;
+        geometry = left.geometry ∙ h.geometry;
+        count = left.count ∙ h.count;
+        surface = subst D (sym left.disk) h.surface;
+        seats = seats-changed old.seats.items new.seats.items w v n before after at left.seats h.seats
+            (seat-at v n s after (at-same w.seats n s) (same ∙ one.setting) (kept.boots ∙ one.boots) (subst B given-is (begins (w.seats n).log one.log)) pending (kept.issued ∙ one.issued))
+            refl
+            (λ k other. at-other w.seats n k s other) (λ k other. refl);
+        trace = one-more new.trace.items old.trace.items w.trace (entry.Start a c) (subst T told-is trace) h.trace;
       },
     )
 
--- none can begin
-asks-something : (asked : Option Ask) → IsSome asked → asked ≡ None → ⊥
-asks-something None some none = let e : false ≡ true = some in cc
-asks-something (Some one) some none = cc
+pub starts-busy : (old : World) (a : ApplianceNo) (c : Command) (seat : Seat) → slice_get old.seats.items a.0 ≡ Some seat → IsRunning seat.appliance →
+    Steps old old (event.Start a c) false
+starts-busy old a c seat at running = impossible old old (event.Start a c) (λ w h. h)
+    (λ w v h step. let found = step-start step in busy-at w a.0 seat (h.seats a.0 seat at) running found.known found.at)
 
-pub starts-none : (old : World) (c : Command) → old.appliance.slots ≡ old.slots → IsRunning old.appliance → Steps old old (event.Start the_first c) false
-starts-none old c same running = impossible old old (event.Start the_first c) (λ w h. h)
-    (λ w v h step. asks-something (asks (place old.appliance)) running (sym (asks-of old w same h) ∙ step-start step))
+-- without memory nothing has changed
+pub seat-stays : (old new : World) (n : ℕ) (before after : Seat) → slice_get old.seats.items n ≡ Some before → Leaves old new n after → KeepsSeat before after →
+    after.pending ≡ before.pending → new.trace.items ≡ old.trace.items → ((log : List Happening) → StandsFor before.appliance log → StandsFor after.appliance log) → Stays old new
+seat-stays old new n before after at left kept pending trace stays w h =
+    let one = h.seats n before at in
+    let same : setting_of after.appliance ≡ setting_of before.appliance = ap (λ (s : Own). giving.given s) kept.setting in
+    record {
+      geometry = left.geometry ∙ h.geometry;
+      count = left.count ∙ h.count;
+      surface = left.disk w.surface h.surface;
+      seats = seats-changed old.seats.items new.seats.items w w n before after at left.seats h.seats
+          (seat-at w n (w.seats n) after refl (same ∙ one.setting) (kept.boots ∙ one.boots) (stays (w.seats n).log one.log) (pending ∙ one.pending) (kept.issued ∙ one.issued))
+          refl
+          (λ k other. refl) (λ k other. refl);
+      trace = trace ∙ h.trace;
+    }
 
--- a boot is lost
-pub crashes-now : (old new : World) → old.boots + 1 < 2 ^ 32 → new.slots ≡ old.slots → Turns old.disk new.disk (λ s. without_pending s old.pending) →
-    new.boots ≡ old.boots + 1 → new.pending ≡ None → new.trace.items ≡ old.trace.items ++ entry.Crash the_first ∷ [] → StandsFor new.appliance [] →
-    Steps old new (event.Crash the_first) true
-crashes-now old new few slots disk boots pending trace fresh w h =
-    let D : Option ℕ → Type 0 = λ x. DiskStands new.disk (without_pending w.surface x) in
-    let before = h.boots in (
-      after_crash w the_first,
-      crashes (first-there h) (omega (arith, before, few)),
+-- ---- a boot is lost
+
+pub crashes-now : (old new : World) (a : ApplianceNo) (before after : Seat) → slice_get old.seats.items a.0 ≡ Some before → a.0 < length old.seats.items →
+    before.boots + 1 < 2 ^ 32 → Changes old new a.0 after → IsFresh old.geometry a.0 (before.boots + 1) after.appliance → after.boots ≡ before.boots + 1 → after.pending ≡ None →
+    after.issued.items ≡ before.issued.items → new.trace.items ≡ old.trace.items ++ entry.Crash a ∷ [] → Steps old new (event.Crash a) true
+crashes-now old new a before after at below few left fresh boots pending issued trace w h =
+    let n = a.0 in
+    let one = h.seats n before at in
+    let count = h.count in
+    let before-is = one.boots in
+    let s : rules.Seat = record { boots = (w.seats n).boots + 1; log = []; pending = None } in
+    let v = after_crash w a in
+    let more : before.boots + 1 ≡ (w.seats n).boots + 1 = ap (λ (m : ℕ). m + 1) one.boots in
+    let D : Disk → Type 0 = λ x. DiskStands x w.surface in (
+      v,
+      crashes (omega (arith, count, below)) (omega (arith, before-is, few)),
       record {
-        slots = slots ∙ h.slots;
-        single = h.single;
-        surface = subst D h.pending (disk w.surface h.surface);
-        boots = boots ∙ ap (λ (n : ℕ). n + 1) h.boots;
-        log = fresh;
-        pending = pending;
-        trace = one-more old.trace.items new.trace.items w.trace (entry.Crash the_first) trace h.trace;
+        geometry = left.geometry ∙ h.geometry;
+        count = left.count ∙ h.count;
+        surface = subst D (sym left.disk) h.surface;
+        seats = seats-changed old.seats.items new.seats.items w v n before after at left.seats h.seats
+            (seat-at v n s after (at-same w.seats n s)
+            (fresh.setting ∙ ap (λ (g : Geometry). setting_at g n (before.boots + 1)) h.geometry ∙ ap (λ (m : ℕ). setting_at w.geometry n m) more)
+            (boots ∙ more)
+            fresh.log pending (issued ∙ one.issued))
+            refl
+            (λ k other. at-other w.seats n k s other) (λ k other. refl);
+        trace = one-more new.trace.items old.trace.items w.trace (entry.Crash a) trace h.trace;
       },
     )
 
--- there are no more boots
-pub crashes-none : (old : World) → (old.boots + 1 < 2 ^ 32 → ⊥) → Steps old old (event.Crash the_first) false
-crashes-none old many = impossible old old (event.Crash the_first) (λ w h. h)
-    (λ w v h step. let few = step-crash step in let before = h.boots in many (omega (arith, few, before)))
+pub crashes-none : (old : World) (a : ApplianceNo) (seat : Seat) → slice_get old.seats.items a.0 ≡ Some seat → (seat.boots + 1 < 2 ^ 32 → ⊥) → Steps old old (event.Crash a) false
+crashes-none old a seat at many = impossible old old (event.Crash a) (λ w h. h)
+    (λ w v h step. let few = (step-crash step).1 in let before = (h.seats a.0 seat at).boots in many (omega (arith, few, before)))

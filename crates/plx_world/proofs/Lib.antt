@@ -1,10 +1,19 @@
-mod Asked
+mod Absent
+mod Answered
+mod Asking
 mod Booting
+pub mod Bounds
+mod Deciding
+mod Disked
+mod Going
 mod Inverted
+mod Issuing
+mod Left
 mod Made
-mod Owned
+mod Numbered
+mod Placed
+mod Regions
+mod Seating
 mod Sequences
+mod Starting
 mod Stepping
-mod Stops
-mod Working
-mod Writing

@@ -1,27 +1,18 @@
 -- What the outcome of a call says of an event.
-use Rattle.std.proofs.Common.{◌≡◌, ◌<◌, ℕ, zero, suc, List, [], ◌∷◌, ◌++◌, length, take, drop, get_or, Some, None, Bool, true, false, refl, ap, sym, subst, ◌∙◌, arith}
-use Rattle.std.specs.Prelude.{IfOk, OnErr, Result, Ok, Err, nat_lt}
-use Rattle.std.proofs.lemmas.Bool.{lt-ltb}
+use Rattle.std.proofs.Common.{◌≡◌, ◌<◌, ℕ, zero, suc, List, [], ◌∷◌, ◌++◌, length, take, drop, get_or, Some, None, Bool, true, false, ap, sym, subst, arith}
+use Rattle.std.specs.Prelude.{IfOk, OnErr, Result, Ok, Err}
 use Rattle.plx_base.specs.declared.numbers.ApplianceNo.{ApplianceNo}
-use Rattle.plx_model.specs.declared.event.Event.{Event}
-use Rattle.plx_model.specs.declared.event.Event.TheVariants as event
-use Rattle.plx_model.specs.declared.event.Stop.{Stop}
-use Rattle.plx_rules.specs.Headline.{HeadlineOfAll}
-use Rattle.plx_world.specs.Named.{is_other, named}
+use Rattle.plx_commands.specs.declared.event.Event.{Event}
+use Rattle.plx_commands.specs.declared.event.Event.TheVariants as event
+use Rattle.plx_commands.specs.declared.event.Stop.{Stop}
+use Rattle.plx_rules.specs.World as rules
+use Rattle.plx_rules.specs.World.{Reached}
+use Rattle.law_lease.proofs.Runs.{played-reached}
+use Rattle.plx_world.specs.Playing.{IsLawful, KeepsLaws, LawsHold, Leads, LeadsPartly, PlaysAll, PlaysSome}
 use Rattle.plx_world.specs.Running.{MakesRun, RunsSome}
-use Rattle.plx_world.specs.Standing.{KeepsHeadline, Leads, LeadsPartly, Stays, Steps, the_first}
+use Rattle.plx_world.specs.Standing.{Stays, Steps}
 use Rattle.plx_world.specs.declared.world.World.{World}
-use Rattle.plx_world.proofs.Sequences.{headline-leads, headline-partly, is_plain, leads-plain, leads-run, leads-upto, partly-plain, partly-run, partly-upto}
-
--- the first appliance is the only one that is no other
-not-above : (n : ℕ) → nat_lt 0 n ≡ false → 0 ≡ n
-not-above zero e = refl
-not-above (suc n) e = let above : nat_lt 0 (suc n) ≡ true = lt-ltb 0 (suc n) (omega arith) in let both : true ≡ false = sym above ∙ e in cc
-
-pub first-event : (of : ApplianceNo → Event) → ((a : ApplianceNo) → named (of a) ≡ Some a) → (one : Event) (a : ApplianceNo) → one ≡ of a → is_other (named one) ≡ false → one ≡ of the_first
-first-event of names one a is here =
-    let at : is_other (Some a) ≡ false = ap is_other (sym (names a)) ∙ ap (λ (e : Event). is_other (named e)) (sym is) ∙ here in
-    is ∙ ap (λ (n : ℕ). of (record { 0 = n })) (sym (not-above a.0 at))
+use Rattle.plx_world.proofs.Sequences.{is_plain, leads-plain, leads-run, leads-upto, partly-plain, partly-run, partly-upto, reached-makes, reached-partly, reached-plays}
 
 -- a plain event
 pub ok-plain : {E : Type 0} (old new : World) (one plain : Event) (r : Result Bool E) → one ≡ plain → is_plain plain ≡ true → IfOk r (Steps old new plain) → IfOk r (Leads old new one)
@@ -36,35 +27,68 @@ err-plain old new one (Ok made) stays = tt
 err-plain old new one (Err error) stays = partly-plain old new one stays
 
 -- a run
-pub ok-run : {E : Type 0} (old new : World) (one : Event) (r : Result Bool E) → one ≡ event.Run the_first → IfOk r (MakesRun None old new) → IfOk r (Leads old new one)
-ok-run old new one (Ok made) is makes = let P : Event → Type 0 = λ e. Leads old new e made in subst P (sym is) (leads-run old new made makes)
-ok-run old new one (Err error) is makes = tt
+pub ok-run : {E : Type 0} (old new : World) (one : Event) (a : ApplianceNo) (r : Result Bool E) → one ≡ event.Run a → IfOk r (MakesRun a None old new) → IfOk r (Leads old new one)
+ok-run old new one a (Ok made) is makes = let P : Event → Type 0 = λ e. Leads old new e made in subst P (sym is) (leads-run old new a made makes)
+ok-run old new one a (Err error) is makes = tt
 
-pub err-run : {E : Type 0} (old new : World) (one : Event) (r : Result Bool E) → one ≡ event.Run the_first → OnErr r (RunsSome None old new) → OnErr r (LeadsPartly old new one)
-err-run old new one (Ok made) is some = tt
-err-run old new one (Err error) is some = let P : Event → Type 0 = λ e. LeadsPartly old new e in subst P (sym is) (partly-run old new some)
-
-pub ok-upto : {E : Type 0} (old new : World) (one : Event) (stop : Stop) (r : Result Bool E) → one ≡ event.Upto the_first stop → IfOk r (MakesRun (Some stop) old new) → IfOk r (Leads old new one)
-ok-upto old new one stop (Ok made) is makes = let P : Event → Type 0 = λ e. Leads old new e made in subst P (sym is) (leads-upto old new stop made makes)
-ok-upto old new one stop (Err error) is makes = tt
-
-pub err-upto : {E : Type 0} (old new : World) (one : Event) (stop : Stop) (r : Result Bool E) → one ≡ event.Upto the_first stop → OnErr r (RunsSome (Some stop) old new) →
+pub err-run : {E : Type 0} (old new : World) (one : Event) (a : ApplianceNo) (r : Result Bool E) → one ≡ event.Run a → OnErr r (RunsSome a None old new) →
     OnErr r (LeadsPartly old new one)
-err-upto old new one stop (Ok made) is some = tt
-err-upto old new one stop (Err error) is some = let P : Event → Type 0 = λ e. LeadsPartly old new e in subst P (sym is) (partly-upto old new stop some)
+err-run old new one a (Ok made) is some = tt
+err-run old new one a (Err error) is some = let P : Event → Type 0 = λ e. LeadsPartly old new e in subst P (sym is) (partly-run old new a some)
 
--- where a call found none
+-- an upto
+pub ok-upto : {E : Type 0} (old new : World) (one : Event) (a : ApplianceNo) (stop : Stop) (r : Result Bool E) → one ≡ event.Upto a stop →
+    IfOk r (MakesRun a (Some stop) old new) → IfOk r (Leads old new one)
+ok-upto old new one a stop (Ok made) is makes = let P : Event → Type 0 = λ e. Leads old new e made in subst P (sym is) (leads-upto old new a stop made makes)
+ok-upto old new one a stop (Err error) is makes = tt
+
+pub err-upto : {E : Type 0} (old new : World) (one : Event) (a : ApplianceNo) (stop : Stop) (r : Result Bool E) → one ≡ event.Upto a stop →
+    OnErr r (RunsSome a (Some stop) old new) → OnErr r (LeadsPartly old new one)
+err-upto old new one a stop (Ok made) is some = tt
+err-upto old new one a stop (Err error) is some = let P : Event → Type 0 = λ e. LeadsPartly old new e in subst P (sym is) (partly-upto old new a stop some)
+
+-- where a call found no memory
 pub on-err : {A E : Type 0} (r : Result A E) (P : Type 0) → P → OnErr r P
 on-err (Ok value) P p = tt
 on-err (Err error) P p = p
-
--- the headline after either outcome
-pub headline-made : {E : Type 0} → HeadlineOfAll → (old new : World) (one : Event) (r : Result Bool E) → IfOk r (Leads old new one) → OnErr r (LeadsPartly old new one) → KeepsHeadline old new
-headline-made law old new one (Ok made) ok err = headline-leads law old new one made ok
-headline-made law old new one (Err error) ok err = headline-partly law old new one err
 
 -- a list, cut at one of its events
 pub cut : (xs : List Event) (i : ℕ) (x : Event) → i < length xs → x ≡ get_or xs i x → take i xs ++ x ∷ drop (suc i) xs ≡ xs
 cut [] i x within is = absurd (omega (arith, within))
 cut (y ∷ xs) zero x within is = ap (λ (z : Event). z ∷ xs) is
 cut (y ∷ xs) (suc i) x within is = ap (λ (rest : List Event). y ∷ rest) (cut xs i x (omega (arith, within)) is)
+
+-- ---- the laws
+
+-- they hold of a world that events lead to
+lawful : LawsHold → {w : rules.World} → Reached w → IsLawful w
+lawful laws {w} reached = record {
+  reached = reached;
+  headline = laws.headline w reached;
+  undamaged = laws.undamaged w reached;
+  exclusion = laws.exclusion w reached;
+  guarding = laws.guarding w reached;
+}
+
+laws-leads : LawsHold → (old new : World) (one : Event) (possible : Bool) → Leads old new one possible → KeepsLaws old new
+laws-leads laws old new one true leads w reached h =
+    let found = leads w reached h in (found.0, lawful laws (reached-makes reached found.1), found.2)
+laws-leads laws old new one false leads w reached h = let found = leads w reached h in (w, lawful laws reached, found.1)
+
+laws-partly : LawsHold → (old new : World) (one : Event) → LeadsPartly old new one → KeepsLaws old new
+laws-partly laws old new one leads w reached h =
+    let found = leads w reached h in (found.0, lawful laws (reached-partly reached found.1), found.2)
+
+-- after either outcome of an event
+pub laws-made : {E : Type 0} → LawsHold → (old new : World) (one : Event) (r : Result Bool E) → IfOk r (Leads old new one) → OnErr r (LeadsPartly old new one) → KeepsLaws old new
+laws-made laws old new one (Ok made) ok err = laws-leads laws old new one made ok
+laws-made laws old new one (Err error) ok err = laws-partly laws old new one err
+
+-- after a schedule, or a part of one
+pub laws-plays : LawsHold → (old new : World) (events : List Event) → PlaysAll old new events → KeepsLaws old new
+laws-plays laws old new events plays w reached h =
+    let found = plays w reached h in (found.0, lawful laws (reached-plays events reached found.1), found.2)
+
+pub laws-some : LawsHold → (old new : World) (events : List Event) → PlaysSome old new events → KeepsLaws old new
+laws-some laws old new events plays w reached h =
+    let found = plays w reached h in (found.0, lawful laws (played-reached w found.0 events reached found.1), found.2)

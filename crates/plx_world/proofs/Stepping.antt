@@ -1,155 +1,181 @@
--- Each event of the program is one of the world that it stands for.
-use Rattle.std.proofs.Common.{◌≡◌, ◌≢◌, ◌+◌, ◌≤◌, ◌<◌, ℕ, List, [], Option, Some, None, true, false, ap, sym, subst, ◌∙◌, arith}
-use Rattle.plx_appliance.specs.Appliance.{place}
-use Rattle.plx_appliance.specs.Places.{FitsAsk}
+-- Each answer of the program's world is an event of the world that it stands for.
+use Rattle.std.proofs.Common.{◌≡◌, ◌≢◌, ◌^◌, ◌≤◌, ◌<◌, ℕ, List, [], length, Option, Some, None, true, false, refl, ap, sym, subst, ◌∙◌, arith}
+use Rattle.std.specs.Prelude.{is_some}
+use Rattle.plx_base.specs.declared.numbers.ApplianceNo.{ApplianceNo}
 use Rattle.plx_base.specs.declared.numbers.BlockNo.{BlockNo}
 use Rattle.plx_base.specs.declared.write_kind.WriteKind.{WriteKind}
+use Rattle.plx_commands.specs.declared.event.Event.{Event}
+use Rattle.plx_commands.specs.declared.event.Event.TheVariants as event
 use Rattle.plx_disk.specs.Standing.{Stands as DiskStands}
 use Rattle.plx_disk.specs.Writes.{HasLanded, Surface}
 use Rattle.plx_disk.specs.declared.ask.Answer.{Answer}
 use Rattle.plx_disk.specs.declared.ask.Answer.TheVariants as answer
-use Rattle.plx_disk.specs.declared.disk.Disk.{Disk}
 use Rattle.plx_disk.specs.declared.ask.Ask.{Ask}
 use Rattle.plx_disk.specs.declared.ask.Ask.TheVariants as ask
-use Rattle.plx_model.specs.declared.event.Event.{Event}
-use Rattle.plx_model.specs.declared.event.Event.TheVariants as event
-use Rattle.plx_rules.specs.Boot.{In, asks}
-use Rattle.plx_rules.specs.Part.{ReadThen, WriteThen, ClockThen, UntilThen}
+use Rattle.plx_rules.specs.Boot.{asks, replies_at, writes_out}
+use Rattle.plx_rules.specs.Commands.{command_part}
+use Rattle.plx_rules.specs.Holds.{after_first}
 use Rattle.plx_rules.specs.World as rules
-use Rattle.plx_rules.specs.World.{Step, stands, reads, dones, clocks, waits, goes_on}
-use Rattle.plx_world.specs.Standing.{GivesBlock, Stands, Stays, Steps, IsAnswered, the_first}
+use Rattle.plx_rules.specs.World.{IsReading, Step, stands, setting_of, goes_on, reads, read_faults, write_faults, dones, misses, begins, clocks, waits}
+use Rattle.plx_world.specs.Answering.{GivesBlock, IsAnswered, asked_by, pending_of}
+use Rattle.plx_world.specs.Standing.{Stands, Stays, Steps}
 use Rattle.plx_world.specs.declared.world.World.{World}
-use Rattle.plx_world.proofs.Asked.{position-of, asked-read, asked-write, asked-clock, asked-until}
-use Rattle.plx_world.proofs.Inverted.{step-read, step-done, step-reading, Answers, clock, wait}
+use Rattle.plx_world.proofs.Inverted.{step-read, step-fault, step-done, step-miss, step-reading, AsksDevice, read, write, Answers, clock, wait}
+use Rattle.plx_world.proofs.Placed.{asked-read, asked-write, asked-clock, asked-until, AsksClock, first, later}
+use Rattle.plx_world.proofs.Seating.{if-none, if-some}
 
--- the one appliance is there
-pub first-there : {world : World} {w : rules.World} → Stands world w → 0 < w.appliances
-first-there h = omega (arith, h.single)
+-- what the code has found that an appliance asks
+abbrev pub IsAsk : World → ApplianceNo → Option Ask → Type 0
+IsAsk world a asked = (w : rules.World) → Stands world w → asked ≡ asked_by w a.0
 
--- an event that no world allows, by what is asked
-pub asks-of : (world : World) (w : rules.World) → world.appliance.slots ≡ world.slots → Stands world w → asks (stands w 0) ≡ asks (place world.appliance)
-asks-of world w same h = ap asks (position-of world w same h)
+-- and the write for which it waits
+abbrev pub IsPending : World → ApplianceNo → Option ℕ → Type 0
+IsPending world a pending = (w : rules.World) → Stands world w → pending ≡ pending_of w a.0
 
+-- the appliance is there, and this is what it asks at its place
+pub asks-there : (world : World) (a : ApplianceNo) (asked : Ask) (w : rules.World) → IsAsk world a (Some asked) → Stands world w →
+    (a.0 < w.appliances) × (asks (stands w a.0).place ≡ Some asked)
+asks-there world a asked w is h = if-some a.0 w.appliances (asks (stands w a.0).place) asked (sym (is w h))
+
+-- an event that no world allows
 pub impossible : (old new : World) (one : Event) → Stays old new → ((w v : rules.World) → Stands old w → Step w one v → ⊥) → Steps old new one false
 impossible old new one stays none w h = (λ v step. none w v h step, stays w h)
 
--- a read is answered
-pub reads-block : (old new : World) (block : BlockNo) (bytes : List ℕ) → old.appliance.slots ≡ old.slots →
-    Some (ask.Read block) ≡ asks (place old.appliance) → ((s : Surface) → DiskStands old.disk s → bytes ≡ s.device block.0) →
-    IsAnswered old new (answer.Bytes bytes) → Steps old new (event.Read the_first) true
-reads-block old new block bytes same asked stored answered w h =
-    let found = asked-read (place old.appliance) block (sym asked) in
-    let at : stands w 0 ≡ In (ReadThen block.0 found.0 found.1) = position-of old w same h ∙ found.2 in
-    let part = ReadThen block.0 found.0 found.1 in
-    let one = event.Read the_first in
-    let P : List ℕ → Type 0 = λ x. Stands new (goes_on w one the_first (ask.Read (record { 0 = block.0 })) [] part (answer.Bytes x)) in (
-      goes_on w one the_first (ask.Read (record { 0 = block.0 })) [] part (answer.Bytes (w.surface.device block.0)),
-      reads block.0 found.0 found.1 (first-there h) at,
-      subst P (stored w.surface h.surface) (answered w one (ask.Read (record { 0 = block.0 })) [] part h at),
+-- ---- reads
+
+reads-block : (old new : World) (a : ApplianceNo) (block : BlockNo) (bytes : List ℕ) → IsAsk old a (Some (ask.Read block)) → length bytes ≡ 4096 →
+    ((s : Surface) → DiskStands old.disk s → bytes ≡ s.device block.0) → IsAnswered old new a (answer.Bytes bytes) → Steps old new (event.Read a) true
+reads-block old new a block bytes is whole stored answered w h =
+    let there = asks-there old a (ask.Read block) w is h in
+    let found = asked-read (stands w a.0).place block there.1 in
+    let one = event.Read a in
+    let P : List ℕ → Type 0 = λ x. Stands new (goes_on w one a (ask.Read (record { 0 = block.0 })) [] (answer.Bytes x) (found.rest x)) in (
+      goes_on w one a (ask.Read (record { 0 = block.0 })) [] (answer.Bytes (w.surface.device block.0)) (found.rest (w.surface.device block.0)),
+      reads found.known found.command block.0 found.rest found.fault there.0 found.at,
+      subst P (stored w.surface h.surface)
+          (answered w one (ask.Read (record { 0 = block.0 })) [] (found.rest bytes) h there.1 (ap writes_out found.at) whole
+          (ap (replies_at (setting_of w a.0) (answer.Bytes bytes) (stands w a.0)) found.at)),
     )
 
--- the same of an answer that gives the block
-pub gives-block : (old new : World) (block : BlockNo) (given : Answer) → old.appliance.slots ≡ old.slots →
-    Some (ask.Read block) ≡ asks (place old.appliance) → GivesBlock old.disk block.0 given →
-    IsAnswered old new given → Steps old new (event.Read the_first) true
-gives-block old new block (answer.Bytes bytes) same asked gives answered = reads-block old new block bytes same asked gives.1 answered
-gives-block old new block answer.Done same asked gives answered = absurd gives
-gives-block old new block (answer.Reading reading) same asked gives answered = absurd gives
-gives-block old new block (answer.Missed reading) same asked gives answered = absurd gives
-gives-block old new block answer.Fault same asked gives answered = absurd gives
+pub gives-block : (old new : World) (a : ApplianceNo) (block : BlockNo) (given : Answer) → IsAsk old a (Some (ask.Read block)) → GivesBlock old.disk block.0 given →
+    IsAnswered old new a given → Steps old new (event.Read a) true
+gives-block old new a block (answer.Bytes bytes) is gives answered = reads-block old new a block bytes is gives.0 gives.1 answered
+gives-block old new a block answer.Done is gives answered = absurd gives
+gives-block old new a block (answer.Reading reading) is gives answered = absurd gives
+gives-block old new a block (answer.Missed reading) is gives answered = absurd gives
+gives-block old new a block answer.Fault is gives answered = absurd gives
 
--- it fits the ask
-pub gives-fits : (disk : Disk) (block : BlockNo) (asked : Option Ask) (given : Answer) → Some (ask.Read block) ≡ asked → GivesBlock disk block.0 given → FitsAsk asked given
-gives-fits disk block asked (answer.Bytes bytes) is gives = let P : Option Ask → Type 0 = λ a. FitsAsk a (answer.Bytes bytes) in subst P is gives.0
-gives-fits disk block asked answer.Done is gives = absurd gives
-gives-fits disk block asked (answer.Reading reading) is gives = absurd gives
-gives-fits disk block asked (answer.Missed reading) is gives = absurd gives
-gives-fits disk block asked answer.Fault is gives = absurd gives
+-- ---- faults
 
--- no read is asked for
-pub reads-none : (old : World) (asked : Option Ask) → old.appliance.slots ≡ old.slots → asked ≡ asks (place old.appliance) →
-    ((block : BlockNo) → asked ≢ Some (ask.Read block)) → Steps old old (event.Read the_first) false
-reads-none old asked same is none = impossible old old (event.Read the_first) (λ w h. h)
-    (λ w v h step. let found = step-read step in none found.0 (is ∙ sym (asks-of old w same h) ∙ found.1))
-
--- a write that has landed is answered
-pub dones-write : (old mid new : World) (kind : WriteKind) (block : BlockNo) (guard number : ℕ) → old.appliance.slots ≡ old.slots →
-    Some (ask.Write kind block guard) ≡ asks (place old.appliance) → old.pending ≡ Some number → ((s : Surface) → DiskStands old.disk s → HasLanded s number) →
-    Stays old mid → IsAnswered mid new answer.Done → Steps old new (event.Done the_first) true
-dones-write old mid new kind block guard number same asked pending landed stays answered w h =
-    let found = asked-write (place old.appliance) kind block guard (sym asked) in
-    let part = WriteThen kind block.0 found.bytes guard found.done found.fault found.missed in
-    let at : stands w 0 ≡ In part = position-of old w same h ∙ found.at in
-    let one = event.Done the_first in (
-      goes_on w one the_first (ask.Write kind (record { 0 = block.0 }) guard) found.bytes part answer.Done,
-      dones kind block.0 found.bytes guard found.done found.fault found.missed number (first-there h) at (sym h.pending ∙ pending) (landed w.surface h.surface),
-      answered w one (ask.Write kind (record { 0 = block.0 }) guard) found.bytes part (stays w h) at,
+pub faults-read : (old new : World) (a : ApplianceNo) (block : BlockNo) → IsAsk old a (Some (ask.Read block)) → IsAnswered old new a answer.Fault →
+    Steps old new (event.Fault a) true
+faults-read old new a block is answered w h =
+    let there = asks-there old a (ask.Read block) w is h in
+    let found = asked-read (stands w a.0).place block there.1 in
+    let one = event.Fault a in (
+      goes_on w one a (ask.Read (record { 0 = block.0 })) [] answer.Fault found.fault,
+      read_faults found.known found.command block.0 found.rest found.fault there.0 found.at,
+      answered w one (ask.Read (record { 0 = block.0 })) [] found.fault h there.1 (ap writes_out found.at) tt
+          (ap (replies_at (setting_of w a.0) answer.Fault (stands w a.0)) found.at),
     )
 
--- no write is asked for, or none was issued for it
-pub dones-none : (old : World) (asked : Option Ask) → old.appliance.slots ≡ old.slots → asked ≡ asks (place old.appliance) →
-    ((kind : WriteKind) (block : BlockNo) (guard : ℕ) → asked ≢ Some (ask.Write kind block guard)) → Steps old old (event.Done the_first) false
-dones-none old asked same is none = impossible old old (event.Done the_first) (λ w h. h)
-    (λ w v h step. let found = (step-done step).0 in none found.kind found.block found.guard (is ∙ sym (asks-of old w same h) ∙ found.asked))
-
-pub dones-unissued : (old : World) → old.pending ≡ None → Steps old old (event.Done the_first) false
-dones-unissued old unissued = impossible old old (event.Done the_first) (λ w h. h)
-    (λ w v h step. let found = (step-done step).1 in let e : None ≡ Some found.0 = sym unissued ∙ h.pending ∙ found.1 in cc)
-
--- it hasn't landed whole
-pub dones-early : (old new : World) (number : ℕ) → old.pending ≡ Some number → ((s : Surface) → DiskStands old.disk s → HasLanded s number → ⊥) → Stays old new →
-    Steps old new (event.Done the_first) false
-dones-early old new number pending early stays = impossible old new (event.Done the_first) stays
-    (λ w v h step.
-    let found = (step-done step).1 in
-    let e : Some found.0 ≡ Some number = sym found.1 ∙ sym h.pending ∙ pending in
-    let same : found.0 ≡ number = cc in
-    let P : ℕ → Type 0 = λ n. HasLanded w.surface n in
-    early w.surface h.surface (subst P same found.2))
-
--- the clock answers
-pub clocks-now : (old new : World) (reading : ℕ) → old.appliance.slots ≡ old.slots → Some ask.Clock ≡ asks (place old.appliance) →
-    reading ≤ old.disk.time + 50 → old.disk.time ≤ reading + 50 → IsAnswered old new (answer.Reading reading) → Steps old new (event.Reading the_first reading) true
-clocks-now old new reading same asked low high answered w h =
-    let found = asked-clock (place old.appliance) (sym asked) in
-    let at : stands w 0 ≡ In (ClockThen found.0) = position-of old w same h ∙ found.1 in
-    let one = event.Reading the_first reading in
-    let now = h.surface.time in (
-      goes_on w one the_first ask.Clock [] (ClockThen found.0) (answer.Reading reading),
-      clocks found.0 (first-there h) at (omega (arith, now)) (omega (arith, now)),
-      answered w one ask.Clock [] (ClockThen found.0) h at,
+pub faults-write : (old new : World) (a : ApplianceNo) (kind : WriteKind) (block : BlockNo) (guard : ℕ) → IsAsk old a (Some (ask.Write kind block guard)) →
+    IsAnswered old new a answer.Fault → Steps old new (event.Fault a) true
+faults-write old new a kind block guard is answered w h =
+    let there = asks-there old a (ask.Write kind block guard) w is h in
+    let found = asked-write (stands w a.0).place kind block guard there.1 in
+    let one = event.Fault a in (
+      goes_on w one a (ask.Write kind (record { 0 = block.0 }) guard) found.bytes answer.Fault found.fault,
+      write_faults found.known found.command kind block.0 found.bytes guard found.done found.fault found.missed there.0 found.at,
+      answered w one (ask.Write kind (record { 0 = block.0 }) guard) found.bytes found.fault h there.1 (ap writes_out found.at) tt
+          (ap (replies_at (setting_of w a.0) answer.Fault (stands w a.0)) found.at),
     )
 
-pub waits-until : (old new : World) (from reading : ℕ) → old.appliance.slots ≡ old.slots → Some (ask.Until from) ≡ asks (place old.appliance) →
-    reading ≤ old.disk.time + 50 → old.disk.time ≤ reading + 50 → from ≤ reading → IsAnswered old new (answer.Reading reading) →
-    Steps old new (event.Reading the_first reading) true
-waits-until old new from reading same asked low high late answered w h =
-    let found = asked-until (place old.appliance) from (sym asked) in
-    let at : stands w 0 ≡ In (UntilThen from found.0) = position-of old w same h ∙ found.1 in
-    let one = event.Reading the_first reading in
-    let now = h.surface.time in (
-      goes_on w one the_first (ask.Until from) [] (UntilThen from found.0) (answer.Reading reading),
-      waits from found.0 (first-there h) at (omega (arith, now)) (omega (arith, now)) late,
-      answered w one (ask.Until from) [] (UntilThen from found.0) h at,
+-- ---- writes that are done
+
+pub dones-write : (old mid new : World) (a : ApplianceNo) (kind : WriteKind) (block : BlockNo) (guard number : ℕ) → IsAsk old a (Some (ask.Write kind block guard)) →
+    IsPending old a (Some number) → ((s : Surface) → DiskStands old.disk s → HasLanded s number) →
+    Stays old mid → IsAnswered mid new a answer.Done → Steps old new (event.Done a) true
+dones-write old mid new a kind block guard number is pends landed stays answered w h =
+    let there = asks-there old a (ask.Write kind block guard) w is h in
+    let found = asked-write (stands w a.0).place kind block guard there.1 in
+    let pending = if-some a.0 w.appliances (w.seats a.0).pending number (sym (pends w h)) in
+    let one = event.Done a in (
+      goes_on w one a (ask.Write kind (record { 0 = block.0 }) guard) found.bytes answer.Done found.done,
+      dones found.known found.command kind block.0 found.bytes guard found.done found.fault found.missed number there.0 found.at pending.1 (landed w.surface h.surface),
+      answered w one (ask.Write kind (record { 0 = block.0 }) guard) found.bytes found.done (stays w h) there.1 (ap writes_out found.at) tt
+          (ap (replies_at (setting_of w a.0) answer.Done (stands w a.0)) found.at),
     )
 
--- the reading is too far from the time
-pub clocks-far : (old : World) (reading : ℕ) → (reading ≤ old.disk.time + 50 → old.disk.time ≤ reading + 50 → ⊥) → Steps old old (event.Reading the_first reading) false
-clocks-far old reading far = impossible old old (event.Reading the_first reading) (λ w h. h)
-    (λ w v h step.
-    let found = step-reading step in
+-- ---- writes that are missed
+
+pub misses-write : (old new : World) (a : ApplianceNo) (kind : WriteKind) (block : BlockNo) (guard reading : ℕ) → IsAsk old a (Some (ask.Write kind block guard)) →
+    IsPending old a None → guard < reading → IsReading reading old.disk.time → old.disk.time < 2 ^ 47 → IsAnswered old new a (answer.Missed reading) →
+    Steps old new (event.Miss a reading) true
+misses-write old new a kind block guard reading is pends past near early answered w h =
+    let there = asks-there old a (ask.Write kind block guard) w is h in
+    let found = asked-write (stands w a.0).place kind block guard there.1 in
+    let pending = if-none a.0 w.appliances (w.seats a.0).pending there.0 (pends w h) in
     let now = h.surface.time in
-    let low = found.low in
-    let high = found.high in
-    far (omega (arith, now, low)) (omega (arith, now, high)))
+    let low = near.early in
+    let high = near.late in
+    let one = event.Miss a reading in (
+      goes_on w one a (ask.Write kind (record { 0 = block.0 }) guard) found.bytes (answer.Missed reading) (found.missed reading),
+      misses found.known found.command kind block.0 found.bytes guard found.done found.fault found.missed there.0 found.at pending past
+          (record { early = omega arith; late = omega arith }),
+      answered w one (ask.Write kind (record { 0 = block.0 }) guard) found.bytes (found.missed reading) h there.1 (ap writes_out found.at) (past, omega arith)
+          (ap (replies_at (setting_of w a.0) (answer.Missed reading) (stands w a.0)) found.at),
+    )
 
--- the clock isn't asked, or for later
-answers-none : (w : rules.World) (asked : Option Ask) (reading : ℕ) → asked ≡ asks (stands w 0) → (asked ≢ Some ask.Clock) →
-    ((from : ℕ) → asked ≡ Some (ask.Until from) → from ≤ reading → ⊥) → Answers w reading → ⊥
-answers-none w asked reading is none early (clock e) = none (is ∙ e)
-answers-none w asked reading is none early (wait from e late) = early from (is ∙ e) late
+-- ---- readings
 
-pub clocks-none : (old : World) (asked : Option Ask) (reading : ℕ) → old.appliance.slots ≡ old.slots → asked ≡ asks (place old.appliance) →
-    (asked ≢ Some ask.Clock) → ((from : ℕ) → asked ≡ Some (ask.Until from) → from ≤ reading → ⊥) → Steps old old (event.Reading the_first reading) false
-clocks-none old asked reading same is none early = impossible old old (event.Reading the_first reading) (λ w h. h)
-    (λ w v h step. answers-none w asked reading (is ∙ sym (asks-of old w same h)) none early (step-reading step).answers)
+clocks-place : (old new : World) (a : ApplianceNo) (reading : ℕ) (w : rules.World) → a.0 < w.appliances → asks (stands w a.0).place ≡ Some ask.Clock →
+    IsReading reading w.surface.time → reading < 2 ^ 48 → Stands old w → IsAnswered old new a (answer.Reading reading) → AsksClock (stands w a.0).place →
+    (v : rules.World) × Step w (event.Reading a reading) v × Stands new v
+clocks-place old new a reading w below asked near soon h answered (first known command at) =
+    let one = event.Reading a reading in
+    let rest = command_part (setting_of w a.0) known (after_first w.geometry known reading (stands w a.0).holds) reading command in (
+      goes_on w one a ask.Clock [] (answer.Reading reading) rest,
+      begins known command below at near,
+      answered w one ask.Clock [] rest h asked (ap writes_out at) soon (ap (replies_at (setting_of w a.0) (answer.Reading reading) (stands w a.0)) at),
+    )
+clocks-place old new a reading w below asked near soon h answered (later known command rest at) =
+    let one = event.Reading a reading in (
+      goes_on w one a ask.Clock [] (answer.Reading reading) (rest reading),
+      clocks known command rest below at near,
+      answered w one ask.Clock [] (rest reading) h asked (ap writes_out at) soon (ap (replies_at (setting_of w a.0) (answer.Reading reading) (stands w a.0)) at),
+    )
+
+pub clocks-now : (old new : World) (a : ApplianceNo) (reading : ℕ) → IsAsk old a (Some ask.Clock) → IsReading reading old.disk.time → old.disk.time < 2 ^ 47 →
+    IsAnswered old new a (answer.Reading reading) → Steps old new (event.Reading a reading) true
+clocks-now old new a reading is near early answered w h =
+    let there = asks-there old a ask.Clock w is h in
+    let now = h.surface.time in
+    let low = near.early in
+    let high = near.late in
+    clocks-place old new a reading w there.0 there.1 (record { early = omega arith; late = omega arith }) (omega arith) h answered (asked-clock (stands w a.0).place there.1)
+
+pub waits-until : (old new : World) (a : ApplianceNo) (from reading : ℕ) → IsAsk old a (Some (ask.Until from)) → IsReading reading old.disk.time → old.disk.time < 2 ^ 47 →
+    from ≤ reading → IsAnswered old new a (answer.Reading reading) → Steps old new (event.Reading a reading) true
+waits-until old new a from reading is near early late answered w h =
+    let there = asks-there old a (ask.Until from) w is h in
+    let found = asked-until (stands w a.0).place from there.1 in
+    let now = h.surface.time in
+    let low = near.early in
+    let high = near.late in
+    let one = event.Reading a reading in (
+      goes_on w one a (ask.Until from) [] (answer.Reading reading) (found.rest reading),
+      waits found.known found.command from found.rest there.0 found.at (record { early = omega arith; late = omega arith }) late,
+      answered w one (ask.Until from) [] (found.rest reading) h there.1 (ap writes_out found.at) (late, omega arith)
+          (ap (replies_at (setting_of w a.0) (answer.Reading reading) (stands w a.0)) found.at),
+    )
+
+-- a write for which nothing waits
+pub none-pending : (pending : Option ℕ) → is_some pending ≡ false → pending ≡ None
+none-pending None e = refl
+none-pending (Some number) e = cc
+
+-- a write that is waited for
+pub some-pending : (pending : Option ℕ) → is_some pending ≡ true → pending ≢ None
+some-pending None some none = cc
+some-pending (Some number) some none = cc

@@ -1,52 +1,51 @@
 //! The ask that stands is answered.
-ghost use Rattle.std.specs.Prelude.{◌≡◌, ◌<◌, ◌++◌, ◌∷◌, [], OnOk};
+ghost use Rattle.std.specs.Prelude.{◌≡◌, ◌<◌, ◌^◌, ◌++◌, ◌∷◌, [], OnOk, IsTrue, ◌↔◌};
 ghost use Rattle.std.specs.Vec.{vec_capacity, vec_len};
 ghost use Rattle.plx_disk.specs.Standing.{device_size};
-ghost use Rattle.plx_world.specs.Standing.{GivesBlock, told_entries};
+ghost use Rattle.plx_rules.specs.World.{IsReading};
+ghost use Rattle.plx_world.specs.Answering.{GivesBlock, told_entries};
 
-use crate::world::{FIRST, World};
-use plx_base::{Block, BlockNo, NoMemory};
+use crate::world::World;
+use plx_base::{ApplianceNo, Block, BlockNo, NoMemory};
+use plx_commands::{Entry, Reply};
 use plx_disk::{Answer, Ask, Disk};
-use plx_model::{Entry, Reply};
 use std::alloc::Global;
 
 /// How far a clock may be from the time, in milliseconds.
 const DRIFT: u64 = 50;
 
 impl World {
-    ghost use Rattle.std.specs.Prelude.{IfOk, OnErr, IsTrue};
-    ghost use Rattle.plx_appliance.specs.Appliance.{IsRunning, asks_left, place};
-    ghost use Rattle.plx_appliance.specs.Places.{FitsAsk};
-    ghost use Rattle.plx_model.specs.declared.event.Event.TheVariants as event;
-    ghost use Rattle.plx_rules.specs.Boot.{asks};
-    ghost use Rattle.plx_world.specs.Standing.{IsAnswered, Stays, Steps, the_first};
+    ghost use Rattle.std.specs.Prelude.{IfOk, OnErr};
+    ghost use Rattle.plx_commands.specs.declared.event.Event.TheVariants as event;
+    ghost use Rattle.plx_world.specs.Answering.{IsAnswered, Runs};
+    ghost use Rattle.plx_world.specs.Standing.{Stays, Steps};
 
     // The ask that stands is answered, and the reply told to which that leads.
-    fn answer(&mut self, answer: &Answer) -> Result<(), NoMemory>
-        requires { IsRunning self.old.appliance }
-        ensures ok { OnOk result (IsAnswered self.old self.new answer.now) }
-        ensures fewer { FitsAsk (asks (place self.old.appliance)) answer.now
-            → OnOk result (asks_left self.new.appliance < asks_left self.old.appliance) }
+    fn answer(&mut self, appliance: ApplianceNo, answer: &Answer) -> Result<(), NoMemory>
+        requires { Runs self.old appliance.0 }
+        ensures ok { OnOk result (IsAnswered self.old self.new appliance answer.now) }
         ensures err { OnErr result (Stays self.old self.new) }
     {
         self.trace.reserve(1)?;
-        self.pending = None;
-        let reply = self.appliance.answer(answer);
-        tell(&mut self.trace, reply);
+        let index = appliance.0 as usize;
+        let reply = self.seats[index].answer(answer);
+        tell(&mut self.trace, appliance, reply);
         Ok(())
     }
 
     // The read that is asked for is answered, by way of the buffer.
-    pub(crate) fn read(&mut self, buffer: &mut Answer) -> Result<bool, NoMemory>
-        ensures ok { IfOk result (Steps self.old self.new (event.Read the_first)) }
-        ensures fewer { IfOk result (λ made. IsTrue made
-            → asks_left self.new.appliance < asks_left self.old.appliance) }
+    pub(crate) fn read(
+        &mut self,
+        appliance: ApplianceNo,
+        buffer: &mut Answer,
+    ) -> Result<bool, NoMemory>
+        ensures ok { IfOk result (Steps self.old self.new (event.Read appliance)) }
         ensures err { OnErr result (Stays self.old self.new) }
     {
-        match self.asked() {
+        match self.asked(appliance) {
             Some(Ask::Read { block }) => {
                 fetch(self.alloc, &self.disk, block, buffer)?;
-                self.answer(buffer)?;
+                self.answer(appliance, buffer)?;
                 Ok(true)
             }
             Some(Ask::Write { .. }) => Ok(false),
@@ -56,22 +55,66 @@ impl World {
         }
     }
 
-    // The write that is asked for is answered, if all of it has landed.
-    pub(crate) fn done(&mut self) -> Result<bool, NoMemory>
-        ensures ok { IfOk result (Steps self.old self.new (event.Done the_first)) }
-        ensures fewer { IfOk result (λ made. IsTrue made
-            → asks_left self.new.appliance < asks_left self.old.appliance) }
+    // The read or the write that is asked for is answered: it failed.
+    pub(crate) fn fault(&mut self, appliance: ApplianceNo) -> Result<bool, NoMemory>
+        ensures ok { IfOk result (Steps self.old self.new (event.Fault appliance)) }
         ensures err { OnErr result (Stays self.old self.new) }
     {
-        let Some(number) = self.pending else {
+        match self.asked(appliance) {
+            Some(Ask::Read { .. }) => {
+                self.answer(appliance, &Answer::Fault)?;
+                Ok(true)
+            }
+            Some(Ask::Write { .. }) => {
+                self.answer(appliance, &Answer::Fault)?;
+                Ok(true)
+            }
+            Some(Ask::Clock) => Ok(false),
+            Some(Ask::Until { .. }) => Ok(false),
+            None => Ok(false),
+        }
+    }
+
+    // The write that is asked for is answered, if all of it has landed.
+    pub(crate) fn done(&mut self, appliance: ApplianceNo) -> Result<bool, NoMemory>
+        ensures ok { IfOk result (Steps self.old self.new (event.Done appliance)) }
+        ensures err { OnErr result (Stays self.old self.new) }
+    {
+        let Some(number) = self.pending(appliance) else {
             return Ok(false);
         };
-        match self.asked() {
+        match self.asked(appliance) {
             Some(Ask::Write { .. }) => {
                 if !self.disk.settle(number) {
                     return Ok(false);
                 }
-                self.answer(&Answer::Done)?;
+                self.answer(appliance, &Answer::Done)?;
+                Ok(true)
+            }
+            Some(Ask::Read { .. }) => Ok(false),
+            Some(Ask::Clock) => Ok(false),
+            Some(Ask::Until { .. }) => Ok(false),
+            None => Ok(false),
+        }
+    }
+
+    // The write that is asked for is answered without being issued: at this reading its guard is past.
+    pub(crate) fn miss(&mut self, appliance: ApplianceNo, reading: u64) -> Result<bool, NoMemory>
+        ensures ok { IfOk result (Steps self.old self.new (event.Miss appliance reading)) }
+        ensures err { OnErr result (Stays self.old self.new) }
+    {
+        if !is_near(reading, self.disk.time()) {
+            return Ok(false);
+        }
+        if self.pending(appliance).is_some() {
+            return Ok(false);
+        }
+        match self.asked(appliance) {
+            Some(Ask::Write { guard, .. }) => {
+                if reading <= guard {
+                    return Ok(false);
+                }
+                self.answer(appliance, &Answer::Missed(reading))?;
                 Ok(true)
             }
             Some(Ask::Read { .. }) => Ok(false),
@@ -82,29 +125,23 @@ impl World {
     }
 
     // The clock answers.
-    pub(crate) fn reading(&mut self, reading: u64) -> Result<bool, NoMemory>
-        ensures ok { IfOk result (Steps self.old self.new (event.Reading the_first reading)) }
-        ensures fewer { IfOk result (λ made. IsTrue made
-            → asks_left self.new.appliance < asks_left self.old.appliance) }
+    pub(crate) fn reading(&mut self, appliance: ApplianceNo, reading: u64) -> Result<bool, NoMemory>
+        ensures ok { IfOk result (Steps self.old self.new (event.Reading appliance reading)) }
         ensures err { OnErr result (Stays self.old self.new) }
     {
-        let time = self.disk.time();
-        if reading > time + DRIFT {
+        if !is_near(reading, self.disk.time()) {
             return Ok(false);
         }
-        if time > reading + DRIFT {
-            return Ok(false);
-        }
-        match self.asked() {
+        match self.asked(appliance) {
             Some(Ask::Clock) => {
-                self.answer(&Answer::Reading(reading))?;
+                self.answer(appliance, &Answer::Reading(reading))?;
                 Ok(true)
             }
             Some(Ask::Until { from }) => {
                 if from > reading {
                     return Ok(false);
                 }
-                self.answer(&Answer::Reading(reading))?;
+                self.answer(appliance, &Answer::Reading(reading))?;
                 Ok(true)
             }
             Some(Ask::Read { .. }) => Ok(false),
@@ -112,6 +149,14 @@ impl World {
             None => Ok(false),
         }
     }
+}
+
+// Whether a clock can show this reading at that time.
+fn is_near(reading: u64, time: u64) -> bool
+    requires { time < 2 ^ 47 }
+    ensures { IsTrue result ↔ IsReading reading time }
+{
+    reading <= time + DRIFT && time <= reading.saturating_add(DRIFT)
 }
 
 // What stands in a block, in the buffer. Memory is taken where it isn't the bytes of a block yet.
@@ -130,18 +175,12 @@ fn fetch(alloc: Global, disk: &Disk, block: BlockNo, buffer: &mut Answer) -> Res
 }
 
 // The reply, if there is one, becomes the last entry.
-fn tell(trace: &mut Vec<Entry>, reply: Option<Reply>)
+fn tell(trace: &mut Vec<Entry>, appliance: ApplianceNo, reply: Option<Reply>)
     requires { vec_len trace.old < vec_capacity trace.old }
-    ensures { trace.new.items ≡ trace.old.items ++ told_entries reply }
+    ensures { trace.new.items ≡ trace.old.items ++ told_entries appliance reply }
 {
     if let Some(reply) = reply {
-        add(
-            trace,
-            Entry::Reply {
-                appliance: FIRST,
-                reply,
-            },
-        );
+        add(trace, Entry::Reply { appliance, reply });
     }
 }
 

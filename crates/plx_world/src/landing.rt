@@ -1,22 +1,18 @@
 //! Writes are issued, and land sector by sector. Time passes.
-ghost use Rattle.std.specs.Prelude.{◌≡◌, ◌<◌, ℕ, Some, None, IfSome, IsTrue, MatchOption, ◌↔◌};
-ghost use Rattle.plx_disk.specs.Standing.{Stands};
-ghost use Rattle.plx_disk.specs.Writes.{Surface};
-ghost use Rattle.plx_world.specs.Owned.{HasNone, IsNumber, IsOwn};
-ghost use Rattle.plx_rules.specs.Boot.{boot_number};
-ghost use Rattle.plx_rules.specs.World.{is_boot_of};
+ghost use Rattle.std.specs.Prelude.{◌≤◌, length, MatchOption};
+ghost use Rattle.plx_world.specs.Backs.{IsNth};
 
+use crate::seat::boot_of;
 use crate::world::World;
-use plx_base::{Boot, NoMemory};
-use plx_disk::{Ask, Disk};
-
-/// How many numbers of boots lie between two boots of an appliance.
-const APPLIANCES: u128 = 256;
+use plx_base::{ApplianceNo, BlockNo, NoMemory, WriteKind};
+use plx_disk::Ask;
 
 impl World {
-    ghost use Rattle.std.specs.Prelude.{◌≡◌, IfOk, OnErr};
-    ghost use Rattle.plx_model.specs.declared.event.Event.TheVariants as event;
-    ghost use Rattle.plx_world.specs.Standing.{Stays, Steps, the_first};
+    ghost use Rattle.std.specs.Prelude.{true, IfOk, MatchOption, OnErr, OnOk};
+    ghost use Rattle.plx_commands.specs.declared.event.Event.TheVariants as event;
+    ghost use Rattle.plx_world.specs.Answering.{AsksWrite};
+    ghost use Rattle.plx_world.specs.Backs.{HasNone, IsNumber};
+    ghost use Rattle.plx_world.specs.Standing.{Stays, Steps};
 
     // Time passes, in milliseconds.
     pub(crate) fn tick(&mut self, by: u32) -> bool
@@ -25,25 +21,22 @@ impl World {
         self.disk.tick(by)
     }
 
-    // The write that is asked for is issued, under the number of this boot.
-    pub(crate) fn issue(&mut self) -> Result<bool, NoMemory>
-        ensures ok { IfOk result (Steps self.old self.new (event.Issue the_first)) }
-        ensures same { self.new.appliance ≡ self.old.appliance }
+    // The write that is asked for is issued, under the number of its boot.
+    pub(crate) fn issue(&mut self, appliance: ApplianceNo) -> Result<bool, NoMemory>
+        ensures ok { IfOk result (Steps self.old self.new (event.Issue appliance)) }
         ensures err { OnErr result (Stays self.old self.new) }
     {
-        if self.pending.is_some() {
+        let index = appliance.0 as usize;
+        if index >= self.seats.len() {
             return Ok(false);
         }
-        match self.asked() {
+        let seat = &self.seats[index];
+        if seat.pending.is_some() {
+            return Ok(false);
+        }
+        match seat.asked() {
             Some(Ask::Write { kind, block, guard }) => {
-                let number = self.disk.issue(
-                    boot_of(self.boots),
-                    kind,
-                    block,
-                    self.appliance.out(),
-                    guard,
-                )?;
-                self.pending = Some(number);
+                self.issue_write(appliance, kind, block, guard)?;
                 Ok(true)
             }
             Some(Ask::Read { .. }) => Ok(false),
@@ -53,53 +46,60 @@ impl World {
         }
     }
 
-    // One sector lands, of the write that the appliance issued with `back` newer ones.
-    pub(crate) fn land(&mut self, back: u64, sector: u8) -> bool
-        ensures { Steps self.old self.new (event.Land the_first back sector) result }
+    // This write is issued. It is what the appliance asks for.
+    fn issue_write(
+        &mut self,
+        appliance: ApplianceNo,
+        kind: WriteKind,
+        block: BlockNo,
+        guard: u64,
+    ) -> Result<(), NoMemory>
+        requires { AsksWrite self.old appliance.0 kind block guard }
+        ensures ok { OnOk result (Steps self.old self.new (event.Issue appliance) true) }
+        ensures err { OnErr result (Stays self.old self.new) }
     {
-        match number_of(&self.disk, back) {
+        let index = appliance.0 as usize;
+        self.seats[index].make_room()?;
+        let seat = &self.seats[index];
+        let owner = boot_of(appliance, seat.boots);
+        let number = self
+            .disk
+            .issue(owner, kind, block, seat.appliance.out(), guard)?;
+        self.seats[index].wait_for(number);
+        Ok(())
+    }
+
+    // One sector lands, of the write that an appliance issued with `back` newer ones.
+    pub(crate) fn land(&mut self, appliance: ApplianceNo, back: u64, sector: u8) -> bool
+        ensures { Steps self.old self.new (event.Land appliance back sector) result }
+    {
+        match self.number_of(appliance, back) {
             Some(number) => self.disk.land(number, sector),
             None => false,
         }
     }
-}
 
-// The number of the appliance's boot, where so many came before.
-fn boot_of(boots: u32) -> Boot
-    ensures { result.0 ≡ boot_number 0 boots }
-{
-    Boot(APPLIANCES * u128::from(boots) + 1)
-}
-
-// The number of the appliance's write with so many newer ones.
-fn number_of(disk: &Disk, back: u64) -> Option<u64>
-    ensures { MatchOption result (HasNone disk.now back) (IsNumber disk.now back) }
-{
-    let mut newer = 0;
-    for number in (0..disk.issued()).rev() {
-        if is_own(disk, number) {
-            if newer == back {
-                return Some(number);
-            }
-            newer += 1;
+    // The number of an appliance's write with so many newer ones.
+    fn number_of(&self, appliance: ApplianceNo, back: u64) -> Option<u64>
+        ensures { MatchOption result (HasNone self.now appliance.0 back)
+            (IsNumber self.now appliance.0 back) }
+    {
+        let index = appliance.0 as usize;
+        if index >= self.seats.len() {
+            return None;
         }
-    }
-    None
-}
-
-// Whether a write is the appliance's.
-pub(crate) fn is_own(disk: &Disk, number: u64) -> bool
-    ensures { (s : Surface) → Stands disk.now s → (IsTrue result ↔ IsOwn s number) }
-{
-    match disk.owner(number) {
-        Some(boot) => is_of_first(boot),
-        None => false,
+        nth_newest(self.seats[index].issued.as_slice(), back)
     }
 }
 
-// Whether a boot is the first appliance's.
-fn is_of_first(boot: Boot) -> bool
-    ensures { result ≡ is_boot_of 0 boot.0 }
+// The number with so many after it.
+fn nth_newest(numbers: &[u64], back: u64) -> Option<u64>
+    ensures { MatchOption result (length numbers.now ≤ back) (IsNth numbers.now back) }
 {
-    boot.0.saturating_sub(1) % APPLIANCES == 0
+    let count = numbers.len();
+    let back = back as usize;
+    if back >= count {
+        return None;
+    }
+    Some(numbers[count - 1 - back])
 }

@@ -1,4 +1,4 @@
-//! The world: an appliance over a device, moved by the events of a schedule.
+//! The world: appliances over one device, moved by the events of a schedule.
 #![tactic(auto)]
 
 mod answers;
@@ -6,6 +6,7 @@ mod boots;
 mod landing;
 mod play;
 mod run;
+mod seat;
 mod world;
 
 pub use world::World;

@@ -1,24 +1,25 @@
 //! The events of a schedule.
-ghost use Rattle.std.specs.Prelude.{◌≡◌};
-ghost use Rattle.plx_world.specs.Named.{is_other as names_other, named};
+ghost use Rattle.plx_world.specs.Playing.{LawsHold};
 
-use crate::world::{FIRST, World};
+use crate::world::World;
+use law_headline::{headline, never_damaged};
+use law_lease::{exclusion, guarding};
 use plx_base::NoMemory;
+use plx_commands::Event;
 use plx_disk::Answer;
-use plx_model::Event;
 
 impl World {
-    ghost use Rattle.std.specs.Prelude.{◌≡◌, false, IfOk, OnOk, OnErr};
-    ghost use Rattle.plx_world.specs.Named.{is_other as names_other, named};
-    ghost use Rattle.plx_world.specs.Standing.{KeepsHeadline, Leads, LeadsPartly, PlaysAll, PlaysSome};
+    ghost use Rattle.std.specs.Prelude.{IfOk, OnOk, OnErr};
+    ghost use Rattle.plx_world.specs.Playing.{KeepsLaws, Leads, LeadsPartly, PlaysAll, PlaysSome};
 
     /// One event. False, and nothing changes, exactly where it isn't possible. Without memory a plain event changes nothing,
     /// and the plain events of a `run` or an `upto` that were made before stand.
     pub fn step(&mut self, event: &Event) -> Result<bool, NoMemory>
         ensures ok { IfOk result (Leads self.old self.new event.now) }
         ensures err { OnErr result (LeadsPartly self.old self.new event.now) }
-        ensures headline { KeepsHeadline self.old self.new }
+        ensures laws { KeepsLaws self.old self.new }
     {
+        laws();
         self.make(event, &mut Answer::Done)
     }
 
@@ -27,8 +28,9 @@ impl World {
     pub fn play(&mut self, events: &[Event]) -> Result<(), NoMemory>
         ensures ok { OnOk result (PlaysAll self.old self.new events.now) }
         ensures err { OnErr result (PlaysSome self.old self.new events.now) }
-        ensures headline { KeepsHeadline self.old self.new }
+        ensures laws { KeepsLaws self.old self.new }
     {
+        laws();
         // One block serves all reads.
         let mut buffer = Answer::Done;
         for event in events {
@@ -42,47 +44,33 @@ impl World {
         ensures ok { IfOk result (Leads self.old self.new event.now) }
         ensures err { OnErr result (LeadsPartly self.old self.new event.now) }
     {
-        if is_other(event) {
-            return Ok(false);
-        }
-        self.make_here(event, buffer)
-    }
-
-    // One event that names no other appliance.
-    fn make_here(&mut self, event: &Event, buffer: &mut Answer) -> Result<bool, NoMemory>
-        requires { names_other (named event.now) ≡ false }
-        ensures ok { IfOk result (Leads self.old self.new event.now) }
-        ensures err { OnErr result (LeadsPartly self.old self.new event.now) }
-    {
         match event {
             Event::Tick { by } => Ok(self.tick(*by)),
-            Event::Start { command, .. } => self.start(command),
-            Event::Read { .. } => self.read(buffer),
-            Event::Issue { .. } => self.issue(),
-            Event::Land { back, sector, .. } => Ok(self.land(*back, *sector)),
-            Event::Done { .. } => self.done(),
-            Event::Reading { reading, .. } => self.reading(*reading),
-            Event::Crash { .. } => self.crash(),
-            Event::Run { .. } => self.run(None, buffer),
-            Event::Upto { stop, .. } => self.run(Some(*stop), buffer),
+            Event::Start { appliance, command } => self.start(*appliance, command),
+            Event::Read { appliance } => self.read(*appliance, buffer),
+            Event::Issue { appliance } => self.issue(*appliance),
+            Event::Land {
+                appliance,
+                back,
+                sector,
+            } => Ok(self.land(*appliance, *back, *sector)),
+            Event::Done { appliance } => self.done(*appliance),
+            Event::Fault { appliance } => self.fault(*appliance),
+            Event::Miss { appliance, reading } => self.miss(*appliance, *reading),
+            Event::Reading { appliance, reading } => self.reading(*appliance, *reading),
+            Event::Crash { appliance } => self.crash(*appliance),
+            Event::Run { appliance } => self.run(*appliance, None, buffer),
+            Event::Upto { appliance, stop } => self.run(*appliance, Some(*stop), buffer),
         }
     }
 }
 
-// Whether an event names another appliance.
-fn is_other(event: &Event) -> bool
-    ensures { result ≡ names_other (named event.now) }
+// What holds of all worlds that events lead to.
+fn laws()
+    ensures { LawsHold }
 {
-    match event {
-        Event::Tick { .. } => false,
-        Event::Start { appliance, .. } => appliance.0 > FIRST.0,
-        Event::Read { appliance } => appliance.0 > FIRST.0,
-        Event::Issue { appliance } => appliance.0 > FIRST.0,
-        Event::Land { appliance, .. } => appliance.0 > FIRST.0,
-        Event::Done { appliance } => appliance.0 > FIRST.0,
-        Event::Reading { appliance, .. } => appliance.0 > FIRST.0,
-        Event::Crash { appliance } => appliance.0 > FIRST.0,
-        Event::Run { appliance } => appliance.0 > FIRST.0,
-        Event::Upto { appliance, .. } => appliance.0 > FIRST.0,
-    }
+    headline();
+    never_damaged();
+    exclusion();
+    guarding();
 }

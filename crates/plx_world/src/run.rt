@@ -1,46 +1,52 @@
 //! A run makes plain events until it comes to its end.
 ghost use Rattle.std.specs.Prelude.{◌≡◌};
-ghost use Rattle.plx_rules.specs.Sequences.{is_in as is_in_region};
+ghost use Rattle.plx_rules.specs.Sequences.{is_in_region};
 
-use crate::landing::is_own;
 use crate::world::World;
-use plx_base::{BlockNo, NoMemory, WriteKind};
+use plx_base::{ApplianceNo, BlockNo, NoMemory, WriteKind};
+use plx_commands::{Region, Stop};
 use plx_disk::{Answer, Ask};
-use plx_model::{Region, Stop};
+use plx_geom::{Geometry, Place};
 
-/// More plain events than a run can have: 10 for each ask, of which a command has at most 2 for each of 64 slots, and 2.
-const MOST: u32 = 1310;
-
-/// The first block of the journal.
-const JOURNAL: u64 = 6;
+/// More plain events than a run can have: 10 for each ask, of which a command has at most 5,001 with its first reading.
+const MOST: u32 = 50_020;
 
 impl World {
-    ghost use Rattle.std.specs.Prelude.{◌≡◌, Option, Some, None, IfOk, OnOk, OnErr};
-    ghost use Rattle.plx_appliance.specs.Appliance.{place};
-    ghost use Rattle.plx_model.specs.declared.event.Stop.TheVariants as stop;
-    ghost use Rattle.plx_rules.specs.Sequences.{stops_at, stops as stops_there};
-    ghost use Rattle.plx_world.specs.Running.{AsksClock, GoesOn, IsWriting, MakesRun, RunsSome, RunsWhole};
-    ghost use Rattle.plx_world.specs.Standing.{Stays};
+    ghost use Rattle.std.specs.Prelude.{◌≡◌, Some, None, IfOk, OnOk, OnErr};
+    ghost use Rattle.plx_commands.specs.declared.event.Stop.TheVariants as stop_is;
+    ghost use Rattle.plx_rules.specs.World as rules;
+    ghost use Rattle.plx_world.specs.Running.{AsksClock, GoesOn, IsWriting, MakesRun, RunsSome, RunsWhole, StopsAs};
+    ghost use Rattle.plx_world.specs.Standing.{Stands, Stays};
 
     // A run, until the appliance's reply or until it stops. False, and nothing changes, where it makes no event.
-    pub(crate) fn run(&mut self, stop: Option<Stop>, buffer: &mut Answer) -> Result<bool, NoMemory>
-        ensures ok { IfOk result (MakesRun stop self.old self.new) }
-        ensures err { OnErr result (RunsSome stop self.old self.new) }
+    pub(crate) fn run(
+        &mut self,
+        appliance: ApplianceNo,
+        stop: Option<Stop>,
+        buffer: &mut Answer,
+    ) -> Result<bool, NoMemory>
+        ensures ok { IfOk result (MakesRun appliance stop self.old self.new) }
+        ensures err { OnErr result (RunsSome appliance stop self.old self.new) }
     {
-        if !self.advance(stop, buffer)? {
+        if !self.advance(appliance, stop, buffer)? {
             return Ok(false);
         }
-        self.finish(stop, buffer)?;
+        self.finish(appliance, stop, buffer)?;
         Ok(true)
     }
 
     // The rest of a run.
-    fn finish(&mut self, stop: Option<Stop>, buffer: &mut Answer) -> Result<(), NoMemory>
-        ensures ok { OnOk result (RunsWhole stop self.old self.new) }
-        ensures err { OnErr result (RunsSome stop self.old self.new) }
+    fn finish(
+        &mut self,
+        appliance: ApplianceNo,
+        stop: Option<Stop>,
+        buffer: &mut Answer,
+    ) -> Result<(), NoMemory>
+        ensures ok { OnOk result (RunsWhole appliance stop self.old self.new) }
+        ensures err { OnErr result (RunsSome appliance stop self.old self.new) }
     {
         for _ in 0..MOST {
-            if !self.advance(stop, buffer)? {
+            if !self.advance(appliance, stop, buffer)? {
                 return Ok(());
             }
         }
@@ -48,75 +54,97 @@ impl World {
     }
 
     // The next plain event of a run, unless it stops there.
-    fn advance(&mut self, stop: Option<Stop>, buffer: &mut Answer) -> Result<bool, NoMemory>
-        ensures ok { IfOk result (GoesOn stop self.old self.new) }
+    fn advance(
+        &mut self,
+        appliance: ApplianceNo,
+        stop: Option<Stop>,
+        buffer: &mut Answer,
+    ) -> Result<bool, NoMemory>
+        ensures ok { IfOk result (GoesOn appliance stop self.old self.new) }
         ensures err { OnErr result (Stays self.old self.new) }
     {
-        if self.stops(stop) {
+        if self.stops(appliance, stop) {
             return Ok(false);
         }
-        self.go_on(buffer)
+        self.go_on(appliance, buffer)
     }
 
     // The next plain event of a run that doesn't stop.
-    fn go_on(&mut self, buffer: &mut Answer) -> Result<bool, NoMemory>
-        ensures ok { IfOk result (GoesOn None self.old self.new) }
+    fn go_on(&mut self, appliance: ApplianceNo, buffer: &mut Answer) -> Result<bool, NoMemory>
+        ensures ok { IfOk result (GoesOn appliance None self.old self.new) }
         ensures err { OnErr result (Stays self.old self.new) }
     {
-        match self.asked() {
-            Some(Ask::Read { .. }) => self.read(buffer),
-            Some(Ask::Write { .. }) => self.write_on(),
-            Some(Ask::Clock) => self.read_clock(),
-            Some(Ask::Until { .. }) => self.read_clock(),
+        match self.asked(appliance) {
+            Some(Ask::Read { .. }) => self.read(appliance, buffer),
+            Some(Ask::Write { guard, .. }) => self.write_on(appliance, guard),
+            Some(Ask::Clock) => self.read_clock(appliance),
+            Some(Ask::Until { .. }) => self.read_clock(appliance),
             None => Ok(false),
         }
     }
 
-    // The clock answers with the time.
-    fn read_clock(&mut self) -> Result<bool, NoMemory>
-        requires { AsksClock self.old }
-        ensures ok { IfOk result (GoesOn None self.old self.new) }
+    // The clock answers with the time, unless a later one is waited for.
+    fn read_clock(&mut self, appliance: ApplianceNo) -> Result<bool, NoMemory>
+        requires { AsksClock self.old appliance.0 }
+        ensures ok { IfOk result (GoesOn appliance None self.old self.new) }
         ensures err { OnErr result (Stays self.old self.new) }
     {
         let time = self.disk.time();
-        self.reading(time)
+        self.reading(appliance, time)
     }
 
-    // The next plain event of a write: it is issued, its least missing sector lands, or it is answered.
-    fn write_on(&mut self) -> Result<bool, NoMemory>
-        requires { IsWriting self.old }
-        ensures ok { IfOk result (GoesOn None self.old self.new) }
+    // The next plain event of a write: it is issued or missed, its least missing sector lands or fails, or it is answered.
+    fn write_on(&mut self, appliance: ApplianceNo, guard: u64) -> Result<bool, NoMemory>
+        requires { IsWriting self.old appliance.0 guard }
+        ensures ok { IfOk result (GoesOn appliance None self.old self.new) }
         ensures err { OnErr result (Stays self.old self.new) }
     {
-        let Some(number) = self.pending else {
-            return self.issue();
+        let Some(number) = self.pending(appliance) else {
+            return self.issue_or_miss(appliance, guard);
         };
-        if !is_own(&self.disk, number) {
-            return Ok(false);
+        let Some(sector) = self.disk.missing(number) else {
+            return self.done(appliance);
+        };
+        if self.disk.land(number, sector) {
+            return Ok(true);
         }
-        match self.disk.missing(number) {
-            Some(sector) => Ok(self.disk.land(number, sector)),
-            None => self.done(),
+        self.fault(appliance)
+    }
+
+    // A write that isn't issued yet is issued, or missed where the time is past its guard.
+    fn issue_or_miss(&mut self, appliance: ApplianceNo, guard: u64) -> Result<bool, NoMemory>
+        requires writing { IsWriting self.old appliance.0 guard }
+        requires unissued { (w : rules.World) → Stands self.old w
+            → (w.seats appliance.0).pending ≡ None }
+        ensures ok { IfOk result (GoesOn appliance None self.old self.new) }
+        ensures err { OnErr result (Stays self.old self.new) }
+    {
+        let time = self.disk.time();
+        if time <= guard {
+            return self.issue(appliance);
         }
+        self.miss(appliance, time)
     }
 
     // Whether a run stops before the ask that stands is answered.
-    fn stops(&self, stop: Option<Stop>) -> bool
-        ensures { result ≡ stops_there stop self.now.pending (place self.now.appliance) }
+    fn stops(&self, appliance: ApplianceNo, stop: Option<Stop>) -> bool
+        ensures { StopsAs self.now appliance.0 stop result }
     {
         match stop {
-            Some(Stop::Write(kind)) => self.stops_at_write(kind),
-            Some(Stop::Read(region)) => self.stops_at_read(region),
+            Some(Stop::Write(kind)) => self.stops_at_write(appliance, kind),
+            Some(Stop::Read(region)) => self.stops_at_read(appliance, region),
             None => false,
         }
     }
 
     // Whether it stops at the ask, by a write of that kind.
-    fn stops_at_write(&self, kind: WriteKind) -> bool
-        ensures { result ≡ stops_at (stop.Write kind) self.now.pending (place self.now.appliance) }
+    fn stops_at_write(&self, appliance: ApplianceNo, kind: WriteKind) -> bool
+        ensures { StopsAs self.now appliance.0 (Some (stop_is.Write kind)) result }
     {
-        match self.asked() {
-            Some(Ask::Write { kind: asked, .. }) => kind == asked && self.pending.is_none(),
+        match self.asked(appliance) {
+            Some(Ask::Write { kind: asked, .. }) => {
+                kind == asked && self.pending(appliance).is_none()
+            }
             Some(Ask::Read { .. }) => false,
             Some(Ask::Clock) => false,
             Some(Ask::Until { .. }) => false,
@@ -125,11 +153,11 @@ impl World {
     }
 
     // Whether it stops at the ask, by a read in that region.
-    fn stops_at_read(&self, region: Region) -> bool
-        ensures { result ≡ stops_at (stop.Read region) self.now.pending (place self.now.appliance) }
+    fn stops_at_read(&self, appliance: ApplianceNo, region: Region) -> bool
+        ensures { StopsAs self.now appliance.0 (Some (stop_is.Read region)) result }
     {
-        match self.asked() {
-            Some(Ask::Read { block }) => is_in(region, block),
+        match self.asked(appliance) {
+            Some(Ask::Read { block }) => is_in(&self.geometry, region, block),
             Some(Ask::Write { .. }) => false,
             Some(Ask::Clock) => false,
             Some(Ask::Until { .. }) => false,
@@ -138,12 +166,22 @@ impl World {
     }
 }
 
-// Whether a block lies in a region. Only the journal is ever read.
-fn is_in(region: Region, block: BlockNo) -> bool
-    ensures { result ≡ is_in_region region block.0 }
+// Whether a block lies in a region.
+fn is_in(geometry: &Geometry, region: Region, block: BlockNo) -> bool
+    ensures { result ≡ is_in_region geometry.now region block.0 }
 {
-    match region {
-        Region::Journal => block.0 >= JOURNAL,
-        Region::Lease | Region::Record | Region::Log | Region::Map | Region::Pool => false,
+    let _blocks = geometry.blocks();
+    match geometry.place(block) {
+        Some(Place::RootLease | Place::ImageLease(_) | Place::ExtentLease(_)) => {
+            region == Region::Lease
+        }
+        Some(Place::Record(_)) => region == Region::Record,
+        Some(Place::Log(_)) => region == Region::Log,
+        Some(Place::JDesc(_, _)) => region == Region::Journal,
+        Some(Place::JData(_, _)) => region == Region::Journal,
+        Some(Place::Map(_)) => region == Region::Map,
+        Some(Place::Pool(_, _)) => region == Region::Pool,
+        Some(Place::Super) => false,
+        None => false,
     }
 }

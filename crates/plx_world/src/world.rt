@@ -1,67 +1,78 @@
 //! The world and what it tells of itself.
-ghost use Rattle.std.specs.Prelude.{◌≡◌, ◌≤◌};
-ghost use Rattle.plx_appliance.specs.Appliance.{journal_slots};
+ghost use Rattle.std.specs.Prelude.{◌≡◌, ◌≤◌, length};
 ghost use Rattle.plx_disk.specs.Standing.{device_size};
-ghost use Rattle.plx_rules.specs.Journal.{block_count};
+ghost use Rattle.plx_geom.specs.Geometry.{block_count};
+ghost use Rattle.plx_world.specs.Ties.{AreTied};
 
-use plx_appliance::Appliance;
+use crate::seat::Seat;
 use plx_base::{ApplianceNo, NoMemory};
+use plx_commands::Entry;
 use plx_disk::{Ask, Disk};
-use plx_model::Entry;
+use plx_format::formatted_disk;
+use plx_geom::Geometry;
 use std::alloc::Global;
 
-/// The one appliance.
-pub(crate) const FIRST: ApplianceNo = ApplianceNo(0);
-
-/// The blocks of the device that are no journal: 6 before it, and an extent of 16.
-const OTHER_BLOCKS: u64 = 22;
-
-/// The time of a new world, in milliseconds.
-const FIRST_TIME: u64 = 1000;
-
-/// One appliance over one device.
+/// Appliances over one device.
 #[derive(Drop)]
 pub struct World {
     pub(crate) alloc: Global,
-    /// How many journal slots an image has.
-    pub(crate) slots: u32,
+    pub(crate) geometry: Geometry,
     pub(crate) disk: Disk,
-    pub(crate) appliance: Appliance,
-    /// How many boots came before this one.
-    pub(crate) boots: u32,
-    /// The number of the issued write that the standing ask waits for.
-    pub(crate) pending: Option<u64>,
+    /// The appliances, by their numbers.
+    pub(crate) seats: Vec<Seat>,
     pub(crate) trace: Vec<Entry>,
-    ghost low: { 2 ≤ slots },
-    ghost high: { slots ≤ 64 },
-    ghost same: { journal_slots appliance ≡ slots },
-    ghost sized: { device_size disk ≡ block_count slots },
+    ghost many: { length seats.items ≤ 8 },
+    ghost sized: { device_size disk ≡ block_count geometry },
+    ghost tied: { AreTied geometry seats.items },
 }
 
+/// The time of a new world, in milliseconds.
+const FIRST_TIME: u64 = 1_000;
+
 impl World {
-    ghost use Rattle.std.specs.Prelude.{◌≡◌, ◌≤◌, IfOk, IfSome};
-    ghost use Rattle.plx_appliance.specs.Appliance.{place};
-    ghost use Rattle.plx_appliance.specs.Places.{IsOnDevice};
-    ghost use Rattle.plx_rules.specs.Boot.{asks};
+    ghost use Rattle.std.specs.Prelude.{◌≡◌, IfOk, IfSome};
+    ghost use Rattle.plx_appliance.specs.Asking.{IsOnDevice};
+    ghost use Rattle.plx_base.specs.Sectors.{Device};
+    ghost use Rattle.plx_disk.specs.Standing.{Stands as DiskStands};
+    ghost use Rattle.plx_rules.specs.Formatted.{IsFormatted};
     ghost use Rattle.plx_rules.specs.World as rules;
     ghost use Rattle.plx_rules.specs.World.{first_world};
+    ghost use Rattle.plx_world.specs.Answering.{Runs, asked_by, pending_of};
     ghost use Rattle.plx_world.specs.Standing.{Stands, entries_of};
 
-    /// A world at time 1,000 milliseconds: a device of zeros, and an appliance that was asked nothing yet, where an image's
-    /// journal has so many slots, 2 to 64.
-    pub fn new(alloc: Global, slots: u32) -> Result<World, NoMemory>
-        requires low { 2 ≤ slots }
-        requires high { slots ≤ 64 }
-        ensures { IfOk result (λ world. Stands world (first_world slots)) }
+    /// A formatted device at time 1,000 milliseconds, and so many appliances, 1 to 8, each asked nothing yet.
+    pub fn new(alloc: Global, geometry: Geometry, appliances: u32) -> Result<World, NoMemory>
+        requires low { 1 ≤ appliances }
+        requires high { appliances ≤ 8 }
+        ensures { IfOk result (λ world. (device : Device) × IsFormatted geometry device
+            × Stands world (first_world geometry appliances device)) }
     {
-        let disk = Disk::new(alloc, OTHER_BLOCKS + 2 * u64::from(slots), FIRST_TIME)?;
+        let disk = formatted_disk(alloc, &geometry, FIRST_TIME)?;
+        World::over(alloc, geometry, appliances, disk)
+    }
+
+    /// So many appliances, 1 to 8, each asked nothing yet, over a device at time 1,000 on which no write was issued yet.
+    pub(crate) fn over(
+        alloc: Global,
+        geometry: Geometry,
+        appliances: u32,
+        disk: Disk,
+    ) -> Result<World, NoMemory>
+        requires sized { device_size disk ≡ block_count geometry }
+        requires many { appliances ≤ 8 }
+        ensures { IfOk result (λ world. (device : Device)
+            → DiskStands disk (first_world geometry appliances device).surface
+            → Stands world (first_world geometry appliances device)) }
+    {
+        let mut seats = Vec::new(alloc);
+        for number in 0..appliances {
+            seats.push(Seat::new(alloc, geometry, ApplianceNo(number))?)?;
+        }
         Ok(World {
             alloc,
-            slots,
+            geometry,
             disk,
-            appliance: Appliance::fresh(slots),
-            boots: 0,
-            pending: None,
+            seats,
             trace: Vec::new(alloc),
         })
     }
@@ -80,28 +91,41 @@ impl World {
         self.disk.time()
     }
 
-    /// How many blocks of the pool an image reaches. There is no pool yet.
+    /// How many blocks of the pool an image reaches. No command takes a block of the pool yet.
     pub fn reachable(&self) -> Result<u64, NoMemory>
         ensures { IfOk result (λ count. count ≡ 0) }
     {
         Ok(0)
     }
 
-    /// How many blocks of the pool are allocated. There is no pool yet.
+    /// How many blocks of the pool are allocated. No command takes a block of the pool yet.
     pub fn allocated(&self) -> u64
         ensures { result ≡ 0 }
     {
         0
     }
 
-    // The ask that stands, if a command runs.
-    pub(crate) fn asked(&self) -> Option<Ask>
-        ensures ask { result ≡ asks (place self.now.appliance) }
-        ensures within { IfSome result (IsOnDevice self.now.slots) }
+    // What an appliance asks, if it is there and a command runs.
+    pub(crate) fn asked(&self, appliance: ApplianceNo) -> Option<Ask>
+        ensures ask { (w : rules.World) → Stands self.now w → result ≡ asked_by w appliance.0 }
+        ensures running { IfSome result (λ ask. Runs self.now appliance.0) }
+        ensures within { IfSome result (IsOnDevice self.now.geometry) }
     {
-        if self.appliance.is_idle() {
+        let index = appliance.0 as usize;
+        if index >= self.seats.len() {
             return None;
         }
-        Some(self.appliance.ask())
+        self.seats[index].asked()
+    }
+
+    // The number of the write for which an appliance waits, if it is there and waits for one.
+    pub(crate) fn pending(&self, appliance: ApplianceNo) -> Option<u64>
+        ensures { (w : rules.World) → Stands self.now w → result ≡ pending_of w appliance.0 }
+    {
+        let index = appliance.0 as usize;
+        if index >= self.seats.len() {
+            return None;
+        }
+        self.seats[index].pending
     }
 }

@@ -2,8 +2,8 @@ use Rattle.std.proofs.Common.{◌<◌, ◌∙◌, length, map, get_or, sym, ap, 
 use Rattle.std.proofs.lemmas.List.{map-set, length-map, get_or-map}
 use Rattle.std.proofs.lemmas.List.Edits.{map_over_more}
 use Rattle.std.specs.Prelude.{slice_set}
-use Rattle.plx_model.specs.Model.{Slot}
-use Rattle.plx_model.specs.Moves.{given_back}
+use Rattle.plx_commands.specs.Model.{Slot}
+use Rattle.plx_commands.specs.Moves.{given_back}
 use Rattle.plx_model.specs.Shown.{slot_of}
 use Rattle.plx_model.proofs.disown.disown_all.Goals as goal
 

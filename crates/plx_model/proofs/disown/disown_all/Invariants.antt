@@ -1,5 +1,5 @@
 use Rattle.std.proofs.Common.{◌≡◌, ◌++◌, map, take, drop}
-use Rattle.plx_model.specs.Moves.{given_back}
+use Rattle.plx_commands.specs.Moves.{given_back}
 use Rattle.plx_model.specs.Shown.{slot_of}
 use Rattle.plx_model.proofs.disown.disown_all.Given as goal
 

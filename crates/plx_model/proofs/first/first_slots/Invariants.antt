@@ -1,5 +1,5 @@
 use Rattle.std.proofs.Common.{◌≡◌, map, replicate}
-use Rattle.plx_model.specs.Model.{first_slot}
+use Rattle.plx_commands.specs.Model.{first_slot}
 use Rattle.plx_model.specs.Shown.{slot_of}
 use Rattle.plx_model.proofs.first.first_slots.Given as goal
 

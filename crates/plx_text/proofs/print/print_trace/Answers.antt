@@ -5,7 +5,7 @@ use Rattle.plx_text.proofs.print.print_trace.Goals as goal
 
 pub returns-clause-text : goal.returns-clause-text
 returns-clause-text c = rw (c.in_ok-push_end.ensures.text, c.in_ok-push_entries.ensures.text, c.in_ok-push_world.ensures.text, c.new-text.ensures)
-    (text-parts (world_line c.args.slots) (entry_lines c.args.entries.now) (end_line c.args.reachable c.args.allocated))
+    (text-parts (world_line c.args.geometry.now c.args.appliances) (entry_lines c.args.entries.now) (end_line c.args.reachable c.args.allocated))
 
 pub returns-clause-tells : goal.returns-clause-tells
 returns-clause-tells c = (

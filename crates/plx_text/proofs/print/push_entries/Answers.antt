@@ -1,5 +1,5 @@
 use Rattle.std.proofs.Common.{append-nil, ◌<◌, length, arith, sym}
-use Rattle.plx_model.specs.declared.entry.Entry.{Entry}
+use Rattle.plx_commands.specs.declared.entry.Entry.{Entry}
 use Rattle.plx_words.proofs.Spaced.{lines-more, text-none}
 use Rattle.plx_text.specs.Traces.{entry_line, plain_entry}
 use Rattle.plx_text.proofs.print.push_entries.Goals as goal

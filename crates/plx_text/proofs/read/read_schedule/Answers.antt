@@ -13,14 +13,14 @@ returns-in_default-read_world-clause-bad c =
     (rw (c.of-lines.ensures.0, c.of-lines.ensures.1) at c.in-Some.ensures.line) (no-world _ c.in_default-read_world.ensures)
 
 pub returns-in_default-read_world-clause-none : goal.returns-in_default-read_world-clause-none
-returns-in_default-read_world-clause-none c = λ slots events. no-schedule c.args.bytes.now _ slots events (returns-in_default-read_world-clause-bad c)
+returns-in_default-read_world-clause-none c = λ world events. no-schedule c.args.bytes.now _ world events (returns-in_default-read_world-clause-bad c)
 
 pub loop-line-init : goal.loop-line-init
 loop-line-init c = record {
   taken = taken-more c.args.bytes.now (λ (lines : List Numbered). lines ≡ []) _ 0 c.next.new.self.number c.args.bytes.now c.next.new.self.rest.now
       (c.in-Some.first.number, c.in-Some.first.text.now) (taken-none c.args.bytes.now) (rw (c.of-lines.ensures.0, c.of-lines.ensures.1) at c.in-Some.ensures.line)
       (rw (c.of-lines.ensures.0, c.of-lines.ensures.1) at c.in-Some.ensures.count) (rw c.of-lines.ensures.0 at c.in-Some.ensures.left)
-      (rw c.new-events.ensures (c.in-Some-read_world.ensures, tt));
+      (rw c.new-events.ensures.items (c.in-Some-read_world.ensures, tt));
   room = omega (arith, c.in-Some.ensures.room, ap length c.of-lines.ensures.0, c.of-lines.ensures.1);
 }
 
@@ -34,7 +34,7 @@ returns-in_default-found-clause-bad c =
     (λ goes. no-event _ none (goes-event _ _ taken.lines _ taken.are goes))
 
 pub returns-in_default-found-clause-none : goal.returns-in_default-found-clause-none
-returns-in_default-found-clause-none c = λ slots events. no-schedule c.args.bytes.now _ slots events (returns-in_default-found-clause-bad c)
+returns-in_default-found-clause-none c = λ world events. no-schedule c.args.bytes.now _ world events (returns-in_default-found-clause-bad c)
 
 pub loop-line-preserved : goal.loop-line-preserved
 loop-line-preserved c =
@@ -43,7 +43,7 @@ loop-line-preserved c =
     record {
       taken = taken-more c.args.bytes.now _ _ c.loop-line.lines.number c.next-in-loop-line.new.self.number c.loop-line.lines.rest.now c.next-in-loop-line.new.self.rest.now
           (c.in-Some-next.line.number, c.in-Some-next.line.text.now) taken c.in-Some-next.ensures.line c.in-Some-next.ensures.count c.in-Some-next.ensures.left
-          (rw c.in-Ok-push.ensures.ok (schedule-more _ _ taken.lines _ _ taken.are spells));
+          (rw c.in-Ok-push.ensures.items (schedule-more _ _ taken.lines _ _ taken.are spells));
       room = omega (arith, c.in-Some-next.ensures.room, c.loop-line.invariant.room);
     }
 

@@ -6,7 +6,7 @@ use Rattle.plx_text.proofs.read.read_schedule.Given as goal
 -- the lines that were taken spell the events so far
 abbrev pub invariant-loop-line : goal.invariant-loop-line
 invariant-loop-line l = record {
-  taken : Taken l.bytes (λ lines. SpellSchedule l.slots l.events lines) l.lines.number l.lines.rest.now;
+  taken : Taken l.bytes (λ lines. SpellSchedule l.world l.events.items lines) l.lines.number l.lines.rest.now;
   room : l.lines.number + length l.lines.rest.now ≤ length l.bytes;
 }
 

@@ -1,6 +1,6 @@
 use Rattle.std.proofs.Common.{ap, ◌∙◌, arith}
 use Rattle.plx_rules.specs.Part.{Ends}
-use Rattle.plx_worlds.specs.Claims.{ClaimBusy}
+use Rattle.plx_rules.specs.Claims.{ClaimBusy}
 use Rattle.plx_lease.proofs.Own.{own-lease}
 use Rattle.plx_lease.proofs.Rereads.{reread-other, hold-other}
 use Rattle.plx_lease.proofs.claim.LeaseClaim.reread.Goals as goal

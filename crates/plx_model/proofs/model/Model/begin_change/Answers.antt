@@ -1,27 +1,39 @@
-use Rattle.std.proofs.Common.{◌≡◌, ◌<◌, ◌∙◌, ap, sym, subst, ℕ, true, Bool, length}
-use Rattle.std.specs.Prelude.{if◌then◌else◌}
-use Rattle.plx_model.specs.Model.{Slot}
-use Rattle.plx_model.specs.Moves.{begins_change, under_way}
-use Rattle.plx_model.specs.Shown.{shown, slot_of}
-use Rattle.plx_model.proofs.OnResult.{on_ok, on_err}
-use Rattle.plx_model.proofs.Pictures.{picture-started, picture-same}
+use Rattle.std.proofs.Common.{◌≡◌, ◌<◌, ◌∙◌, ap, sym, subst, true, Some, length}
+use Rattle.std.proofs.lemmas.Result.{on_ok_weaker, on_err_weaker}
+use Rattle.plx_commands.specs.Model.{Model, Slot, first_slot}
+use Rattle.plx_commands.specs.Moves.{begins_change}
+use Rattle.plx_commands.specs.Slots.{changed}
+use Rattle.plx_model.specs.Effects.{changed_by}
+use Rattle.plx_model.specs.Shown.{CanChange, image_of, shown, slot_of}
+use Rattle.plx_model.proofs.Effects.{can_change, changed_of, none_changed, owned_changed}
+use Rattle.plx_model.proofs.Pictures.{owner_within, picture-started, picture-same}
+use Rattle.plx_model.proofs.Tables.{table-at}
 use Rattle.plx_model.proofs.model.Model.begin_change.Goals as goal
 
 pub returns-clause-ok : goal.returns-clause-ok
 returns-clause-ok c =
-    let yes : c.begins_change.result ≡ true = c.if-not-begins_change.false in
-    let begins : begins_change (shown c.args.self.now) c.args.appliance.0 c.args.command.now ≡ true = sym c.begins_change.ensures.begins ∙ yes in
-    let within : c.slot.result < length c.args.self.now.slots.items = subst (λ (k : ℕ). k < length c.args.self.now.slots.items) (sym c.slot.ensures) (c.begins_change.ensures.within yes) in
-    let old : Slot = slot_of c.index_mut-slot.result.now in
-    on_ok c.begin.result
-    (λ e. picture-started c.args.self.now.slots.items c.args.self.now.seats.items c.slot.result c.args.appliance.0 c.index_mut-slot.result.now c.begin.new.self c.args.command.now within c.index_mut-slot.ensures.value c.slot.ensures begins
-    (e ∙ ap (λ (b : Bool). if b then under_way old c.args.command.now else old) (c.begins_change.ensures.changing yes)))
+    let m : Model = shown c.args.self.now in
+    let changes : changed c.args.command.now ≡ Some c.in-Some.slot =
+    changed_of c.args.command.now ∙ (ap changed_by (sym c.of.ensures) ∙ (sym c.changed.ensures ∙ c.in-Some.is)) in
+    let begins : begins_change m c.args.appliance.0 c.args.command.now ≡ true = sym c.begins_change.ensures ∙ c.if-not-begins_change.false in
+    let within : c.in-Some.slot < length c.args.self.now.slots.items =
+    owner_within c.args.self.now.slots.items c.args.self.now.seats.items c.in-Some.slot c.args.appliance.0 (owned_changed m c.args.appliance.0 c.in-Some.slot c.args.command.now changes begins) in
+    let here : m.slots c.in-Some.slot ≡ slot_of c.index_mut-state.result.now =
+    table-at slot_of c.args.self.now.slots.items c.in-Some.slot c.index_mut-state.result.now first_slot within c.index_mut-state.ensures.value in
+    let can : CanChange (image_of c.index_mut-state.result.now) c.args.command.now =
+    subst (λ (z : Slot). CanChange z.image c.args.command.now) here (can_change m c.args.appliance.0 c.in-Some.slot c.args.command.now changes within (none_changed m c.args.appliance.0 c.args.command.now begins)) in
+    on_ok_weaker c.begin.result
+    (λ e. picture-started c.args.self.now.slots.items c.args.self.now.seats.items c.in-Some.slot c.args.appliance.0 c.index_mut-state.result.now c.begin.new.self c.args.command.now within c.index_mut-state.ensures.value changes begins (e can))
     c.begin.ensures.ok
 
 pub returns-clause-err : goal.returns-clause-err
 returns-clause-err c =
-    let yes : c.begins_change.result ≡ true = c.if-not-begins_change.false in
-    let within : c.slot.result < length c.args.self.now.slots.items = subst (λ (k : ℕ). k < length c.args.self.now.slots.items) (sym c.slot.ensures) (c.begins_change.ensures.within yes) in
-    on_err c.begin.result
-    (λ e. picture-same c.args.self.now.slots.items c.args.self.now.seats.items c.slot.result c.index_mut-slot.result.now c.begin.new.self within c.index_mut-slot.ensures.value e)
+    let m : Model = shown c.args.self.now in
+    let changes : changed c.args.command.now ≡ Some c.in-Some.slot =
+    changed_of c.args.command.now ∙ (ap changed_by (sym c.of.ensures) ∙ (sym c.changed.ensures ∙ c.in-Some.is)) in
+    let begins : begins_change m c.args.appliance.0 c.args.command.now ≡ true = sym c.begins_change.ensures ∙ c.if-not-begins_change.false in
+    let within : c.in-Some.slot < length c.args.self.now.slots.items =
+    owner_within c.args.self.now.slots.items c.args.self.now.seats.items c.in-Some.slot c.args.appliance.0 (owned_changed m c.args.appliance.0 c.in-Some.slot c.args.command.now changes begins) in
+    on_err_weaker c.begin.result
+    (λ e. picture-same c.args.self.now.slots.items c.args.self.now.seats.items c.in-Some.slot c.index_mut-state.result.now c.begin.new.self within c.index_mut-state.ensures.value e)
     c.begin.ensures.err

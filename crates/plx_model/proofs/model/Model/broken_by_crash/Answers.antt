@@ -1,7 +1,7 @@
-use Rattle.plx_model.specs.Judge.{known}
+use Rattle.plx_commands.specs.Judge.{known}
 use Rattle.plx_model.specs.Shown.{shown}
-use Rattle.plx_model.specs.declared.entry.Entry.{Entry}
-use Rattle.plx_model.specs.declared.entry.Entry.TheVariants.{Crash}
+use Rattle.plx_commands.specs.declared.entry.Entry.{Entry}
+use Rattle.plx_commands.specs.declared.entry.Entry.TheVariants.{Crash}
 use Rattle.plx_model.proofs.Numbered.{below_one, denied, least_of}
 use Rattle.plx_model.proofs.model.Model.broken_by_crash.Goals as goal
 

@@ -1,9 +1,9 @@
 use Rattle.std.proofs.Common.{◌≡◌, ◌<◌, ◌∙◌, length, Option, None, IsSome, subst}
-use Rattle.plx_model.specs.Judge.{known, running}
+use Rattle.plx_commands.specs.Judge.{known, running}
 use Rattle.plx_model.specs.Shown.{shown, running_of}
-use Rattle.plx_model.specs.declared.command.Command.{Command}
-use Rattle.plx_model.specs.declared.entry.Entry.{Entry}
-use Rattle.plx_model.specs.declared.entry.Entry.TheVariants.{Reply}
+use Rattle.plx_commands.specs.declared.command.Command.{Command}
+use Rattle.plx_commands.specs.declared.entry.Entry.{Entry}
+use Rattle.plx_commands.specs.declared.entry.Entry.TheVariants.{Reply}
 use Rattle.plx_model.proofs.Numbered.{below_one, below_three, denied, least_of}
 use Rattle.plx_model.proofs.Tables.{table-at}
 use Rattle.plx_model.proofs.model.Model.broken_by_reply.Goals as goal

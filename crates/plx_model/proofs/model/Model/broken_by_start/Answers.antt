@@ -1,8 +1,8 @@
 use Rattle.std.proofs.Common.{◌≡◌, ◌<◌, ◌∙◌, length, Some, None}
-use Rattle.plx_model.specs.Judge.{known, idle}
+use Rattle.plx_commands.specs.Judge.{known, idle}
 use Rattle.plx_model.specs.Shown.{shown, running_of}
-use Rattle.plx_model.specs.declared.entry.Entry.{Entry}
-use Rattle.plx_model.specs.declared.entry.Entry.TheVariants.{Start}
+use Rattle.plx_commands.specs.declared.entry.Entry.{Entry}
+use Rattle.plx_commands.specs.declared.entry.Entry.TheVariants.{Start}
 use Rattle.plx_model.proofs.Numbered.{below_one, below_next, denied, least_of}
 use Rattle.plx_model.proofs.Tables.{table-at}
 use Rattle.plx_model.proofs.model.Model.broken_by_start.Goals as goal

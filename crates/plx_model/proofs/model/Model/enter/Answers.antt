@@ -1,10 +1,8 @@
-use Rattle.std.proofs.Common.{◌≡◌, refl, subst}
-use Rattle.plx_model.specs.Judge.{IsReported}
-use Rattle.plx_model.specs.Model.{Slot, first_slot}
-use Rattle.plx_model.specs.Shown.{shown, slot_of}
+use Rattle.std.proofs.Common.{◌∙◌, ℕ, Bool, true, refl, sym, ap}
+use Rattle.plx_commands.specs.Moves.{attached}
+use Rattle.plx_commands.specs.Places.{at}
 use Rattle.plx_model.proofs.OnResult.{any_err}
-use Rattle.plx_model.proofs.Pictures.{picture-entered, picture-same}
-use Rattle.plx_model.proofs.Tables.{table-at}
+use Rattle.plx_model.proofs.Pictures.{picture-changed, picture-rested, picture-same, picture-sessions}
 use Rattle.plx_model.proofs.model.Model.enter.Goals as goal
 
 pub returns-in_err-attach-clause-err : goal.returns-in_err-attach-clause-err
@@ -14,8 +12,8 @@ returns-in_err-attach-clause-err c =
 
 pub returns-clause-ok : goal.returns-clause-ok
 returns-clause-ok c =
-    let here : (shown c.args.self.now).slots c.args.slot ≡ slot_of c.index_mut-state.result.now =
-    table-at slot_of c.args.self.now.slots.items c.args.slot c.index_mut-state.result.now first_slot c.requires.within c.index_mut-state.ensures.value in
-    let P : Slot → Type 0 = λ z. IsReported z c.args.report.now in
-    picture-entered c.args.self.now.slots.items c.args.self.now.seats.items c.args.slot c.args.appliance.0 c.index_mut-state.result.now c.attach.new.self c.index_mut-seat.result.now _ c.args.report.now
-    c.requires.within c.index_mut-state.ensures.value (c.in_ok-attach.ensures.ok (subst P here c.requires.reported)) c.requires.known c.index_mut-seat.ensures.value c.open.ensures.sessions refl
+    picture-rested c.args.self.now.slots.items _ c.args.self.now.seats.items c.args.self.now.seats.items c.args.appliance.0 _ _ _
+    (picture-changed (λ slot. attached slot c.args.appliance.0 c.args.report.now) c.args.self.now.slots.items c.args.self.now.seats.items c.args.slot c.index_mut-state.result.now c.attach.new.self c.requires.within c.index_mut-state.ensures.value c.in_ok-attach.ensures.ok)
+    c.requires.known
+    (c.open.ensures.sessions
+    ∙ ap (λ (f : ℕ → Bool). at f c.args.slot true) (sym (picture-sessions c.args.self.now.slots.items c.args.self.now.seats.items c.args.appliance.0 c.index_mut-seat.result.now c.requires.known c.index_mut-seat.ensures.value))) refl

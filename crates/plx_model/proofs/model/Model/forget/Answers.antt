@@ -1,7 +1,7 @@
 use Rattle.std.proofs.Common.{◌≡◌, ◌∙◌, List, length, sym, ap, map}
 use Rattle.std.proofs.lemmas.List.{with_items_is}
-use Rattle.plx_model.specs.Model.{Slot}
-use Rattle.plx_model.specs.Moves.{given_back}
+use Rattle.plx_commands.specs.Model.{Slot}
+use Rattle.plx_commands.specs.Moves.{given_back}
 use Rattle.plx_model.specs.Shown.{slot_of}
 use Rattle.plx_model.specs.declared.slot.SlotState.{SlotState}
 use Rattle.plx_model.proofs.Pictures.{picture-forgotten}

@@ -1,9 +1,9 @@
 use Rattle.std.proofs.Common.{refl}
-use Rattle.plx_world.proofs.Writing.{lands-number}
+use Rattle.plx_world.proofs.Disked.{lands-number}
 use Rattle.plx_world.proofs.world.World.land.Goals as goal
 
 pub returns-in-Some : goal.returns-in-Some
 returns-in-Some c =
-    lands-number c.args.self.now _ c.args.back c.args.sector c.in-Some.number c.land.result
-    (record { slots = refl; appliance = refl; boots = refl; pending = refl; trace = refl })
+    lands-number c.args.self.now _ c.args.appliance c.args.back c.args.sector c.in-Some.number c.land.result
+    (record { geometry = refl; seats = refl; trace = refl })
     c.in-Some.ensures c.land.ensures.landed c.land.ensures.refused c.land.ensures.same

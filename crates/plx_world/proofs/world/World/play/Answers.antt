@@ -1,10 +1,9 @@
 use Rattle.std.proofs.Common.{◌<◌, List, arith, drop, length, subst, suc, take}
 use Rattle.std.proofs.lemmas.List.{take_more}
-use Rattle.plx_headline.proofs.HeadlineProved.{headline-of-all}
-use Rattle.plx_model.specs.declared.event.Event.{Event}
-use Rattle.plx_world.specs.Standing.{PlaysSome}
-use Rattle.plx_world.proofs.Made.{cut, on-err}
-use Rattle.plx_world.proofs.Sequences.{headline-plays, headline-some, plays-more, plays-none, plays-some}
+use Rattle.plx_commands.specs.declared.event.Event.{Event}
+use Rattle.plx_world.specs.Playing.{PlaysSome}
+use Rattle.plx_world.proofs.Made.{cut, laws-plays, laws-some, on-err}
+use Rattle.plx_world.proofs.Sequences.{plays-more, plays-none, plays-some}
 use Rattle.plx_world.proofs.world.World.play.Goals as goal
 
 pub loop-event-init : goal.loop-event-init
@@ -28,14 +27,14 @@ returns-in_err-make-clause-err c =
     on-err _ _ (subst P (cut events i event (omega arith) c.event-item.is)
     (plays-some c.args.self.now c.loop-event.self c.make.new.self (take i events) (drop (suc i) events) event c.loop-event.invariant c.in_err-make.ensures.err))
 
-pub returns-in_err-make-clause-headline : goal.returns-in_err-make-clause-headline
-returns-in_err-make-clause-headline c =
+pub returns-in_err-make-clause-laws : goal.returns-in_err-make-clause-laws
+returns-in_err-make-clause-laws c =
     let events = c.args.events.now in
     let i = c.loop-event.event-index in
     let event = c.event-item.result in
-    headline-some headline-of-all c.args.self.now c.make.new.self _
+    laws-some c.laws.ensures c.args.self.now c.make.new.self _
     (plays-some c.args.self.now c.loop-event.self c.make.new.self (take i events) (drop (suc i) events) event c.loop-event.invariant c.in_err-make.ensures.err)
 
-pub returns-clause-headline : goal.returns-clause-headline
-returns-clause-headline c =
-    headline-plays headline-of-all c.args.self.now c.loop-event.self (take c.loop-event.event-index c.args.events.now) c.loop-event.invariant
+pub returns-clause-laws : goal.returns-clause-laws
+returns-clause-laws c =
+    laws-plays c.laws.ensures c.args.self.now c.loop-event.self (take c.loop-event.event-index c.args.events.now) c.loop-event.invariant

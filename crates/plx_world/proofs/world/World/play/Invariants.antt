@@ -1,5 +1,5 @@
 use Rattle.std.proofs.Common.{take}
-use Rattle.plx_world.specs.Standing.{PlaysAll}
+use Rattle.plx_world.specs.Playing.{PlaysAll}
 use Rattle.plx_world.proofs.world.World.play.Given as goal
 
 abbrev pub invariant-loop-event : goal.invariant-loop-event

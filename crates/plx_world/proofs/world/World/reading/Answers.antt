@@ -1,17 +1,20 @@
-use Rattle.std.proofs.Common.{arith}
+use Rattle.std.proofs.Common.{◌≡◌, true, ℕ, arith, subst}
+use Rattle.plx_rules.specs.World.{IsReading}
 use Rattle.plx_world.proofs.Stepping.{clocks-now, waits-until}
 use Rattle.plx_world.proofs.world.World.reading.Goals as goal
 
 pub returns-in_ok-answer-in-Some-Clock-clause-ok : goal.returns-in_ok-answer-in-Some-Clock-clause-ok
 returns-in_ok-answer-in-Some-Clock-clause-ok c =
-    let old = c.args.self.now in
-    let now = c.time-time.ensures.time in
-    clocks-now old c.answer.new.self c.args.reading old.same (cc (c.in-Some-Clock.ensures.ask)) (omega (arith, now)) (omega (arith, now))
-    c.in_ok-answer-in-Some-Clock.ensures.ok
+    let near : c.is_near.result ≡ true = let no = c.if-not-is_near.false in cc in
+    let now = c.time.ensures.time in
+    let Q : ℕ → Type 0 = λ t. IsReading c.args.reading t in
+    clocks-now c.args.self.now c.answer.new.self c.args.appliance c.args.reading (λ w h. cc (c.in-Some-Clock.ensures.ask w h)) (subst Q now (c.is_near.ensures.0 near))
+    (let e = c.time.ensures.early in omega arith) c.in_ok-answer-in-Some-Clock.ensures.ok
 
 pub returns-in_ok-answer-in-Some-Until-clause-ok : goal.returns-in_ok-answer-in-Some-Until-clause-ok
 returns-in_ok-answer-in-Some-Until-clause-ok c =
-    let old = c.args.self.now in
-    let now = c.time-time.ensures.time in
-    waits-until old c.answer-in-Some-Until.new.self c.in-Some-Until.from c.args.reading old.same (cc (c.in-Some-Until.ensures.ask)) (omega (arith, now)) (omega (arith, now))
-    (omega arith) c.in_ok-answer-in-Some-Until.ensures.ok
+    let near : c.is_near.result ≡ true = let no = c.if-not-is_near.false in cc in
+    let now = c.time.ensures.time in
+    let Q : ℕ → Type 0 = λ t. IsReading c.args.reading t in
+    waits-until c.args.self.now c.answer-in-Some-Until.new.self c.args.appliance c.in-Some-Until.from c.args.reading (λ w h. cc (c.in-Some-Until.ensures.ask w h))
+    (subst Q now (c.is_near.ensures.0 near)) (let e = c.time.ensures.early in omega arith) (omega arith) c.in_ok-answer-in-Some-Until.ensures.ok

@@ -1,21 +1,28 @@
-use Rattle.std.proofs.Common.{◌≡◌, true, refl}
-use Rattle.plx_world.proofs.Working.{goes-done, goes-land, if-ok}
+use Rattle.std.proofs.Common.{None, refl}
+use Rattle.plx_commands.specs.declared.event.Event.TheVariants as event
+use Rattle.plx_world.specs.Running.{GoesOn}
+use Rattle.plx_world.specs.Standing.{Steps}
+use Rattle.plx_world.proofs.Going.{goes-done, goes-land, if-ok, ok-fault}
 use Rattle.plx_world.proofs.world.World.write_on.Goals as goal
 
-pub returns-in-Some-missing-clause-ok : goal.returns-in-Some-missing-clause-ok
-returns-in-Some-missing-clause-ok c =
+pub returns-in_default-missing-clause-ok : goal.returns-in_default-missing-clause-ok
+returns-in_default-missing-clause-ok c =
     let old = c.args.self.now in
-    let mine : c.is_own.result ≡ true = let no = c.if-not-is_own.false in cc in
-    goes-land old _ c.in-Some.number c.in-Some-missing.sector c.land.result old.same c.requires c.in-Some.is
-    (record { slots = refl; appliance = refl; boots = refl; pending = refl; trace = refl })
-    (λ s h. (c.is_own.ensures s h).0 mine) c.in-Some-missing.ensures.missing c.in-Some-missing.ensures.within
-    c.land.ensures.landed c.land.ensures.refused c.land.ensures.same
+    let new = c.done.new.self in
+    let a = c.args.appliance in
+    if-ok c.done.result (Steps old new (event.Done a)) (GoesOn a None old new) c.done.ensures.ok
+    (λ made steps. goes-done old new a c.args.guard c.in-Some.number made c.requires c.in-Some.ensures c.in_default-missing.ensures.missing steps)
 
-pub returns-in-None-clause-ok : goal.returns-in-None-clause-ok
-returns-in-None-clause-ok c =
+pub returns-then-land-clause-ok : goal.returns-then-land-clause-ok
+returns-then-land-clause-ok c =
     let old = c.args.self.now in
-    let mine : c.is_own.result ≡ true = let no = c.if-not-is_own.false in cc in
-    if-ok c.done.result _ _ _ c.done.ensures.ok c.done.ensures.fewer
-    (λ made steps fewer.
-    goes-done old c.done.new.self made c.in-Some.number old.same c.requires c.in-Some.is
-    (λ s h. (c.is_own.ensures s h).0 mine) c.in-None.ensures.missing steps fewer)
+    let found = c.in-Some-missing in
+    goes-land old _ c.args.appliance c.args.guard c.in-Some.number found.sector c.requires c.in-Some.ensures found.ensures.missing found.ensures.within
+    (c.land.ensures.landed c.if-land.true) (record { geometry = refl; seats = refl; trace = refl })
+
+pub returns-clause-ok : goal.returns-clause-ok
+returns-clause-ok c =
+    let old = c.args.self.now in
+    let found = c.in-Some-missing in
+    ok-fault old c.fault.new.self c.args.appliance c.args.guard c.in-Some.number found.sector c.fault.result c.requires c.in-Some.ensures found.ensures.missing
+    (c.land.ensures.refused c.if-land.false) (record { geometry = refl; seats = refl; trace = refl }) (c.land.ensures.same c.if-land.false) c.fault.ensures.ok

@@ -1,0 +1,51 @@
+-- Each place is a block of the device.
+use Rattle.std.proofs.Common.{◌≡◌, ◌<◌, ℕ, sym, subst, arith}
+use Rattle.plx_geom.specs.Geometry.{Geometry, IsGeometry, block_count, root_lease, image_lease, extent_lease, lease_at}
+use Rattle.plx_geom.specs.Places.{IsPlace, block_of}
+use Rattle.plx_geom.specs.declared.place.Place.{Place}
+use Rattle.plx_geom.specs.declared.place.Place.TheVariants.{Super, RootLease, ImageLease, ExtentLease, Record, Log, JDesc, JData, Map, Pool}
+use Rattle.plx_geom.proofs.Places.{lease-within, record-within, log-within, descriptor-within, data-within, map-within, pool-within}
+use Rattle.plx_disk.specs.declared.ask.Ask.{Ask}
+use Rattle.plx_disk.specs.declared.ask.Ask.TheVariants as ask
+use Rattle.plx_rules.specs.Holds.{Hold}
+use Rattle.plx_rules.specs.Machines.{AsksOnly}
+use Rattle.plx_appliance.specs.Asking.{IsOnDevice}
+use Rattle.plx_appliance.specs.Renews.{IsRenewing}
+use Rattle.plx_appliance.specs.declared.attach.Attach.{Attach}
+use Rattle.plx_appliance.specs.declared.renew.Renew.{Renew}
+use Rattle.plx_appliance.proofs.Renewed.{last-held}
+
+pub place-within : (g : Geometry) (p : Place) → IsGeometry g → IsPlace g p → block_of g p < block_count g
+place-within g Super limits is = omega arith
+place-within g RootLease limits is = lease-within g root_lease (omega arith)
+place-within g (ImageLease image) limits is = lease-within g (image_lease image.0) (omega (arith, is))
+place-within g (ExtentLease extent) limits is = lease-within g (extent_lease g extent.0) (omega (arith, is))
+place-within g (Record image) limits is = record-within g image.0 is
+place-within g (Log image) limits is = log-within g image.0 is
+place-within g (JDesc image slot) limits is = descriptor-within g image.0 slot is.0 is.1
+place-within g (JData image slot) limits is = data-within g image.0 slot is.0 is.1
+place-within g (Map extent) limits is = map-within g extent.0 (omega (arith, limits.blocks_low)) is
+place-within g (Pool extent bit) limits is = pool-within g extent.0 bit is.0 is.2
+
+-- what asks of a block of the device alone is on the device
+asks-within : (g : Geometry) (block : ℕ) (q : Ask) → block < block_count g → AsksOnly block q → IsOnDevice g q
+asks-within g block (ask.Read read) within own = subst (λ (b : ℕ). b < block_count g) (sym own) within
+asks-within g block (ask.Write k to guard) within own = (subst (λ (b : ℕ). b < block_count g) (sym own.0) within, own.1)
+asks-within g block ask.Clock within own = tt
+asks-within g block (ask.Until from) within own = tt
+
+-- so is what a claim of an attach asks
+pub claim-within : (a : Attach) (q : Ask) → AsksOnly (lease_at a.claim.number) q → a.claim.number ≡ image_lease a.load.image.slot.0 → IsOnDevice a.load.image.setting.geometry q
+claim-within a q own number =
+    let g = a.load.image.setting.geometry in
+    let inside = a.load.image.inside in
+    asks-within g (lease_at (image_lease a.load.image.slot.0)) q (lease-within g (image_lease a.load.image.slot.0) (omega (arith, inside)))
+    (subst (λ (n : ℕ). AsksOnly (lease_at n) q) number own)
+
+-- and what a renewal of a renew asks
+pub renewal-within : (r : Renew) (leases : ℕ → Hold) (q : Ask) → AsksOnly (lease_at r.renewal.work.number) q → IsRenewing r leases → IsOnDevice r.setting.geometry q
+renewal-within r leases q own h =
+    let g = r.setting.geometry in
+    let inside = (last-held 0 g.images leases r.left.items r.renewal h).0 in
+    asks-within g (lease_at (image_lease r.renewal.slot.0)) q (lease-within g (image_lease r.renewal.slot.0) (omega (arith, inside)))
+    (subst (λ (n : ℕ). AsksOnly (lease_at n) q) r.renewal.number own)

@@ -1,0 +1,17 @@
+use Rattle.std.proofs.Common.{◌≡◌, ℕ, ap, sym, subst}
+use Rattle.plx_geom.specs.Geometry.{lease_at}
+use Rattle.plx_rules.specs.Boot.{Idle}
+use Rattle.plx_rules.specs.Holds.{Hold, Nothing}
+use Rattle.plx_appliance.specs.Tokens.{held_at}
+use Rattle.plx_appliance.proofs.Held.{nothing-at}
+use Rattle.plx_appliance.proofs.appliance.Appliance.fresh.Goals as goal
+
+pub returns-clause-log : goal.returns-clause-log
+returns-clause-log c =
+    let h = c.in_ok-holdings.holdings in
+    record {
+      at = ap Idle (sym c.in_ok-holdings.ensures.known);
+      held = λ lease within.
+          let P : (ℕ → Hold) → Type 0 = λ leases. Nothing ≡ held_at h.setting.geometry leases (lease_at lease) in
+          subst P (sym c.in_ok-holdings.ensures.leases) (nothing-at h.setting.geometry (lease_at lease));
+    }

@@ -1,0 +1,32 @@
+use Rattle.std.proofs.Common.{◌≡◌, ◌≤◌, length, ap, ◌∙◌, subst, arith}
+use Rattle.std.specs.Prelude.{None}
+use Rattle.std.proofs.lemmas.List.{get_or_past}
+use Rattle.plx_commands.specs.Places.{at}
+use Rattle.plx_rules.specs.Holds.{first_hold}
+use Rattle.plx_rules.specs.Session.{Known}
+use Rattle.plx_appliance.specs.Kept.{known_of}
+use Rattle.plx_appliance.specs.Tokens.{hold_of, leases_of}
+use Rattle.plx_appliance.proofs.Dropping.{dropped-all, dropped-next}
+use Rattle.plx_appliance.proofs.holdings.Holdings.drop_expired.Goals as goal
+
+pub loop-index-preserved : goal.loop-index-preserved
+loop-index-preserved c =
+    let k = known_of c.args.self.now in
+    let leases = leases_of c.args.self.now.leases.leases.items in
+    let now = leases_of c.loop-index.self.leases.leases.items in
+    let new = leases_of c.drop_lease.new.self.leases.leases.items in
+    let P : Known → Type 0 = λ q. new ≡ at now c.loop-index.index (first_hold (q.sessions c.loop-index.index) c.args.reading (now c.loop-index.index)) in
+    let is = subst P c.loop-index.invariant.1 c.drop_lease.ensures.leases in (
+      c.drop_lease.ensures.setting ∙ c.loop-index.invariant.0,
+      c.drop_lease.ensures.known ∙ c.loop-index.invariant.1,
+      dropped-next k c.args.reading leases now new c.loop-index.index c.loop-index.invariant.2 is,
+    )
+
+pub returns-clause-leases : goal.returns-clause-leases
+returns-clause-leases c =
+    let h = c.args.self.now in
+    let items = h.leases.leases.items in
+    dropped-all (known_of h) c.args.reading (leases_of items) (leases_of c.loop-index.self.leases.leases.items) c.loop-index.index c.loop-index.invariant.2
+    (λ image past.
+    let out : length items ≤ image = omega (arith, past, c.loop-index-test.false, h.leases.long, h.leases.leases.ok.0) in
+    ap hold_of (get_or_past items image None out))

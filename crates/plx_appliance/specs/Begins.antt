@@ -1,0 +1,34 @@
+-- A command that has begun: what it asks after its first reading.
+use Rattle.std.specs.Prelude.{ℕ, nat_lt}
+use Rattle.plx_geom.specs.Geometry.{image_lease, lease_at}
+use Rattle.plx_rules.specs.Part.{Part}
+use Rattle.plx_rules.specs.Attaching.{attach_part}
+use Rattle.plx_rules.specs.Commands.{create_part, delete_part, detach_part, of_attached, read_part, write_part}
+use Rattle.plx_rules.specs.Ends.{End}
+use Rattle.plx_rules.specs.Holds.{Hold}
+use Rattle.plx_rules.specs.Session.{Known}
+use Rattle.plx_rules.specs.Settings.{Setting}
+use Rattle.plx_appliance.specs.RenewStarts.{renew_command}
+use Rattle.plx_appliance.specs.declared.begun.Begun.{Begun}
+use Rattle.plx_appliance.specs.declared.begun.Begun.TheVariants as begun
+
+-- what it asks after its first reading
+abbrev pub begun_part : Setting → Known → (holds : ℕ → Hold) → (reading : ℕ) → Begun → Part End
+begun_part s known holds reading (begun.Attach slot room) =
+    attach_part s known slot.0 (known.sessions slot.0) (nat_lt slot.0 s.geometry.images) (holds (lease_at (image_lease slot.0)))
+begun_part s known holds reading (begun.Detach slot lease) = of_attached s known holds reading slot.0 (detach_part s known slot.0)
+begun_part s known holds reading (begun.Create slot size label record') = of_attached s known holds reading slot.0 (create_part s known slot.0 size label)
+begun_part s known holds reading (begun.Delete slot record') = of_attached s known holds reading slot.0 (delete_part s known slot.0)
+begun_part s known holds reading (begun.Read slot vblock block) = of_attached s known holds reading slot.0 (read_part s known slot.0 vblock)
+begun_part s known holds reading (begun.Write slot vblock block descriptor) = of_attached s known holds reading slot.0 (write_part s known slot.0 vblock block)
+begun_part s known holds reading (begun.Renew renewals) = renew_command s known holds reading
+
+-- for how many journal slots it has memory, where it needs any
+abbrev pub begun_slots : ℕ → Begun → ℕ
+begun_slots slots (begun.Attach slot room) = room.slots
+begun_slots slots other = slots
+
+-- for how many images it has memory, where it needs any
+abbrev pub begun_images : ℕ → Begun → ℕ
+begun_images images (begun.Renew renewals) = renewals.images
+begun_images images other = images

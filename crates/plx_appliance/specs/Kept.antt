@@ -1,0 +1,26 @@
+-- What an appliance keeps between commands, as the definitions see it.
+use Rattle.std.specs.Prelude.{ℕ, List, Option, Some, None, slice_index_or}
+use Rattle.plx_rules.specs.Session.{Known}
+use Rattle.plx_rules.specs.Session.{Session as KnownSession}
+use Rattle.plx_appliance.specs.declared.holdings.Holdings.{Holdings}
+use Rattle.plx_appliance.specs.declared.session.Session.{Session}
+use Rattle.plx_appliance.specs.declared.sessions.Sessions.{Sessions}
+
+-- a session
+abbrev pub session_of : Session → KnownSession
+session_of session = record { image = session.image; writes = session.writes.items }
+
+abbrev pub known_session : Option Session → Option KnownSession
+known_session None = None
+known_session (Some session) = Some (session_of session)
+
+-- the sessions by image
+abbrev pub sessions_of : List (Option Session) → ℕ → Option KnownSession
+sessions_of images = λ image. known_session (slice_index_or images image None)
+
+-- what is known by these sessions, after so many claims
+abbrev pub known_by : Sessions → ℕ → Known
+known_by sessions claims = record { sessions = sessions_of sessions.images.items; claims = claims }
+
+abbrev pub known_of : Holdings → Known
+known_of h = known_by h.sessions h.claims

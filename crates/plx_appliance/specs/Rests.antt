@@ -1,0 +1,88 @@
+-- What each command still asks, by where its machine stands and by what is known.
+use Rattle.std.specs.Prelude.{ℕ, None}
+use Rattle.plx_base.specs.declared.write_kind.WriteKind.TheVariants as kind
+use Rattle.plx_commands.specs.declared.reply.Reply.{Reply}
+use Rattle.plx_commands.specs.declared.reply.Reply.TheVariants as reply
+use Rattle.plx_geom.specs.Geometry.{image_lease, lease_at, record_at, descriptor_at, data_at}
+use Rattle.plx_rules.specs.Part.{Part}
+use Rattle.plx_rules.specs.declared.journaled.Journaled.{Journaled}
+use Rattle.plx_rules.specs.Attaching.{image_use}
+use Rattle.plx_rules.specs.Ends.{End, ends, write_then, ends_in_time}
+use Rattle.plx_rules.specs.InUse.{InUse}
+use Rattle.plx_rules.specs.Session.{Known, with_session}
+use Rattle.plx_appliance.specs.Giving.{given}
+use Rattle.plx_appliance.specs.Pushing.{begun, one_more}
+use Rattle.plx_appliance.specs.declared.detach.Detach.{Detach}
+use Rattle.plx_appliance.specs.declared.leased.Leased.{Leased}
+use Rattle.plx_appliance.specs.declared.read.Read.{Read}
+use Rattle.plx_appliance.specs.declared.record.Done.{Done}
+use Rattle.plx_appliance.specs.declared.record.Done.TheVariants as done
+use Rattle.plx_appliance.specs.declared.record.Record.{Record}
+use Rattle.plx_appliance.specs.declared.record.RecordAt.{RecordAt}
+use Rattle.plx_appliance.specs.declared.record.RecordAt.TheVariants as record_at'
+use Rattle.plx_appliance.specs.declared.write.Write.{Write}
+use Rattle.plx_appliance.specs.declared.write.WriteAt.{WriteAt}
+use Rattle.plx_appliance.specs.declared.write.WriteAt.TheVariants as write
+
+-- the lease that is in use
+abbrev pub use_of : Leased → InUse
+use_of l = record { lease = image_lease l.slot.0; until = l.until }
+
+-- a read
+abbrev pub read_rest : Known → Read → Part End
+read_rest known r = ends_in_time (given r.image.setting) known (image_use r.image.slot.0 r.image.until) (reply.Data r.payload) known
+
+-- a write: its last clock reading, its commit, its data
+abbrev pub journaled : Write → Journaled
+journaled w = record { number = w.number; vblock = w.vblock; block = w.block }
+
+abbrev pub pushed : Known → (slots image : ℕ) → Journaled → Known
+pushed known slots image write = with_session known image (one_more slots (known.sessions image) write)
+
+abbrev pub write_last : Known → Write → Part End
+write_last known w =
+    ends_in_time (given w.image.setting) known (image_use w.image.slot.0 w.image.until) (reply.Written w.number)
+    (pushed known w.image.setting.geometry.slots w.image.slot.0 (journaled w))
+
+abbrev pub write_commit : Known → Write → Part End
+write_commit known w =
+    write_then (given w.image.setting) known (use_of w.image) kind.JCommit (descriptor_at w.image.setting.geometry w.image.slot.0 w.index) w.spelled (write_last known w)
+
+abbrev pub write_data : Known → Write → Part End
+write_data known w =
+    write_then (given w.image.setting) known (use_of w.image) kind.JData (data_at w.image.setting.geometry w.image.slot.0 w.index) w.block (write_commit known w)
+
+abbrev pub write_at : WriteAt → Known → Write → Part End
+write_at write.Data known w = write_data known w
+write_at write.Commit known w = write_commit known w
+write_at write.Last known w = write_last known w
+
+abbrev pub write_rest : Known → Write → Part End
+write_rest known w = write_at w.at known w
+
+-- a create or a delete: its last clock reading, its record
+abbrev pub done_reply : Done → Reply
+done_reply done.Created = reply.Created
+done_reply done.Deleted = reply.Deleted
+
+abbrev pub record_last : Known → Record → Part End
+record_last known r =
+    ends_in_time (given r.image.setting) known (image_use r.image.slot.0 r.image.until) (done_reply r.done)
+    (with_session known r.image.slot.0 (begun (known.sessions r.image.slot.0) r.made))
+
+abbrev pub record_first : Known → Record → Part End
+record_first known r =
+    write_then (given r.image.setting) known (use_of r.image) kind.Record (record_at r.image.setting.geometry r.image.slot.0) r.spelled (record_last known r)
+
+abbrev pub record_stage : RecordAt → Known → Record → Part End
+record_stage record_at'.First known r = record_first known r
+record_stage record_at'.Last known r = record_last known r
+
+abbrev pub record_rest : Known → Record → Part End
+record_rest known r = record_stage r.at known r
+
+-- a detach
+abbrev pub detach_rest : Known → Detach → Part End
+detach_rest known d =
+    write_then (given d.image.setting) known (use_of d.image) kind.Release (lease_at (image_lease d.image.slot.0)) d.spelled
+    (ends reply.Detached (with_session known d.image.slot.0 None))

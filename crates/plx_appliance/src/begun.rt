@@ -1,0 +1,134 @@
+//! A command that has begun, before its first reading of the clock.
+ghost use Rattle.std.specs.Prelude.{◌≡◌};
+ghost use Rattle.std.specs.Vec.{vec_len};
+
+use crate::image_renewal::Renewals;
+use crate::session::Session;
+use crate::setting::Setting;
+use plx_base::{Block, Label, NoMemory, SlotNo};
+use plx_commands::Command;
+use std::alloc::Global;
+
+/// The memory of an attach: a session for a journal of so many slots.
+#[derive(Drop)]
+pub struct Room {
+    pub slots: u32,
+    pub session: Session,
+    pub alloc: Global,
+    ghost same: { session.slots ≡ slots },
+    ghost empty: { vec_len session.writes ≡ 0 },
+}
+
+/// A command that has begun, with all the memory that it can need.
+#[derive(Drop)]
+pub enum Begun {
+    Attach {
+        slot: SlotNo,
+        room: Room,
+    },
+    Detach {
+        slot: SlotNo,
+        lease: Block,
+    },
+    Create {
+        slot: SlotNo,
+        size: u32,
+        label: Label,
+        record: Block,
+    },
+    Delete {
+        slot: SlotNo,
+        record: Block,
+    },
+    Read {
+        slot: SlotNo,
+        vblock: u32,
+        block: Block,
+    },
+    Write {
+        slot: SlotNo,
+        vblock: u32,
+        block: Block,
+        descriptor: Block,
+    },
+    Renew {
+        renewals: Renewals,
+    },
+}
+
+impl Begun {
+    ghost use Rattle.std.specs.Prelude.{ℕ, IfOk};
+    ghost use Rattle.plx_rules.specs.Commands.{IsBuilt, command_part};
+    ghost use Rattle.plx_rules.specs.Holds.{Hold};
+    ghost use Rattle.plx_rules.specs.Session.{Known};
+    ghost use Rattle.plx_rules.specs.Settings.{Setting as Given};
+    ghost use Rattle.plx_appliance.specs.Begins.{begun_images, begun_part, begun_slots};
+
+    /// A command begins, with all the memory that it can need.
+    pub fn begin(alloc: Global, setting: &Setting, command: Command) -> Result<Begun, NoMemory>
+        requires { IsBuilt command }
+        ensures part { IfOk result (λ b. (s : Given) (known : Known) (holds : ℕ → Hold) (reading : ℕ) → begun_part s known holds reading b ≡ command_part s known holds reading command) }
+        ensures slots { IfOk result (λ b. begun_slots setting.now.geometry.slots b ≡ setting.now.geometry.slots) }
+        ensures images { IfOk result (λ b. begun_images setting.now.geometry.images b ≡ setting.now.geometry.images) }
+    {
+        match command {
+            Command::Attach { slot } => {
+                let slots = setting.geometry.slots;
+                let session = Session::new(alloc, slots)?;
+                Ok(Begun::Attach {
+                    slot,
+                    room: Room {
+                        slots,
+                        session,
+                        alloc,
+                    },
+                })
+            }
+            Command::Detach { slot } => {
+                let lease = Block::zeros(alloc)?;
+                Ok(Begun::Detach { slot, lease })
+            }
+            Command::Create { slot, size, label } => {
+                let record = Block::zeros(alloc)?;
+                Ok(Begun::Create {
+                    slot,
+                    size,
+                    label,
+                    record,
+                })
+            }
+            Command::Delete { slot } => {
+                let record = Block::zeros(alloc)?;
+                Ok(Begun::Delete { slot, record })
+            }
+            Command::Read { slot, vblock } => {
+                let block = Block::zeros(alloc)?;
+                Ok(Begun::Read {
+                    slot,
+                    vblock,
+                    block,
+                })
+            }
+            Command::Write {
+                slot,
+                vblock,
+                payload,
+            } => {
+                let block = payload.to_block(alloc)?;
+                let descriptor = Block::zeros(alloc)?;
+                Ok(Begun::Write {
+                    slot,
+                    vblock,
+                    block,
+                    descriptor,
+                })
+            }
+            Command::Renew => {
+                let renewals = Renewals::new(alloc, setting.geometry.images)?;
+                Ok(Begun::Renew { renewals })
+            }
+            Command::Flush { .. } | Command::Reserve { .. } | Command::Retire | Command::Reclaim =>
+                unreachable!(),
+        }
+    }
+}

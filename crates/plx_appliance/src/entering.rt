@@ -1,0 +1,283 @@
+//! What a command becomes at its first reading of the clock: a machine that goes on, or a refusal.
+ghost use Rattle.std.specs.Prelude.{◌≡◌, ◌<◌, ◌^◌, None, IfOk, nat_lt};
+ghost use Rattle.plx_geom.specs.Geometry.{image_lease, lease_at};
+ghost use Rattle.plx_rules.specs.Attaching.{attach_part, claim_image};
+ghost use Rattle.plx_rules.specs.Commands.{create_part, delete_part, detach_part, of_attached, read_part, write_part};
+ghost use Rattle.plx_commands.specs.Limits.{last_claim};
+ghost use Rattle.plx_rules.specs.Holds.{Nothing};
+ghost use Rattle.plx_appliance.specs.Begins.{begun_images, begun_part, begun_slots};
+ghost use Rattle.plx_appliance.specs.Giving.{given};
+ghost use Rattle.plx_appliance.specs.Kept.{known_of};
+ghost use Rattle.plx_appliance.specs.RenewStarts.{all_renewals, holds_in, leases_in, renew_command};
+ghost use Rattle.plx_appliance.specs.Stands.{IsTied, StartsInside};
+ghost use Rattle.plx_appliance.specs.Tokens.{held_at, leases_of};
+ghost use Rattle.plx_appliance.specs.Works.{work_entered, work_setting, work_slots};
+
+use crate::attach::Attach;
+use crate::begun::{Begun, Room};
+use crate::detach::Detach;
+use crate::holdings::Holdings;
+use crate::image_renewal::Renewals;
+use crate::leased::Leased;
+use crate::read::Read;
+use crate::record::Record;
+use crate::renew::Renew;
+use crate::renewing::{reached_lease, renewals};
+use crate::work::Work;
+use crate::write::Write;
+use plx_base::{Block, Label, SlotNo};
+use plx_commands::Reply;
+
+/// The number of a boot's last claim.
+const LAST_CLAIM: u64 = (1 << 40) - 1;
+
+/// A command has its first reading, below 2^48.
+pub fn enter(begun: Begun, holdings: &mut Holdings, reading: u64) -> Result<Work, Reply>
+    requires slots { begun_slots holdings.old.setting.geometry.slots begun ≡ holdings.old.setting.geometry.slots }
+    requires images { begun_images holdings.old.setting.geometry.images begun ≡ holdings.old.setting.geometry.images }
+    requires reading { reading < 2 ^ 48 }
+    ensures part { work_entered (known_of holdings.new) result ≡ begun_part (given holdings.old.setting) (known_of holdings.old) (held_at holdings.old.setting.geometry (leases_of holdings.old.leases.leases.items)) reading begun }
+    ensures leases { leases_of holdings.new.leases.leases.items ≡ leases_of holdings.old.leases.leases.items }
+    ensures setting { holdings.new.setting ≡ holdings.old.setting }
+    ensures tied { IfOk result (IsTied holdings.old.setting) }
+    ensures inside { IfOk result (StartsInside (leases_of holdings.old.leases.leases.items)) }
+{
+    match begun {
+        Begun::Attach { slot, room } => enter_attach(holdings, slot, room),
+        Begun::Detach { slot, lease } => enter_detach(holdings, slot, lease, reading),
+        Begun::Create {
+            slot,
+            size,
+            label,
+            record,
+        } => enter_create(holdings, slot, size, label, record, reading),
+        Begun::Delete { slot, record } => enter_delete(holdings, slot, record, reading),
+        Begun::Read {
+            slot,
+            vblock,
+            block,
+        } => enter_read(holdings, slot, vblock, block, reading),
+        Begun::Write {
+            slot,
+            vblock,
+            block,
+            descriptor,
+        } => enter_write(holdings, slot, vblock, block, descriptor, reading),
+        Begun::Renew { renewals } => enter_renew(holdings, renewals, reading),
+    }
+}
+
+// An attach has its first reading.
+fn enter_attach(holdings: &mut Holdings, slot: SlotNo, room: Room) -> Result<Work, Reply>
+    requires { room.slots ≡ holdings.old.setting.geometry.slots }
+    ensures part { work_entered (known_of holdings.new) result ≡ attach_part (given holdings.old.setting) (known_of holdings.old) slot.0 ((known_of holdings.old).sessions slot.0) (nat_lt slot.0 holdings.old.setting.geometry.images) (held_at holdings.old.setting.geometry (leases_of holdings.old.leases.leases.items) (lease_at (image_lease slot.0))) }
+    ensures leases { leases_of holdings.new.leases.leases.items ≡ leases_of holdings.old.leases.leases.items }
+    ensures setting { holdings.new.setting ≡ holdings.old.setting }
+    ensures tied { IfOk result (IsTied holdings.old.setting) }
+    ensures inside { IfOk result (StartsInside (leases_of holdings.old.leases.leases.items)) }
+{
+    match holdings.sessions.get(slot) {
+        Some(_) => Err(Reply::AlreadyAttached),
+        None => enter_free(holdings, slot, room),
+    }
+}
+
+// An attach of an image without a session.
+fn enter_free(holdings: &mut Holdings, slot: SlotNo, room: Room) -> Result<Work, Reply>
+    requires { room.slots ≡ holdings.old.setting.geometry.slots }
+    ensures part { work_entered (known_of holdings.new) result ≡ attach_part (given holdings.old.setting) (known_of holdings.old) slot.0 None (nat_lt slot.0 holdings.old.setting.geometry.images) (held_at holdings.old.setting.geometry (leases_of holdings.old.leases.leases.items) (lease_at (image_lease slot.0))) }
+    ensures leases { leases_of holdings.new.leases.leases.items ≡ leases_of holdings.old.leases.leases.items }
+    ensures setting { holdings.new.setting ≡ holdings.old.setting }
+    ensures tied { IfOk result (IsTied holdings.old.setting) }
+    ensures inside { IfOk result (StartsInside (leases_of holdings.old.leases.leases.items)) }
+{
+    let setting = holdings.setting;
+    if slot.0 >= setting.geometry.images {
+        return Err(Reply::NoImage);
+    }
+    match holdings.leases.get(slot) {
+        Some(held) => {
+            let image = Leased {
+                setting,
+                slot,
+                until: held.until(),
+            };
+            Ok(Work::Attach(Attach::load(room.alloc, image, room.session)))
+        }
+        None => enter_claim(holdings, slot, room),
+    }
+}
+
+// An attach of an image whose lease isn't held.
+fn enter_claim(holdings: &mut Holdings, slot: SlotNo, room: Room) -> Result<Work, Reply>
+    requires room { room.slots ≡ holdings.old.setting.geometry.slots }
+    requires within { slot.0 < holdings.old.setting.geometry.images }
+    requires free { leases_of holdings.old.leases.leases.items slot.0 ≡ Nothing }
+    ensures part { work_entered (known_of holdings.new) result ≡ claim_image (nat_lt holdings.old.claims last_claim) (given holdings.old.setting) (known_of holdings.old) slot.0 }
+    ensures leases { leases_of holdings.new.leases.leases.items ≡ leases_of holdings.old.leases.leases.items }
+    ensures setting { holdings.new.setting ≡ holdings.old.setting }
+    ensures tied { IfOk result (IsTied holdings.old.setting) }
+    ensures inside { IfOk result (StartsInside (leases_of holdings.old.leases.leases.items)) }
+{
+    let setting = holdings.setting;
+    let number = holdings.claims;
+    if number >= LAST_CLAIM {
+        return Err(Reply::WornOut { count: LAST_CLAIM });
+    }
+    holdings.claims = number + 1;
+    Ok(Work::Attach(Attach::claim(room.alloc, setting, slot, number, room.session)))
+}
+
+// A detach has its first reading.
+fn enter_detach(
+    holdings: &Holdings,
+    slot: SlotNo,
+    lease: Block,
+    reading: u64,
+) -> Result<Work, Reply>
+    ensures part { work_entered (known_of holdings.now) result ≡ of_attached (given holdings.now.setting) (known_of holdings.now) (held_at holdings.now.setting.geometry (leases_of holdings.now.leases.leases.items)) reading slot.0 (detach_part (given holdings.now.setting) (known_of holdings.now) slot.0) }
+    ensures tied { IfOk result (IsTied holdings.now.setting) }
+    ensures inside { IfOk result (StartsInside (leases_of holdings.now.leases.leases.items)) }
+{
+    let Some(_session) = holdings.sessions.get(slot) else {
+        return Err(Reply::NotAttached);
+    };
+    match holdings.leased(slot, reading) {
+        Err(reply) => Err(reply),
+        Ok(image) => Ok(Work::Detach(Detach::enter(image, lease))),
+    }
+}
+
+// A create has its first reading.
+fn enter_create(
+    holdings: &Holdings,
+    slot: SlotNo,
+    size: u32,
+    label: Label,
+    record: Block,
+    reading: u64,
+) -> Result<Work, Reply>
+    ensures part { work_entered (known_of holdings.now) result ≡ of_attached (given holdings.now.setting) (known_of holdings.now) (held_at holdings.now.setting.geometry (leases_of holdings.now.leases.leases.items)) reading slot.0 (create_part (given holdings.now.setting) (known_of holdings.now) slot.0 size label) }
+    ensures tied { IfOk result (IsTied holdings.now.setting) }
+    ensures inside { IfOk result (StartsInside (leases_of holdings.now.leases.leases.items)) }
+{
+    let Some(session) = holdings.sessions.get(slot) else {
+        return Err(Reply::NotAttached);
+    };
+    match holdings.leased(slot, reading) {
+        Err(reply) => Err(reply),
+        Ok(image) => match Record::create(image, session, size, label, record) {
+            Err(reply) => Err(reply),
+            Ok(record) => Ok(Work::Record(record)),
+        },
+    }
+}
+
+// A delete has its first reading.
+fn enter_delete(
+    holdings: &Holdings,
+    slot: SlotNo,
+    record: Block,
+    reading: u64,
+) -> Result<Work, Reply>
+    ensures part { work_entered (known_of holdings.now) result ≡ of_attached (given holdings.now.setting) (known_of holdings.now) (held_at holdings.now.setting.geometry (leases_of holdings.now.leases.leases.items)) reading slot.0 (delete_part (given holdings.now.setting) (known_of holdings.now) slot.0) }
+    ensures tied { IfOk result (IsTied holdings.now.setting) }
+    ensures inside { IfOk result (StartsInside (leases_of holdings.now.leases.leases.items)) }
+{
+    let Some(session) = holdings.sessions.get(slot) else {
+        return Err(Reply::NotAttached);
+    };
+    match holdings.leased(slot, reading) {
+        Err(reply) => Err(reply),
+        Ok(image) => match Record::delete(image, session, record) {
+            Err(reply) => Err(reply),
+            Ok(record) => Ok(Work::Record(record)),
+        },
+    }
+}
+
+// A read has its first reading.
+fn enter_read(
+    holdings: &Holdings,
+    slot: SlotNo,
+    vblock: u32,
+    block: Block,
+    reading: u64,
+) -> Result<Work, Reply>
+    ensures part { work_entered (known_of holdings.now) result ≡ of_attached (given holdings.now.setting) (known_of holdings.now) (held_at holdings.now.setting.geometry (leases_of holdings.now.leases.leases.items)) reading slot.0 (read_part (given holdings.now.setting) (known_of holdings.now) slot.0 vblock) }
+    ensures tied { IfOk result (IsTied holdings.now.setting) }
+    ensures inside { IfOk result (StartsInside (leases_of holdings.now.leases.leases.items)) }
+{
+    let Some(session) = holdings.sessions.get(slot) else {
+        return Err(Reply::NotAttached);
+    };
+    match holdings.leased(slot, reading) {
+        Err(reply) => Err(reply),
+        Ok(image) => match Read::enter(image, session, vblock, block) {
+            Err(reply) => Err(reply),
+            Ok(read) => Ok(Work::Read(read)),
+        },
+    }
+}
+
+// A write has its first reading.
+fn enter_write(
+    holdings: &Holdings,
+    slot: SlotNo,
+    vblock: u32,
+    block: Block,
+    descriptor: Block,
+    reading: u64,
+) -> Result<Work, Reply>
+    ensures part { work_entered (known_of holdings.now) result ≡ of_attached (given holdings.now.setting) (known_of holdings.now) (held_at holdings.now.setting.geometry (leases_of holdings.now.leases.leases.items)) reading slot.0 (write_part (given holdings.now.setting) (known_of holdings.now) slot.0 vblock block) }
+    ensures tied { IfOk result (IsTied holdings.now.setting) }
+    ensures inside { IfOk result (StartsInside (leases_of holdings.now.leases.leases.items)) }
+{
+    let Some(session) = holdings.sessions.get(slot) else {
+        return Err(Reply::NotAttached);
+    };
+    match holdings.leased(slot, reading) {
+        Err(reply) => Err(reply),
+        Ok(image) => match Write::enter(image, session, vblock, block, descriptor) {
+            Err(reply) => Err(reply),
+            Ok(write) => Ok(Work::Write(write)),
+        },
+    }
+}
+
+// A renew has its first reading.
+fn enter_renew(holdings: &Holdings, room: Renewals, reading: u64) -> Result<Work, Reply>
+    requires room { room.images ≡ holdings.now.setting.geometry.images }
+    requires reading { reading < 2 ^ 48 }
+    ensures part { work_entered (known_of holdings.now) result ≡ renew_command (given holdings.now.setting) (known_of holdings.now) (holds_in holdings.now) reading }
+    ensures tied { IfOk result (IsTied holdings.now.setting) }
+    ensures inside { IfOk result (StartsInside (leases_in holdings.now)) }
+{
+    match reached_lease(holdings, reading) {
+        Some(due) => Err(Reply::Lost {
+            lease: holdings.setting.lease_name(due.lease),
+            until: due.until,
+            reading,
+        }),
+        None => enter_renewals(holdings, room, reading),
+    }
+}
+
+// A renew whose reading has reached no lease in use.
+fn enter_renewals(holdings: &Holdings, room: Renewals, reading: u64) -> Result<Work, Reply>
+    requires room { room.images ≡ holdings.now.setting.geometry.images }
+    requires reading { reading < 2 ^ 48 }
+    ensures part { work_entered (known_of holdings.now) result ≡ all_renewals (given holdings.now.setting) (known_of holdings.now) (holds_in holdings.now) reading }
+    ensures tied { IfOk result (IsTied holdings.now.setting) }
+    ensures inside { IfOk result (StartsInside (leases_in holdings.now)) }
+{
+    let mut left = renewals(holdings, room, reading);
+    let Some(renewal) = left.pop() else {
+        return Err(Reply::Renewed);
+    };
+    Ok(Work::Renew(Renew {
+        setting: holdings.setting,
+        renewal,
+        left,
+    }))
+}

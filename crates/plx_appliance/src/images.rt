@@ -1,0 +1,39 @@
+//! What becomes of the session of one image.
+ghost use Rattle.std.specs.Prelude.{◌≡◌, true};
+ghost use Rattle.plx_gate.specs.Images.{is_image};
+ghost use Rattle.plx_appliance.specs.Kept.{known_session};
+ghost use Rattle.plx_appliance.specs.Pushing.{begun, one_more};
+ghost use Rattle.plx_appliance.specs.Tied.{slots_in};
+
+use crate::session::Session;
+use plx_base::Block;
+use plx_gate::ImageRecord;
+
+/// A session has one more write, if there is one whose journal has a slot for it.
+pub fn push(image: &mut Option<Session>, slots: u32, number: u64, vblock: u32, bytes: &Block)
+    requires { slots_in slots image.old ≡ slots }
+    ensures known { known_session image.new ≡ one_more slots (known_session image.old) (record { number = number; vblock = vblock; block = bytes.now }) }
+    ensures same { slots_in slots image.new ≡ slots }
+{
+    match image {
+        Some(session) => {
+            if session.writes.len() < slots as usize {
+                session.push(number, vblock, bytes);
+            }
+        }
+        None => {}
+    }
+}
+
+/// A session, if there is one, is that of an image that was just made or deleted.
+pub fn start(image: &mut Option<Session>, slots: u32, made: ImageRecord)
+    requires same { slots_in slots image.old ≡ slots }
+    requires limits { is_image made ≡ true }
+    ensures known { known_session image.new ≡ begun (known_session image.old) made }
+    ensures same { slots_in slots image.new ≡ slots }
+{
+    match image {
+        Some(session) => session.start(made),
+        None => {}
+    }
+}

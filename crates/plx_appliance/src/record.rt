@@ -1,0 +1,214 @@
+//! A create or a delete writes the image's record.
+ghost use Rattle.std.specs.Prelude.{◌≡◌, true, Some};
+ghost use Rattle.plx_gate.specs.Images.{is_image};
+ghost use Rattle.plx_commands.specs.Facts.{is_size as is_allowed_size};
+
+use crate::leased::Leased;
+use crate::session::Session;
+use crate::sessions::Sessions;
+use crate::spell::spell_image;
+use plx_base::{Block, BlockNo, Label, Ptr, WriteKind};
+use plx_commands::Reply;
+use plx_disk::{Answer, Ask};
+use plx_gate::ImageRecord;
+use plx_geom::Place;
+use std::mem;
+
+/// How often an image can be made in one slot.
+const LAST_GENERATION: u32 = u32::MAX;
+
+/// The most blocks that an image has.
+const GREATEST_SIZE: u32 = 1 << 27;
+
+/// Where it stands: at the write of the record, or at its last reading of the clock.
+#[derive(Clone, Copy, PartialEq, Eq)]
+pub enum RecordAt {
+    First,
+    Last,
+}
+
+/// What was done.
+#[derive(Clone, Copy, PartialEq, Eq)]
+pub enum Done {
+    Created,
+    Deleted,
+}
+
+/// The write of an image's record, with the block that spells it.
+#[derive(Drop)]
+pub struct Record {
+    pub at: RecordAt,
+    pub image: Leased,
+    pub made: ImageRecord,
+    pub spelled: Block,
+    pub done: Done,
+    ghost limits: { is_image made ≡ true },
+}
+
+impl Record {
+    ghost use Rattle.std.specs.Prelude.{ℕ, ◌<◌, Ok};
+    ghost use Rattle.plx_gate.specs.Images.{IsImage};
+    ghost use Rattle.plx_geom.specs.Geometry.{block_count, record_at};
+    ghost use Rattle.plx_rules.specs.Part.{answered, standing, bytes_out};
+    ghost use Rattle.plx_rules.specs.Commands.{create_part, delete_part, record_part};
+    ghost use Rattle.plx_rules.specs.Session.{Known};
+    ghost use Rattle.plx_rules.specs.Session.{Session as KnownSession};
+    ghost use Rattle.plx_appliance.specs.Asking.{IsOnDevice, IsSpare};
+    ghost use Rattle.plx_rules.specs.Machines.{AreWhole};
+    ghost use Rattle.plx_appliance.specs.Ending.{after_reply, entered};
+    ghost use Rattle.plx_appliance.specs.Giving.{given};
+    ghost use Rattle.plx_appliance.specs.Kept.{known_by, session_of};
+    ghost use Rattle.plx_appliance.specs.Rests.{done_reply, record_rest};
+
+    /// A create begins, with a block for its record, or is refused.
+    pub fn create(
+        image: Leased,
+        session: &Session,
+        size: u32,
+        label: Label,
+        spelled: Block,
+    ) -> Result<Record, Reply>
+        ensures part { (known : Known) → known.sessions image.slot.0 ≡ Some (session_of session.now) → entered record_rest known result ≡ create_part (given image.setting) known image.slot.0 size label (session_of session.now) image.until }
+        ensures image { (r : Record) → result ≡ Ok r → r.image ≡ image }
+    {
+        if session.is_live() {
+            return Err(Reply::Exists);
+        }
+        if !is_size(size) {
+            return Err(Reply::OutOfRange {
+                size: GREATEST_SIZE,
+            });
+        }
+        let generation = session.generation();
+        if generation >= LAST_GENERATION {
+            return Err(Reply::WornOut {
+                count: u64::from(LAST_GENERATION),
+            });
+        }
+        let _bytes = label.as_slice();
+        let made = ImageRecord::Live {
+            generation: generation + 1,
+            size,
+            taken: 0,
+            root: Ptr::hole(),
+            applied: 0,
+            label,
+        };
+        Ok(Record::begin(image, made, Done::Created, spelled))
+    }
+
+    /// A delete begins, with a block for its record, or is refused.
+    pub fn delete(image: Leased, session: &Session, spelled: Block) -> Result<Record, Reply>
+        ensures part { (known : Known) → known.sessions image.slot.0 ≡ Some (session_of session.now) → entered record_rest known result ≡ delete_part (given image.setting) known image.slot.0 (session_of session.now) image.until }
+        ensures image { (r : Record) → result ≡ Ok r → r.image ≡ image }
+    {
+        if !session.is_live() {
+            return Err(Reply::NoImage);
+        }
+        let made = ImageRecord::Free {
+            generation: session.generation(),
+        };
+        Ok(Record::begin(image, made, Done::Deleted, spelled))
+    }
+
+    // The write of a record of an attached image.
+    fn begin(image: Leased, made: ImageRecord, done: Done, spelled: Block) -> Record
+        requires { IsImage made }
+        ensures part { (known : Known) (session : KnownSession) → known.sessions image.slot.0 ≡ Some session → record_rest known result ≡ record_part (given image.setting) known image.slot.0 image.until made (done_reply done) }
+        ensures image { result.image ≡ image }
+    {
+        let mut spelled = spelled;
+        spell_image(&made, &mut spelled);
+        Record {
+            at: RecordAt::First,
+            image,
+            made,
+            spelled,
+            done,
+        }
+    }
+
+    /// The ask that stands.
+    pub fn ask(&self) -> Ask
+        ensures ask { (known : Known) → Some result ≡ standing (record_rest known self.now) }
+        ensures within { IsOnDevice self.now.image.setting.geometry result }
+        ensures spare { IsSpare self.now.image.setting.geometry result }
+    {
+        match self.at {
+            RecordAt::First => Ask::Write {
+                kind: WriteKind::Record,
+                block: self.block(),
+                guard: self.image.until,
+            },
+            RecordAt::Last => Ask::Clock,
+        }
+    }
+
+    /// The bytes of the write that is asked for.
+    pub fn out(&self) -> &[u8]
+        ensures bytes { (known : Known) → result.now ≡ bytes_out (record_rest known self.now) }
+        ensures whole { (known : Known) → AreWhole (standing (record_rest known self.now)) result.now }
+    {
+        match self.at {
+            RecordAt::First => self.spelled.as_slice(),
+            RecordAt::Last => &[],
+        }
+    }
+
+    /// The ask is answered.
+    pub fn answer(&mut self, sessions: &mut Sessions, answer: &Answer) -> Option<Reply>
+        requires { sessions.old.count ≡ self.old.image.setting.geometry.images }
+        ensures rest { (claims : ℕ) → after_reply (record_rest (known_by sessions.new claims) self.new) (known_by sessions.new claims) result ≡ answered (record_rest (known_by sessions.old claims) self.old) answer.now }
+        ensures image { self.new.image ≡ self.old.image }
+        ensures count { sessions.new.count ≡ sessions.old.count }
+        ensures slots { sessions.new.slots ≡ sessions.old.slots }
+    {
+        match (self.at, answer) {
+            (RecordAt::First, Answer::Done) => {
+                self.at = RecordAt::Last;
+                None
+            }
+            (RecordAt::First, Answer::Fault) => Some(Reply::WriteFault {
+                block: self.block(),
+            }),
+            (RecordAt::First, Answer::Missed(reading)) => Some(self.image.lost(*reading)),
+            (RecordAt::Last, Answer::Reading(reading)) => self.end(sessions, *reading),
+            _ => None,
+        }
+    }
+
+    // It ends at this reading.
+    fn end(&mut self, sessions: &mut Sessions, reading: u64) -> Option<Reply>
+        requires at { self.old.at ≡ RecordAt.Last }
+        requires count { sessions.old.count ≡ self.old.image.setting.geometry.images }
+        ensures rest { (claims : ℕ) → after_reply (record_rest (known_by sessions.new claims) self.new) (known_by sessions.new claims) result ≡ answered (record_rest (known_by sessions.old claims) self.old) (Answer.Reading reading) }
+        ensures image { self.new.image ≡ self.old.image }
+        ensures count { sessions.new.count ≡ sessions.old.count }
+        ensures slots { sessions.new.slots ≡ sessions.old.slots }
+    {
+        if let Some(reply) = self.image.reached(reading) {
+            return Some(reply);
+        }
+        let made = mem::replace(&mut self.made, ImageRecord::Free { generation: 0 });
+        sessions.start(self.image.slot, made);
+        Some(match self.done {
+            Done::Created => Reply::Created,
+            Done::Deleted => Reply::Deleted,
+        })
+    }
+
+    // The block of the record.
+    fn block(&self) -> BlockNo
+        ensures block { result.0 ≡ record_at self.now.image.setting.geometry self.now.image.slot.0 }
+        ensures within { result.0 < block_count self.now.image.setting.geometry }
+    {
+        self.image.setting.block(Place::Record(self.image.slot))
+    }
+}
+
+// Whether an image can have so many blocks.
+fn is_size(size: u32) -> bool
+    ensures { result ≡ is_allowed_size size }
+{
+    1 <= size && size <= GREATEST_SIZE
+}

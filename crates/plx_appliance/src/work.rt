@@ -1,0 +1,99 @@
+//! The command that runs, after its first reading of the clock.
+ghost use Rattle.std.specs.Prelude.{◌≡◌, Some, None};
+
+use crate::attach::Attach;
+use crate::detach::Detach;
+use crate::holdings::Holdings;
+use crate::read::Read;
+use crate::record::Record;
+use crate::renew::Renew;
+use crate::write::Write;
+use plx_commands::Reply;
+use plx_disk::{Answer, Ask};
+
+/// The machine of the command that runs.
+#[derive(Drop)]
+pub enum Work {
+    Attach(Attach),
+    Detach(Detach),
+    Record(Record),
+    Read(Read),
+    Write(Write),
+    Renew(Renew),
+}
+
+impl Work {
+    ghost use Rattle.std.specs.Prelude.{ℕ, Option};
+    ghost use Rattle.plx_rules.specs.Part.{answered, standing, bytes_out};
+    ghost use Rattle.plx_rules.specs.Holds.{Hold};
+    ghost use Rattle.plx_rules.specs.Machines.{AreWhole, IsTimely};
+    ghost use Rattle.plx_rules.specs.Session.{Known};
+    ghost use Rattle.plx_appliance.specs.Asking.{IsOnDevice};
+    ghost use Rattle.plx_appliance.specs.Stands.{Inside};
+    ghost use Rattle.plx_appliance.specs.Ending.{after_reply};
+    ghost use Rattle.plx_appliance.specs.Kept.{known_of};
+    ghost use Rattle.plx_appliance.specs.Moving.{Moves};
+    ghost use Rattle.plx_appliance.specs.Tokens.{leases_of};
+    ghost use Rattle.plx_appliance.specs.Works.{Spares, work_rest, work_setting, work_slots};
+
+    /// The ask that stands.
+    pub fn ask(&self) -> Ask
+        requires { work_slots self.now ≡ (work_setting self.now).geometry.slots }
+        ensures ask { (known : Known) → Some result ≡ standing (work_rest known self.now) }
+        ensures spare { Spares self.now result }
+        ensures within { (holds : ℕ → Hold) (sample : Option ℕ) → Inside self.now holds sample → IsOnDevice (work_setting self.now).geometry result }
+    {
+        match self {
+            Work::Attach(attach) => attach.ask(),
+            Work::Detach(detach) => detach.ask(),
+            Work::Record(record) => record.ask(),
+            Work::Read(read) => read.ask(),
+            Work::Write(write) => write.ask(),
+            Work::Renew(renew) => renew.ask(),
+        }
+    }
+
+    /// The bytes of the write that is asked for.
+    pub fn out(&self) -> &[u8]
+        ensures bytes { (known : Known) → result.now ≡ bytes_out (work_rest known self.now) }
+        ensures whole { (known : Known) → AreWhole (standing (work_rest known self.now)) result.now }
+    {
+        match self {
+            Work::Attach(attach) => attach.out(),
+            Work::Detach(detach) => detach.out(),
+            Work::Record(record) => record.out(),
+            Work::Read(_) => &[],
+            Work::Write(write) => write.out(),
+            Work::Renew(renew) => renew.out(),
+        }
+    }
+
+    /// The ask is answered.
+    pub fn answer(&mut self, holdings: &mut Holdings, answer: &Answer) -> Option<Reply>
+        requires own { work_slots self.old ≡ (work_setting self.old).geometry.slots }
+        requires setting { work_setting self.old ≡ holdings.old.setting }
+        requires timely { IsTimely answer.now }
+        ensures rest { after_reply (work_rest (known_of holdings.new) self.new) (known_of holdings.new) result ≡ answered (work_rest (known_of holdings.old) self.old) answer.now }
+        ensures own { result ≡ None → work_slots self.new ≡ work_slots self.old }
+        ensures kept { result ≡ None → work_setting self.new ≡ work_setting self.old }
+        ensures setting { holdings.new.setting ≡ holdings.old.setting }
+        ensures moves { Moves self.old self.new answer.now (leases_of holdings.old.leases.leases.items) (leases_of holdings.new.leases.leases.items) result }
+    {
+        match self {
+            Work::Attach(attach) => attach.answer(
+                &mut holdings.sessions,
+                &mut holdings.leases,
+                answer,
+            ),
+            Work::Detach(detach) => detach.answer(
+                &mut holdings.sessions,
+                &mut holdings.leases,
+                answer,
+            ),
+            Work::Record(record) => record.answer(&mut holdings.sessions, answer),
+            Work::Read(read) => read.answer(answer),
+            Work::Write(write) => write.answer(&mut holdings.sessions, answer),
+            Work::Renew(renew) => renew.answer(&mut holdings.leases, answer),
+        }
+    }
+}

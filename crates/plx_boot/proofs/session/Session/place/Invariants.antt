@@ -1,8 +1,0 @@
-use Rattle.std.proofs.Common.{◌≡◌}
-use Rattle.plx_rules.specs.declared.journaled.Journaled.{Journaled}
-use Rattle.plx_worlds.specs.Session.{inserted}
-use Rattle.plx_boot.proofs.Numbers.{from}
-use Rattle.plx_boot.proofs.session.Session.place.Given as goal
-
-abbrev pub invariant-loop-index : goal.invariant-loop-index
-invariant-loop-index l = (w : Journaled) → w.number ≡ l.number → inserted w l.self.writes.items ≡ from w l.self.writes.items l.index

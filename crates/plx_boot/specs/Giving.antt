@@ -1,7 +1,0 @@
--- What a boot is given.
-use Rattle.plx_worlds.specs.Settings.{Setting as Given}
-use Rattle.plx_boot.specs.declared.setting.Setting.{Setting}
-
--- what a boot is given
-abbrev pub given : Setting → Given
-given setting = record { geometry = setting.geometry; appliance = setting.appliance.0; boot = setting.boot.0 }

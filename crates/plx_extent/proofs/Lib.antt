@@ -1,0 +1,10 @@
+pub mod Bits
+pub mod Changes
+pub mod Counts
+pub mod EmptyMaps
+pub mod KeptWords
+pub mod Landings
+pub mod Maps
+pub mod Reading
+pub mod Turns
+pub mod WordBits

@@ -1,9 +1,0 @@
-mod Effects
-mod Filled
-mod Founded
-mod Numbered
-mod OnResult
-mod Pictures
-mod Reports
-mod SameBytes
-mod Tables

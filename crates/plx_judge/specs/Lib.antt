@@ -1,4 +1,0 @@
-pub mod Cause
-pub mod Effects
-pub mod Shown
-pub mod Tables

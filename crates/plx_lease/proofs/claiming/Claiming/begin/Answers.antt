@@ -1,0 +1,5 @@
+use Rattle.law_run.proofs.Machines.{comes-first}
+use Rattle.plx_lease.proofs.claiming.Claiming.begin.Goals as goal
+
+pub returns-clause-log : goal.returns-clause-log
+returns-clause-log g c place is = comes-first _ _ (c.begin.ensures.rest place is)

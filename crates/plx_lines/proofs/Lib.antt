@@ -1,5 +1,0 @@
-mod Found
-mod OnceSchedule
-mod OnceTrace
-pub mod ScheduleFiles
-pub mod Worlds

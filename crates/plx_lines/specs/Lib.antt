@@ -1,7 +1,0 @@
-pub mod Commands
-pub mod Events
-pub mod Once
-pub mod Replies
-pub mod Schedules
-pub mod Stops
-pub mod Traces

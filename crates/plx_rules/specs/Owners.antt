@@ -1,0 +1,89 @@
+-- Which boot owns a lease, which writes need it, and what that promises.
+use Rattle.std.specs.Prelude.{◌≡◌, ◌+◌, ◌≤◌, ◌<◌, ◌⊎◌, ◌==◌, ℕ, List, Bool, true, false, Option, Some, None, slice_get}
+use Rattle.plx_base.specs.declared.lease.Claim.{Claim}
+use Rattle.plx_base.specs.declared.write_kind.WriteKind.{WriteKind}
+use Rattle.plx_base.specs.declared.write_kind.WriteKind.TheVariants as kind
+use Rattle.plx_disk.specs.Writes.{Issued, MayLand, after_landing}
+use Rattle.plx_gate.specs.Leases.{read_lease}
+use Rattle.plx_geom.specs.Geometry.{Geometry, lease_count, root_lease, image_lease, extent_lease, lease_at, record_at, descriptor_at, data_at, map_at}
+use Rattle.plx_rules.specs.Part.{WriteThen}
+use Rattle.plx_rules.specs.Boot.{Place, In}
+use Rattle.plx_rules.specs.Holds.{Hold, Nothing, Held, renewed}
+use Rattle.plx_rules.specs.Rests.{IsUnder}
+use Rattle.plx_rules.specs.Times.{drift}
+use Rattle.plx_rules.specs.World.{World, Reached, setting_of, stands}
+
+-- whether a flag is there and set
+abbrev pub is_set : Option Bool → Bool
+is_set None = false
+is_set (Some flag) = flag
+
+-- whether sector 0 of a write has landed
+abbrev pub first_landed : Option Issued → Bool
+first_landed None = false
+first_landed (Some write) = is_set (slice_get write.landed 0)
+
+-- the issued write that an ask waits for
+abbrev pub pending_write : List Issued → (pending : Option ℕ) → Option Issued
+pending_write writes None = None
+pending_write writes (Some number) = slice_get writes number
+
+-- what a boot holds of a lease while it asks a write: nothing from the ask of its release on, and what its renewal gives once sector 0 of that has landed
+abbrev pub held_while : WriteKind → (same landed : Bool) → List ℕ → Hold → Hold
+held_while kind.Release true landed bytes hold = Nothing
+held_while kind.Renew true true bytes hold = renewed (read_lease bytes)
+held_while kind same landed bytes hold = hold
+
+-- what a boot holds of the lease in this block, at its place
+abbrev pub held_at : Place → (pending : Option Issued) → (lease : ℕ) → Hold → Hold
+held_at (In known command (WriteThen kind block bytes guard done fault missed)) pending lease hold =
+    held_while kind (lease == block) (first_landed pending) bytes hold
+held_at other pending lease hold = hold
+
+-- what the present boot of an appliance holds of the lease in this block
+abbrev pub held_by : World → (appliance lease : ℕ) → Hold
+held_by w appliance lease =
+    held_at (stands w appliance).place (pending_write w.surface.writes (w.seats appliance).pending) lease ((stands w appliance).holds lease)
+
+-- the present boot of an appliance owns a lease: it holds it, and the time isn't past the drift after its end
+pub record Owns (w : World) (appliance lease : ℕ) : Type 0 where
+  pub within : lease < lease_count w.geometry
+  pub claim : Claim
+  pub until : ℕ
+  pub held : held_by w appliance (lease_at lease) ≡ Held claim until
+  pub time : w.surface.time ≤ until + drift
+
+-- a write of this kind to this block needs that lease; the kinds of trees and snapshots aren't asked for yet
+abbrev pub Needs : Geometry → WriteKind → (block lease : ℕ) → Type 0
+Needs g kind.Claim block lease = ⊥
+Needs g kind.Renew block lease = block ≡ lease_at lease
+Needs g kind.Release block lease = block ≡ lease_at lease
+Needs g kind.Take block lease = (extent : ℕ) × (extent < g.extents) × (block ≡ map_at g extent) × (lease ≡ extent_lease g extent)
+Needs g kind.Give block lease = (extent : ℕ) × (extent < g.extents) × (block ≡ map_at g extent) × (lease ≡ extent_lease g extent)
+Needs g kind.Sweep block lease =
+    (extent : ℕ) × (extent < g.extents) × (block ≡ map_at g extent) × ((lease ≡ extent_lease g extent) ⊎ (lease ≡ root_lease))
+Needs g kind.Fresh block lease = ⊥
+Needs g kind.Link block lease = ⊥
+Needs g kind.Overwrite block lease = ⊥
+Needs g kind.Record block lease = (image : ℕ) × (image < g.images) × (block ≡ record_at g image) × (lease ≡ image_lease image)
+Needs g kind.Log block lease = ⊥
+Needs g kind.JData block lease =
+    (image : ℕ) × (slot : ℕ) × (image < g.images) × (slot < g.slots) × (block ≡ data_at g image slot) × (lease ≡ image_lease image)
+Needs g kind.JCommit block lease =
+    (image : ℕ) × (slot : ℕ) × (image < g.images) × (slot < g.slots) × (block ≡ descriptor_at g image slot) × (lease ≡ image_lease image)
+
+-- at most one boot owns a lease
+abbrev pub Exclusion : Type 0
+Exclusion = (w : World) → Reached w → (a b lease : ℕ) → a < w.appliances → b < w.appliances → Owns w a lease → Owns w b lease → a ≡ b
+
+-- no landing of a write that rests on a lease changes a byte while another boot owns that lease
+abbrev pub Guarding : Type 0
+Guarding = (w : World) → Reached w → (number sector : ℕ) (write : Issued) (lease b : ℕ) → lease < lease_count w.geometry →
+    IsUnder w.rests number lease → MayLand w.surface number sector write →
+    b < w.appliances → Owns w b lease → ¬ ((setting_of w b).boot ≡ write.owner) →
+    (block : ℕ) → (after_landing w.surface number write sector).device block ≡ w.surface.device block
+
+-- each issued write rests on the leases that its kind needs for its block, and on no others
+abbrev pub RestsAsNeeded : Type 0
+RestsAsNeeded = (w : World) → Reached w → (number : ℕ) (write : Issued) → slice_get w.surface.writes number ≡ Some write → (lease : ℕ) →
+    (Needs w.geometry write.kind write.block lease → IsUnder w.rests number lease) × (IsUnder w.rests number lease → Needs w.geometry write.kind write.block lease)

@@ -1,0 +1,50 @@
+-- On which leases a write rests: a list that is set as it is issued.
+use Rattle.std.specs.Prelude.{◌≡◌, ◌-◌, ◌/◌, ℕ, List, [], ◌∷◌, true, Option, Some, None}
+use Rattle.plx_base.specs.declared.write_kind.WriteKind.{WriteKind}
+use Rattle.plx_base.specs.declared.write_kind.WriteKind.TheVariants as kind
+use Rattle.plx_commands.specs.Replies.{is_in}
+use Rattle.plx_commands.specs.declared.command.Command.{Command}
+use Rattle.plx_geom.specs.Geometry.{Geometry, root_lease, image_lease, extent_lease, lease_at, record_at, journal_start, extents_start}
+use Rattle.plx_rules.specs.Holds.{Hold}
+
+-- the lease in this block
+abbrev pub lease_in : (block : ℕ) → ℕ
+lease_in block = block - lease_at 0
+
+-- the image whose record this block is
+abbrev pub image_of_record : Geometry → (block : ℕ) → ℕ
+image_of_record g block = block - record_at g 0
+
+-- the image of whose journal this block is
+abbrev pub image_of_journal : Geometry → (block : ℕ) → ℕ
+image_of_journal g block = (block - journal_start g) / 2 / g.slots
+
+-- the extent in which this block lies
+abbrev pub extent_of : Geometry → (block : ℕ) → ℕ
+extent_of g block = (block - extents_start g) / g.extent_blocks
+
+-- the leases on which a write of this command rests, by what its boot holds as it is issued: its home, under which its own block lies, stands first;
+-- a claim rests on none, and the kinds of trees and snapshots aren't asked for yet
+abbrev pub rests_on : Geometry → Command → (ℕ → Hold) → WriteKind → (block : ℕ) → List ℕ → List ℕ
+rests_on g command holds kind.Claim block bytes = []
+rests_on g command holds kind.Renew block bytes = lease_in block ∷ []
+rests_on g command holds kind.Release block bytes = lease_in block ∷ []
+rests_on g command holds kind.Take block bytes = extent_lease g (extent_of g block) ∷ []
+rests_on g command holds kind.Give block bytes = extent_lease g (extent_of g block) ∷ []
+rests_on g command holds kind.Sweep block bytes = extent_lease g (extent_of g block) ∷ root_lease ∷ []
+rests_on g command holds kind.Fresh block bytes = []
+rests_on g command holds kind.Link block bytes = []
+rests_on g command holds kind.Overwrite block bytes = []
+rests_on g command holds kind.Record block bytes = image_lease (image_of_record g block) ∷ []
+rests_on g command holds kind.Log block bytes = []
+rests_on g command holds kind.JData block bytes = image_lease (image_of_journal g block) ∷ []
+rests_on g command holds kind.JCommit block bytes = image_lease (image_of_journal g block) ∷ []
+
+-- the issued write with this number stands under a lease: it rests on it
+abbrev pub IsUnder : (rests : ℕ → List ℕ) → (number lease : ℕ) → Type 0
+IsUnder rests number lease = is_in lease (rests number) ≡ true
+
+-- the home of a write: the lease under which its own block lies, where it lies under one
+abbrev pub home_of : List ℕ → Option ℕ
+home_of [] = None
+home_of (home ∷ others) = Some home
