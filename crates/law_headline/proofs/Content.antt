@@ -1,7 +1,7 @@
 -- What holds in every world that events lead to.
 use Rattle.std.proofs.Common.{◌≡◌, ℕ, ◌<◌, ◌⊎◌, List, false, Option, Some, None}
 use Rattle.std.specs.Prelude.{slice_get}
-use Rattle.plx_base.specs.Sectors.{Device, mixed}
+use Rattle.plx_base.specs.Sectors.{Device, with_landed_sectors}
 use Rattle.plx_base.specs.declared.lease.Claim.{Claim}
 use Rattle.plx_base.specs.declared.numbers.ApplianceNo.{ApplianceNo}
 use Rattle.plx_base.specs.declared.write_kind.WriteKind.{WriteKind}
@@ -17,16 +17,19 @@ use Rattle.plx_rules.specs.Boot.{Place, Idle, Begins, In, Position, position}
 use Rattle.plx_rules.specs.Commands.{IsBuilt, IsWellFormed}
 use Rattle.plx_rules.specs.Ends.{End}
 use Rattle.plx_rules.specs.Headline.{starts_and_crashes, events_told, AreUndamaged, model_before, model_in}
+use Rattle.plx_rules.specs.Pools.{HasMaps}
 use Rattle.plx_rules.specs.Session.{Session, Known}
 use Rattle.plx_rules.specs.World.{World, Seat, setting_at}
 use Rattle.plx_rules.specs.Rests.{home_of}
 use Rattle.law_lease.proofs.Frame.{AllStand}
 use Rattle.law_lease.proofs.Leased.{Leased}
 use Rattle.law_lease.proofs.Open.{GripsLease, IsOpen}
+use Rattle.law_headline.proofs.HandFacts.{HandFits}
 use Rattle.law_headline.proofs.Held.{SameSessions, Regime, With, IsRunning, Looks, HasImage, IsOf, IsOn, HeldPart, Backs, Fair}
 use Rattle.law_headline.proofs.HeldBegins.{IsBegunChange}
 use Rattle.law_headline.proofs.HeldFrames.{missing_of}
 use Rattle.law_headline.proofs.Journals.{IsJournal, IsShown, Keeps}
+use Rattle.law_headline.proofs.MapFacts.{SpellsMap}
 use Rattle.law_headline.proofs.PlacedByKind.{PlacedBy}
 use Rattle.law_headline.proofs.Replied.{Names}
 use Rattle.law_headline.proofs.WaitsByKind.{WaitsOn}
@@ -71,19 +74,19 @@ pub record IsServing (g : Geometry) (a i : ℕ) (command : Command) (known : Kno
   pub looks : Looks g a i command known regime m
   pub held : HeldPart g a i command known regime part device
   pub on : IsOn g i device regime
-  pub fills : (n : ℕ) (x : Issued) → pending ≡ Some n → slice_get writes n ≡ Some x → IsJournalled x.kind → mixed (missing_of x.landed) x.bytes (device x.block) ≡ x.bytes
+  pub fills : (n : ℕ) (x : Issued) → pending ≡ Some n → slice_get writes n ≡ Some x → IsJournalled x.kind → with_landed_sectors (missing_of x.landed) x.bytes (device x.block) ≡ x.bytes
 
 -- its session of the image, if it has one, is what the device and the model have
-abbrev pub Has : Geometry → ℕ → ℕ → Known → Device → Model → Type 0
-Has g a i known device m = (s : Session) → known.sessions i ≡ Some s → HasImage g i a s device (m.slots i)
+abbrev pub HasContent : Geometry → ℕ → ℕ → Known → Device → Model → Type 0
+HasContent g a i known device m = (s : Session) → known.sessions i ≡ Some s → HasImage g i a s device (m.slots i)
 
 -- what an appliance that minds an image has of it, by where it stands
 abbrev pub OwnedAt : Geometry → ℕ → ℕ → Device → List Issued → Option ℕ → Model → Place → Type 0
-OwnedAt g a i device writes pending m (Idle known) = Has g a i known device m
+OwnedAt g a i device writes pending m (Idle known) = HasContent g a i known device m
 OwnedAt g a i device writes pending m (Begins known command) =
-    (Names command i → (s : Session) → known.sessions i ≡ Some s → IsBegun g a i command known s device m) × ((Names command i → ⊥) → Has g a i known device m)
+    (Names command i → (s : Session) → known.sessions i ≡ Some s → IsBegun g a i command known s device m) × ((Names command i → ⊥) → HasContent g a i known device m)
 OwnedAt g a i device writes pending m (In known command part) =
-    (Names command i → IsServing g a i command known part device writes pending m) × ((Names command i → ⊥) → Has g a i known device m)
+    (Names command i → IsServing g a i command known part device writes pending m) × ((Names command i → ⊥) → HasContent g a i known device m)
 
 -- a boot holds an image's lease, in time
 abbrev pub Grips : Geometry → ℕ → List Issued → ℕ → Seat → ℕ → Claim → ℕ → Type 0
@@ -117,6 +120,14 @@ abbrev pub Waits : Geometry → (rests : ℕ → List ℕ) → (appliances time 
 Waits g rests appliances time device writes seats =
     (n : ℕ) (x : Issued) → slice_get writes n ≡ Some x → AllStand g rests appliances time writes seats n x → WaitsOn x.kind g device x.block x.bytes x.landed
 
+-- each write of a map that was issued spells a map
+abbrev pub SpellMaps : Geometry → List Issued → Type 0
+SpellMaps g writes = (n : ℕ) (x : Issued) → slice_get writes n ≡ Some x → SpellsMap g x.kind x.bytes
+
+-- what a boot has in hand is no map's block
+abbrev pub SeatHand : Geometry → (appliance : ℕ) → Seat → Type 0
+SeatHand g a seat = HandFits g (stands_at g a seat)
+
 -- the invariant of the headline
 pub record Content (w : World) : Type 0 where
   pub leased : Leased w
@@ -126,6 +137,9 @@ pub record Content (w : World) : Type 0 where
   pub stored : (i : ℕ) → i < w.geometry.images → Keeps w.geometry w.surface.device i ((model_in w).slots i)
   pub placed : Placed w.geometry w.rests w.appliances w.surface.time w.surface.device w.surface.writes w.seats (model_in w).slots
   pub whose : (i : ℕ) → i < w.geometry.images → Whose w.geometry w.rests w.appliances w.surface.time w.surface.writes w.seats i ((model_in w).slots i)
+  pub spelled : SpellMaps w.geometry w.surface.writes
+  pub maps : HasMaps w.geometry w.surface.device
+  pub hands : (a : ℕ) → a < w.appliances → SeatHand w.geometry a (w.seats a)
   pub waits : Waits w.geometry w.rests w.appliances w.surface.time w.surface.device w.surface.writes w.seats
   pub seats : (a : ℕ) → a < w.appliances → SeatFits w.geometry (model_in w) a (w.seats a)
   pub owned : (i : ℕ) → i < w.geometry.images → (a : ℕ) → a < w.appliances → SeatOwns w.geometry w.surface.time w.surface.device w.surface.writes (model_in w) i a (w.seats a)

@@ -1,11 +1,11 @@
 -- What holds stays at each answer of an ask.
 use Rattle.std.proofs.Common.{◌≡◌, ℕ, suc, ◌+◌, ◌^◌, ◌≤◌, ◌<◌, ◌⊎◌, inl, inr, List, [], ◌∷◌, Bool, true, false, Option, Some, None, refl, ap, sym, subst, ◌∙◌, arith}
-use Rattle.std.specs.Prelude.{slice_get, is_some, ◌==◌, ◌&&◌, if◌then◌else◌, nat_lt, nat_le}
+use Rattle.std.specs.Prelude.{slice_get, is_some, ◌==◌, ◌&&◌, if◌then◌else◌, nat_lt}
 use Rattle.std.specs.Str.{bytes_eq}
 use Rattle.std.proofs.lemmas.Bool.Decides.{eqb_tells, leb_tells}
 use Rattle.std.proofs.lemmas.Slice.Eq.{bytes_eq-Decides}
 use Rattle.plx_base.specs.Payload.{bytes_of}
-use Rattle.plx_base.specs.Sectors.{Device, put, mixed}
+use Rattle.plx_base.specs.Sectors.{Device, put, with_landed_sectors}
 use Rattle.plx_base.proofs.Devices.{put-again}
 use Rattle.plx_base.proofs.Mixed.{mixed-none}
 use Rattle.plx_base.specs.declared.lease.Claim.{Claim}
@@ -16,7 +16,7 @@ use Rattle.plx_base.specs.declared.write_kind.WriteKind.TheVariants as kind
 use Rattle.plx_commands.specs.Model.{Model, has_all}
 use Rattle.plx_commands.specs.Places.{at}
 use Rattle.plx_commands.specs.Replies.{is_in, row}
-use Rattle.plx_commands.specs.Slots.{named}
+use Rattle.plx_commands.specs.Slots.{named_slots}
 use Rattle.plx_commands.specs.declared.command.Command.{Command}
 use Rattle.plx_commands.specs.declared.command.Command.TheVariants.{Attach, Detach, Create, Delete, Read, Write, Flush, Reserve, Renew, Retire, Reclaim}
 use Rattle.plx_commands.specs.declared.event.Event.{Event}
@@ -27,33 +27,36 @@ use Rattle.plx_commands.proofs.Places.{at-all, at-same, at-other}
 use Rattle.plx_disk.specs.Writes.{Issued, all_sectors, HasLanded}
 use Rattle.plx_disk.specs.declared.ask.Ask.TheVariants as ask
 use Rattle.plx_disk.specs.declared.ask.Answer.TheVariants as answer
+use Rattle.plx_extent.specs.Maps.{HoldsMap}
 use Rattle.plx_gate.specs.Leases.{lease_bytes, read_lease, IsClaimed}
 use Rattle.plx_geom.specs.Geometry.{Geometry, image_lease, lease_at}
 use Rattle.plx_geom.proofs.Places.{image-below}
 use Rattle.law_lease.proofs.Lists.{none-some}
 use Rattle.plx_rules.specs.Part.{Part, Ends, ReadThen, WriteThen, ClockThen, UntilThen}
-use Rattle.plx_rules.specs.Boot.{Happening, Asked, Place, Begins, In, Position, position, place_of, after_part, goes_to, went_on}
+use Rattle.plx_rules.specs.Boot.{Happening, Asked, Place, Begins, In, Position, position, place_of, after_part, goes_to, went_on, first_part}
 use Rattle.plx_rules.specs.Commands.{IsBuilt, IsWellFormed, attached_part, of_attached, detach_part, create_part, delete_part, read_part, write_part, command_part}
 use Rattle.plx_rules.specs.Ends.{End}
+use Rattle.plx_rules.specs.Hands.{hand_answered, hand_held}
 use Rattle.plx_rules.specs.Headline.{IsUndamaged, starts_and_crashes, events_told, model_in}
-use Rattle.plx_rules.specs.Holds.{Hold, Nothing, Seen, Wrote, Waited, Held, no_holds, after_write, after_reply, after_first, first_hold, session_at, timed, shown, reread, seen_for, seen_by, renewed, wrote}
+use Rattle.plx_rules.specs.Holds.{Hold, Nothing, Seen, Wrote, Waited, Held, no_holds, after_write, holds_after_reply, after_first, session_at, hold_after_reading, hold_after_read, hold_after_reread, seen_for, seen_by, hold_after_renewal, hold_after_claim}
 use Rattle.plx_rules.specs.Owners.{first_landed, pending_write}
 use Rattle.plx_rules.specs.Rests.{rests_on}
 use Rattle.plx_rules.specs.Session.{Session, Known}
 use Rattle.plx_rules.specs.Settings.{Setting}
 use Rattle.plx_rules.specs.Times.{is_expired}
-use Rattle.plx_rules.specs.World.{World, IsReading, setting_at, goes_on, told}
+use Rattle.plx_rules.specs.World.{World, IsReading, setting_at, goes_on, with_reply_of}
 use Rattle.law_lease.proofs.LawfulCommands.{first-rests, below-tested}
 use Rattle.law_lease.proofs.LeaseFrames.{grip-open}
 use Rattle.law_lease.proofs.LeaseGoes.{good-free}
 use Rattle.law_lease.proofs.LeaseLands.{first-set}
 use Rattle.law_lease.proofs.LeaseSteps.{not-waiting, placed-may}
 use Rattle.law_lease.proofs.Open.{IsOpen, open-elsewhere, one-waits}
-use Rattle.law_lease.proofs.Leased.{MayAsk, LawfulAt, Unlanded, Good, IsHeld, IsAskedAt, grip_while, grip_at, Leased}
-use Rattle.law_headline.proofs.Content.{appliance_no, stands_at, IsJournalled, PlaceFits, IsBegun, Has, OwnedAt, Grips, Minds, Content}
+use Rattle.law_lease.proofs.Leased.{MayWrite, LawfulAt, Unlanded, Good, IsHeld, IsAskedAt, grip_while, grip_at, Leased}
+use Rattle.law_headline.proofs.Content.{appliance_no, stands_at, IsJournalled, PlaceFits, IsBegun, HasContent, OwnedAt, Grips, Minds, Content}
 use Rattle.law_headline.proofs.ContentGoes.{content-went, dropping-false, NoSession, went_to}
 use Rattle.law_headline.proofs.FairCommands.{fair-command}
 use Rattle.law_headline.proofs.FairParts.{backs-first}
+use Rattle.law_headline.proofs.HandFacts.{NoMap, HandFits, no-map-filter, hand-done}
 use Rattle.law_headline.proofs.Harmless.{Harmless, yields-stays}
 use Rattle.law_headline.proofs.Harmless as harmless
 use Rattle.law_headline.proofs.Held.{IsSpelled, attached_of, Regime, Without, With, IsRunning, Looks, IsOf, IsOn, HeldPart, IsBacking, Backs, IsDrop, is_below, are_below, is_some_slot, just_at, Fair}
@@ -65,10 +68,11 @@ use Rattle.law_headline.proofs.Journals.{Same}
 use Rattle.law_headline.proofs.ModelFacts.{Sound, sound-all}
 use Rattle.law_headline.proofs.Owners.{both-true}
 use Rattle.law_headline.proofs.Replied.{IsDropping, IsAmongSlots, Names}
+use Rattle.plx_rules.proofs.Holds.{first-held, timed-held}
 
 -- ---- how a lease comes to be held
 
-after-reply-held : (r : Reply) (holds : ℕ → Hold) (b : ℕ) (claim : Claim) (until : ℕ) → after_reply r holds b ≡ Held claim until → holds b ≡ Held claim until
+after-reply-held : (r : Reply) (holds : ℕ → Hold) (b : ℕ) (claim : Claim) (until : ℕ) → holds_after_reply r holds b ≡ Held claim until → holds b ≡ Held claim until
 after-reply-held (reply.Lost i u n) holds b claim until e = absurd (let P : ⊥ = cc in P)
 after-reply-held other holds b claim until e = e
 
@@ -78,33 +82,6 @@ after-held (ReadThen block rest fault) holds b claim until e = e
 after-held (WriteThen what block bytes guard done fault missed) holds b claim until e = e
 after-held (ClockThen rest) holds b claim until e = e
 after-held (UntilThen from rest) holds b claim until e = e
-
-timed-held : (reading : ℕ) (hold : Hold) (claim : Claim) (until : ℕ) → timed reading hold ≡ Held claim until → hold ≡ Held claim until
-timed-held reading Nothing claim until e = e
-timed-held reading (Seen s) claim until e = e
-timed-held reading (Waited c u) claim until e = e
-timed-held reading (Held c u) claim until e = e
-timed-held reading (Wrote c u) claim until e = absurd (no' (nat_le (c.sample + 601) reading && nat_lt reading u) e)
-  where
-    no' : (b : Bool) → (if b then Waited c u else Wrote c u) ≡ Held claim until → ⊥
-    no' true e = cc
-    no' false e = cc
-
-first-held : (o : Option Session) (reading : ℕ) (hold : Hold) (claim : Claim) (until : ℕ) → first_hold o reading hold ≡ Held claim until → hold ≡ Held claim until
-first-held None reading (Held c u) claim until e = by_test (nat_le u reading) e
-  where
-    by_test : (b : Bool) → (if b then Nothing else Held c u) ≡ Held claim until → Held c u ≡ Held claim until
-    by_test true e = absurd (let P : ⊥ = cc in P)
-    by_test false e = e
-first-held (Some s) reading (Held c u) claim until e = e
-first-held None reading Nothing claim until e = absurd (let P : ⊥ = cc in P)
-first-held None reading (Seen s) claim until e = absurd (let P : ⊥ = cc in P)
-first-held None reading (Wrote c u) claim until e = absurd (let P : ⊥ = cc in P)
-first-held None reading (Waited c u) claim until e = absurd (let P : ⊥ = cc in P)
-first-held (Some t) reading Nothing claim until e = absurd (let P : ⊥ = cc in P)
-first-held (Some t) reading (Seen s) claim until e = absurd (let P : ⊥ = cc in P)
-first-held (Some t) reading (Wrote c u) claim until e = absurd (let P : ⊥ = cc in P)
-first-held (Some t) reading (Waited c u) claim until e = absurd (let P : ⊥ = cc in P)
 
 seen-unheld : (sample : Option ℕ) (bytes : List ℕ) (claim : Claim) (until : ℕ) → seen_for sample bytes ≡ Held claim until → ⊥
 seen-unheld None bytes claim until e = cc
@@ -119,15 +96,15 @@ seen-unheld (Some s) bytes claim until e = by_found (read_lease bytes) e
     by_found (Some lease) e = by_test (is_expired lease s) e
 
 -- a read that leaves a lease held: it was held, or the read confirms it
-shown-held : (sample : Option ℕ) (bytes : List ℕ) (hold : Hold) (claim : Claim) (until : ℕ) → shown sample bytes hold ≡ Held claim until →
+shown-held-or-waited : (sample : Option ℕ) (bytes : List ℕ) (hold : Hold) (claim : Claim) (until : ℕ) → hold_after_read sample bytes hold ≡ Held claim until →
     (hold ≡ Held claim until) ⊎ ((hold ≡ Waited claim until) × (bytes ≡ lease_bytes (Claimed claim until)))
-shown-held sample bytes Nothing claim until e = absurd (seen-unheld sample bytes claim until e)
-shown-held sample bytes (Seen s) claim until e = absurd (seen-unheld sample bytes claim until e)
-shown-held sample bytes (Wrote c u) claim until e = absurd (seen-unheld sample bytes claim until e)
-shown-held sample bytes (Held c u) claim until e = inl e
-shown-held sample bytes (Waited c u) claim until e = by_test (bytes_eq bytes (lease_bytes (Claimed c u))) (bytes_eq-Decides bytes (lease_bytes (Claimed c u))).0 e
+shown-held-or-waited sample bytes Nothing claim until e = absurd (seen-unheld sample bytes claim until e)
+shown-held-or-waited sample bytes (Seen s) claim until e = absurd (seen-unheld sample bytes claim until e)
+shown-held-or-waited sample bytes (Wrote c u) claim until e = absurd (seen-unheld sample bytes claim until e)
+shown-held-or-waited sample bytes (Held c u) claim until e = inl e
+shown-held-or-waited sample bytes (Waited c u) claim until e = by_test (bytes_eq bytes (lease_bytes (Claimed c u))) (bytes_eq-Decides bytes (lease_bytes (Claimed c u))).0 e
   where
-    by_test : (b : Bool) → (b ≡ true → bytes ≡ lease_bytes (Claimed c u)) → reread b (Held c u) ≡ Held claim until →
+    by_test : (b : Bool) → (b ≡ true → bytes ≡ lease_bytes (Claimed c u)) → hold_after_reread b (Held c u) ≡ Held claim until →
         (Waited c u ≡ Held claim until) ⊎ ((Waited c u ≡ Waited claim until) × (bytes ≡ lease_bytes (Claimed claim until)))
     by_test false tells e = absurd (let P : ⊥ = cc in P)
     by_test true tells e =
@@ -168,9 +145,16 @@ module _ (w : World) (content : Content w) (a : ℕ) (below : a < w.appliances) 
   free-at : (place : Place) → p.place ≡ place → ((b : ℕ) (x : Issued) → IsAskedAt place b x → ⊥) → (w.seats a).pending ≡ None
   free-at place here no-ask = not-waiting g time writes a (w.seats a) place (content.leased.seated a below) here no-ask
 
-  -- what stands in a lease's block is a lease
+  -- what is in hand
+  in-hand : HandFits g p
+  in-hand = content.hands a below
+
+  -- what stands in a lease's block is a lease, and in a map's a map
   spelled-now : (block : ℕ) → IsSpelled g block (device block)
-  spelled-now block lease within here = let on = content.leased.on lease within in (on.standing, ap device here ∙ on.spells, on.limits)
+  spelled-now block = record {
+    lease = λ lease within here. let on = content.leased.on lease within in (on.standing, ap device here ∙ on.spells, on.limits);
+    map = λ extent within here. let M : List ℕ → Type 0 = λ bytes. HoldsMap g.extent_blocks bytes in subst M (sym (ap device here)) (content.maps extent within);
+  }
 
   -- what is held is gripped, while no write is waited for
   grips-now : (w.seats a).pending ≡ None → (i : ℕ) (claim : Claim) (until : ℕ) → p.holds (lease_at (image_lease i)) ≡ Held claim until → time ≤ until + 50 → Grips g time writes a (w.seats a) i claim until
@@ -201,10 +185,10 @@ module _ (w : World) (content : Content w) (a : ℕ) (below : a < w.appliances) 
   is-none (Some s) e = absurd (let P : ⊥ = cc in P)
 
   -- a seat that waits for no write holds what its position says
-  seat-holds : (log : List Happening) (known : Known) (command : Command) (holds : ℕ → Hold) (sample : Option ℕ) (part : Part End) →
-      position s log ≡ goes_to known command holds sample part → (i : ℕ) (claim : Claim) (until : ℕ) →
+  seat-holds : (log : List Happening) (known : Known) (command : Command) (holds : ℕ → Hold) (hand : List ℕ) (sample : Option ℕ) (found : Option (ℕ × List ℕ)) (part : Part End) →
+      position s log ≡ goes_to g known command holds hand sample found part → (i : ℕ) (claim : Claim) (until : ℕ) →
       Grips g time writes a (record { boots = (w.seats a).boots; log = log; pending = None }) i claim until → holds (lease_at (image_lease i)) ≡ Held claim until
-  seat-holds log known command holds sample part leads i claim until grips =
+  seat-holds log known command holds hand sample found part leads i claim until grips =
       let P : Position → Type 0 = λ q. grip_at q.place None (lease_at (image_lease i)) (q.holds (lease_at (image_lease i))) ≡ Held claim until in
       let e : after_part part holds (lease_at (image_lease i)) ≡ Held claim until =
       sym (grip-open (place_of known command part) None (lease_at (image_lease i)) (after_part part holds (lease_at (image_lease i))) refl) ∙ subst P leads grips.0 in
@@ -243,26 +227,26 @@ module _ (w : World) (content : Content w) (a : ℕ) (below : a < w.appliances) 
 
   just-holds : (command : Command) (holds : ℕ → Hold) (reading : ℕ) → just_at g command holds reading ≡ true → IsReading reading time →
       (i : ℕ) × (i < g.images) × Names command i × ((claim : Claim) × (until : ℕ) × (holds (lease_at (image_lease i)) ≡ Held claim until) × (time ≤ until + 50))
-  just-holds command holds reading e is = just-of holds reading is (named command) e
+  just-holds command holds reading e is = just-of holds reading is (named_slots command) e
 
   -- ---- the clock
 
   -- a reading in a command that serves an image, or doesn't
-  read-clock : (event : Event) (log : List Happening) (known : Known) (command : Command) (part : Part End) (reading : ℕ) → starts_and_crashes w.trace ≡ events_told (event ∷ w.history) →
+  read-clock : (event : Event) (log : List Happening) (known : Known) (command : Command) (part : Part End) (reading : ℕ) (hand : List ℕ) → NoMap g hand → starts_and_crashes w.trace ≡ events_told (event ∷ w.history) →
       (place : Place) → p.place ≡ place → ((b : ℕ) (x : Issued) → IsAskedAt place b x → ⊥) → IsReading reading time → IsRunning g a command known m →
-      Leased (went_to w content a below event log known command (λ block. timed reading (p.holds block)) (Some reading) (just_at g command (λ block. timed reading (p.holds block)) reading) (told (appliance_no a) part w.trace)) →
-      position s log ≡ goes_to known command (λ block. timed reading (p.holds block)) (Some reading) part →
-      Fair g a command known (λ block. timed reading (p.holds block)) (Some reading) (just_at g command (λ block. timed reading (p.holds block)) reading) part →
+      Leased (went_to w content a below event log known command (λ block. hold_after_reading reading (p.holds block)) (Some reading) (just_at g command (λ block. hold_after_reading reading (p.holds block)) reading) (with_reply_of (appliance_no a) part w.trace)) →
+      position s log ≡ goes_to g known command (λ block. hold_after_reading reading (p.holds block)) hand (Some reading) None part →
+      Fair g a command known (λ block. hold_after_reading reading (p.holds block)) (Some reading) (just_at g command (λ block. hold_after_reading reading (p.holds block)) reading) part →
       ((i : ℕ) → i < g.images → Minds g time writes m a (w.seats a) i →
-      (Names command i → (regime : Regime) × Looks g a i command known regime m × HeldPart g a i command known regime part device × IsOn g i device regime) × ((Names command i → ⊥) → Has g a i known device m)) →
-      Content (went_to w content a below event log known command (λ block. timed reading (p.holds block)) (Some reading) (just_at g command (λ block. timed reading (p.holds block)) reading) (told (appliance_no a) part w.trace))
-  read-clock event log known command part reading said place here no-ask is running leased leads fair own =
+      (Names command i → (regime : Regime) × Looks g a i command known regime m × HeldPart g a i command known regime part device × IsOn g i device regime) × ((Names command i → ⊥) → HasContent g a i known device m)) →
+      Content (went_to w content a below event log known command (λ block. hold_after_reading reading (p.holds block)) (Some reading) (just_at g command (λ block. hold_after_reading reading (p.holds block)) reading) (with_reply_of (appliance_no a) part w.trace))
+  read-clock event log known command part reading hand none said place here no-ask is running leased leads fair own =
       let free = free-at place here no-ask in
-      let h : ℕ → Hold = λ block. timed reading (p.holds block) in
-      content-went w content a below event log known command h (Some reading) (just_at g command h reading) said running part leased leads fair
+      let h : ℕ → Hold = λ block. hold_after_reading reading (p.holds block) in
+      content-went w content a below event log known command h (Some reading) (just_at g command h reading) said running part hand None none tt leased leads fair
       (λ i within minds.
       let mine = own i within (minds-back i log (λ claim until grips. grips-now free i claim until
-      (timed-held reading (p.holds (lease_at (image_lease i))) claim until (seat-holds log known command h (Some reading) part leads i claim until grips)) grips.1) minds) in
+      (timed-held reading (p.holds (lease_at (image_lease i))) claim until (seat-holds log known command h hand (Some reading) None part leads i claim until grips)) grips.1) minds) in
       ((λ names. inl (mine.0 names)), mine.1))
       (inl (quiet-free _ free))
       (λ e.
@@ -279,7 +263,7 @@ module _ (w : World) (content : Content w) (a : ℕ) (below : a < w.appliances) 
         let place = In known command (ClockThen rest) in
         let fits = fits-at place here in
         let early : reading < 2 ^ 48 = (let e = is.early in let t = content.leased.early in omega arith) in
-        read-clock (event.Reading (appliance_no a) reading) (Asked ask.Clock [] (answer.Reading reading) ∷ (w.seats a).log) known command (rest reading) reading content.told place here (λ b x no'. no') is fits.0
+        read-clock (event.Reading (appliance_no a) reading) (Asked ask.Clock [] (answer.Reading reading) ∷ (w.seats a).log) known command (rest reading) reading p.hand in-hand.hand content.told place here (λ b x no'. no') is fits.0
         leased
         (ap (went_on s ask.Clock [] (answer.Reading reading) p) here)
         (fits.1 reading early)
@@ -293,7 +277,7 @@ module _ (w : World) (content : Content w) (a : ℕ) (below : a < w.appliances) 
         let place = In known command (UntilThen from rest) in
         let fits = fits-at place here in
         let early : reading < 2 ^ 48 = (let e = is.early in let t = content.leased.early in omega arith) in
-        read-clock (event.Reading (appliance_no a) reading) (Asked (ask.Until from) [] (answer.Reading reading) ∷ (w.seats a).log) known command (rest reading) reading content.told place here (λ b x no'. no') is fits.0
+        read-clock (event.Reading (appliance_no a) reading) (Asked (ask.Until from) [] (answer.Reading reading) ∷ (w.seats a).log) known command (rest reading) reading p.hand in-hand.hand content.told place here (λ b x no'. no') is fits.0
         leased
         (ap (went_on s (ask.Until from) [] (answer.Reading reading) p) here)
         (fits.1 reading past early)
@@ -315,28 +299,28 @@ module _ (w : World) (content : Content w) (a : ℕ) (below : a < w.appliances) 
           let bytes = device block in
           let fits = fits-at place here in
           let free = free-at place here (λ b x no'. no') in
-          let h = at p.holds block (shown p.sample bytes (p.holds block)) in
+          let h = at p.holds block (hold_after_read p.sample bytes (p.holds block)) in
           let log = Asked (ask.Read (record { 0 = block })) [] (answer.Bytes bytes) ∷ (w.seats a).log in
           let leads = ap (went_on s (ask.Read (record { 0 = block })) [] (answer.Bytes bytes) p) here in
-          content-went w content a below (event.Read (appliance_no a)) log known command h None false content.told fits.0 (rest bytes)
+          content-went w content a below (event.Read (appliance_no a)) log known command h None false content.told fits.0 (rest bytes) p.hand (Some (block, bytes)) in-hand.hand (spelled-now block).map
           leased leads (fits.1.0 bytes (spelled-now block))
           (λ i within minds. elim minds [
             | inl gripped ↦ (
                 let claim = gripped.0 in
                 let until = gripped.1 in
                 let grips = gripped.2 in
-                let holds = seat-holds log known command h None (rest bytes) leads i claim until grips in
+                let holds = seat-holds log known command h p.hand None (Some (block, bytes)) (rest bytes) leads i claim until grips in
                 let was : (p.holds (lease_at (image_lease i)) ≡ Held claim until) ⊎ ((lease_at (image_lease i) ≡ block) × (p.holds (lease_at (image_lease i)) ≡ Waited claim until) × (bytes ≡ lease_bytes (Claimed claim until))) =
                 (elim (eqb_tells (lease_at (image_lease i)) block) [
                   | inl same ↦
-                      let P : ℕ → Type 0 = λ b. at p.holds b (shown p.sample (device b) (p.holds b)) (lease_at (image_lease i)) ≡ Held claim until in
-                      let e : shown p.sample (device (lease_at (image_lease i))) (p.holds (lease_at (image_lease i))) ≡ Held claim until =
-                      sym (at-same p.holds (lease_at (image_lease i)) (shown p.sample (device (lease_at (image_lease i))) (p.holds (lease_at (image_lease i))))) ∙ subst P (sym same.1) holds in
-                      elim (shown-held p.sample (device (lease_at (image_lease i))) (p.holds (lease_at (image_lease i))) claim until e) [
+                      let P : ℕ → Type 0 = λ b. at p.holds b (hold_after_read p.sample (device b) (p.holds b)) (lease_at (image_lease i)) ≡ Held claim until in
+                      let e : hold_after_read p.sample (device (lease_at (image_lease i))) (p.holds (lease_at (image_lease i))) ≡ Held claim until =
+                      sym (at-same p.holds (lease_at (image_lease i)) (hold_after_read p.sample (device (lease_at (image_lease i))) (p.holds (lease_at (image_lease i))))) ∙ subst P (sym same.1) holds in
+                      elim (shown-held-or-waited p.sample (device (lease_at (image_lease i))) (p.holds (lease_at (image_lease i))) claim until e) [
                         | inl held ↦ inl held
                         | inr waited ↦ inr (same.1, waited.0, ap device (sym same.1) ∙ waited.1)
                       ]
-                  | inr away ↦ inl (sym (at-other p.holds block (lease_at (image_lease i)) (shown p.sample bytes (p.holds block)) away.1) ∙ holds)
+                  | inr away ↦ inl (sym (at-other p.holds block (lease_at (image_lease i)) (hold_after_read p.sample bytes (p.holds block)) away.1) ∙ holds)
                 ]) in
                 elim was [
                   | inl held ↦
@@ -366,10 +350,10 @@ module _ (w : World) (content : Content w) (a : ℕ) (below : a < w.appliances) 
           let free = free-at place here (λ b x no'. no') in
           let log = Asked (ask.Read (record { 0 = block })) [] answer.Fault ∷ (w.seats a).log in
           let leads = ap (went_on s (ask.Read (record { 0 = block })) [] answer.Fault p) here in
-          content-went w content a below (event.Fault (appliance_no a)) log known command p.holds None false content.told fits.0 fault
+          content-went w content a below (event.Fault (appliance_no a)) log known command p.holds None false content.told fits.0 fault p.hand None in-hand.hand tt
           leased leads fits.1.1
           (λ i within minds.
-          let mine = owned-at place here i within (minds-back i log (λ claim until grips. grips-now free i claim until (seat-holds log known command p.holds None fault leads i claim until grips) grips.1) minds) in
+          let mine = owned-at place here i within (minds-back i log (λ claim until grips. grips-now free i claim until (seat-holds log known command p.holds p.hand None None fault leads i claim until grips) grips.1) minds) in
           ((λ names. let s = mine.0 names in inl (s.regime, s.looks, s.held.2, s.on)), mine.1))
           (inl (quiet-free _ free))
           never
@@ -405,10 +389,10 @@ module _ (w : World) (content : Content w) (a : ℕ) (below : a < w.appliances) 
           let fits = fits-at wplace here in
           let log = Asked (ask.Write what (record { 0 = block }) guard) bytes answer.Fault ∷ (w.seats a).log in
           let leads = ap (went_on s (ask.Write what (record { 0 = block }) guard) bytes answer.Fault p) here in
-          content-went w content a below (event.Fault (appliance_no a)) log known command no_holds None false content.told fits.0 fault
+          content-went w content a below (event.Fault (appliance_no a)) log known command no_holds None false content.told fits.0 fault p.hand None in-hand.hand tt
           leased leads fits.1.3
           (λ i within minds. elim minds [
-            | inl grips ↦ unheld grips.0 grips.1 (seat-holds log known command no_holds None fault leads i grips.0 grips.1 grips.2)
+            | inl grips ↦ unheld grips.0 grips.1 (seat-holds log known command no_holds p.hand None None fault leads i grips.0 grips.1 grips.2)
             | inr owner ↦ ((λ names. inr (dropped (event.Fault (appliance_no a)) log no_holds fault fits.1.5 fits.1.3 i)), (owned-at wplace here i within (inr owner)).1)
           ])
           (inr fits.1.5)
@@ -420,10 +404,10 @@ module _ (w : World) (content : Content w) (a : ℕ) (below : a < w.appliances) 
           let fits = fits-at wplace here in
           let log = Asked (ask.Write what (record { 0 = block }) guard) bytes (answer.Missed reading) ∷ (w.seats a).log in
           let leads = ap (went_on s (ask.Write what (record { 0 = block }) guard) bytes (answer.Missed reading) p) here in
-          content-went w content a below (event.Miss (appliance_no a) reading) log known command no_holds None false content.told fits.0 (missed reading)
+          content-went w content a below (event.Miss (appliance_no a) reading) log known command no_holds None false content.told fits.0 (missed reading) p.hand None in-hand.hand tt
           leased leads (fits.1.4 reading)
           (λ i within minds. elim minds [
-            | inl grips ↦ unheld grips.0 grips.1 (seat-holds log known command no_holds None (missed reading) leads i grips.0 grips.1 grips.2)
+            | inl grips ↦ unheld grips.0 grips.1 (seat-holds log known command no_holds p.hand None None (missed reading) leads i grips.0 grips.1 grips.2)
             | inr owner ↦ ((λ names. inr (dropped (event.Miss (appliance_no a) reading) log no_holds (missed reading) (fits.1.6 reading) (fits.1.4 reading) i)), (owned-at wplace here i within (inr owner)).1)
           ])
           (inr (fits.1.6 reading))
@@ -446,23 +430,23 @@ module _ (w : World) (content : Content w) (a : ℕ) (below : a < w.appliances) 
         done-held kind.Claim i claim until e = (
           elim (eqb_tells (lease_at (image_lease i)) block) [
             | inl same ↦
-                let P : ℕ → Type 0 = λ b. at p.holds b (wrote (read_lease bytes)) (lease_at (image_lease i)) ≡ Held claim until in
-                absurd (unwritten (read_lease bytes) (sym (at-same p.holds (lease_at (image_lease i)) (wrote (read_lease bytes))) ∙ subst P (sym same.1) e))
-            | inr away ↦ sym (at-other p.holds block (lease_at (image_lease i)) (wrote (read_lease bytes)) away.1) ∙ e
+                let P : ℕ → Type 0 = λ b. at p.holds b (hold_after_claim (read_lease bytes)) (lease_at (image_lease i)) ≡ Held claim until in
+                absurd (unwritten (read_lease bytes) (sym (at-same p.holds (lease_at (image_lease i)) (hold_after_claim (read_lease bytes))) ∙ subst P (sym same.1) e))
+            | inr away ↦ sym (at-other p.holds block (lease_at (image_lease i)) (hold_after_claim (read_lease bytes)) away.1) ∙ e
           ],
           λ k. absurd (let P : ⊥ = cc in P),
         )
           where
-            unwritten : (r : Option LeaseRecord) → wrote r ≡ Held claim until → ⊥
+            unwritten : (r : Option LeaseRecord) → hold_after_claim r ≡ Held claim until → ⊥
             unwritten None e = cc
             unwritten (Some Free) e = cc
             unwritten (Some (Claimed c u)) e = cc
         done-held kind.Renew i claim until e = (
           elim (eqb_tells (lease_at (image_lease i)) block) [
             | inl same ↦
-                let P : ℕ → Type 0 = λ b. at p.holds b (renewed (read_lease bytes)) (lease_at (image_lease i)) ≡ Held claim until in
-                rw same.0 (sym (at-same p.holds (lease_at (image_lease i)) (renewed (read_lease bytes))) ∙ subst P (sym same.1) e)
-            | inr away ↦ rw away.0 (sym (at-other p.holds block (lease_at (image_lease i)) (renewed (read_lease bytes)) away.1) ∙ e)
+                let P : ℕ → Type 0 = λ b. at p.holds b (hold_after_renewal (read_lease bytes)) (lease_at (image_lease i)) ≡ Held claim until in
+                rw same.0 (sym (at-same p.holds (lease_at (image_lease i)) (hold_after_renewal (read_lease bytes))) ∙ subst P (sym same.1) e)
+            | inr away ↦ rw away.0 (sym (at-other p.holds block (lease_at (image_lease i)) (hold_after_renewal (read_lease bytes)) away.1) ∙ e)
           ],
           λ k. absurd (let P : ⊥ = cc in P),
         )
@@ -502,12 +486,14 @@ module _ (w : World) (content : Content w) (a : ℕ) (below : a < w.appliances) 
         done-content leased =
             let fits = fits-at wplace here in
             let h = after_write what block bytes p.holds in
+            let hand' = hand_answered g p.found (ask.Write what (record { 0 = block }) guard) bytes answer.Done p.hand in
             let log = Asked (ask.Write what (record { 0 = block }) guard) bytes answer.Done ∷ (w.seats a).log in
             let leads = ap (went_on s (ask.Write what (record { 0 = block }) guard) bytes answer.Done p) here in
-            content-went w content a below (event.Done (appliance_no a)) log known command h None false content.told fits.0 done
+            content-went w content a below (event.Done (appliance_no a)) log known command h None false content.told fits.0 done hand' None
+            (hand-done g content.leased.geometry what block bytes _ (placed-may g s.boot p.holds _ what block bytes guard may) p.found in-hand.found p.hand in-hand.hand) tt
             leased leads fits.1.2
             (λ i within minds.
-            let mine = owned-at wplace here i within (minds-back i log (λ claim until grips. done-grips i claim until (seat-holds log known command h None done leads i claim until grips) grips.1) minds) in (
+            let mine = owned-at wplace here i within (minds-back i log (λ claim until grips. done-grips i claim until (seat-holds log known command h hand' None None done leads i claim until grips) grips.1) minds) in (
               λ names. (let s = mine.0 names in
                   inl (
                     s.regime,
@@ -545,17 +531,17 @@ module _ (w : World) (content : Content w) (a : ℕ) (below : a < w.appliances) 
                     (λ b ne under waits'. ne (one-waits w content.leased b a k under below waits' (waited ∙ ap Some at')))
                     o.0 o.1 o.3
 
-            may : MayAsk g s.boot p.holds (rests_on g command p.holds what block bytes) what block bytes guard
+            may : MayWrite g s.boot p.holds (rests_on g command p.holds what block bytes) what block bytes guard
             may = let P : Place → Type 0 = λ q. LawfulAt g s.boot p.holds p.sample q in (subst P here (content.leased.seated a below).lawful).0
 
-            full : (mixed (missing_of landed.0.landed) landed.0.bytes (device landed.0.block) ≡ landed.0.bytes) → device block ≡ bytes
+            full : (with_landed_sectors (missing_of landed.0.landed) landed.0.bytes (device landed.0.block) ≡ landed.0.bytes) → device block ≡ bytes
             full fills =
-                let none : mixed (missing_of landed.0.landed) landed.0.bytes (device landed.0.block) ≡ device landed.0.block =
-                ap (λ (l : List Bool). mixed (missing_of l) landed.0.bytes (device landed.0.block)) landed.2 ∙ mixed-none 8 landed.0.bytes (device landed.0.block) in
+                let none : with_landed_sectors (missing_of landed.0.landed) landed.0.bytes (device landed.0.block) ≡ device landed.0.block =
+                ap (λ (l : List Bool). with_landed_sectors (missing_of l) landed.0.bytes (device landed.0.block)) landed.2 ∙ mixed-none 8 landed.0.bytes (device landed.0.block) in
                 sym (ap device asked.1) ∙ (sym none ∙ (fills ∙ asked.2))
 
             done-held' : (i : ℕ) → i < g.images → (regime : Regime) → HeldPart g a i command known regime (WriteThen what block bytes guard done fault missed) device →
-                (IsJournalled what → mixed (missing_of landed.0.landed) landed.0.bytes (device landed.0.block) ≡ landed.0.bytes) → HeldPart g a i command known regime done device
+                (IsJournalled what → with_landed_sectors (missing_of landed.0.landed) landed.0.bytes (device landed.0.block) ≡ landed.0.bytes) → HeldPart g a i command known regime done device
             done-held' i within regime held fills = elim (held-or g a i command known regime block bytes guard done fault missed device what held) [
               | inl released ↦ released
               | inr of ↦ elim (placed-cases g content.leased.geometry what block bytes _ (placed-may g s.boot p.holds _ what block bytes guard may) i within) [
@@ -574,7 +560,7 @@ module _ (w : World) (content : Content w) (a : ℕ) (below : a < w.appliances) 
       ⊎ NoSession w content a below (event.Reading (appliance_no a) 0) [] known command p.holds None false part i
 
   -- a command of an image without a session ends for want of it
-  serves-none : (known : Known) (h : ℕ → Hold) (reading i j : ℕ) (command : Command) (rest : Session → ℕ → Part End) → named command ≡ j ∷ [] → is_in 1 (row command) ≡ true → j ≡ i → known.sessions i ≡ None →
+  serves-none : (known : Known) (h : ℕ → Hold) (reading i j : ℕ) (command : Command) (rest : Session → ℕ → Part End) → named_slots command ≡ j ∷ [] → is_in 1 (row command) ≡ true → j ≡ i → known.sessions i ≡ None →
       Serving known command (of_attached s known h reading j rest) i
   serves-none known h reading i j command rest one listed names is =
       let none : known.sessions j ≡ None = ap known.sessions names ∙ is in
@@ -587,15 +573,18 @@ module _ (w : World) (content : Content w) (a : ℕ) (below : a < w.appliances) 
     abbrev h : ℕ → Hold
     h = after_first g known reading p.holds
 
-    serves-without : (command : Command) → IsRunning g a command known m → IsBuilt command → Names command i → known.sessions i ≡ None → Serving known command (command_part s known h reading command) i
+    abbrev hand : List ℕ
+    hand = hand_held g h p.hand
+
+    serves-without : (command : Command) → IsRunning g a command known m → IsBuilt command → Names command i → known.sessions i ≡ None → Serving known command (command_part s known h hand reading command) i
     serves-without (Attach j) running built (inl names) is =
         let k = content.stored i within in
-        let P : ℕ → Type 0 = λ n. Serving known (Attach (slot_no n)) (command_part s known h reading (Attach (slot_no n))) i in
+        let P : ℕ → Type 0 = λ n. Serving known (Attach (slot_no n)) (command_part s known h hand reading (Attach (slot_no n))) i in
         let running' : IsRunning g a (Attach (slot_no i)) known m = (let Q : ℕ → Type 0 = λ n. IsRunning g a (Attach (slot_no n)) known m in subst Q names running) in
         subst P (sym names) (inl (
           Without k.kept k.writes,
           looks-without (Attach (slot_no i)) known i within refl running',
-          begin-without s content.leased.geometry a i within known h reading claim until held device k.kept k.writes k.journal is,
+          begin-without s content.leased.geometry a i within known h hand reading claim until held device k.kept k.writes k.journal is,
           k.journal,
         ))
     serves-without (Detach j) running built (inl names) is = serves-none known h reading i j.0 (Detach j) (detach_part s known j.0) refl refl names is
@@ -616,13 +605,13 @@ module _ (w : World) (content : Content w) (a : ℕ) (below : a < w.appliances) 
     serves-without Reclaim running built names is = absurd names
 
     serves : (command : Command) → IsRunning g a command known m → IsWellFormed command → IsBuilt command → Names command i → (o : Option Session) → known.sessions i ≡ o →
-        ((t : Session) → known.sessions i ≡ Some t → IsBegun g a i command known t device m) → Serving known command (command_part s known h reading command) i
+        ((t : Session) → known.sessions i ≡ Some t → IsBegun g a i command known t device m) → Serving known command (command_part s known h hand reading command) i
     serves command running well built names (Some t) is begun =
         let b = begun t is in
         inl (
           With b.image b.change,
           b.looks,
-          begin-with s content.leased.geometry a i within known h reading claim until held device t.image t.writes b.journal b.image b.left is command b.change names well built b.begun,
+          begin-with s content.leased.geometry a i within known h hand reading claim until held device t.image t.writes b.journal b.image b.left is command b.change names well built b.begun,
           tt,
         )
     serves command running well built names None is begun = serves-without command running built names is
@@ -632,8 +621,8 @@ module _ (w : World) (content : Content w) (a : ℕ) (below : a < w.appliances) 
   backed-by known h backs i (Some t) e some = backs i t e
 
   pub begin-content : (known : Known) (command : Command) (reading : ℕ) → p.place ≡ Begins known command → IsReading reading time →
-      Leased (goes_on w (event.Reading (appliance_no a) reading) (appliance_no a) ask.Clock [] (answer.Reading reading) (command_part s known (after_first g known reading p.holds) reading command)) →
-      Content (goes_on w (event.Reading (appliance_no a) reading) (appliance_no a) ask.Clock [] (answer.Reading reading) (command_part s known (after_first g known reading p.holds) reading command))
+      Leased (goes_on w (event.Reading (appliance_no a) reading) (appliance_no a) ask.Clock [] (answer.Reading reading) (first_part s known reading command p)) →
+      Content (goes_on w (event.Reading (appliance_no a) reading) (appliance_no a) ask.Clock [] (answer.Reading reading) (first_part s known reading command p))
   begin-content known command reading here is leased =
       let place = Begins known command in
       let fits = fits-at place here in
@@ -642,7 +631,7 @@ module _ (w : World) (content : Content w) (a : ℕ) (below : a < w.appliances) 
       let boots = (content.leased.seated a below).boots in
       let few = content.leased.few in
       let h = after_first g known reading p.holds in
-      let part = command_part s known h reading command in
+      let part = first_part s known reading command p in
       let log = Asked ask.Clock [] (answer.Reading reading) ∷ (w.seats a).log in
       let leads = ap (went_on s ask.Clock [] (answer.Reading reading) p) here in
       let backs = backs-first g known p.holds reading fits.1 in
@@ -654,19 +643,19 @@ module _ (w : World) (content : Content w) (a : ℕ) (below : a < w.appliances) 
       subst G held' (good-free g w.rests w.appliances time device writes w.seats (image_lease i) (content.leased.on (image_lease i) (image-below g i within)) a below free) in
       good.limits) in
       let own : (i : ℕ) → i < g.images → (claim : Claim) (until : ℕ) → h (lease_at (image_lease i)) ≡ Held claim until → Minds g time writes m a (w.seats a) i →
-      (Names command i → Serving known command part i) × ((Names command i → ⊥) → Has g a i known device m) =
+      (Names command i → Serving known command part i) × ((Names command i → ⊥) → HasContent g a i known device m) =
       λ i within claim until held minds.
       (let mine = owned-at place here i within minds in (
         λ names. serves known reading i within claim until held command fits.0 fits.2 fits.3 names (known.sessions i) refl (mine.0 names),
         mine.1,
       )) in
-      content-went w content a below (event.Reading (appliance_no a) reading) log known command h (Some reading) (just_at g command h reading) content.told fits.0 part
+      content-went w content a below (event.Reading (appliance_no a) reading) log known command h (Some reading) (just_at g command h reading) content.told fits.0 part p.hand None in-hand.hand tt
       leased leads
-      (fair-command s content.leased.geometry a (omega (arith, below, few, boots)) known reading h backs
+      (fair-command s content.leased.geometry a (omega (arith, below, few, boots)) known reading h (hand_held g h p.hand) (no-map-filter g _ p.hand in-hand.hand) backs
       (λ i. first-rests (session_at g known (lease_at (image_lease i))) reading (p.holds (lease_at (image_lease i)))) limits command fits.2 fits.3 early)
       (λ i within minds. elim minds [
         | inl grips ↦
-            let held = seat-holds log known command h (Some reading) part leads i grips.0 grips.1 grips.2 in
+            let held = seat-holds log known command h p.hand (Some reading) None part leads i grips.0 grips.1 grips.2 in
             own i within grips.0 grips.1 held (inl (
               grips.0,
               grips.1,

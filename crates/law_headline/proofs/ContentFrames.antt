@@ -1,7 +1,7 @@
 -- What an appliance knows and owns stays, while others change the model or the device elsewhere.
 use Rattle.std.proofs.Common.{◌≡◌, ◌≢◌, ℕ, ◌≤◌, ◌<◌, List, Option, Some, refl, sym, subst, ◌∙◌, arith}
 use Rattle.std.specs.Prelude.{slice_get}
-use Rattle.plx_base.specs.Sectors.{Device, mixed}
+use Rattle.plx_base.specs.Sectors.{Device, with_landed_sectors}
 use Rattle.plx_base.specs.declared.lease.Claim.{Claim}
 use Rattle.plx_commands.specs.Model.{Model}
 use Rattle.plx_commands.specs.declared.command.Command.{Command}
@@ -15,7 +15,7 @@ use Rattle.plx_rules.specs.Session.{Known}
 use Rattle.plx_rules.specs.World.{World}
 use Rattle.law_lease.proofs.Leased.{Leased}
 use Rattle.law_lease.proofs.Open.{IsOpen, grips-one, grips-only}
-use Rattle.law_headline.proofs.Content.{IsJournalled, PlaceFits, IsServing, Has, OwnedAt, Grips}
+use Rattle.law_headline.proofs.Content.{IsJournalled, PlaceFits, IsServing, HasContent, OwnedAt, Grips}
 use Rattle.law_headline.proofs.Foreign.{Foreign}
 use Rattle.law_headline.proofs.Held.{Regime, Without, With, IsRunning, Looks, IsOf, IsOn, HeldPart}
 use Rattle.law_headline.proofs.HeldFrames.{missing_of, same-at, held-same, has-same, has-foreign, looks-foreign}
@@ -42,7 +42,7 @@ place-unmoved g a h m n p (In known command part) ne un fits = (running-unmoved 
 
 module _ (g : Geometry) (a h i : ℕ) (device : Device) (writes : List Issued) (pending : Option ℕ) (m n : Model) (ne : h ≢ a) (un : Unmoved a m n)
     (foreign : Foreign a (m.slots i) (n.slots i)) (differs : Differs (n.slots i)) where
-  has-all : (known : Known) → Has g h i known device m → Has g h i known device n
+  has-all : (known : Known) → HasContent g h i known device m → HasContent g h i known device n
   has-all known has s is = has-foreign g i h a s device (m.slots i) (n.slots i) ne foreign (has s is)
 
   looks-all : (command : Command) (known : Known) (regime : Regime) → Looks g h i command known regime m → Looks g h i command known regime n
@@ -80,7 +80,7 @@ module _ (g : Geometry) (few : g.slots ≤ 64) (a h i : ℕ) (device : Device) (
       ((λ names. let s = owned.0 names in by_regime s.regime s.looks s.held s.on s.fills), (λ away s is. not-theirs (owned.1 away s is).owner))
     where
       by_regime : (regime : Regime) → Looks g h i command known regime m → HeldPart g h i command known regime part device → IsOn g i device regime →
-          ((k : ℕ) (x : Issued) → pending ≡ Some k → slice_get writes k ≡ Some x → IsJournalled x.kind → mixed (missing_of x.landed) x.bytes (device x.block) ≡ x.bytes) →
+          ((k : ℕ) (x : Issued) → pending ≡ Some k → slice_get writes k ≡ Some x → IsJournalled x.kind → with_landed_sectors (missing_of x.landed) x.bytes (device x.block) ≡ x.bytes) →
           IsServing g h i command known part device writes pending n
       by_regime (With image change) looks held on fills = not-theirs looks.slot.0
       by_regime (Without kept ws) looks held on fills = record {
@@ -127,7 +127,7 @@ module _ (g : Geometry) (h i : ℕ) (d e : Device) (writes now : List Issued) (p
       on = on-same s.regime s.on;
       fills = λ n x waits found kind.
           (let was = old known command part refl names n x waits found kind in
-          let P : List ℕ → Type 0 = λ b. mixed (missing_of x.landed) x.bytes b ≡ x.bytes in
+          let P : List ℕ → Type 0 = λ b. with_landed_sectors (missing_of x.landed) x.bytes b ≡ x.bytes in
           subst P (sym (same-at g i x.block d e was.1 same)) (s.fills n x waits was.0 kind));
     }),
     λ away s is. has-same g i h s d e (m.slots i) same (owned.1 away s is),

@@ -7,10 +7,10 @@ use Rattle.plx_base.specs.Sectors.{Device}
 use Rattle.plx_base.specs.declared.lease.Claim.{Claim}
 use Rattle.plx_commands.specs.Judge.{Permitted}
 use Rattle.plx_commands.specs.Model.{Model, Slot}
-use Rattle.plx_commands.specs.Moves.{replied, replied_in, moved}
+use Rattle.plx_commands.specs.Moves.{model_after_reply, replied_in, model_after}
 use Rattle.plx_commands.specs.Places.{at}
 use Rattle.plx_commands.specs.Replies.{number_of, ends_sessions}
-use Rattle.plx_commands.specs.Slots.{named}
+use Rattle.plx_commands.specs.Slots.{named_slots}
 use Rattle.plx_commands.specs.declared.command.Command.{Command}
 use Rattle.plx_commands.specs.declared.command.Command.TheVariants.{Attach, Detach, Create, Delete, Read, Write, Flush, Reserve, Renew, Retire, Reclaim}
 use Rattle.plx_commands.specs.declared.entry.Entry.{Entry}
@@ -28,12 +28,13 @@ use Rattle.plx_rules.specs.Ends.{End}
 use Rattle.plx_rules.specs.Headline.{starts_and_crashes, events_told, IsUndamaged, model_before, model_in}
 use Rattle.plx_rules.specs.Holds.{Hold}
 use Rattle.plx_rules.specs.Session.{Session, Known}
-use Rattle.plx_rules.specs.World.{World, Seat, setting_at, told}
+use Rattle.plx_rules.specs.World.{World, Seat, setting_at, with_reply_of}
 use Rattle.law_lease.proofs.Leased.{Leased}
 use Rattle.law_lease.proofs.Open.{IsOpen, open-elsewhere}
-use Rattle.law_headline.proofs.Content.{appliance_no, stands_at, PlaceFits, Has, OwnedAt, Grips, Minds, Whose, SeatFits, SeatOwns, Placed, Waits, Content}
+use Rattle.law_headline.proofs.Content.{appliance_no, stands_at, PlaceFits, HasContent, OwnedAt, Grips, Minds, Whose, SeatFits, SeatHand, SeatOwns, Placed, Waits, Content}
 use Rattle.law_headline.proofs.ContentFrames.{place-unmoved, owned-foreign, owned-taken, one-grip, grip-only}
 use Rattle.law_headline.proofs.Foreign.{Foreign}
+use Rattle.law_headline.proofs.HandFacts.{NoMap, FoundMap, HandFits, no-map-filter}
 use Rattle.law_headline.proofs.Harmless.{Harmless, Yields, harmless-answers, harmless-foreign, yields-answers, yields-stays, yields-foreign}
 use Rattle.law_headline.proofs.Held.{attached_of, Regime, Without, With, IsRunning, Looks, HasImage, IsOf, IsOn, HeldPart, IsDrop, IsFairEnd, Fair}
 use Rattle.law_headline.proofs.HeldCommands.{slot_no}
@@ -53,7 +54,7 @@ names-among i (j ∷ others) = elim (eqb_tells j i) [
 ]
 
 pub names-or : (command : Command) (i : ℕ) → (Names command i) ⊎ (Names command i → ⊥)
-names-or command i = names-among i (named command)
+names-or command i = names-among i (named_slots command)
 
 -- no command names two images yet
 one-slot : (k i j : ℕ) → IsAmongSlots i (k ∷ []) → IsAmongSlots j (k ∷ []) → i ≡ j
@@ -61,18 +62,18 @@ one-slot k i j (inl one) (inl two) = sym one ∙ two
 one-slot k i j (inr one) two = absurd one
 one-slot k i j (inl one) (inr two) = absurd two
 
-pub names-one : (command : Command) (i j : ℕ) → Names command i → Names command j → i ≡ j
-names-one (Attach k) i j one two = one-slot k.0 i j one two
-names-one (Detach k) i j one two = one-slot k.0 i j one two
-names-one (Create k size label) i j one two = one-slot k.0 i j one two
-names-one (Delete k) i j one two = one-slot k.0 i j one two
-names-one (Read k v) i j one two = one-slot k.0 i j one two
-names-one (Write k v x) i j one two = one-slot k.0 i j one two
-names-one (Flush k) i j one two = one-slot k.0 i j one two
-names-one (Reserve count) i j one two = absurd one
-names-one Renew i j one two = absurd one
-names-one Retire i j one two = absurd one
-names-one Reclaim i j one two = absurd one
+pub names-same : (command : Command) (i j : ℕ) → Names command i → Names command j → i ≡ j
+names-same (Attach k) i j one two = one-slot k.0 i j one two
+names-same (Detach k) i j one two = one-slot k.0 i j one two
+names-same (Create k size label) i j one two = one-slot k.0 i j one two
+names-same (Delete k) i j one two = one-slot k.0 i j one two
+names-same (Read k v) i j one two = one-slot k.0 i j one two
+names-same (Write k v x) i j one two = one-slot k.0 i j one two
+names-same (Flush k) i j one two = one-slot k.0 i j one two
+names-same (Reserve count) i j one two = absurd one
+names-same Renew i j one two = absurd one
+names-same Retire i j one two = absurd one
+names-same Reclaim i j one two = absurd one
 
 -- after a reply that drops all, there is no session
 pub dropping-false : (r : Reply) (command : Command) (f : ℕ → Bool) (k : ℕ) → IsDropping r → sessions_after command r f k ≡ false
@@ -134,7 +135,7 @@ module _ (w : World) (content : Content w) (a : ℕ) (below : a < w.appliances) 
   -- what the boot's image is, once it holds the lease
   abbrev pub Owned : Part End → Type 0
   Owned part = (i : ℕ) → i < g.images → Minds g time writes m a seat' i →
-      (Names command i → Serves part i) × ((Names command i → ⊥) → Has g a i known device m)
+      (Names command i → Serves part i) × ((Names command i → ⊥) → HasContent g a i known device m)
 
   -- what is open after the answer was open before
   open-before : (i k : ℕ) (x : Issued) → IsOpen g w.rests w.appliances time writes (at w.seats a seat') (image_lease i) k x → IsOpen g w.rests w.appliances time writes w.seats (image_lease i) k x
@@ -160,17 +161,22 @@ module _ (w : World) (content : Content w) (a : ℕ) (below : a < w.appliances) 
 
   module _ (said : starts_and_crashes w.trace ≡ events_told (event ∷ w.history)) (running : IsRunning g a command known m) where
     -- the command goes on
-    content-on : (part : Part End) → Leased (went_to w.trace) →
-        position (setting_at g a (w.seats a).boots) log ≡ record { holds = holds; sample = sample; place = In known command part } → Fair g a command known holds sample false part →
+    content-on : (part : Part End) (hand : List ℕ) (found : Option (ℕ × List ℕ)) → NoMap g hand → FoundMap g found → Leased (went_to w.trace) →
+        position (setting_at g a (w.seats a).boots) log ≡ record { holds = holds; hand = hand; sample = sample; found = found; place = In known command part } → Fair g a command known holds sample false part →
         ((i : ℕ) → i < g.images → Minds g time writes m a seat' i →
-        (Names command i → IsHeldBy part i) × ((Names command i → ⊥) → Has g a i known device m)) → IsQuiet →
+        (Names command i → IsHeldBy part i) × ((Names command i → ⊥) → HasContent g a i known device m)) → IsQuiet →
         Content (went_to w.trace)
-    content-on part leased leads fair own quiet = record {
+    content-on part hand found none read leased leads fair own quiet = record {
       leased = leased;
       told = said;
       permitted = content.permitted;
       undamaged = content.undamaged;
       stored = content.stored;
+      spelled = content.spelled;
+      maps = content.maps;
+      hands = at-all (λ b s. b < w.appliances → SeatHand g b s) w.seats a seat'
+          (λ under. let P : Position → Type 0 = λ q. HandFits g q in subst P (sym leads) (record { hand = none; found = read }))
+          (λ b ne under. content.hands b under);
       placed = λ home k x is op. content.placed home k x is (open-elsewhere g w.rests w.appliances time writes w.seats home a seat' refl k x op);
       waits = waits-stay;
       whose = λ i within k x op of b owns'. elim (eqb_tells b a) [
@@ -192,12 +198,12 @@ module _ (w : World) (content : Content w) (a : ℕ) (below : a < w.appliances) 
     }
 
     -- the command ends
-    module _ (end : End) (leased : Leased (went_to (entry.Reply (appliance_no a) end.reply ∷ w.trace))) (leads : position (setting_at g a (w.seats a).boots) log ≡ goes_to known command holds sample (Ends end))
+    module _ (end : End) (hand : List ℕ) (found : Option (ℕ × List ℕ)) (none : NoMap g hand) (read : FoundMap g found) (leased : Leased (went_to (entry.Reply (appliance_no a) end.reply ∷ w.trace))) (leads : position (setting_at g a (w.seats a).boots) log ≡ goes_to g known command holds hand sample found (Ends end))
         (fair : IsFairEnd g command known holds just end) (own : Owned (Ends end)) (quiet : IsQuiet ⊎ IsDropping end.reply) (now : just ≡ true → IsJust (Ends end)) where
       abbrev n : Model
-      n = replied m a command end.reply
+      n = model_after_reply m a command end.reply
 
-      is-model : moved m (entry.Reply (appliance_no a) end.reply) ≡ n
+      is-model : model_after m (entry.Reply (appliance_no a) end.reply) ≡ n
       is-model = ap (λ (r : Option Command). replied_in m a r end.reply) running.runs
 
       sound : Sound m
@@ -249,7 +255,7 @@ module _ (w : World) (content : Content w) (a : ℕ) (below : a < w.appliances) 
         | inr rest ↦ elim rest [
           | inl owner ↦ elim (names-or command j) [
             | inl names ↦
-                let same : owner.0 ≡ j = names-one command owner.0 j owner.2 names in
+                let same : owner.0 ≡ j = names-same command owner.0 j owner.2 names in
                 let P : ℕ → Type 0 = λ k. (IsHeldBy (Ends end) k) × IsGripped k in
                 let o = subst P same (owner.3, owner.4) in
                 inr (o.0, (λ k x op of. none-some k (sym owner.5 ∙ grip-only w content.leased j a within below o.1.0 o.1.1 o.1.2 k x (open-before j k x op))), inl o.1)
@@ -281,7 +287,7 @@ module _ (w : World) (content : Content w) (a : ℕ) (below : a < w.appliances) 
           ap (λ (f : ℕ → Bool). f j) (sessions-replied m a command end.reply) ∙ (ap (λ (f : ℕ → Bool). sessions_after command end.reply f j) before ∙ sym (fair.kept j))
 
       -- what the appliance has of an image after its reply
-      has-from : (i : ℕ) → i < g.images → (Names command i → Serves (Ends end) i) × ((Names command i → ⊥) → Has g a i known device m) → Has g a i end.known device n
+      has-from : (i : ℕ) → i < g.images → (Names command i → Serves (Ends end) i) × ((Names command i → ⊥) → HasContent g a i known device m) → HasContent g a i end.known device n
       has-from i within mine s is =
           elim (names-or command i) [
             | inl names ↦ elim (mine.0 names) [
@@ -300,7 +306,7 @@ module _ (w : World) (content : Content w) (a : ℕ) (below : a < w.appliances) 
             ]
           ]
 
-      has-after : (i : ℕ) → i < g.images → Minds g time writes n a seat' i → Has g a i end.known device n
+      has-after : (i : ℕ) → i < g.images → Minds g time writes n a seat' i → HasContent g a i end.known device n
       has-after i within (inl grips) s is = has-from i within (own i within (inl grips)) s is
       has-after i within (inr mine) s is = elim (foreign-or i within) [
         | inl foreign ↦ has-from i within (own i within (inr (foreign.owner a mine))) s is
@@ -316,7 +322,7 @@ module _ (w : World) (content : Content w) (a : ℕ) (below : a < w.appliances) 
               let before : (m.slots i).owner ≡ Some b = replied-others m a command end.reply i b ne theirs in
               absurd (ne (let f : Some b ≡ Some a = sym before ∙ looks.slot.0 in cc))
           by_regime (Without kept ws) looks theirs =
-              let P : Command → Type 0 = λ c. ((replied m a c end.reply).slots i).owner ≡ Some b → Foreign a (m.slots i) ((replied m a c end.reply).slots i) in
+              let P : Command → Type 0 = λ c. ((model_after_reply m a c end.reply).slots i).owner ≡ Some b → Foreign a (m.slots i) ((model_after_reply m a c end.reply).slots i) in
               subst P (sym looks.purpose) (attach-left m a (slot_no i) end.reply b ne) theirs
 
           by_minds : Minds g time writes n b (w.seats b) i → Foreign a (m.slots i) (n.slots i)
@@ -351,6 +357,11 @@ module _ (w : World) (content : Content w) (a : ℕ) (below : a < w.appliances) 
             told = said;
             permitted = permitted';
             undamaged = (undamaged', content.undamaged);
+            spelled = content.spelled;
+            maps = content.maps;
+            hands = at-all (λ b s. b < w.appliances → SeatHand g b s) w.seats a seat'
+                (λ under. let P : Position → Type 0 = λ q. HandFits g q in subst P (sym leads) (record { hand = no-map-filter g _ hand none; found = read }))
+                (λ b ne under. content.hands b under);
             stored = λ i within.
                 let P : Model → Type 0 = λ x. Keeps g device i (x.slots i) in
                 subst P (sym is-model) (elim (foreign-or i within) [
@@ -399,7 +410,7 @@ module _ (w : World) (content : Content w) (a : ℕ) (below : a < w.appliances) 
 
     -- an ask was answered
     only-held : (part : Part End) → ((i : ℕ) → NoSession part i → ⊥) → Owned part → (i : ℕ) → i < g.images → Minds g time writes m a seat' i →
-        (Names command i → IsHeldBy part i) × ((Names command i → ⊥) → Has g a i known device m)
+        (Names command i → IsHeldBy part i) × ((Names command i → ⊥) → HasContent g a i known device m)
     only-held part none own i within minds =
         let mine = own i within minds in (λ names. elim (mine.0 names) [ inl held ↦ held | inr no' ↦ absurd (none i no') ], mine.1)
 
@@ -407,12 +418,13 @@ module _ (w : World) (content : Content w) (a : ℕ) (below : a < w.appliances) 
     still (inl quiet) = quiet
     still (inr no') = absurd no'
 
-    pub content-went : (part : Part End) → Leased (went_to (told (appliance_no a) part w.trace)) → position (setting_at g a (w.seats a).boots) log ≡ goes_to known command holds sample part → Fair g a command known holds sample just part →
-        Owned part → IsQuiet ⊎ IsDrop part → (just ≡ true → IsJust part) → Content (went_to (told (appliance_no a) part w.trace))
-    content-went (Ends end) leased leads fair own quiet now = content-replied end leased leads fair own quiet now
-    content-went (ReadThen block rest fault) leased leads fair own quiet now =
-        content-on (ReadThen block rest fault) leased leads fair (only-held (ReadThen block rest fault) (λ i e. e) own) (still quiet)
-    content-went (WriteThen what block bytes guard done fault missed) leased leads fair own quiet now =
-        content-on (WriteThen what block bytes guard done fault missed) leased leads fair (only-held (WriteThen what block bytes guard done fault missed) (λ i e. e) own) (still quiet)
-    content-went (ClockThen rest) leased leads fair own quiet now = content-on (ClockThen rest) leased leads fair (only-held (ClockThen rest) (λ i e. e) own) (still quiet)
-    content-went (UntilThen from rest) leased leads fair own quiet now = content-on (UntilThen from rest) leased leads fair (only-held (UntilThen from rest) (λ i e. e) own) (still quiet)
+    pub content-went : (part : Part End) (hand : List ℕ) (found : Option (ℕ × List ℕ)) → NoMap g hand → FoundMap g found → Leased (went_to (with_reply_of (appliance_no a) part w.trace)) →
+        position (setting_at g a (w.seats a).boots) log ≡ goes_to g known command holds hand sample found part → Fair g a command known holds sample just part →
+        Owned part → IsQuiet ⊎ IsDrop part → (just ≡ true → IsJust part) → Content (went_to (with_reply_of (appliance_no a) part w.trace))
+    content-went (Ends end) hand found none read leased leads fair own quiet now = content-replied end hand found none read leased leads fair own quiet now
+    content-went (ReadThen block rest fault) hand found none read leased leads fair own quiet now =
+        content-on (ReadThen block rest fault) _ found (no-map-filter g _ hand none) read leased leads fair (only-held (ReadThen block rest fault) (λ i e. e) own) (still quiet)
+    content-went (WriteThen what block bytes guard done fault missed) hand found none read leased leads fair own quiet now =
+        content-on (WriteThen what block bytes guard done fault missed) _ found (no-map-filter g _ hand none) read leased leads fair (only-held (WriteThen what block bytes guard done fault missed) (λ i e. e) own) (still quiet)
+    content-went (ClockThen rest) hand found none read leased leads fair own quiet now = content-on (ClockThen rest) _ found (no-map-filter g _ hand none) read leased leads fair (only-held (ClockThen rest) (λ i e. e) own) (still quiet)
+    content-went (UntilThen from rest) hand found none read leased leads fair own quiet now = content-on (UntilThen from rest) _ found (no-map-filter g _ hand none) read leased leads fair (only-held (UntilThen from rest) (λ i e. e) own) (still quiet)

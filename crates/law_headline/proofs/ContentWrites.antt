@@ -4,8 +4,8 @@ use Rattle.std.specs.Prelude.{slice_get}
 use Rattle.std.proofs.lemmas.Bool.Decides.{eqb_tells}
 use Rattle.std.proofs.lemmas.List.{length-set}
 use Rattle.std.proofs.lemmas.Option.{slice_get_within}
-use Rattle.plx_base.specs.Sectors.{Device, put, mixed, landed}
-use Rattle.plx_base.proofs.Devices.{put-same}
+use Rattle.plx_base.specs.Sectors.{Device, put, with_landed_sectors, with_landed_sector}
+use Rattle.plx_base.proofs.Devices.{put-same, put-other}
 use Rattle.plx_base.proofs.Mixed.{mixed-none, mixed-all, mixed-landed}
 use Rattle.plx_base.specs.declared.lease.Claim.{Claim}
 use Rattle.plx_base.specs.declared.write_kind.WriteKind.{WriteKind}
@@ -15,7 +15,9 @@ use Rattle.plx_commands.specs.declared.command.Command.{Command}
 use Rattle.plx_commands.specs.declared.event.Event.TheVariants as event
 use Rattle.plx_commands.proofs.Places.{at-all, at-same, at-other}
 use Rattle.plx_disk.specs.Writes.{Issued, with_sector, no_sectors, fresh_write, MayLand, after_landing}
-use Rattle.plx_geom.specs.Geometry.{Geometry, IsGeometry, image_lease, lease_count}
+use Rattle.plx_extent.proofs.Landings.{landed-holds}
+use Rattle.plx_extent.specs.Maps.{HoldsMap}
+use Rattle.plx_geom.specs.Geometry.{Geometry, IsGeometry, image_lease, lease_count, map_at}
 use Rattle.plx_geom.proofs.Places.{image-image, image-below}
 use Rattle.plx_disk.proofs.Lists.{push-before, push-last}
 use Rattle.plx_rules.specs.Part.{Part, Ends, ReadThen, WriteThen, ClockThen, UntilThen}
@@ -24,6 +26,7 @@ use Rattle.plx_rules.specs.Ends.{End}
 use Rattle.plx_rules.specs.Headline.{model_in}
 use Rattle.plx_rules.specs.Holds.{Hold}
 use Rattle.law_lease.proofs.Lists.{push-cases}
+use Rattle.plx_rules.specs.Pools.{HasMaps}
 use Rattle.plx_rules.specs.Rests.{IsUnder, home_of, rests_on}
 use Rattle.plx_commands.specs.Replies.{is_in}
 use Rattle.plx_rules.specs.Session.{Known}
@@ -33,16 +36,17 @@ use Rattle.law_lease.proofs.LeaseSteps.{placed-may}
 use Rattle.law_lease.proofs.Frame.{Frame, IsNew, SameUnder, frame-all, frame-others, stood-issued, grips-before, grips-free, grips-other, grips-own, land-frame, landed-or, open-issued}
 use Rattle.law_lease.proofs.Covers.{Covers}
 use Rattle.law_lease.proofs.Open.{GripsLease, IsOpen, open-found}
-use Rattle.law_lease.proofs.Leased.{MayAsk, LawfulAt, IsAskedAt, IsRight, Leased}
-use Rattle.law_headline.proofs.Content.{appliance_no, stands_at, IsJournalled, PlaceFits, OwnedAt, Grips, Minds, Whose, SeatFits, SeatOwns, Placed, Waits, Content}
+use Rattle.law_lease.proofs.Leased.{MayWrite, LawfulAt, IsAskedAt, IsRight, Leased}
+use Rattle.law_headline.proofs.Content.{appliance_no, stands_at, IsJournalled, PlaceFits, OwnedAt, Grips, Minds, Whose, SeatFits, SpellMaps, SeatHand, SeatOwns, Placed, Waits, Content}
 use Rattle.law_headline.proofs.ContentFrames.{owned-same, grip-only}
-use Rattle.law_headline.proofs.ContentGoes.{names-one}
+use Rattle.law_headline.proofs.ContentGoes.{names-same}
 use Rattle.law_headline.proofs.Held.{Regime, Without, With, IsWith, IsOn, Looks, IsOf, HeldPart, IsNamed, Fair}
 use Rattle.law_headline.proofs.HeldFrames.{missing_of, missing-landed, same-refl, same-put, same-over, held-same, keeps-landed}
 use Rattle.law_headline.proofs.ImageWrites.{placed-block, placed-keeps, placed-made, named-image, use-image, held-image, image-held, image-write, of-covers, of-one, placed-cases, same-under}
 use Rattle.law_headline.proofs.JournalFacts.{Keeps-same}
 use Rattle.law_headline.proofs.Journals.{Keeps, Same}
 use Rattle.law_headline.proofs.BytesByKind.{OnlyBytes, only-lands}
+use Rattle.law_headline.proofs.MapFacts.{SpellsMap, map-write}
 use Rattle.law_headline.proofs.PlacedByKind.{KeepsAll, PlacedBy, placed-moves}
 use Rattle.law_headline.proofs.Replied.{Names}
 use Rattle.law_headline.proofs.WaitsByKind.{WaitsOn, waits-asked, waits-lands, waits-others}
@@ -53,7 +57,7 @@ named-of : (g : Geometry) (a i : ℕ) (command : Command) (known : Known) (holds
 named-of g a i command known holds sample (WriteThen what block bytes guard done fault missed) boot x fair asked journalled =
     let N : WriteKind → Type 0 = λ k. IsNamed g command k block in
     let P : ℕ → Type 0 = λ b. (j : ℕ) × (j < g.images) × (IsOf g j b) × Names command j in
-    subst P (sym asked.1) (named-image g command block x.kind journalled (subst N (sym asked.0) fair.0))
+    subst P (sym asked.1) (named-image g command block x.kind journalled (subst N (sym asked.0) fair.0.named))
 named-of g a i command known holds sample (Ends end) boot x fair asked journalled = absurd asked
 named-of g a i command known holds sample (ReadThen block rest fault) boot x fair asked journalled = absurd asked
 named-of g a i command known holds sample (ClockThen rest) boot x fair asked journalled = absurd asked
@@ -61,7 +65,7 @@ named-of g a i command known holds sample (UntilThen from rest) boot x fair aske
 
 -- a block of a named image is one of the image that the command names
 of-named : (g : Geometry) (command : Command) (i block : ℕ) → (j : ℕ) × (j < g.images) × (IsOf g j block) × Names command j → Names command i → IsOf g i block
-of-named g command i block named names = let P : ℕ → Type 0 = λ j. IsOf g j block in subst P (names-one command named.0 i named.3 names) named.2
+of-named g command i block named names = let P : ℕ → Type 0 = λ j. IsOf g j block in subst P (names-same command named.0 i named.3 names) named.2
 
 -- the frame of a landing leaves each other open write what it had
 placed-others : (w : World) (content : Content w) (other : Device) (flagged : List Issued) (number : ℕ) (write : Issued) →
@@ -85,10 +89,10 @@ placed-others w content other flagged number write frame home n x ne found is op
           let same = same-under g i device other below (subst (λ (l : ℕ). SameUnder g l device other) at'' left.1) in (
             old.0,
             λ flags count.
-                let P : List ℕ → Type 0 = λ y. Keeps g (put other x.block (mixed flags x.bytes y)) i (slots i) in
+                let P : List ℕ → Type 0 = λ y. Keeps g (put other x.block (with_landed_sectors flags x.bytes y)) i (slots i) in
                 subst P (sym at')
-                (Keeps-same g (put device x.block (mixed flags x.bytes (device x.block))) (put other x.block (mixed flags x.bytes (device x.block))) i (slots i)
-                (same-put g i x.block (mixed flags x.bytes (device x.block)) device other same) (old.1 flags count)),
+                (Keeps-same g (put device x.block (with_landed_sectors flags x.bytes (device x.block))) (put other x.block (with_landed_sectors flags x.bytes (device x.block))) i (slots i)
+                (same-put g i x.block (with_landed_sectors flags x.bytes (device x.block)) device other same) (old.1 flags count)),
           ))
           (content.placed home n x is left.0)
     ]
@@ -159,7 +163,7 @@ module _ (w : World) (content : Content w) where
     abbrev leases : List ℕ
     leases = rests_on g command (p a).holds what block bytes
 
-    may : MayAsk g boot (p a).holds leases what block bytes guard
+    may : MayWrite g boot (p a).holds leases what block bytes guard
     may = let P : Place → Type 0 = λ q. LawfulAt g boot (p a).holds (p a).sample q in (subst P here (content.leased.seated a below).lawful).0
 
     -- of its block only its own bytes differ, its image is kept, and it is the appliance's in the model
@@ -169,7 +173,7 @@ module _ (w : World) (content : Content w) where
     new-keeps i within of needs live = elim (placed-cases g geometry what block bytes leases (placed-may g boot (p a).holds leases what block bytes guard may) i within) [
       | inl mine ↦
           let grant = (use-image g boot (p a).holds leases block bytes guard what mine.1 may).grants (image_lease i) needs in
-          let named = named-image g command block what mine.1 fits.1.0 in
+          let named = named-image g command block what mine.1 fits.1.0.named in
           let names : Names command i = (let P : ℕ → Type 0 = λ j. Names command j in subst P (of-one g geometry named.0 i block named.1 within named.2 of) named.3) in
           let grips : (claim : Claim) × (until : ℕ) × Grips g time writes a (w.seats a) i claim until = elim live [
             | inl early ↦ (grant.claim, grant.until, grips-free w content.leased a below free leases what block bytes guard (image_lease i) grant.claim grant.until grant.hold (let guarded = grant.guarded in omega arith))
@@ -199,6 +203,12 @@ module _ (w : World) (content : Content w) where
       permitted = content.permitted;
       undamaged = content.undamaged;
       stored = content.stored;
+      spelled = λ n x found. elim (push-cases writes fresh x n found) [
+        | inl old ↦ content.spelled n x old
+        | inr is ↦ (let P : Issued → Type 0 = λ y. SpellsMap g y.kind y.bytes in subst P is.1 fits.1.0.spells)
+      ];
+      maps = content.maps;
+      hands = at-all (λ b s. b < w.appliances → SeatHand g b s) w.seats a seat' (λ under. content.hands a below) (λ b ne under. content.hands b under);
       placed = λ home n x is op. elim (open-issued w content.leased a below free leases what block bytes guard home n x op) [
         | inl was ↦
             let old = slice_get_within writes n x (open-found g w.rests w.appliances time writes w.seats home n x was) in
@@ -256,7 +266,7 @@ module _ (w : World) (content : Content w) where
                   let at' : length writes ≡ n = cc in
                   let Q : ℕ → Type 0 = λ k. slice_get now k ≡ Some x in
                   let is : fresh ≡ x = (let e : Some fresh ≡ Some x = sym (push-last writes fresh) ∙ subst Q (sym at') found in cc) in
-                  let R : Issued → Type 0 = λ y. mixed (missing_of y.landed) y.bytes (device y.block) ≡ y.bytes in
+                  let R : Issued → Type 0 = λ y. with_landed_sectors (missing_of y.landed) y.bytes (device y.block) ≡ y.bytes in
                   subst R is (mixed-all 8 bytes (device block) fits.1.1 (content.leased.long block));
             }),
             mine.1,
@@ -282,7 +292,7 @@ module _ (w : World) (content : Content w) where
     now' = slice_set writes number (with_sector write sector)
 
     abbrev after : Device
-    after = put device write.block (landed sector write.bytes (device write.block))
+    after = put device write.block (with_landed_sector sector write.bytes (device write.block))
 
     right : IsRight g (w.rests number) write
     right = content.leased.right number write may.found
@@ -296,12 +306,12 @@ module _ (w : World) (content : Content w) where
     frame : Frame g w.rests w.appliances time device after writes now' w.seats number write
     frame = land-frame w content.leased number sector write may
 
-    keeps-after : (i : ℕ) → (slot : Slot) → ((flags : List Bool) → length flags ≡ 8 → Keeps g (put device write.block (mixed flags write.bytes (device write.block))) i slot) → Keeps g after i slot
+    keeps-after : (i : ℕ) → (slot : Slot) → ((flags : List Bool) → length flags ≡ 8 → Keeps g (put device write.block (with_landed_sectors flags write.bytes (device write.block))) i slot) → Keeps g after i slot
     keeps-after i slot keeps =
         let one : List Bool = slice_set no_sectors sector true in
-        let none : mixed no_sectors write.bytes (device write.block) ≡ device write.block = mixed-none 8 write.bytes (device write.block) in
-        let is : landed sector write.bytes (device write.block) ≡ mixed one write.bytes (device write.block) =
-        ap (landed sector write.bytes) (sym none) ∙ mixed-landed no_sectors write.bytes (device write.block) sector false (no-sector sector below-8) bytes-long (content.leased.long write.block) in
+        let none : with_landed_sectors no_sectors write.bytes (device write.block) ≡ device write.block = mixed-none 8 write.bytes (device write.block) in
+        let is : with_landed_sector sector write.bytes (device write.block) ≡ with_landed_sectors one write.bytes (device write.block) =
+        ap (with_landed_sector sector write.bytes) (sym none) ∙ mixed-landed no_sectors write.bytes (device write.block) sector false (no-sector sector below-8) bytes-long (content.leased.long write.block) in
         let P : List ℕ → Type 0 = λ x. Keeps g (put device write.block x) i slot in
         subst P (sym is) (keeps one (length-set no_sectors sector true))
       where
@@ -338,11 +348,28 @@ module _ (w : World) (content : Content w) where
           let P : Issued → Type 0 = λ y. PlacedBy y.kind g after m.slots home y.block y.bytes in
           subst P (sym here'.1) (placed-moves write.kind g device after m.slots m.slots home write.block write.bytes
           (λ only. let O : List ℕ → Type 0 = λ y. OnlyBytes write.kind write.bytes y in
-          subst O (sym (put-same device write.block (landed sector write.bytes (device write.block)))) (only-lands write.kind sector write.bytes (device write.block) only))
+          subst O (sym (put-same device write.block (with_landed_sector sector write.bytes (device write.block)))) (only-lands write.kind sector write.bytes (device write.block) only))
           (λ keeps i within at'. let old = keeps i within at' in
           (old.0, keeps-landed g i write.block sector write.bytes device (m.slots i) below-8 bytes-long (content.leased.long write.block) old.1))
           (content.placed home number write its.0 (frame.still home x its.1)))
       | inr away ↦ placed-others w content after now' number write frame home n x away.0 away.1 is op
+    ]
+
+    spelled-after : SpellMaps g now'
+    spelled-after n x found = elim (landed-or w content.leased number sector write may n x found) [
+      | inl here' ↦ (let P : Issued → Type 0 = λ y. SpellsMap g y.kind y.bytes in subst P (sym here'.1) (content.spelled number write may.found))
+      | inr away ↦ content.spelled n x away.1
+    ]
+
+    -- a landing leaves a map's block as it is, or is a sector of a map
+    maps-after : HasMaps g after
+    maps-after extent within = elim (eqb_tells (map_at g extent) write.block) [
+      | inl same ↦
+          let new = map-write g extent write.kind write.block write.bytes (w.rests number) right.placed same.1 (content.spelled number write may.found) in
+          let old = subst (λ (b : ℕ). HoldsMap g.extent_blocks (device b)) same.1 (content.maps extent within) in
+          let P : List ℕ → Type 0 = λ bytes. HoldsMap g.extent_blocks bytes in
+          subst (λ (b : ℕ). P (after b)) (sym same.1) (subst P (sym (put-same device write.block (with_landed_sector sector write.bytes (device write.block)))) (landed-holds g.extent_blocks sector write.bytes (device write.block) below-8 new old))
+      | inr away ↦ (let P : List ℕ → Type 0 = λ bytes. HoldsMap g.extent_blocks bytes in subst P (sym (put-other device write.block (with_landed_sector sector write.bytes (device write.block)) (map_at g extent) away.1)) (content.maps extent within))
     ]
 
     whose-after : (i : ℕ) → i < g.images → Whose g w.rests w.appliances time now' w.seats i (m.slots i)
@@ -360,7 +387,7 @@ module _ (w : World) (content : Content w) where
     held-lands : (b i : ℕ) (command : Command) (known : Known) (regime : Regime) (part : Part End) (boot : ℕ) → IsAskedAt (In known command part) boot write → IsJournalled write.kind →
         HeldPart g b i command known regime part device → HeldPart g b i command known regime part after
     held-lands b i command known regime (WriteThen what block bytes guard done fault missed) number_of_boot asked journalled held =
-        let D : ℕ → List ℕ → Device = λ k x. put device k (landed sector x (device k)) in
+        let D : ℕ → List ℕ → Device = λ k x. put device k (with_landed_sector sector x (device k)) in
         let K : WriteKind → Type 0 = λ k. IsJournalled k in
         let long : length bytes ≡ 4096 = ap length (sym asked.2) ∙ bytes-long in
         let here' : HeldPart g b i command known regime (WriteThen what block bytes guard done fault missed) (D block bytes) = by_kind what (subst K asked.0 journalled) long held in
@@ -368,17 +395,17 @@ module _ (w : World) (content : Content w) where
         subst (λ (k : ℕ). P k write.bytes) (sym asked.1) (subst (P block) (sym asked.2) here')
       where
         by_kind : (k : WriteKind) → IsJournalled k → length bytes ≡ 4096 → HeldPart g b i command known regime (WriteThen k block bytes guard done fault missed) device →
-            HeldPart g b i command known regime (WriteThen k block bytes guard done fault missed) (put device block (landed sector bytes (device block)))
+            HeldPart g b i command known regime (WriteThen k block bytes guard done fault missed) (put device block (with_landed_sector sector bytes (device block)))
         by_kind k is long held =
             let write' = held-image g b i command known regime block bytes guard done fault missed device k is held in
-            let made = put device block (landed sector bytes (device block)) in
+            let made = put device block (with_landed_sector sector bytes (device block)) in
             image-held g b i command known regime block bytes guard done fault missed made k is (record {
               of = write'.of;
               keeps = λ flags count x looks. keeps-landed g i block sector bytes device (x.slots i) below-8 long (content.leased.long block) (λ f c. write'.keeps f c x looks) flags count;
-              follows = held-same g b i command known regime done (put device block bytes) (put made block bytes) (same-over g i block bytes (landed sector bytes (device block)) device) write'.follows;
+              follows = held-same g b i command known regime done (put device block bytes) (put made block bytes) (same-over g i block bytes (with_landed_sector sector bytes (device block)) device) write'.follows;
               changes = write'.changes;
               only = (let O : List ℕ → Type 0 = λ y. OnlyBytes k bytes y in
-                  subst O (sym (put-same device block (landed sector bytes (device block)))) (only-lands k sector bytes (device block) write'.only));
+                  subst O (sym (put-same device block (with_landed_sector sector bytes (device block)))) (only-lands k sector bytes (device block) write'.only));
             })
     held-lands b i command known regime (Ends end) number_of_boot asked journalled held = absurd asked
     held-lands b i command known regime (ReadThen block rest fault) number_of_boot asked journalled held = absurd asked
@@ -443,11 +470,11 @@ module _ (w : World) (content : Content w) where
                 on = on-with i s.regime (held-with b i command known s.regime part (boot_number b (w.seats b).boots) asked mine.1 s.held);
                 fills = λ n x waits' found journalled. elim (landed-or w content.leased number sector write may n x found) [
                   | inl here' ↦
-                      let P : Issued → Type 0 = λ y. mixed (missing_of y.landed) y.bytes (after y.block) ≡ y.bytes in
-                      let at' : after write.block ≡ landed sector write.bytes (device write.block) = put-same device write.block (landed sector write.bytes (device write.block)) in
+                      let P : Issued → Type 0 = λ y. with_landed_sectors (missing_of y.landed) y.bytes (after y.block) ≡ y.bytes in
+                      let at' : after write.block ≡ with_landed_sector sector write.bytes (device write.block) = put-same device write.block (with_landed_sector sector write.bytes (device write.block)) in
                       let f = right.flags in
-                      let e : mixed (missing_of (slice_set write.landed sector true)) write.bytes (after write.block) ≡ write.bytes =
-                      ap (mixed (missing_of (slice_set write.landed sector true)) write.bytes) at'
+                      let e : with_landed_sectors (missing_of (slice_set write.landed sector true)) write.bytes (after write.block) ≡ write.bytes =
+                      ap (with_landed_sectors (missing_of (slice_set write.landed sector true)) write.bytes) at'
                       ∙ (missing-landed write.landed write.bytes (device write.block) sector may.missing (rw f bytes-long) (rw f (content.leased.long write.block))
                       ∙ s.fills number write waits may.found mine.1) in
                       subst P (sym here'.1) e
@@ -478,6 +505,9 @@ module _ (w : World) (content : Content w) where
       permitted = content.permitted;
       undamaged = content.undamaged;
       stored = stored-after;
+      spelled = spelled-after;
+      maps = maps-after;
+      hands = content.hands;
       placed = placed-after;
       waits = waits-after;
       whose = whose-after;

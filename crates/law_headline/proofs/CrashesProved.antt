@@ -8,8 +8,8 @@ use Rattle.plx_rules.specs.World as world
 use Rattle.plx_rules.specs.World.{World, Seat, Reached, Step, setting_at}
 use Rattle.law_headline.specs.Crashes.{CrashLeaves, CrashesLeaveFreshBoots}
 
-leaves : {w : World} {a : ApplianceNo} {v : World} → Step w (event.Crash a) v → CrashLeaves w v a.0
-leaves (world.crashes {w = w} {appliance = a} below room) =
+crash-leaves : {w : World} {a : ApplianceNo} {v : World} → Step w (event.Crash a) v → CrashLeaves w v a.0
+crash-leaves (world.crashes {w = w} {appliance = a} below room) =
     let seat : Seat = record { boots = (w.seats a.0).boots + 1; log = []; pending = None } in
     let is = at-same w.seats a.0 seat in
     record {
@@ -20,4 +20,4 @@ leaves (world.crashes {w = w} {appliance = a} below room) =
     }
 
 pub crashes-leave : CrashesLeaveFreshBoots
-crashes-leave w v reached a step = leaves step
+crashes-leave w v reached a step = crash-leaves step

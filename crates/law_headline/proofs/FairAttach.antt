@@ -11,7 +11,6 @@ use Rattle.plx_commands.specs.Limits.{last_claim}
 use Rattle.plx_commands.specs.Places.{at}
 use Rattle.plx_commands.specs.declared.command.Command.{Command}
 use Rattle.plx_commands.specs.declared.command.Command.TheVariants.{Attach}
-use Rattle.plx_commands.specs.declared.reply.Reply.{Reply}
 use Rattle.plx_commands.specs.declared.reply.Reply.TheVariants as reply
 use Rattle.plx_commands.proofs.Places.{at-same, at-other}
 use Rattle.plx_gate.specs.Leases.{lease_bytes, read_lease, IsClaimed}
@@ -23,26 +22,24 @@ use Rattle.plx_rules.specs.Part.{Part, Ends, UntilThen}
 use Rattle.plx_rules.specs.declared.journaled.Journaled.{Journaled}
 use Rattle.plx_rules.specs.Attaching.{image_use, attach_ends, after_load, load_journal, after_record, load_image, after_claim, claim_image, attach_held}
 use Rattle.plx_rules.specs.Claims.{ClaimEnd, ClaimBusy, ClaimLost, claim_of, end_of_term, own_record, own_use, claim_in_time, reread_by, reread_part, written_part, if_expired, seen_part}
-use Rattle.plx_rules.specs.Ends.{End, ends, read_failed, damaged}
-use Rattle.plx_rules.specs.Headline.{IsUndamaged}
-use Rattle.plx_rules.specs.Holds.{Hold, Nothing, Seen, Wrote, Waited, Held, no_holds, shown, reread, timed, wrote, after_reply}
+use Rattle.plx_rules.specs.Ends.{End, read_failed, damaged_part}
+use Rattle.plx_rules.specs.Holds.{Hold, Nothing, Seen, Wrote, Waited, Held, no_holds, hold_after_read, hold_after_reread, hold_after_reading, hold_after_claim}
 use Rattle.plx_rules.specs.InUse.{InUse, lease_name, first_reached, unless_reached}
 use Rattle.plx_rules.specs.Journal.{Finding, Outside, Unused, Counts, finding}
 use Rattle.plx_rules.specs.Loading.{LoadEnd, load_found, load_part, gap_found}
 use Rattle.plx_rules.specs.Parts.{followed_by}
 use Rattle.plx_rules.specs.Records.{is_live, applied_of, attached_record}
-use Rattle.plx_rules.specs.Session.{Session, Known, with_session, inserted, first_gap, session_report}
+use Rattle.plx_rules.specs.Session.{Session, Known, with_session, with_write_by_number, first_gap, session_report}
 use Rattle.plx_rules.specs.Settings.{Setting}
 use Rattle.plx_rules.specs.Times.{wait, is_expired}
 use Rattle.law_lease.proofs.LawfulCommands.{IsRest}
-use Rattle.law_headline.proofs.FairParts.{read-held, lease-image, backs-read, backs-timed, backs-at, backs-with, unreached-tells, IsFair, fair-lost, fair-write_failed, fair-ends}
+use Rattle.law_headline.proofs.FairParts.{read-stays-held, lease-image, backs-read, backs-timed, backs-at, backs-with, unreached-tells, IsFair, fair-still, fair-lost, fair-write_failed, fair-ends}
 use Rattle.law_headline.proofs.Harmless.{Harmless}
 use Rattle.law_headline.proofs.Harmless as harmless
 use Rattle.law_headline.proofs.Held.{IsSpelled, Without, attached_of, HeldPart, Backs, just_at}
 use Rattle.law_headline.proofs.HeldCommands.{slot_no, held-image}
 use Rattle.plx_gate.proofs.Leases.{lease-back, length-lease}
 use Rattle.law_headline.proofs.Journals.{IsJournal}
-use Rattle.law_headline.proofs.Replied.{sessions_after}
 
 module _ (s : Setting) (geometry : IsGeometry s.geometry) (a : ℕ) (small : s.boot < 2 ^ 128) (known : Known) (i : ℕ) (within : i < s.geometry.images) (none : known.sessions i ≡ None) where
   abbrev attaches : Command
@@ -58,17 +55,12 @@ module _ (s : Setting) (geometry : IsGeometry s.geometry) (a : ℕ) (small : s.b
   abbrev Fairly : (ℕ → Hold) → Option ℕ → Bool → Part End → Type 0
   Fairly holds sample just part = IsFair s a attaches known holds sample just part
 
-  -- an end that leaves the sessions
-  fair-still : (holds : ℕ → Hold) (sample : Option ℕ) (just : Bool) (n : ℕ) (done : Reply) → ((j : ℕ) → sessions_after attaches done (attached_of known) j ≡ attached_of known j) →
-      Backs s.geometry (after_reply done holds) known → IsUndamaged done → Harmless s.geometry.images (attached_of known) attaches done → Fairly holds sample just (ends done (knowing n))
-  fair-still holds sample just n done same backs clean fine = record { kept = λ j. sym (same j); backs = backs; away = λ j no'. inl refl; clean = inl clean; allowed = inl fine }
-
   fair-read_failed : (holds : ℕ → Hold) (sample : Option ℕ) (just : Bool) (n b : ℕ) → Backs s.geometry holds known → Fairly holds sample just (read_failed b (knowing n))
-  fair-read_failed holds sample just n b backs = fair-still holds sample just n (reply.ReadFault (record { 0 = b })) (λ j. refl) backs tt (harmless.still (harmless.free refl refl refl refl) refl)
+  fair-read_failed holds sample just n b backs = fair-still s a attaches known holds sample just (knowing n) (reply.ReadFault (record { 0 = b })) refl (λ j. refl) backs tt (harmless.still (harmless.free refl refl refl refl) refl)
 
   -- bytes outside the format, read under the image's lease
   fair-damaged : (holds : ℕ → Hold) (sample : Option ℕ) (just : Bool) (n b : ℕ) (claim : Claim) (until : ℕ) → Backs s.geometry holds known → holds block ≡ Held claim until →
-      Fairly holds sample just (damaged s (knowing n) (image_use i until) b)
+      Fairly holds sample just (damaged_part s (knowing n) (image_use i until) b)
   fair-damaged holds sample just n b claim until backs held =
       fair-ends s a attaches known i holds sample just (knowing n) (knowing n) claim until (reply.Damaged (record { 0 = b })) refl within held (λ j. refl)
       (λ r. backs-timed s.geometry known holds r backs) (λ j no'. inl refl)
@@ -80,7 +72,7 @@ module _ (s : Setting) (geometry : IsGeometry s.geometry) (a : ℕ) (small : s.b
       holds block ≡ Held claim until → IsClaimed claim until → Fairly holds sample just (attach_ends s (knowing n) i until t)
   fair-attached n claim until t holds sample just backs held limits =
       fair-ends s a attaches known i holds sample just (knowing n) (with_session (knowing n) i (Some t)) claim until (reply.Attached (session_report t)) refl within held (attached-sessions t)
-      (λ r. backs-with s.geometry known (λ k. timed r (holds k)) i t (record { within = within; claim = claim; until = until; held = ap (timed r) held; limits = limits }) (backs-timed s.geometry known holds r backs))
+      (λ r. backs-with s.geometry known (λ k. hold_after_reading r (holds k)) i t (record { within = within; claim = claim; until = until; held = ap (hold_after_reading r) held; limits = limits }) (backs-timed s.geometry known holds r backs))
       (λ j no'. inl (at-other known.sessions i j (Some t) (λ e. no' (inl (sym e)))))
 
   -- ---- the journal and the record
@@ -105,14 +97,14 @@ module _ (s : Setting) (geometry : IsGeometry s.geometry) (a : ℕ) (small : s.b
     fair-load zero slot writes holds sample just backs held = fair-gap writes (first_gap (applied_of kept) writes) holds sample just backs held
     fair-load (suc left) slot writes holds sample just backs held = (
       λ bytes spelled.
-          let h = at holds (descriptor_at s.geometry i slot) (shown sample bytes (holds (descriptor_at s.geometry i slot))) in
+          let h = at holds (descriptor_at s.geometry i slot) (hold_after_read sample bytes (holds (descriptor_at s.geometry i slot))) in
           let backs' = backs-read s.geometry known holds (descriptor_at s.geometry i slot) sample bytes backs in
-          let held' = read-held holds (descriptor_at s.geometry i slot) block sample bytes claim until held in
+          let held' = read-stays-held holds (descriptor_at s.geometry i slot) block sample bytes claim until held in
           fair-found (descriptor_at s.geometry i slot) (finding kept s.geometry.slots slot bytes) h _ _ backs' held'
           (fair-load left (slot + 1) writes h None false backs' held')
           (λ number vblock. (
-            λ data' spelled'. fair-load left (slot + 1) (inserted (record { number = number; vblock = vblock; block = data' }) writes) _ None false
-                (backs-read s.geometry known h (data_at s.geometry i slot) None data' backs') (read-held h (data_at s.geometry i slot) block None data' claim until held'),
+            λ data' spelled'. fair-load left (slot + 1) (with_write_by_number (record { number = number; vblock = vblock; block = data' }) writes) _ None false
+                (backs-read s.geometry known h (data_at s.geometry i slot) None data' backs') (read-stays-held h (data_at s.geometry i slot) block None data' claim until held'),
             fair-read_failed h None false n (data_at s.geometry i slot) backs',
             λ k c u below e w. absurd (lease-data s.geometry (image_lease k) i slot (image-below s.geometry k below) (sym e)),
           )),
@@ -134,7 +126,7 @@ module _ (s : Setting) (geometry : IsGeometry s.geometry) (a : ℕ) (small : s.b
       holds block ≡ Held claim until → IsClaimed claim until → Fairly holds sample just (load_image s (knowing n) i until)
   fair-image n claim until holds sample just backs held limits = (
     λ bytes spelled. fair-record_read n claim until (attached_record bytes) _ None false (backs-read s.geometry known holds (record_at s.geometry i) sample bytes backs)
-        (read-held holds (record_at s.geometry i) block sample bytes claim until held) limits,
+        (read-stays-held holds (record_at s.geometry i) block sample bytes claim until held) limits,
     fair-read_failed holds None false n (record_at s.geometry i) backs,
     λ k c u below e w. absurd (lease-record s.geometry (image_lease k) i (image-below s.geometry k below) (sym e)),
   )
@@ -144,7 +136,7 @@ module _ (s : Setting) (geometry : IsGeometry s.geometry) (a : ℕ) (small : s.b
   -- the lease's block is read back
   lease-read : (bytes : List ℕ) → IsSpelled s.geometry block bytes → (r : LeaseRecord) × (read_lease bytes ≡ Some r)
   lease-read bytes spelled =
-      let r = spelled (image_lease i) (image-below s.geometry i within) refl in
+      let r = spelled.lease (image_lease i) (image-below s.geometry i within) refl in
       (r.0, ap read_lease r.1 ∙ lease-back r.0 r.2)
 
   module _ (n : ℕ) where
@@ -162,7 +154,7 @@ module _ (s : Setting) (geometry : IsGeometry s.geometry) (a : ℕ) (small : s.b
 
     fair-busy : (holds : ℕ → Hold) (sample : Option ℕ) (just : Bool) (seen : LeaseRecord) → Backs s.geometry holds known → Claims holds sample just (Ends (ClaimBusy seen))
     fair-busy holds sample just seen backs =
-        fair-still holds sample just n (reply.Busy (lease_name s.geometry (image_lease i)) seen) (λ j. refl) backs tt (harmless.still (harmless.free refl refl refl refl) refl)
+        fair-still s a attaches known holds sample just (knowing n) (reply.Busy (lease_name s.geometry (image_lease i)) seen) refl (λ j. refl) backs tt (harmless.still (harmless.free refl refl refl refl) refl)
 
     module _ (number sample : ℕ) (few : number < 2 ^ 40) (early : sample < 2 ^ 48) where
       abbrev claim : Claim
@@ -182,9 +174,9 @@ module _ (s : Setting) (geometry : IsGeometry s.geometry) (a : ℕ) (small : s.b
           Claims holds before just (reread_part uses (image_lease i) claim)
       fair-reread holds before just backs waited = (
         λ bytes spelled.
-            let h = at holds block (shown before bytes (holds block)) in
+            let h = at holds block (hold_after_read before bytes (holds block)) in
             let r = lease-read bytes spelled in
-            by_test bytes h (bytes_eq bytes own) (read_lease bytes) r.0 r.1 (at-same holds block (shown before bytes (holds block)) ∙ ap (shown before bytes) waited)
+            by_test bytes h (bytes_eq bytes own) (read_lease bytes) r.0 r.1 (at-same holds block (hold_after_read before bytes (holds block)) ∙ ap (hold_after_read before bytes) waited)
             (backs-read s.geometry known holds block before bytes backs),
         fair-read_failed holds None false n block backs,
         λ k c u below e w.
@@ -206,7 +198,7 @@ module _ (s : Setting) (geometry : IsGeometry s.geometry) (a : ℕ) (small : s.b
             ),
       )
         where
-          by_test : (bytes : List ℕ) (h : ℕ → Hold) (b : Bool) (found : Option LeaseRecord) (r : LeaseRecord) → found ≡ Some r → h block ≡ reread b (Held claim (end_of_term claim)) → Backs s.geometry h known →
+          by_test : (bytes : List ℕ) (h : ℕ → Hold) (b : Bool) (found : Option LeaseRecord) (r : LeaseRecord) → found ≡ Some r → h block ≡ hold_after_reread b (Held claim (end_of_term claim)) → Backs s.geometry h known →
               Claims h None false (reread_by b uses claim found)
           by_test bytes h true found r e is backs' = fair-image n claim (end_of_term claim) h None false backs' is limits
           by_test bytes h false None r e is backs' = absurd (let P : ⊥ = cc in P)
@@ -216,10 +208,10 @@ module _ (s : Setting) (geometry : IsGeometry s.geometry) (a : ℕ) (small : s.b
       fair-wait : (holds : ℕ → Hold) (before : Option ℕ) (just : Bool) → Backs s.geometry holds known → holds block ≡ Wrote claim (end_of_term claim) →
           Claims holds before just (UntilThen (sample + wait) (λ reading. claim_in_time uses reading (reread_part uses (image_lease i) claim)))
       fair-wait holds before just backs wrote' = λ reading past early'.
-          let h : ℕ → Hold = λ k. timed reading (holds k) in
+          let h : ℕ → Hold = λ k. hold_after_reading reading (holds k) in
           fair-claim_in_time uses reading h (Some reading) (just_at s.geometry attaches h reading) (reread_part uses (image_lease i) claim)
           (λ e. fair-reread h (Some reading) (just_at s.geometry attaches h reading) (backs-timed s.geometry known holds reading backs)
-          (ap (timed reading) wrote' ∙ ap (λ (b : Bool). if b then Waited claim (end_of_term claim) else Wrote claim (end_of_term claim))
+          (ap (hold_after_reading reading) wrote' ∙ ap (λ (b : Bool). if b then Waited claim (end_of_term claim) else Wrote claim (end_of_term claim))
           (both (nat_le (sample + wait) reading) (nat_lt reading (end_of_term claim)) (nat_le-true (sample + wait) reading past)
           (nat_lt-true reading (end_of_term claim) (unreached-tells i (end_of_term claim) reading e)))))
         where
@@ -233,9 +225,9 @@ module _ (s : Setting) (geometry : IsGeometry s.geometry) (a : ℕ) (small : s.b
           by_test : (b : Bool) → Claims holds None just (if_expired b seen (written_part [] (image_lease i) claim))
           by_test false = fair-busy holds None just seen backs
           by_test true = (
-            tt,
+            record { named = tt; spells = tt },
             length-lease (own_record claim),
-            fair-wait _ None false (backs-at s.geometry known holds i _ none backs) (at-same holds block (wrote (read_lease own)) ∙ ap wrote (lease-back (own_record claim) limits)),
+            fair-wait _ None false (backs-at s.geometry known holds i _ none backs) (at-same holds block (hold_after_claim (read_lease own)) ∙ ap hold_after_claim (lease-back (own_record claim) limits)),
             fair-write_failed s a attaches known no_holds None false (knowing n) block refl,
             λ reading. fair-lost s a attaches known no_holds None false (knowing n) _ reading,
             refl,
@@ -244,9 +236,9 @@ module _ (s : Setting) (geometry : IsGeometry s.geometry) (a : ℕ) (small : s.b
 
   fair-claim : (enough : Bool) (holds : ℕ → Hold) (sample : Option ℕ) (just : Bool) → nat_lt known.claims last_claim ≡ enough → Backs s.geometry holds known → holds block ≡ Nothing →
       Fairly holds sample just (claim_image enough s known i)
-  fair-claim false holds sample just e backs is = fair-still holds sample just known.claims (reply.WornOut last_claim) (λ j. refl) backs tt (harmless.still (harmless.worn refl refl) refl)
+  fair-claim false holds sample just e backs is = fair-still s a attaches known holds sample just (knowing known.claims) (reply.WornOut last_claim) refl (λ j. refl) backs tt (harmless.still (harmless.worn refl refl) refl)
   fair-claim true holds sample just e backs is = λ reading early.
-      let h : ℕ → Hold = λ k. timed reading (holds k) in
+      let h : ℕ → Hold = λ k. hold_after_reading reading (holds k) in
       let backs' = backs-timed s.geometry known holds reading backs in (
         λ bytes spelled. let r = lease-read bytes spelled in fair-seen (known.claims + 1) known.claims reading
             (elim (leb_tells (suc known.claims) last_claim) [ inl below ↦ omega (arith, below.1) | inr not' ↦ absurd (let f : true ≡ false = sym e ∙ not'.0 in let P : ⊥ = cc in P) ])
@@ -254,7 +246,7 @@ module _ (s : Setting) (geometry : IsGeometry s.geometry) (a : ℕ) (small : s.b
         fair-read_failed h None false (known.claims + 1) block backs',
         λ k c u below e' w.
             let at-i : h block ≡ Waited c u = ap h e' ∙ w in
-            absurd (let f : Nothing ≡ Waited c u = sym (ap (timed reading) is) ∙ at-i in let P : ⊥ = cc in P),
+            absurd (let f : Nothing ≡ Waited c u = sym (ap (hold_after_reading reading) is) ∙ at-i in let P : ⊥ = cc in P),
       )
 
   -- the image has no session

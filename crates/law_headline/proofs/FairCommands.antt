@@ -14,7 +14,7 @@ use Rattle.plx_commands.specs.Limits.{last_generation, last_write, greatest_size
 use Rattle.plx_commands.specs.Model.{has_all}
 use Rattle.plx_commands.specs.Places.{at}
 use Rattle.plx_commands.specs.Replies.{is_in, row}
-use Rattle.plx_commands.specs.Slots.{named}
+use Rattle.plx_commands.specs.Slots.{named_slots}
 use Rattle.plx_commands.specs.declared.command.Command.{Command}
 use Rattle.plx_commands.specs.declared.command.Command.TheVariants.{Attach, Detach, Create, Delete, Read, Write, Flush, Reserve, Renew, Retire, Reclaim}
 use Rattle.plx_commands.specs.declared.reply.Reply.{Reply}
@@ -32,13 +32,15 @@ use Rattle.plx_rules.specs.Part.{Part}
 use Rattle.plx_rules.specs.Attaching.{image_use, attach_part}
 use Rattle.plx_rules.specs.Commands.{IsBuilt, IsWellFormed, unless, attached_part, of_attached, detach_part, record_part, create_part, delete_part, read_part, next_write, next_slot, journal_part, write_part, later_of, renewal, renew_part, attached_uses, command_part}
 use Rattle.plx_rules.specs.Ends.{End, ends, ends_in_time}
-use Rattle.plx_rules.specs.Holds.{Hold, Nothing, Seen, Wrote, Waited, Held, no_holds, timed, renewed, after_reply}
+use Rattle.plx_rules.specs.Holds.{Hold, Nothing, Seen, Wrote, Waited, Held, no_holds, hold_after_reading, hold_after_renewal, holds_after_reply}
 use Rattle.plx_rules.specs.Records.{is_live, generation_of, size_of, made_record}
 use Rattle.plx_rules.specs.Session.{Session, Known, with_session, new_session, write_count, content, with_write}
 use Rattle.plx_rules.specs.Settings.{Setting}
 use Rattle.plx_rules.specs.Times.{term}
 use Rattle.law_headline.proofs.FairAttach.{fair-unattached}
-use Rattle.law_headline.proofs.FairParts.{lease-image, backs-timed, backs-with, replaced, unreached-tells, just-one, names-one, IsFair, fair-lost, fair-write_failed, fair-in-time, fair-ends}
+use Rattle.law_headline.proofs.FairParts.{lease-image, backs-timed, backs-with, replaced, unreached-tells, just-one, names-by-list, IsFair, fair-lost, fair-write_failed, fair-in-time, fair-ends}
+use Rattle.law_headline.proofs.FairSpace.{fair-reserve, fair-retire}
+use Rattle.law_headline.proofs.HandFacts.{NoMap}
 use Rattle.law_headline.proofs.Harmless.{Harmless}
 use Rattle.law_headline.proofs.Harmless as harmless
 use Rattle.law_headline.proofs.Held.{attached_of, Backs, is_below, just_at, Fair}
@@ -55,7 +57,7 @@ module _ (s : Setting) (geometry : IsGeometry s.geometry) (a : ℕ) (known : Kno
   Starts command part = IsFair s a command known holds (Some reading) (just_at s.geometry command holds reading) part
 
   -- the image is attached, and its lease is held
-  fair-session : (command : Command) (rest : Session → ℕ → Part End) → named command ≡ i ∷ [] → is_in 1 (row command) ≡ true →
+  fair-session : (command : Command) (rest : Session → ℕ → Part End) → named_slots command ≡ i ∷ [] → is_in 1 (row command) ≡ true →
       ((t : Session) (claim : Claim) (until : ℕ) → i < s.geometry.images → known.sessions i ≡ Some t → holds (lease_at (image_lease i)) ≡ Held claim until → just_at s.geometry command holds reading ≡ true →
       Starts command (rest t until)) →
       Starts command (of_attached s known holds reading i rest)
@@ -80,7 +82,7 @@ module _ (s : Setting) (geometry : IsGeometry s.geometry) (a : ℕ) (known : Kno
 
   -- a refusal directly after the first reading
   fair-refused : (command : Command) (refusal : Reply) → just_at s.geometry command holds reading ≡ true → ((j : ℕ) → sessions_after command refusal (attached_of known) j ≡ attached_of known j) →
-      ((h : ℕ → Hold) → after_reply refusal h ≡ h) → Starts command (ends refusal known)
+      ((h : ℕ → Hold) → holds_after_reply refusal h ≡ h) → Starts command (ends refusal known)
   fair-refused command refusal just same keeps = record {
     kept = λ j. sym (same j);
     backs = (let P : (ℕ → Hold) → Type 0 = λ h. Backs s.geometry h known in subst P (sym (keeps holds)) backs);
@@ -102,16 +104,16 @@ module _ (s : Setting) (geometry : IsGeometry s.geometry) (a : ℕ) (known : Kno
           (λ j. refl) (λ r. backs-timed s.geometry known holds r backs) (λ j no'. inl refl)
 
   -- the session of the image is another one from now on
-  fair-replaced : (command : Command) (done : Reply) (t u : Session) (claim : Claim) (until : ℕ) (sample : Option ℕ) (just : Bool) → named command ≡ i ∷ [] → i < s.geometry.images → known.sessions i ≡ Some t →
-      holds (lease_at (image_lease i)) ≡ Held claim until → ((f : ℕ → Bool) (j : ℕ) → sessions_after command done f j ≡ f j) → ((h : ℕ → Hold) → after_reply done h ≡ h) →
+  fair-replaced : (command : Command) (done : Reply) (t u : Session) (claim : Claim) (until : ℕ) (sample : Option ℕ) (just : Bool) → named_slots command ≡ i ∷ [] → i < s.geometry.images → known.sessions i ≡ Some t →
+      holds (lease_at (image_lease i)) ≡ Held claim until → ((f : ℕ → Bool) (j : ℕ) → sessions_after command done f j ≡ f j) → ((h : ℕ → Hold) → holds_after_reply done h ≡ h) →
       IsFair s a command known holds sample just (ends_in_time s known (image_use i until) done (with_session known i (Some u)))
   fair-replaced command done t u claim until sample just one within is held same keeps =
       fair-ends s a command known i holds sample just known (with_session known i (Some u)) claim until done one within held
       (λ j. replaced s.geometry known i t u is j ∙ sym (same (attached_of known) j))
       (λ r. let P : (ℕ → Hold) → Type 0 = λ h. Backs s.geometry h (with_session known i (Some u)) in
-      subst P (sym (keeps (λ block. timed r (holds block))))
-      (backs-with s.geometry known (λ block. timed r (holds block)) i u (backs-timed s.geometry known holds r backs i t is) (backs-timed s.geometry known holds r backs)))
-      (λ j no'. inl (at-other known.sessions i j (Some u) (λ e. no' (let P : ℕ → Type 0 = λ n. Names command n in subst P (sym e) (names-one command i one)))))
+      subst P (sym (keeps (λ block. hold_after_reading r (holds block))))
+      (backs-with s.geometry known (λ block. hold_after_reading r (holds block)) i u (backs-timed s.geometry known holds r backs i t is) (backs-timed s.geometry known holds r backs)))
+      (λ j no'. inl (at-other known.sessions i j (Some u) (λ e. no' (let P : ℕ → Type 0 = λ n. Names command n in subst P (sym e) (names-by-list command i one)))))
 
   module _ (vblock : ℕ) (payload : Payload) (long : length (bytes_of payload) ≡ 4096) where
     abbrev writes_block : Command
@@ -132,10 +134,10 @@ module _ (s : Setting) (geometry : IsGeometry s.geometry) (a : ℕ) (known : Kno
         by_tests t claim until within is held just false false false false =
             let room : next_slot s t < s.geometry.slots = mod-lt (write_count t + 1 - 1) (let low = geometry.slots_low in omega (arith, low)) in
             let u = with_write t (next_write t vblock (bytes_of payload)) in (
-              (i, within, inr (next_slot s t, room, inr refl), inl refl),
+              record { named = (i, within, inr (next_slot s t, room, inr refl), inl refl); spells = tt },
               long,
               (
-                (i, within, inr (next_slot s t, room, inl refl), inl refl),
+                record { named = (i, within, inr (next_slot s t, room, inl refl), inl refl); spells = tt },
                 length-descriptor _,
                 fair-replaced writes_block (reply.Written (write_count t + 1)) t u claim until None false refl within is held (λ g j. refl) (λ h. refl),
                 fair-write_failed s a writes_block known no_holds None false known _ refl,
@@ -152,7 +154,7 @@ module _ (s : Setting) (geometry : IsGeometry s.geometry) (a : ℕ) (known : Kno
   fair-detach : Starts (Detach (slot_no i)) (of_attached s known holds reading i (detach_part s known i))
   fair-detach = fair-session (Detach (slot_no i)) (detach_part s known i) refl refl
       (λ t claim until within is held just. (
-        (i, within, refl, inl refl),
+        record { named = tt; spells = tt },
         length-lease record_is.Free,
         record {
           kept = λ j. elim (eqb_tells j i) [ inl same ↦ rw same.0 refl | inr away ↦ rw away.0 refl ];
@@ -182,11 +184,11 @@ module _ (s : Setting) (geometry : IsGeometry s.geometry) (a : ℕ) (known : Kno
 
   -- ---- a record
 
-  fair-record : (command : Command) (new : ImageRecord) (done : Reply) (t : Session) (claim : Claim) (until : ℕ) (sample : Option ℕ) (just : Bool) → length (image_bytes new) ≡ 4096 → named command ≡ i ∷ [] → is_in 11 (row command) ≡ true →
-      i < s.geometry.images → known.sessions i ≡ Some t → holds (lease_at (image_lease i)) ≡ Held claim until → ((f : ℕ → Bool) (j : ℕ) → sessions_after command done f j ≡ f j) → ((h : ℕ → Hold) → after_reply done h ≡ h) →
+  fair-record : (command : Command) (new : ImageRecord) (done : Reply) (t : Session) (claim : Claim) (until : ℕ) (sample : Option ℕ) (just : Bool) → length (image_bytes new) ≡ 4096 → named_slots command ≡ i ∷ [] → is_in 11 (row command) ≡ true →
+      i < s.geometry.images → known.sessions i ≡ Some t → holds (lease_at (image_lease i)) ≡ Held claim until → ((f : ℕ → Bool) (j : ℕ) → sessions_after command done f j ≡ f j) → ((h : ℕ → Hold) → holds_after_reply done h ≡ h) →
       IsFair s a command known holds sample just (record_part s known i until new done)
   fair-record command new done t claim until sample just long one listed within is held same keeps = (
-    (i, within, inl refl, names-one command i one),
+    record { named = (i, within, inl refl, names-by-list command i one); spells = tt },
     long,
     fair-replaced command done t (new_session new) claim until None false one within is held same keeps,
     fair-write_failed s a command known no_holds None false known (record_at s.geometry i) listed,
@@ -277,11 +279,11 @@ module _ (s : Setting) (a : ℕ) (known : Known) (holds0 : ℕ → Hold) (readin
 
   -- a lease that is held, and is renewed
   backs-renewed : (holds : ℕ → Hold) (lease : ℕ) (claim : Claim) (until : ℕ) → holds (lease_at lease) ≡ Held claim until → Backs s.geometry holds known →
-      Backs s.geometry (at holds (lease_at lease) (renewed (read_lease (lease_bytes (record_is.Claimed claim (later_of until (reading + term))))))) known
+      Backs s.geometry (at holds (lease_at lease) (hold_after_renewal (read_lease (lease_bytes (record_is.Claimed claim (later_of until (reading + term))))))) known
   backs-renewed holds lease claim until is backs k t known' =
       let next = later_of until (reading + term) in
       let own = lease_bytes (record_is.Claimed claim next) in
-      let h = at holds (lease_at lease) (renewed (read_lease own)) in
+      let h = at holds (lease_at lease) (hold_after_renewal (read_lease own)) in
       let b = backs k t known' in
       elim (eqb_tells (image_lease k) lease) [
         | inl here ↦
@@ -303,14 +305,14 @@ module _ (s : Setting) (a : ℕ) (known : Known) (holds0 : ℕ → Hold) (readin
               within = b.within;
               claim = claim;
               until = next;
-              held = ap (λ (n : ℕ). h (lease_at n)) here.1 ∙ (at-same holds (lease_at lease) (renewed (read_lease own)) ∙ ap renewed (lease-back (record_is.Claimed claim next) limits'));
+              held = ap (λ (n : ℕ). h (lease_at n)) here.1 ∙ (at-same holds (lease_at lease) (hold_after_renewal (read_lease own)) ∙ ap hold_after_renewal (lease-back (record_is.Claimed claim next) limits'));
               limits = limits';
             }
         | inr away ↦ record {
           within = b.within;
           claim = b.claim;
           until = b.until;
-          held = at-other holds (lease_at lease) (lease_at (image_lease k)) (renewed (read_lease own)) (λ e. away.1 (lease-lease (image_lease k) lease e)) ∙ b.held;
+          held = at-other holds (lease_at lease) (lease_at (image_lease k)) (hold_after_renewal (read_lease own)) (λ e. away.1 (lease-lease (image_lease k) lease e)) ∙ b.held;
           limits = b.limits;
         }
       ]
@@ -325,7 +327,7 @@ module _ (s : Setting) (a : ℕ) (known : Known) (holds0 : ℕ → Hold) (readin
           Renews h t (renew_part s known holds0 reading left (lease + 1))) (hold : Hold) → holds (lease_at lease) ≡ hold →
           Renews holds sample (renewal s known reading lease hold (renew_part s known holds0 reading left (lease + 1)))
       by_hold rest (Held claim until) is = (
-        tt,
+        record { named = tt; spells = tt },
         length-lease (record_is.Claimed claim (later_of until (reading + term))),
         rest _ None (backs-renewed holds lease claim until is backs)
             (λ j past. at-other holds (lease_at lease) (lease_at j) _ (λ e. let f = lease-lease j lease e in omega (arith, f, past)) ∙ same j (omega (arith, past))),
@@ -341,11 +343,11 @@ module _ (s : Setting) (a : ℕ) (known : Known) (holds0 : ℕ → Hold) (readin
 
 -- ---- every command
 
-module _ (s : Setting) (geometry : IsGeometry s.geometry) (a : ℕ) (small : s.boot < 2 ^ 128) (known : Known) (reading : ℕ) (holds : ℕ → Hold) (backs : Backs s.geometry holds known)
+module _ (s : Setting) (geometry : IsGeometry s.geometry) (a : ℕ) (small : s.boot < 2 ^ 128) (known : Known) (reading : ℕ) (holds : ℕ → Hold) (hand : List ℕ) (none : NoMap s.geometry hand) (backs : Backs s.geometry holds known)
     (rests : (i : ℕ) → IsRest (holds (lease_at (image_lease i))))
     (limits : (i : ℕ) → i < s.geometry.images → (claim : Claim) (until : ℕ) → holds (lease_at (image_lease i)) ≡ Held claim until → IsClaimed claim until) where
   pub fair-command : (command : Command) → IsWellFormed command → IsBuilt command → reading < 2 ^ 48 →
-      Fair s.geometry a command known holds (Some reading) (just_at s.geometry command holds reading) (command_part s known holds reading command)
+      Fair s.geometry a command known holds (Some reading) (just_at s.geometry command holds reading) (command_part s known holds hand reading command)
   fair-command (Attach slot) well built early = fair-attach s geometry a known slot.0 reading holds backs small (rests slot.0) (limits slot.0)
   fair-command (Detach slot) well built early = fair-detach s geometry a known slot.0 reading holds backs
   fair-command (Create slot size label) well built early = fair-create s geometry a known slot.0 reading holds backs size label well
@@ -353,9 +355,9 @@ module _ (s : Setting) (geometry : IsGeometry s.geometry) (a : ℕ) (small : s.b
   fair-command (Read slot vblock) well built early = fair-read s geometry a known slot.0 reading holds backs vblock
   fair-command (Write slot vblock payload) well built early = fair-write s geometry a known slot.0 reading holds backs vblock payload well
   fair-command (Flush slot) well built early = absurd built
-  fair-command (Reserve count) well built early = absurd built
+  fair-command (Reserve count) well built early = fair-reserve s geometry a known holds backs hand count (Some reading) false
   fair-command Renew well built early =
       fair-in-time s a Renew known holds (Some reading) false known (attached_uses known holds s.geometry.images 0) reading _
       (λ e. fair-renew s a known holds reading early (lease_count s.geometry) 0 holds (Some reading) (omega arith) backs (λ j past. refl))
-  fair-command Retire well built early = absurd built
+  fair-command Retire well built early = fair-retire s geometry a known holds backs hand none (Some reading) false
   fair-command Reclaim well built early = absurd built

@@ -3,9 +3,9 @@ use Rattle.std.proofs.Common.{◌≡◌, ◌≢◌, ℕ, ◌⊎◌, inl, inr, Bo
 use Rattle.plx_commands.specs.Facts.{refusals, is_none}
 use Rattle.plx_commands.specs.Images.{Image}
 use Rattle.plx_commands.specs.Model.{Model, Slot, images_in, owns_all}
-use Rattle.plx_commands.specs.Moves.{under_way, given_up, given_back, where_owned, begins_change, started_at, refused_at}
+use Rattle.plx_commands.specs.Moves.{under_way, given_up, slot_without_owner, where_owned, begins_change, started_at, refused_at}
 use Rattle.plx_commands.specs.Places.{at}
-use Rattle.plx_commands.specs.Slots.{named, changed, after}
+use Rattle.plx_commands.specs.Slots.{named_slots, changed_slot, image_after}
 use Rattle.plx_commands.specs.declared.command.Command.{Command}
 use Rattle.plx_commands.proofs.Places.{at-all}
 use Rattle.law_headline.proofs.ModelFacts.{Sound}
@@ -24,7 +24,7 @@ foreign-same a s = record { image = refl; change = inl refl; others = λ ne. ref
 pub foreign-equal : (a : ℕ) (s t : Slot) → t ≡ s → Foreign a s t
 foreign-equal a s t same = let Q : Slot → Type 0 = λ x. Foreign a s x in subst Q (sym same) (foreign-same a s)
 
-pub foreign-back : (a : ℕ) (s : Slot) → Foreign a s (given_back s a)
+pub foreign-back : (a : ℕ) (s : Slot) → Foreign a s (slot_without_owner s a)
 foreign-back a s = record {
   image = refl;
   change = inl refl;
@@ -33,15 +33,15 @@ foreign-back a s = record {
 }
 
 -- a start by an idle appliance
-pub foreign-start : (m : Model) (a : ℕ) (command : Command) (j : ℕ) → Sound m → m.running a ≡ None → Foreign a (m.slots j) (started_at m a command (changed command) j)
-foreign-start m a command j sound idle = by_slot (changed command) refl
+pub foreign-start : (m : Model) (a : ℕ) (command : Command) (j : ℕ) → Sound m → m.running a ≡ None → Foreign a (m.slots j) (started_at m a command (changed_slot command) j)
+foreign-start m a command j sound idle = by_slot (changed_slot command) refl
   where
-    by_test : (slot : ℕ) → changed command ≡ Some slot → (x : Bool) → begins_change m a command ≡ x →
-        Foreign a (m.slots j) (where_owned x m.slots slot (under_way (m.slots slot) (after (images_in m) slot command)) j)
+    by_test : (slot : ℕ) → changed_slot command ≡ Some slot → (x : Bool) → begins_change m a command ≡ x →
+        Foreign a (m.slots j) (where_owned x m.slots slot (under_way (m.slots slot) (image_after (images_in m) slot command)) j)
     by_test slot is false e = foreign-same a (m.slots j)
     by_test slot is true e =
-        let mine = changed-owned m a command slot is (both-true (owns_all m a (named command)) (is_none (refusals m a command)) e).0 in
-        at-all (λ k t. Foreign a (m.slots k) t) m.slots slot (under_way (m.slots slot) (after (images_in m) slot command))
+        let mine = changed-owned m a command slot is (both-true (owns_all m a (named_slots command)) (is_none (refusals m a command)) e).0 in
+        at-all (λ k t. Foreign a (m.slots k) t) m.slots slot (under_way (m.slots slot) (image_after (images_in m) slot command))
         (record { image = refl; change = inr (no_change (m.slots slot).change refl mine); others = λ ne. absurd (ne mine); owner = λ c e. e })
         (λ k ne. foreign-same a (m.slots k)) j
       where
@@ -51,7 +51,7 @@ foreign-start m a command j sound idle = by_slot (changed command) refl
             let w = sound.decided a slot i mine is in
             absurd (let f : None ≡ Some w.0 = sym idle ∙ w.1 in let P : ⊥ = cc in P)
 
-    by_slot : (o : Option ℕ) → changed command ≡ o → Foreign a (m.slots j) (started_at m a command o j)
+    by_slot : (o : Option ℕ) → changed_slot command ≡ o → Foreign a (m.slots j) (started_at m a command o j)
     by_slot None is = foreign-same a (m.slots j)
     by_slot (Some slot) is = by_test slot is (begins_change m a command) refl
 
@@ -69,5 +69,5 @@ refused-foreign m a (Some j) k ne = elim (owner-cases (m.slots j).owner a) [
 ]
 
 -- a session that ends leaves all slots
-pub back-at : (m : Model) (a j k : ℕ) → Foreign a (m.slots k) (at m.slots j (given_back (m.slots j) a) k)
-back-at m a j k = at-all (λ n t. Foreign a (m.slots n) t) m.slots j (given_back (m.slots j) a) (foreign-back a (m.slots j)) (λ n ne. foreign-same a (m.slots n)) k
+pub back-at : (m : Model) (a j k : ℕ) → Foreign a (m.slots k) (at m.slots j (slot_without_owner (m.slots j) a) k)
+back-at m a j k = at-all (λ n t. Foreign a (m.slots n) t) m.slots j (slot_without_owner (m.slots j) a) (foreign-back a (m.slots j)) (λ n ne. foreign-same a (m.slots n)) k

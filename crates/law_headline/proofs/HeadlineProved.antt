@@ -1,15 +1,17 @@
 -- Every world that events lead to meets the headline.
-use Rattle.std.proofs.Common.{ℕ, ◌≤◌, ◌<◌, inl, inr, [], refl, ap, ◌∙◌, arith}
+use Rattle.std.proofs.Common.{ℕ, ◌≤◌, ◌<◌, inl, inr, List, [], refl, ap, sym, subst, ◌∙◌, arith}
 use Rattle.plx_base.specs.Sectors.{Device}
 use Rattle.plx_commands.specs.Model.{first_slot}
 use Rattle.plx_commands.specs.declared.event.Event.{Event}
 use Rattle.plx_gate.specs.declared.image.ImageRecord.TheVariants.{Free}
 use Rattle.plx_gate.proofs.Descriptors.{read-zeros}
+use Rattle.plx_extent.specs.Maps.{HoldsMap}
 use Rattle.plx_geom.specs.Geometry.{Geometry, IsGeometry, image_lease}
-use Rattle.plx_geom.specs.declared.place.Place.TheVariants.{Record, JDesc}
+use Rattle.plx_geom.specs.declared.place.Place.TheVariants.{Record, JDesc, Map}
 use Rattle.plx_rules.specs.Formatted.{IsFormatted}
 use Rattle.plx_rules.specs.Headline.{HeadlineOfAll, NeverDamaged, model_in}
 use Rattle.plx_rules.specs.Journal.{finding, finding_of}
+use Rattle.plx_rules.specs.Pools.{MapsStay}
 use Rattle.plx_rules.specs.World as world
 use Rattle.plx_rules.specs.World.{World, Step, Reached, first_seat, first_world}
 use Rattle.law_lease.proofs.LeaseSteps.{keeps-leases, first-leased}
@@ -20,6 +22,7 @@ use Rattle.law_headline.proofs.ContentAnswers.{begin-content, clock-content, wai
 use Rattle.law_headline.proofs.ContentEvents.{tick-content, crash-content, start-content}
 use Rattle.law_headline.proofs.ContentWrites.{issue-content, land-content}
 use Rattle.law_headline.proofs.Journals.{Keeps}
+use Rattle.law_headline.proofs.MapFacts.{map-empty}
 use Rattle.law_headline.proofs.StoredFacts.{stores-kept}
 
 keeps-step : {w v : World} {event : Event} → Step w event v → Leased v → Content w → Content v
@@ -72,6 +75,10 @@ first-content g appliances device geometry few formatted = record {
   permitted = tt;
   undamaged = tt;
   stored = λ i within. keeps-first g device formatted i within;
+  spelled = λ n x found. absurd (let P : ⊥ = cc in P);
+  maps = λ extent within. (let low = geometry.blocks_low in let P : List ℕ → Type 0 = λ bytes. HoldsMap g.extent_blocks bytes in
+      subst P (sym (formatted.places (Map (record { 0 = extent })) within)) (map-empty g.extent_blocks (omega (arith, low)) geometry.blocks_high));
+  hands = λ a below. record { hand = λ extent within. refl; found = tt };
   placed = λ home n x is op. absurd (let e = open-found g (λ number. []) appliances 1000 [] (λ b. first_seat) home n x op in let P : ⊥ = cc in P);
   whose = λ i within n x op of b mine. absurd (let e = open-found g (λ number. []) appliances 1000 [] (λ b'. first_seat) (image_lease i) n x op in let P : ⊥ = cc in P);
   waits = λ n x found all. absurd (let P : ⊥ = cc in P);
@@ -94,3 +101,6 @@ headline-of-all w reached =
 
 pub never-damaged : NeverDamaged
 never-damaged w reached = (reached-content reached).undamaged
+
+pub maps-stay : MapsStay
+maps-stay w reached = (reached-content reached).maps

@@ -1,7 +1,7 @@
 -- What the rest of a command keeps, while its boot owns the image, and whoever owns it.
 use Rattle.std.proofs.Common.{◌≡◌, ℕ, ◌^◌, ◌≤◌, ◌<◌, ◌⊎◌, List, [], ◌∷◌, length, Bool, true, false, Option, Some, None}
 use Rattle.std.specs.Prelude.{is_some, nat_lt, ◌&&◌}
-use Rattle.plx_base.specs.Sectors.{Device, put, mixed}
+use Rattle.plx_base.specs.Sectors.{Device, put, with_landed_sectors}
 use Rattle.plx_base.specs.declared.lease.Claim.{Claim}
 use Rattle.plx_base.specs.declared.lease.LeaseRecord.{LeaseRecord}
 use Rattle.plx_base.specs.declared.lease.LeaseRecord.TheVariants.{Claimed}
@@ -9,24 +9,26 @@ use Rattle.plx_base.specs.declared.write_kind.WriteKind.{WriteKind}
 use Rattle.plx_base.specs.declared.write_kind.WriteKind.TheVariants as kind
 use Rattle.plx_commands.specs.Images.{Image}
 use Rattle.plx_commands.specs.Model.{Model, Slot}
-use Rattle.plx_commands.specs.Moves.{replied}
-use Rattle.plx_commands.specs.Slots.{named}
+use Rattle.plx_commands.specs.Moves.{model_after_reply}
+use Rattle.plx_commands.specs.Slots.{named_slots}
 use Rattle.plx_commands.specs.declared.command.Command.{Command}
 use Rattle.plx_commands.specs.declared.command.Command.TheVariants.{Attach}
 use Rattle.plx_commands.proofs.Accepted.{Answers}
 use Rattle.plx_disk.specs.declared.ask.Ask.TheVariants as ask
 use Rattle.plx_disk.specs.declared.ask.Answer.TheVariants as answer
+use Rattle.plx_extent.specs.Maps.{HoldsMap}
 use Rattle.plx_gate.specs.Leases.{lease_bytes, IsLease, IsClaimed}
 use Rattle.plx_gate.specs.declared.image.ImageRecord.{ImageRecord}
-use Rattle.plx_geom.specs.Geometry.{Geometry, lease_count, image_lease, lease_at, record_at, descriptor_at, data_at}
+use Rattle.plx_geom.specs.Geometry.{Geometry, lease_count, image_lease, lease_at, record_at, descriptor_at, data_at, map_at}
 use Rattle.plx_rules.specs.Part.{Part, Ends, ReadThen, WriteThen, ClockThen, UntilThen}
 use Rattle.plx_rules.specs.declared.journaled.Journaled.{Journaled}
 use Rattle.plx_rules.specs.Ends.{End}
 use Rattle.plx_rules.specs.Headline.{IsUndamaged}
-use Rattle.plx_rules.specs.Holds.{Hold, Waited, Held, no_holds, after_answer, after_write, after_reply, timed}
+use Rattle.plx_rules.specs.Holds.{Hold, Waited, Held, no_holds, after_answer, after_write, holds_after_reply, hold_after_reading}
 use Rattle.plx_rules.specs.Session.{Session, Known}
 use Rattle.law_headline.proofs.Harmless.{Harmless, Yields}
 use Rattle.law_headline.proofs.Journals.{IsJournal, IsShown, ShowEither, Keeps}
+use Rattle.law_headline.proofs.MapFacts.{SpellsMap}
 use Rattle.law_headline.proofs.ModelFacts.{Differs}
 use Rattle.law_headline.proofs.BytesByKind.{OnlyBytes}
 use Rattle.law_headline.proofs.Replied.{Names, IsDropping, sessions_after}
@@ -92,8 +94,8 @@ IsOf g i block = (block ≡ record_at g i) ⊎ ((slot : ℕ) × (slot < g.slots)
 abbrev pub HeldEnd : Geometry → ℕ → ℕ → Command → Known → Regime → End → Device → Type 0
 HeldEnd g a i command known regime end device =
     (m : Model) → Looks g a i command known regime m →
-    Answers m a command end.reply × Keeps g device i ((replied m a command end.reply).slots i)
-    × ((s : Session) → end.known.sessions i ≡ Some s → HasImage g i a s device ((replied m a command end.reply).slots i)) × IsUndamaged end.reply
+    Answers m a command end.reply × Keeps g device i ((model_after_reply m a command end.reply).slots i)
+    × ((s : Session) → end.known.sessions i ≡ Some s → HasImage g i a s device ((model_after_reply m a command end.reply).slots i)) × IsUndamaged end.reply
 
 -- the rest of a command is right while its boot owns the image: after a failed write, or once the release is asked, it doesn't
 abbrev pub HeldPart : Geometry → ℕ → ℕ → Command → Known → Regime → Part End → Device → Type 0
@@ -104,7 +106,7 @@ HeldPart g a i command known regime (WriteThen kind.Release block bytes guard do
     ((m : Model) → Looks g a i command known regime m → Keeps g device i (m.slots i)) × HeldPart g a i command known regime done device
 HeldPart g a i command known regime (WriteThen what block bytes guard done fault missed) device =
     IsOf g i block
-    × ((flags : List Bool) → length flags ≡ 8 → (m : Model) → Looks g a i command known regime m → Keeps g (put device block (mixed flags bytes (device block))) i (m.slots i))
+    × ((flags : List Bool) → length flags ≡ 8 → (m : Model) → Looks g a i command known regime m → Keeps g (put device block (with_landed_sectors flags bytes (device block))) i (m.slots i))
     × HeldPart g a i command known regime done (put device block bytes)
     × IsWith regime
     × OnlyBytes what bytes (device block)
@@ -133,7 +135,7 @@ IsDrop other = ⊥
 -- an end, directly after a reading below the end of each named image's lease, or not
 pub record IsFairEnd (g : Geometry) (command : Command) (known : Known) (holds : ℕ → Hold) (just : Bool) (end : End) : Type 0 where
   pub kept : (k : ℕ) → attached_of end.known k ≡ sessions_after command end.reply (attached_of known) k
-  pub backs : Backs g (after_reply end.reply holds) end.known
+  pub backs : Backs g (holds_after_reply end.reply holds) end.known
   pub away : (k : ℕ) → (Names command k → ⊥) → (end.known.sessions k ≡ known.sessions k) ⊎ IsDropping end.reply
   pub clean : IsUndamaged end.reply ⊎ (just ≡ true)
   pub allowed : Harmless g.images (attached_of known) command end.reply ⊎ ((just ≡ true) ⊎ Yields command end.reply)
@@ -155,7 +157,7 @@ is_some_slot (slot ∷ others) = true
 
 -- some image is named, and the lease of each is held at this reading
 abbrev pub just_at : Geometry → Command → (ℕ → Hold) → ℕ → Bool
-just_at g command holds reading = is_some_slot (named command) && are_below g holds reading (named command)
+just_at g command holds reading = is_some_slot (named_slots command) && are_below g holds reading (named_slots command)
 
 -- the reread that shows the boot's own claim makes it the owner
 abbrev pub IsRightOnceConfirmed : Geometry → ℕ → Command → Known → (ℕ → Hold) → ℕ → (List ℕ → Part End) → Type 0
@@ -164,17 +166,22 @@ IsRightOnceConfirmed g a command known holds block rest =
     (command ≡ Attach (record { 0 = i })) × ((device : Device) (kept : ImageRecord) (writes : List Journaled) → IsJournal g device i kept writes →
     HeldPart g a i command known (Without kept writes) (rest (lease_bytes (Claimed claim until))) device)
 
--- a write of a record or a journal is one of the named image's, and so is a release
+-- a write of a record or a journal is one of the named image's
 abbrev pub IsNamed : Geometry → Command → WriteKind → ℕ → Type 0
 IsNamed g command kind.Record block = (i : ℕ) × (i < g.images) × IsOf g i block × Names command i
 IsNamed g command kind.JData block = (i : ℕ) × (i < g.images) × IsOf g i block × Names command i
 IsNamed g command kind.JCommit block = (i : ℕ) × (i < g.images) × IsOf g i block × Names command i
-IsNamed g command kind.Release block = (i : ℕ) × (i < g.images) × (block ≡ lease_at (image_lease i)) × Names command i
 IsNamed g command other block = Unit {0}
 
--- what stands in a lease's block is a lease
-abbrev pub IsSpelled : Geometry → ℕ → List ℕ → Type 0
-IsSpelled g block bytes = (lease : ℕ) → lease < lease_count g → block ≡ lease_at lease → (r : LeaseRecord) × (bytes ≡ lease_bytes r) × IsLease r
+-- a write of a command is of an image that it names, where it is of one, and spells a map where it is of one
+pub record IsFairWrite (g : Geometry) (command : Command) (what : WriteKind) (block : ℕ) (bytes : List ℕ) : Type 0 where
+  pub named : IsNamed g command what block
+  pub spells : SpellsMap g what bytes
+
+-- what stands in a lease's block is a lease, and in a map's a map
+pub record IsSpelled (g : Geometry) (block : ℕ) (bytes : List ℕ) : Type 0 where
+  pub lease : (lease : ℕ) → lease < lease_count g → block ≡ lease_at lease → (r : LeaseRecord) × (bytes ≡ lease_bytes r) × IsLease r
+  pub map : (extent : ℕ) → extent < g.extents → block ≡ map_at g extent → HoldsMap g.extent_blocks bytes
 
 -- the rest of a command is right whoever owns the images: `just` says that a reading below the end of each named image's lease came directly before
 abbrev pub Fair : Geometry → ℕ → Command → Known → (ℕ → Hold) → Option ℕ → Bool → Part End → Type 0
@@ -183,12 +190,12 @@ Fair g a command known holds sample just (ReadThen block rest fault) =
     ((bytes : List ℕ) → IsSpelled g block bytes → Fair g a command known (after_answer sample (ask.Read (record { 0 = block })) [] (answer.Bytes bytes) holds) None false (rest bytes))
     × Fair g a command known holds None false fault × IsRightOnceConfirmed g a command known holds block rest
 Fair g a command known holds sample just (WriteThen what block bytes guard done fault missed) =
-    IsNamed g command what block × (length bytes ≡ 4096) × Fair g a command known (after_write what block bytes holds) None false done
+    IsFairWrite g command what block bytes × (length bytes ≡ 4096) × Fair g a command known (after_write what block bytes holds) None false done
     × Fair g a command known no_holds None false fault × ((reading : ℕ) → Fair g a command known no_holds None false (missed reading))
     × IsDrop fault × ((reading : ℕ) → IsDrop (missed reading))
 Fair g a command known holds sample just (ClockThen rest) =
     (reading : ℕ) → reading < 2 ^ 48 →
-    Fair g a command known (λ block. timed reading (holds block)) (Some reading) (just_at g command (λ block. timed reading (holds block)) reading) (rest reading)
+    Fair g a command known (λ block. hold_after_reading reading (holds block)) (Some reading) (just_at g command (λ block. hold_after_reading reading (holds block)) reading) (rest reading)
 Fair g a command known holds sample just (UntilThen from rest) =
     (reading : ℕ) → from ≤ reading → reading < 2 ^ 48 →
-    Fair g a command known (λ block. timed reading (holds block)) (Some reading) (just_at g command (λ block. timed reading (holds block)) reading) (rest reading)
+    Fair g a command known (λ block. hold_after_reading reading (holds block)) (Some reading) (just_at g command (λ block. hold_after_reading reading (holds block)) reading) (rest reading)

@@ -5,7 +5,7 @@ use Rattle.plx_base.specs.Payload.{bytes_of}
 use Rattle.plx_base.specs.Sectors.{Device}
 use Rattle.plx_base.specs.declared.lease.Claim.{Claim}
 use Rattle.plx_commands.specs.Facts.{is_size, is_worn}
-use Rattle.plx_commands.specs.Images.{Image, written, new_image, free_image}
+use Rattle.plx_commands.specs.Images.{Image, image_after_write, new_image, free_image}
 use Rattle.plx_commands.specs.Limits.{last_generation, last_write}
 use Rattle.plx_commands.specs.declared.command.Command.{Command}
 use Rattle.plx_commands.specs.declared.command.Command.TheVariants.{Attach, Detach, Create, Delete, Read, Write, Flush, Reserve, Renew, Retire, Reclaim}
@@ -35,20 +35,20 @@ IsBegunChange (Create slot size label) image change =
 IsBegunChange (Delete slot) image change = image.live ≡ true → change ≡ Some (free_image image.generation)
 IsBegunChange (Read slot vblock) image change = change ≡ None
 IsBegunChange (Write slot vblock payload) image change =
-    image.live ≡ true → vblock < image.size → is_worn last_write image.writes ≡ false → change ≡ Some (written image vblock (bytes_of payload))
+    image.live ≡ true → vblock < image.size → is_worn last_write image.writes ≡ false → change ≡ Some (image_after_write image vblock (bytes_of payload))
 IsBegunChange (Flush slot) image change = change ≡ None
 IsBegunChange (Reserve count) image change = change ≡ None
 IsBegunChange Renew image change = change ≡ None
 IsBegunChange Retire image change = change ≡ None
 IsBegunChange Reclaim image change = change ≡ None
 
-module _ (s : Setting) (geometry : IsGeometry s.geometry) (a i : ℕ) (within : i < s.geometry.images) (known : Known) (holds : ℕ → Hold) (reading : ℕ) (claim : Claim) (until : ℕ)
+module _ (s : Setting) (geometry : IsGeometry s.geometry) (a i : ℕ) (within : i < s.geometry.images) (known : Known) (holds : ℕ → Hold) (hand : List ℕ) (reading : ℕ) (claim : Claim) (until : ℕ)
     (held : holds (lease_at (image_lease i)) ≡ Held claim until) (device : Device) (kept : ImageRecord) (writes : List Journaled) (journal : IsJournal s.geometry device i kept writes) where
   abbrev few : s.geometry.slots ≤ 64
   few = geometry.slots_high
 
   -- an attach of an image whose lease is held without a session
-  pub begin-without : known.sessions i ≡ None → HeldPart s.geometry a i (Attach (slot_no i)) known (Without kept writes) (command_part s known holds reading (Attach (slot_no i))) device
+  pub begin-without : known.sessions i ≡ None → HeldPart s.geometry a i (Attach (slot_no i)) known (Without kept writes) (command_part s known holds hand reading (Attach (slot_no i))) device
   begin-without none =
       let P : Option Session → Bool → Hold → Type 0 = λ o b h. HeldPart s.geometry a i (Attach (slot_no i)) known (Without kept writes) (attach_part s known i o b h) device in
       subst (λ (o : Option Session). P o (nat_lt i s.geometry.images) (holds (lease_at (image_lease i)))) (sym none)
@@ -70,30 +70,30 @@ module _ (s : Setting) (geometry : IsGeometry s.geometry) (a i : ℕ) (within : 
 
     -- the command of this slot
     begin-at : (command : Command) (change : Option Image) → Names command i → IsWellFormed command → IsBuilt command → IsBegunChange command image change →
-        HeldPart s.geometry a i command known (With image change) (command_part s known holds reading command) device
+        HeldPart s.geometry a i command known (With image change) (command_part s known holds hand reading command) device
     begin-at (Attach j) change (inl is) well built begun =
-        let P : ℕ → Option Image → Type 0 = λ n c. HeldPart s.geometry a i (Attach (slot_no n)) known (With image c) (command_part s known holds reading (Attach (slot_no n))) device in
+        let P : ℕ → Option Image → Type 0 = λ n c. HeldPart s.geometry a i (Attach (slot_no n)) known (With image c) (command_part s known holds hand reading (Attach (slot_no n))) device in
         let Q : Option Session → Type 0 = λ o. HeldPart s.geometry a i (Attach (slot_no i)) known (With image None) (attach_part s known i o (nat_lt i s.geometry.images) (holds (lease_at (image_lease i)))) device in
         subst (λ (n : ℕ). P n change) (sym is) (subst (P i) (sym begun) (subst Q (sym has) (held-attach s a i within few known device kept writes image journal left has)))
     begin-at (Detach j) change (inl is) well built begun =
-        let P : ℕ → Type 0 = λ n. HeldPart s.geometry a i (Detach (slot_no n)) known (With image change) (command_part s known holds reading (Detach (slot_no n))) device in
+        let P : ℕ → Type 0 = λ n. HeldPart s.geometry a i (Detach (slot_no n)) known (With image change) (command_part s known holds hand reading (Detach (slot_no n))) device in
         subst P (sym is) (with-session (Detach (slot_no i)) change (detach_part s known i)
         (keeps-with s a i within few known device kept writes image journal left has (Detach (slot_no i)) change, held-detach s a i within few known device kept writes image journal left has change))
     begin-at (Create j size label) change (inl is) well built begun =
-        let P : ℕ → Type 0 = λ n. HeldPart s.geometry a i (Create (slot_no n) size label) known (With image change) (command_part s known holds reading (Create (slot_no n) size label)) device in
+        let P : ℕ → Type 0 = λ n. HeldPart s.geometry a i (Create (slot_no n) size label) known (With image change) (command_part s known holds hand reading (Create (slot_no n) size label)) device in
         subst P (sym is) (with-session (Create (slot_no i) size label) change (create_part s known i size label)
         (held-create s a i within few known device kept writes image journal left has size label until change well
         (λ dead fits young. begun (left.live ∙ dead) fits (ap (λ n. is_worn last_generation n) left.generation ∙ young))))
     begin-at (Delete j) change (inl is) well built begun =
-        let P : ℕ → Type 0 = λ n. HeldPart s.geometry a i (Delete (slot_no n)) known (With image change) (command_part s known holds reading (Delete (slot_no n))) device in
+        let P : ℕ → Type 0 = λ n. HeldPart s.geometry a i (Delete (slot_no n)) known (With image change) (command_part s known holds hand reading (Delete (slot_no n))) device in
         subst P (sym is) (with-session (Delete (slot_no i)) change (delete_part s known i)
         (held-delete s a i within few known device kept writes image journal left has until change (λ lives. begun (left.live ∙ lives))))
     begin-at (Read j vblock) change (inl is) well built begun =
-        let P : ℕ → Option Image → Type 0 = λ n c. HeldPart s.geometry a i (Read (slot_no n) vblock) known (With image c) (command_part s known holds reading (Read (slot_no n) vblock)) device in
+        let P : ℕ → Option Image → Type 0 = λ n c. HeldPart s.geometry a i (Read (slot_no n) vblock) known (With image c) (command_part s known holds hand reading (Read (slot_no n) vblock)) device in
         subst (λ (n : ℕ). P n change) (sym is) (subst (P i) (sym begun) (with-session (Read (slot_no i) vblock) None (read_part s known i vblock)
         (held-read s a i within few known device kept writes image journal left has vblock until)))
     begin-at (Write j vblock payload) change (inl is) well built begun =
-        let P : ℕ → Type 0 = λ n. HeldPart s.geometry a i (Write (slot_no n) vblock payload) known (With image change) (command_part s known holds reading (Write (slot_no n) vblock payload)) device in
+        let P : ℕ → Type 0 = λ n. HeldPart s.geometry a i (Write (slot_no n) vblock payload) known (With image change) (command_part s known holds hand reading (Write (slot_no n) vblock payload)) device in
         subst P (sym is) (with-session (Write (slot_no i) vblock payload) change (write_part s known i vblock (bytes_of payload))
         (held-write s a i within few known device kept writes image journal left has vblock payload until change well
         (λ lives less young. begun (left.live ∙ lives) (let size = left.size in omega (arith, size, less)) (ap (λ n. is_worn last_write n) left.count ∙ young))))
@@ -104,11 +104,11 @@ module _ (s : Setting) (geometry : IsGeometry s.geometry) (a i : ℕ) (within : 
     begin-at (Read j vblock) change (inr no') well built begun = absurd no'
     begin-at (Write j vblock payload) change (inr no') well built begun = absurd no'
     begin-at (Flush j) change names well built begun = absurd built
-    begin-at (Reserve count) change names well built begun = absurd built
+    begin-at (Reserve count) change names well built begun = absurd names
     begin-at Renew change names well built begun = absurd names
-    begin-at Retire change names well built begun = absurd built
+    begin-at Retire change names well built begun = absurd names
     begin-at Reclaim change names well built begun = absurd built
 
     pub begin-with : (command : Command) (change : Option Image) → Names command i → IsWellFormed command → IsBuilt command → IsBegunChange command image change →
-        HeldPart s.geometry a i command known (With image change) (command_part s known holds reading command) device
+        HeldPart s.geometry a i command known (With image change) (command_part s known holds hand reading command) device
     begin-with = begin-at

@@ -8,12 +8,12 @@ use Rattle.plx_base.specs.Blocks.{zeros}
 use Rattle.plx_base.specs.Sectors.{Device}
 use Rattle.plx_base.specs.declared.numbers.SlotNo.{SlotNo}
 use Rattle.plx_commands.specs.Facts.{refusals, is_size}
-use Rattle.plx_commands.specs.Images.{Image, written, report_of, count_dropped}
+use Rattle.plx_commands.specs.Images.{Image, image_after_write, report_of, count_dropped}
 use Rattle.plx_commands.specs.Model.{Model, Slot}
-use Rattle.plx_commands.specs.Moves.{attached}
+use Rattle.plx_commands.specs.Moves.{slot_after_attach}
 use Rattle.plx_commands.specs.Places.{at}
 use Rattle.plx_commands.specs.Replies.{is_in, row}
-use Rattle.plx_commands.specs.Reports.{same_flag, same_bytes, same_report, resolved, IsReported}
+use Rattle.plx_commands.specs.Reports.{same_flag, same_bytes, same_report, reported_image, IsReported}
 use Rattle.plx_commands.specs.declared.command.Command.{Command}
 use Rattle.plx_commands.specs.declared.command.Command.TheVariants.{Attach, Detach, Create, Delete, Read, Write, Flush, Reserve, Renew, Retire, Reclaim}
 use Rattle.plx_commands.specs.declared.reply.Report.{Report}
@@ -25,23 +25,23 @@ use Rattle.plx_gate.specs.Images.{read_image}
 use Rattle.plx_gate.specs.declared.descriptor.Descriptor.{Descriptor}
 use Rattle.plx_gate.specs.declared.image.ImageRecord.{ImageRecord}
 use Rattle.plx_geom.specs.Geometry.{record_at, descriptor_at, data_at}
-use Rattle.plx_base.proofs.Tests.{eqb-true, nat_lt-false, nat_le-false}
+use Rattle.plx_base.proofs.Tests.{eqb-true, nat_lt-false, nat_le-false, nat_le-tells}
 use Rattle.plx_rules.specs.Part.{Part}
 use Rattle.plx_rules.specs.declared.journaled.Journaled.{Journaled}
 use Rattle.plx_rules.specs.Attaching.{image_use, attach_ends, after_load, load_journal, after_record, load_image}
 use Rattle.plx_rules.specs.Ends.{End, ends, lost, read_failed, in_time, ends_in_time}
 use Rattle.plx_rules.specs.InUse.{InUse, first_reached, unless_reached}
-use Rattle.plx_rules.specs.Journal.{finding, Finding, Unused, Counts}
+use Rattle.plx_rules.specs.Journal.{finding, Finding, Unused, Counts, descriptor_of}
 use Rattle.plx_rules.specs.Loading.{LoadEnd, load_found, load_part, gap_found}
 use Rattle.plx_rules.specs.Parts.{followed_by}
 use Rattle.plx_rules.specs.Records.{is_live, is_plain, taken_of, applied_of, plain_record, attached_record}
-use Rattle.plx_rules.specs.Session.{Session, Known, with_session, inserted, first_gap, session_report}
+use Rattle.plx_rules.specs.Session.{Session, Known, with_session, with_write_by_number, first_gap, session_report}
 use Rattle.plx_rules.specs.Settings.{Setting}
 use Rattle.law_lease.proofs.LawfulCommands.{below-tested}
 use Rattle.law_headline.proofs.Held.{Regime, Without, Looks, HasImage, HeldPart}
 use Rattle.plx_gate.proofs.Images.{image-back}
 use Rattle.law_headline.proofs.JournalFacts.{finding-commit}
-use Rattle.law_headline.proofs.Journals.{descriptor_of, IsJournal, IsShown, ShowEither, Keeps}
+use Rattle.law_headline.proofs.Journals.{IsJournal, IsShown, ShowEither, Keeps}
 use Rattle.law_headline.proofs.ModelFacts.{Differs}
 use Rattle.law_headline.proofs.Owners.{both-true}
 use Rattle.law_lease.proofs.Latest.{latest-push}
@@ -124,19 +124,19 @@ report-shown kept writes image plain shown =
     let dropped : 0 ≡ count_dropped image.frozen = sym (ap count_dropped shown.frozen) in
     λ j. record { live = live j; generation = generation j; size = size j; writes = count j; taken = taken j; dropped = dropped j; label = label j }
 
-reported : (kept : ImageRecord) (writes : List Journaled) (slot : Slot) → is_plain kept ≡ true → ShowEither kept writes slot →
+report-is-own : (kept : ImageRecord) (writes : List Journaled) (slot : Slot) → is_plain kept ≡ true → ShowEither kept writes slot →
     IsReported slot.image slot.change (session_report (record { image = kept; writes = writes }))
-reported kept writes slot plain (inl shown) = inl (report-shown kept writes slot.image plain shown)
-reported kept writes slot plain (inr away) = inr (away.0, away.1, report-shown kept writes away.0 plain away.2)
+report-is-own kept writes slot plain (inl shown) = inl (report-shown kept writes slot.image plain shown)
+report-is-own kept writes slot plain (inr away) = inr (away.0, away.1, report-shown kept writes away.0 plain away.2)
 
 -- it decides for that image
-chosen : (kept : ImageRecord) (writes : List Journaled) (slot : Slot) → is_plain kept ≡ true → Differs slot → ShowEither kept writes slot →
-    IsShown kept writes (resolved slot.image slot.change (session_report (record { image = kept; writes = writes })))
-chosen kept writes slot plain differs (inl shown) =
+report-decides : (kept : ImageRecord) (writes : List Journaled) (slot : Slot) → is_plain kept ≡ true → Differs slot → ShowEither kept writes slot →
+    IsShown kept writes (reported_image slot.image slot.change (session_report (record { image = kept; writes = writes })))
+report-decides kept writes slot plain differs (inl shown) =
     let same : same_report (session_report (record { image = kept; writes = writes })) (report_of slot.image) ≡ true =
     ap (λ r. same_report r (report_of slot.image)) (report-shown kept writes slot.image plain shown) ∙ same-report (report_of slot.image) in
     subst (λ (x : Image). IsShown kept writes x) (ap (λ test. if test then slot.image else unwrap_or slot.change slot.image) (sym same)) shown
-chosen kept writes slot plain differs (inr away) =
+report-decides kept writes slot plain differs (inr away) =
     let other : same_report (session_report (record { image = kept; writes = writes })) (report_of slot.image) ≡ false =
     ap (λ r. same_report r (report_of slot.image)) (report-shown kept writes away.0 plain away.2) ∙ differs away.0 away.1 in
     subst (λ (x : Image). IsShown kept writes x)
@@ -146,7 +146,7 @@ chosen kept writes slot plain differs (inr away) =
 
 -- one more write
 pub shown-more : (kept : ImageRecord) (writes : List Journaled) (image : Image) (write : Journaled) → IsShown kept writes image →
-    IsShown kept (writes ++ write ∷ []) (written image write.vblock write.block)
+    IsShown kept (writes ++ write ∷ []) (image_after_write image write.vblock write.block)
 shown-more kept writes image write shown = record {
   live = shown.live;
   generation = shown.generation;
@@ -158,18 +158,18 @@ shown-more kept writes image write shown = record {
 }
 
 -- a write that is read after those with lower numbers is the last one
-inserted-last : (new : Journaled) (writes : List Journaled) → ((k : ℕ) (w : Journaled) → slice_get writes k ≡ Some w → w.number ≤ new.number) → inserted new writes ≡ writes ++ new ∷ []
+inserted-last : (new : Journaled) (writes : List Journaled) → ((k : ℕ) (w : Journaled) → slice_get writes k ≡ Some w → w.number ≤ new.number) → with_write_by_number new writes ≡ writes ++ new ∷ []
 inserted-last new [] below = refl
 inserted-last new (write ∷ writes) below =
-    ap (λ (t : Bool). if t then new ∷ write ∷ writes else write ∷ inserted new writes) (nat_lt-false new.number write.number (below 0 write refl))
+    ap (λ (t : Bool). if t then new ∷ write ∷ writes else write ∷ with_write_by_number new writes) (nat_lt-false new.number write.number (below 0 write refl))
     ∙ ap (λ (xs : List Journaled). write ∷ xs) (inserted-last new writes (λ k w at. below (suc k) w at))
 
 -- no number is missing
-no-gap : (before : ℕ) (writes : List Journaled) → ((k : ℕ) (w : Journaled) → slice_get writes k ≡ Some w → w.number ≡ before + k + 1) → first_gap before writes ≡ None
-no-gap before [] numbers = refl
-no-gap before (write ∷ writes) numbers =
+no-first-gap : (before : ℕ) (writes : List Journaled) → ((k : ℕ) (w : Journaled) → slice_get writes k ≡ Some w → w.number ≡ before + k + 1) → first_gap before writes ≡ None
+no-first-gap before [] numbers = refl
+no-first-gap before (write ∷ writes) numbers =
     ap (λ (t : Bool). if t then first_gap (before + 1) writes else Some write.number) (eqb-true write.number (before + 1) (let n = numbers 0 write refl in omega (arith, n)))
-    ∙ no-gap (before + 1) writes (λ k w at. let n = numbers (suc k) w at in omega (arith, n))
+    ∙ no-first-gap (before + 1) writes (λ k w at. let n = numbers (suc k) w at in omega (arith, n))
 
 -- what stands in the front of a list stands in the list
 take-get : {X : Type 0} (n : ℕ) (xs : List X) (k : ℕ) (x : X) → slice_get (take n xs) k ≡ Some x → slice_get xs k ≡ Some x
@@ -188,19 +188,12 @@ take-below (suc n) (y ∷ xs) (suc k) x e = let b = take-below n xs k x e in ome
 pub not-le-tells : (x y : ℕ) → nat_le x y ≡ false → y < x
 not-le-tells x y e = elim (leb_tells x y) [ inl less ↦ absurd (let f : true ≡ false = sym less.0 ∙ e in let P : ⊥ = cc in P) | inr more ↦ omega (arith, more.1) ]
 
-pub le-tells : (x y : ℕ) → nat_le x y ≡ true → x ≤ y
-le-tells x y e = elim (leb_tells x y) [ inl less ↦ less.1 | inr more ↦ absurd (let f : true ≡ false = sym e ∙ more.0 in let P : ⊥ = cc in P) ]
-
 pub size-tells : (size : ℕ) → not (is_size size) ≡ false → (0 < size) × (size ≤ 2 ^ 27)
-size-tells size e = let b = both-true (nat_lt 0 size) (nat_le size (2 ^ 27)) (positive (is_size size) e) in (below-tested 0 size b.0, le-tells size (2 ^ 27) b.1)
+size-tells size e = let b = both-true (nat_lt 0 size) (nat_le size (2 ^ 27)) (positive (is_size size) e) in (below-tested 0 size b.0, nat_le-tells size (2 ^ 27) b.1)
   where
     positive : (x : Bool) → not x ≡ false → x ≡ true
     positive true e' = refl
     positive false e' = absurd (let P : ⊥ = cc in P)
-
-pub not-false : (x : Bool) → not x ≡ false → x ≡ true
-not-false true e = refl
-not-false false e = absurd (let P : ⊥ = cc in P)
 
 module _ (s : Setting) (a i : ℕ) (within : i < s.geometry.images) (few : s.geometry.slots ≤ 64) (known : Known) where
   -- ---- an attach
@@ -224,13 +217,13 @@ module _ (s : Setting) (a i : ℕ) (within : i < s.geometry.images) (few : s.geo
         held-ends s a i (Attach (slot_no i)) known (Without kept writes) device keeps-without k (with_session k i (Some session)) (image_use i until) (Attached (session_report session))
         (λ m looks.
         let report = session_report session in
-        let slot = attached (m.slots i) a report in
+        let slot = slot_after_attach (m.slots i) a report in
         let is : at m.slots i slot i ≡ slot = at-same m.slots i slot in
-        let left : IsShown kept writes slot.image = chosen kept writes (m.slots i) journal.plain looks.slot.1 looks.slot.0 in
+        let left : IsShown kept writes slot.image = report-decides kept writes (m.slots i) journal.plain looks.slot.1 looks.slot.0 in
         let K : Slot → Type 0 = λ t. Keeps s.geometry device i t in
         let H : Slot → Type 0 = λ t. HasImage s.geometry i a session device t in (
           ok-answers m a (Attach (slot_no i)) (Attached report) refl refl refl
-              ((let e = looks.running.images in omega (arith, e)), reported kept writes (m.slots i) journal.plain looks.slot.0) (unrefused m looks),
+              ((let e = looks.running.images in omega (arith, e)), report-is-own kept writes (m.slots i) journal.plain looks.slot.0) (unrefused m looks),
           subst K (sym is) (record { kept = kept; writes = writes; journal = journal; either = inl left }),
           λ t known'.
               let same : session ≡ t = (let f : Some session ≡ Some t = sym (at-same k.sessions i (Some session)) ∙ known' in cc) in
@@ -263,7 +256,7 @@ module _ (s : Setting) (a i : ℕ) (within : i < s.geometry.images) (few : s.geo
           let P : Finding → Type 0 = λ f. Loads (load_found block f unused counts) in subst P (sym is) held
 
       -- one more write
-      taken-more : (place : ℕ) (w : Journaled) → slice_get writes place ≡ Some w → take place writes ++ w ∷ [] ≡ take (place + 1) writes → inserted w (take place writes) ≡ take (place + 1) writes
+      taken-more : (place : ℕ) (w : Journaled) → slice_get writes place ≡ Some w → take place writes ++ w ∷ [] ≡ take (place + 1) writes → with_write_by_number w (take place writes) ≡ take (place + 1) writes
       taken-more place w found more =
           inserted-last w (take place writes)
           (λ j v at. (let number = journal.numbers j v (take-get place writes j v at) in let mine = journal.numbers place w found in let less = take-below place writes j v at in omega (arith, number, mine, less)))
@@ -274,7 +267,7 @@ module _ (s : Setting) (a i : ℕ) (within : i < s.geometry.images) (few : s.geo
           let whole : take place writes ≡ writes = take_all place writes (let fits = journal.fits in omega (arith, all, fits)) in
           let P : List Journaled → Type 0 = λ ws. Attaches (after_load s k i until kept (gap_found s.geometry i ws (first_gap (applied_of kept) ws))) in
           let Q : Option ℕ → Type 0 = λ o. Attaches (after_load s k i until kept (gap_found s.geometry i writes o)) in
-          let none-missing : first_gap (applied_of kept) writes ≡ None = no-gap (applied_of kept) writes (λ j w at. (let n = journal.numbers j w at in let z = journal.unapplied in omega (arith, n, z))) in
+          let none-missing : first_gap (applied_of kept) writes ≡ None = no-first-gap (applied_of kept) writes (λ j w at. (let n = journal.numbers j w at in let z = journal.unapplied in omega (arith, n, z))) in
           subst P (sym whole) (subst Q (sym none-missing) (held-attached k until))
       held-load (suc left) place all =
           let ih = held-load left (place + 1) (omega (arith, all)) in (
@@ -283,7 +276,7 @@ module _ (s : Setting) (a i : ℕ) (within : i < s.geometry.images) (few : s.geo
               | inl found ↦ held-counts (descriptor_at s.geometry i place) (finding kept s.geometry.slots place (device (descriptor_at s.geometry i place))) _ _ (descriptor_of kept found.0)
                   (finding-commit s.geometry device i kept writes journal few place found.0 found.2) (
                     inr (place, (omega (arith, all)), inr refl),
-                    (let P : List ℕ → Type 0 = λ x. Loads (load_part s.geometry i kept left (place + 1) (inserted (record { number = found.0.number; vblock = found.0.vblock; block = x }) (take place writes))) in
+                    (let P : List ℕ → Type 0 = λ x. Loads (load_part s.geometry i kept left (place + 1) (with_write_by_number (record { number = found.0.number; vblock = found.0.vblock; block = x }) (take place writes))) in
                         let Q : List Journaled → Type 0 = λ ws. Loads (load_part s.geometry i kept left (place + 1) ws) in
                         subst P (sym (journal.blocks place found.0 found.2))
                         (subst Q (sym (taken-more place found.0 found.2 (sym (take_more writes place found.0 found.1 ∙ ap (λ (x : Journaled). take place writes ++ x ∷ []) found.3)))) ih)),

@@ -3,7 +3,7 @@ use Rattle.std.proofs.Common.{◌≡◌, ◌≢◌, ℕ, zero, suc, ◌*◌, ◌
 use Rattle.std.specs.Prelude.{slice_get, if◌then◌else◌}
 use Rattle.std.proofs.lemmas.Bool.Decides.{eqb_tells}
 use Rattle.std.proofs.lemmas.List.{take_at, drop_at, length-take, length-drop, length-set}
-use Rattle.plx_base.specs.Sectors.{Device, put, mixed, landed}
+use Rattle.plx_base.specs.Sectors.{Device, put, with_landed_sectors, with_landed_sector}
 use Rattle.plx_base.proofs.Devices.{put-same}
 use Rattle.plx_base.specs.declared.write_kind.WriteKind.{WriteKind}
 use Rattle.plx_base.specs.declared.write_kind.WriteKind.TheVariants as kind
@@ -36,30 +36,30 @@ show-foreign a s t foreign {kept} {writes} (inr away) = elim foreign.change [
 
 -- all but a landed sector
 pub mixed-over : (flags : List Bool) (new old : List ℕ) (k : ℕ) → k < length flags → length new ≡ 512 * length flags → length old ≡ 512 * length flags →
-    mixed flags new (landed k new old) ≡ mixed (slice_set flags k true) new old
+    with_landed_sectors flags new (with_landed_sector k new old) ≡ with_landed_sectors (slice_set flags k true) new old
 mixed-over [] new old k below ln lo = absurd (omega arith)
 mixed-over (f ∷ flags) new old zero below ln lo =
     let front : length (take 512 new) ≡ 512 = simp length-take (omega arith) in
-    let t : take 512 (landed 0 new old) ≡ take 512 new = take_at (take 512 new) (drop 512 old) 512 front in
-    let d : drop 512 (landed 0 new old) ≡ drop 512 old = drop_at (take 512 new) (drop 512 old) 512 front in
+    let t : take 512 (with_landed_sector 0 new old) ≡ take 512 new = take_at (take 512 new) (drop 512 old) 512 front in
+    let d : drop 512 (with_landed_sector 0 new old) ≡ drop 512 old = drop_at (take 512 new) (drop 512 old) 512 front in
     rw d (picked f t)
   where
-    picked : (f : Bool) → take 512 (landed 0 new old) ≡ take 512 new →
-        take 512 (if f then new else landed 0 new old) ++ mixed flags (drop 512 new) (drop 512 old) ≡ take 512 new ++ mixed flags (drop 512 new) (drop 512 old)
+    picked : (f : Bool) → take 512 (with_landed_sector 0 new old) ≡ take 512 new →
+        take 512 (if f then new else with_landed_sector 0 new old) ++ with_landed_sectors flags (drop 512 new) (drop 512 old) ≡ take 512 new ++ with_landed_sectors flags (drop 512 new) (drop 512 old)
     picked true t = refl
-    picked false t = ap (λ x. x ++ mixed flags (drop 512 new) (drop 512 old)) t
+    picked false t = ap (λ x. x ++ with_landed_sectors flags (drop 512 new) (drop 512 old)) t
 mixed-over (f ∷ flags) new old (suc k) below ln lo =
     let front : length (take 512 old) ≡ 512 = simp length-take (omega arith) in
-    let t : take 512 (landed (suc k) new old) ≡ take 512 old = take_at (take 512 old) (landed k (drop 512 new) (drop 512 old)) 512 front in
-    let d : drop 512 (landed (suc k) new old) ≡ landed k (drop 512 new) (drop 512 old) = drop_at (take 512 old) (landed k (drop 512 new) (drop 512 old)) 512 front in
+    let t : take 512 (with_landed_sector (suc k) new old) ≡ take 512 old = take_at (take 512 old) (with_landed_sector k (drop 512 new) (drop 512 old)) 512 front in
+    let d : drop 512 (with_landed_sector (suc k) new old) ≡ with_landed_sector k (drop 512 new) (drop 512 old) = drop_at (take 512 old) (with_landed_sector k (drop 512 new) (drop 512 old)) 512 front in
     let ih = mixed-over flags (drop 512 new) (drop 512 old) k (omega arith) (simp length-drop (omega arith)) (simp length-drop (omega arith)) in
     rw (d, ih) (picked f t)
   where
-    picked : (f : Bool) → take 512 (landed (suc k) new old) ≡ take 512 old →
-        take 512 (if f then new else landed (suc k) new old) ++ mixed (slice_set flags k true) (drop 512 new) (drop 512 old)
-        ≡ take 512 (if f then new else old) ++ mixed (slice_set flags k true) (drop 512 new) (drop 512 old)
+    picked : (f : Bool) → take 512 (with_landed_sector (suc k) new old) ≡ take 512 old →
+        take 512 (if f then new else with_landed_sector (suc k) new old) ++ with_landed_sectors (slice_set flags k true) (drop 512 new) (drop 512 old)
+        ≡ take 512 (if f then new else old) ++ with_landed_sectors (slice_set flags k true) (drop 512 new) (drop 512 old)
     picked true t = refl
-    picked false t = ap (λ x. x ++ mixed (slice_set flags k true) (drop 512 new) (drop 512 old)) t
+    picked false t = ap (λ x. x ++ with_landed_sectors (slice_set flags k true) (drop 512 new) (drop 512 old)) t
 
 -- the sectors that are missing
 abbrev pub missing_of : List Bool → List Bool
@@ -74,24 +74,24 @@ length-missing (false ∷ flags) = ap suc (length-missing flags)
 
 -- what is missing makes the same of a block after a landing
 pub missing-landed : (flags : List Bool) (new old : List ℕ) (k : ℕ) → slice_get flags k ≡ Some false → length new ≡ 512 * length flags → length old ≡ 512 * length flags →
-    mixed (missing_of (slice_set flags k true)) new (landed k new old) ≡ mixed (missing_of flags) new old
+    with_landed_sectors (missing_of (slice_set flags k true)) new (with_landed_sector k new old) ≡ with_landed_sectors (missing_of flags) new old
 missing-landed [] new old k e ln lo = cc
 missing-landed (true ∷ flags) new old zero e ln lo = cc
 missing-landed (false ∷ flags) new old zero e ln lo =
     let front : length (take 512 new) ≡ 512 = simp length-take (omega arith) in
-    let t : take 512 (landed 0 new old) ≡ take 512 new = take_at (take 512 new) (drop 512 old) 512 front in
-    let d : drop 512 (landed 0 new old) ≡ drop 512 old = drop_at (take 512 new) (drop 512 old) 512 front in
+    let t : take 512 (with_landed_sector 0 new old) ≡ take 512 new = take_at (take 512 new) (drop 512 old) 512 front in
+    let d : drop 512 (with_landed_sector 0 new old) ≡ drop 512 old = drop_at (take 512 new) (drop 512 old) 512 front in
     rw (d, t) refl
 missing-landed (f ∷ flags) new old (suc k) e ln lo =
     let front : length (take 512 old) ≡ 512 = simp length-take (omega arith) in
-    let t : take 512 (landed (suc k) new old) ≡ take 512 old = take_at (take 512 old) (landed k (drop 512 new) (drop 512 old)) 512 front in
-    let d : drop 512 (landed (suc k) new old) ≡ landed k (drop 512 new) (drop 512 old) = drop_at (take 512 old) (landed k (drop 512 new) (drop 512 old)) 512 front in
+    let t : take 512 (with_landed_sector (suc k) new old) ≡ take 512 old = take_at (take 512 old) (with_landed_sector k (drop 512 new) (drop 512 old)) 512 front in
+    let d : drop 512 (with_landed_sector (suc k) new old) ≡ with_landed_sector k (drop 512 new) (drop 512 old) = drop_at (take 512 old) (with_landed_sector k (drop 512 new) (drop 512 old)) 512 front in
     let ih = missing-landed flags (drop 512 new) (drop 512 old) k e (simp length-drop (omega arith)) (simp length-drop (omega arith)) in
     by_flag f t d ih
   where
-    by_flag : (f : Bool) → take 512 (landed (suc k) new old) ≡ take 512 old → drop 512 (landed (suc k) new old) ≡ landed k (drop 512 new) (drop 512 old) →
-        mixed (missing_of (slice_set flags k true)) (drop 512 new) (landed k (drop 512 new) (drop 512 old)) ≡ mixed (missing_of flags) (drop 512 new) (drop 512 old) →
-        mixed (missing_of (f ∷ slice_set flags k true)) new (landed (suc k) new old) ≡ mixed (missing_of (f ∷ flags)) new old
+    by_flag : (f : Bool) → take 512 (with_landed_sector (suc k) new old) ≡ take 512 old → drop 512 (with_landed_sector (suc k) new old) ≡ with_landed_sector k (drop 512 new) (drop 512 old) →
+        with_landed_sectors (missing_of (slice_set flags k true)) (drop 512 new) (with_landed_sector k (drop 512 new) (drop 512 old)) ≡ with_landed_sectors (missing_of flags) (drop 512 new) (drop 512 old) →
+        with_landed_sectors (missing_of (f ∷ slice_set flags k true)) new (with_landed_sector (suc k) new old) ≡ with_landed_sectors (missing_of (f ∷ flags)) new old
     by_flag true t d ih = rw (d, ih, t) refl
     by_flag false t d ih = rw (d, ih) refl
 
@@ -157,9 +157,9 @@ module _ (g : Geometry) (a i : ℕ) (command : Command) (known : Known) (regime 
         held.0,
         (λ flags count m looks.
             let old : e block ≡ d block = same-at g i block d e held.0 same in
-            let P : List ℕ → Type 0 = λ x. Keeps g (put e block (mixed flags bytes x)) i (m.slots i) in
-            subst P (sym old) (Keeps-same g (put d block (mixed flags bytes (d block))) (put e block (mixed flags bytes (d block))) i (m.slots i)
-            (same-put g i block (mixed flags bytes (d block)) d e same) (held.1 flags count m looks))),
+            let P : List ℕ → Type 0 = λ x. Keeps g (put e block (with_landed_sectors flags bytes x)) i (m.slots i) in
+            subst P (sym old) (Keeps-same g (put d block (with_landed_sectors flags bytes (d block))) (put e block (with_landed_sectors flags bytes (d block))) i (m.slots i)
+            (same-put g i block (with_landed_sectors flags bytes (d block)) d e same) (held.1 flags count m looks))),
         next held.2,
         held.3,
         (let O : List ℕ → Type 0 = λ x. OnlyBytes other bytes x in subst O (sym (same-at g i block d e held.0 same)) held.4),
@@ -169,17 +169,17 @@ module _ (g : Geometry) (a i : ℕ) (command : Command) (known : Known) (regime 
 
 -- a landing of the write that is asked
 pub keeps-landed : (g : Geometry) (i block k : ℕ) (bytes : List ℕ) (d : Device) (slot : Slot) → k < 8 → length bytes ≡ 4096 → length (d block) ≡ 4096 →
-    ((flags : List Bool) → length flags ≡ 8 → Keeps g (put d block (mixed flags bytes (d block))) i slot) →
+    ((flags : List Bool) → length flags ≡ 8 → Keeps g (put d block (with_landed_sectors flags bytes (d block))) i slot) →
     (flags : List Bool) → length flags ≡ 8 →
-    Keeps g (put (put d block (landed k bytes (d block))) block (mixed flags bytes (put d block (landed k bytes (d block)) block))) i slot
+    Keeps g (put (put d block (with_landed_sector k bytes (d block))) block (with_landed_sectors flags bytes (put d block (with_landed_sector k bytes (d block)) block))) i slot
 keeps-landed g i block k bytes d slot below long old keeps flags count =
-    let x = landed k bytes (d block) in
+    let x = with_landed_sector k bytes (d block) in
     let at : put d block x block ≡ x = put-same d block x in
-    let over : mixed flags bytes x ≡ mixed (slice_set flags k true) bytes (d block) = mixed-over flags bytes (d block) k (omega arith) (rw count long) (rw count old) in
+    let over : with_landed_sectors flags bytes x ≡ with_landed_sectors (slice_set flags k true) bytes (d block) = mixed-over flags bytes (d block) k (omega arith) (rw count long) (rw count old) in
     let P : List ℕ → Type 0 = λ y. Keeps g (put (put d block x) block y) i slot in
-    subst P (sym (ap (mixed flags bytes) at ∙ over))
-    (Keeps-same g (put d block (mixed (slice_set flags k true) bytes (d block))) (put (put d block x) block (mixed (slice_set flags k true) bytes (d block))) i slot
-    (same-over g i block (mixed (slice_set flags k true) bytes (d block)) x d)
+    subst P (sym (ap (with_landed_sectors flags bytes) at ∙ over))
+    (Keeps-same g (put d block (with_landed_sectors (slice_set flags k true) bytes (d block))) (put (put d block x) block (with_landed_sectors (slice_set flags k true) bytes (d block))) i slot
+    (same-over g i block (with_landed_sectors (slice_set flags k true) bytes (d block)) x d)
     (keeps (slice_set flags k true) (length-set flags k true ∙ count)))
 
 -- ---- the model

@@ -5,7 +5,7 @@ use Rattle.std.proofs.lemmas.Bool.Decides.{eqb_tells}
 use Rattle.plx_base.specs.Canonical.{payload_of}
 use Rattle.plx_base.specs.Labels.{IsLabel}
 use Rattle.plx_base.specs.Payload.{bytes_of}
-use Rattle.plx_base.specs.Sectors.{Device, put, mixed}
+use Rattle.plx_base.specs.Sectors.{Device, put, with_landed_sectors}
 use Rattle.plx_base.specs.declared.payload.Payload.{Payload}
 use Rattle.plx_base.specs.declared.write_kind.WriteKind.TheVariants as kind
 use Rattle.plx_base.proofs.Canonical.{bytes_of-payload_of}
@@ -13,13 +13,13 @@ use Rattle.plx_base.proofs.Devices.{put-same, put-again}
 use Rattle.plx_base.proofs.Mixed.{mixed-first_sector}
 use Rattle.plx_base.proofs.Spelling.{only-first}
 use Rattle.plx_commands.specs.Facts.{refusals, of_claims, of_none, of_some, of_block, of_size, of_generation, of_writes, where_holds, where_is, is_size, is_worn, IsAmong}
-use Rattle.plx_commands.specs.Images.{Image, written, new_image, free_image}
+use Rattle.plx_commands.specs.Images.{Image, image_after_write, new_image, free_image}
 use Rattle.plx_commands.specs.Limits.{last_generation, last_write, greatest_size}
 use Rattle.plx_commands.specs.Model.{Model, Slot, owns_all}
-use Rattle.plx_commands.specs.Moves.{given_up, made, given_back, where_owned, refused_at, replied}
+use Rattle.plx_commands.specs.Moves.{given_up, slot_after_change, slot_without_owner, where_owned, refused_at, model_after_reply}
 use Rattle.plx_commands.specs.Places.{at}
 use Rattle.plx_commands.specs.Replies.{number_of, is_in, row, ends_sessions}
-use Rattle.plx_commands.specs.Slots.{changed}
+use Rattle.plx_commands.specs.Slots.{changed_slot}
 use Rattle.plx_commands.specs.declared.command.Command.{Command}
 use Rattle.plx_commands.specs.declared.command.Command.TheVariants.{Attach, Detach, Create, Delete, Read, Write}
 use Rattle.plx_commands.specs.declared.reply.Reply.{Reply}
@@ -33,14 +33,14 @@ use Rattle.plx_gate.specs.declared.image.ImageRecord.TheVariants as image_is
 use Rattle.plx_gate.proofs.Descriptors.{descriptor-back}
 use Rattle.plx_geom.specs.Geometry.{record_at, descriptor_at, data_at}
 use Rattle.law_headline.proofs.JournalFacts.{journal_slot-next}
-use Rattle.plx_base.proofs.Tests.{nat_lt-true}
+use Rattle.plx_base.proofs.Tests.{nat_lt-true, not-false}
 use Rattle.plx_rules.specs.Part.{Part}
 use Rattle.plx_rules.specs.declared.journaled.Journaled.{Journaled}
 use Rattle.plx_rules.specs.Attaching.{image_use}
 use Rattle.plx_rules.specs.Commands.{unless, record_part, create_part, delete_part, read_part, journal_part, write_part}
 use Rattle.plx_rules.specs.Ends.{End, ends, write_then, ends_in_time}
 use Rattle.plx_rules.specs.Headline.{IsUndamaged}
-use Rattle.plx_rules.specs.Journal.{journal_slot}
+use Rattle.plx_rules.specs.Journal.{journal_slot, descriptor_of}
 use Rattle.plx_rules.specs.Records.{is_live, is_plain, generation_of, size_of, applied_of, made_record}
 use Rattle.plx_rules.specs.Session.{Session, Known, with_session, new_session, write_count, content, with_write}
 use Rattle.plx_rules.specs.Settings.{Setting}
@@ -48,14 +48,14 @@ use Rattle.law_headline.proofs.Held.{With, Looks, HasImage, HeldPart}
 use Rattle.law_headline.proofs.HeldFrames.{same-all}
 use Rattle.law_headline.proofs.ImageFacts.{image-drop}
 use Rattle.law_headline.proofs.JournalFacts.{IsJournal-data, IsJournal-same, IsJournal-more, IsJournal-made, kept-limits}
-use Rattle.law_headline.proofs.Journals.{descriptor_of, IsJournal, IsShown, Keeps}
+use Rattle.law_headline.proofs.Journals.{IsJournal, IsShown, Keeps}
 use Rattle.law_headline.proofs.Owners.{owns-own}
 use Rattle.law_headline.proofs.Replied.{refused-given}
-use Rattle.law_headline.proofs.HeldCommands.{slot_no, held-ends, shown-more, not-le-tells, size-tells, not-false}
+use Rattle.law_headline.proofs.HeldCommands.{slot_no, held-ends, shown-more, not-le-tells, size-tells}
 
 -- the change that a command gives up is this slot's, or it has none
 abbrev pub IsChangeOf : Command → Option Image → ℕ → Type 0
-IsChangeOf command change i = (changed command ≡ Some i) ⊎ ((changed command ≡ None) × (change ≡ None))
+IsChangeOf command change i = (changed_slot command ≡ Some i) ⊎ ((changed_slot command ≡ None) × (change ≡ None))
 
 module _ (s : Setting) (a i : ℕ) (within : i < s.geometry.images) (few : s.geometry.slots ≤ 64) (known : Known) (device : Device) (kept : ImageRecord) (writes : List Journaled) (image : Image)
     (journal : IsJournal s.geometry device i kept writes) (left : IsShown kept writes image) (has : known.sessions i ≡ Some (record { image = kept; writes = writes })) where
@@ -103,7 +103,7 @@ module _ (s : Setting) (a i : ℕ) (within : i < s.geometry.images) (few : s.geo
   refused-slot m owner =
       ap (λ (b : Bool). where_owned b m.slots i (given_up (m.slots i)) i) (owns-own (m.slots i).owner a owner) ∙ at-same m.slots i (given_up (m.slots i))
 
-  stays-refused : (command : Command) (change : Option Image) (m : Model) → Sees command change m → IsChangeOf command change i → Stays (refused_at m a (changed command) i)
+  stays-refused : (command : Command) (change : Option Image) (m : Model) → Sees command change m → IsChangeOf command change i → Stays (refused_at m a (changed_slot command) i)
   stays-refused command change m looks (inl mine) =
       let P : Option ℕ → Type 0 = λ o. Stays (refused_at m a o i) in
       let Q : Slot → Type 0 = λ t. Stays t in
@@ -116,7 +116,7 @@ module _ (s : Setting) (a i : ℕ) (within : i < s.geometry.images) (few : s.geo
   pub held-refused : (command : Command) (change : Option Image) (reply : Reply) → (number_of reply == 0) ≡ false → ends_sessions (number_of reply) ≡ false → IsChangeOf command change i → IsUndamaged reply →
       ((m : Model) → Sees command change m → Answers m a command reply) → Sits command change (ends reply known)
   held-refused command change reply refusal stays gone fine answers = λ m looks.
-      let is : (replied m a command reply).slots i ≡ refused_at m a (changed command) i = ap (λ (n : Model). n.slots i) (refused-given m a command reply refusal stays) in
+      let is : (model_after_reply m a command reply).slots i ≡ refused_at m a (changed_slot command) i = ap (λ (n : Model). n.slots i) (refused-given m a command reply refusal stays) in
       let Q : Slot → Type 0 = λ t. Stays t in
       let st = subst Q (sym is) (stays-refused command change m looks gone) in
       (answers m looks, st.0, st.1, fine)
@@ -132,7 +132,7 @@ module _ (s : Setting) (a i : ℕ) (within : i < s.geometry.images) (few : s.geo
       let k = keeps-with (Detach (slot_no i)) change m looks in
       let K : Slot → Type 0 = λ t. Keeps s.geometry device i t in (
         ok-answers m a (Detach (slot_no i)) Detached refl refl refl tt (rw (attached-in (Detach (slot_no i)) change m looks) refl),
-        subst K (sym (at-same m.slots i (given_back (m.slots i) a))) (record { kept = k.kept; writes = k.writes; journal = k.journal; either = k.either }),
+        subst K (sym (at-same m.slots i (slot_without_owner (m.slots i) a))) (record { kept = k.kept; writes = k.writes; journal = k.journal; either = k.either }),
         λ x is. absurd (let e : None ≡ Some x = sym (at-same known.sessions i None) ∙ is in let P : ⊥ = cc in P),
         tt,
       )
@@ -204,7 +204,7 @@ module _ (s : Setting) (a i : ℕ) (within : i < s.geometry.images) (few : s.geo
             ≡ where_holds (not (is_live kept)) NoImage ++ (where_holds (nat_le (size_of kept) vblock) (OutOfRange (size_of kept)) ++ where_holds (is_worn last_write (write_count session)) (WornOut last_write))
         by_image = rw (left.live, left.size, left.count) refl
 
-    held-writing : change ≡ Some (written image vblock (bytes_of payload)) → not (is_live kept) ≡ false → nat_le (size_of kept) vblock ≡ false → is_worn last_write (write_count session) ≡ false → length writes < s.geometry.slots →
+    held-writing : change ≡ Some (image_after_write image vblock (bytes_of payload)) → not (is_live kept) ≡ false → nat_le (size_of kept) vblock ≡ false → is_worn last_write (write_count session) ≡ false → length writes < s.geometry.slots →
         Sits writes_block change (writing_at vblock (bytes_of payload) until (length writes) (length writes + 1))
     held-writing is-change lives less young room =
         let bytes = bytes_of payload in
@@ -217,9 +217,9 @@ module _ (s : Setting) (a i : ℕ) (within : i < s.geometry.images) (few : s.geo
         let committed : Device = put filled (descriptor_at s.geometry i n) (descriptor_bytes d) in
         let commit : IsJournal s.geometry committed i kept (writes ++ write ∷ []) =
         IsJournal-more s.geometry filled i kept writes write within few journal' (not-false (is_live kept) lives) room refl (not-le-tells (size_of kept) vblock less) (put-same device (data_at s.geometry i n) bytes) in
-        let left' : IsShown kept (writes ++ write ∷ []) (written image vblock bytes) = shown-more kept writes image write left in
+        let left' : IsShown kept (writes ++ write ∷ []) (image_after_write image vblock bytes) = shown-more kept writes image write left in
         let keeps' : (m : Model) → Sees writes_block change m → Keeps s.geometry committed i (m.slots i) =
-        λ m looks. record { kept = kept; writes = writes ++ write ∷ []; journal = commit; either = inr (written image vblock bytes, looks.slot.2 ∙ is-change, left') } in
+        λ m looks. record { kept = kept; writes = writes ++ write ∷ []; journal = commit; either = inr (image_after_write image vblock bytes, looks.slot.2 ∙ is-change, left') } in
         let rest : drop 512 (descriptor_bytes d) ≡ drop 512 (filled (descriptor_at s.geometry i n)) = elim (journal'.old n room) [
           | inl empty ↦ descriptor-back d ∙ ap (drop 512) (sym empty)
           | inr old ↦ descriptor-back d ∙ (sym (descriptor-back old.0) ∙ ap (drop 512) (sym old.1))
@@ -228,7 +228,7 @@ module _ (s : Setting) (a i : ℕ) (within : i < s.geometry.images) (few : s.geo
           λ flags count m looks. record {
             kept = kept;
             writes = writes;
-            journal = IsJournal-data s.geometry device i kept writes n (mixed flags bytes (device (data_at s.geometry i n))) within journal (omega arith);
+            journal = IsJournal-data s.geometry device i kept writes n (with_landed_sectors flags bytes (device (data_at s.geometry i n))) within journal (omega arith);
             either = inl (subst (λ (x : Image). IsShown kept writes x) (sym looks.slot.1) left);
           },
           (
@@ -249,9 +249,9 @@ module _ (s : Setting) (a i : ℕ) (within : i < s.geometry.images) (few : s.geo
             ],
             held-ends s a i writes_block known regime committed keeps' known (with_session known i (Some (with_write session write))) (image_use i until) (Written (n + 1))
                 (λ m looks.
-                let slot = made (m.slots i) in
+                let slot = slot_after_change (m.slots i) in
                 let is : at m.slots i slot i ≡ slot = at-same m.slots i slot in
-                let image' : slot.image ≡ written image vblock bytes = ap (λ (c : Option Image). unwrap_or c (m.slots i).image) (looks.slot.2 ∙ is-change) in
+                let image' : slot.image ≡ image_after_write image vblock bytes = ap (λ (c : Option Image). unwrap_or c (m.slots i).image) (looks.slot.2 ∙ is-change) in
                 let l : IsShown kept (writes ++ write ∷ []) slot.image = subst (λ (x : Image). IsShown kept (writes ++ write ∷ []) x) (sym image') left' in
                 let K : Slot → Type 0 = λ t. Keeps s.geometry committed i t in
                 let session' = with_write session write in
@@ -276,7 +276,7 @@ module _ (s : Setting) (a i : ℕ) (within : i < s.geometry.images) (few : s.geo
           tt,
         )
 
-    pub held-write : (is_live kept ≡ true → vblock < size_of kept → is_worn last_write (write_count session) ≡ false → change ≡ Some (written image vblock (bytes_of payload))) →
+    pub held-write : (is_live kept ≡ true → vblock < size_of kept → is_worn last_write (write_count session) ≡ false → change ≡ Some (image_after_write image vblock (bytes_of payload))) →
         Sits writes_block change (write_part s known i vblock (bytes_of payload) session until)
     held-write is-change = by_tests (not (is_live kept)) (nat_le (size_of kept) vblock) (is_worn last_write (write_count session)) (length writes == s.geometry.slots) refl refl refl refl
       where
@@ -313,7 +313,7 @@ module _ (s : Setting) (a i : ℕ) (within : i < s.geometry.images) (few : s.geo
   held-record : (command : Command) (change : Option Image) (new : ImageRecord) (image' : Image) (until : ℕ) (done' : Reply) → IsUndamaged done' → change ≡ Some image' → IsShown new [] image' →
       IsImage new → is_plain new ≡ true → applied_of new ≡ 0 → generation_of kept ≤ generation_of new → (is_live new ≡ true → generation_of kept < generation_of new) →
       ((m : Model) → Sees command change m → Answers m a command done') →
-      ((m : Model) → (replied m a command done').slots i ≡ at m.slots i (made (m.slots i)) i) →
+      ((m : Model) → (model_after_reply m a command done').slots i ≡ at m.slots i (slot_after_change (m.slots i)) i) →
       Sits command change (record_part s known i until new done')
   held-record command change new image' until done' fine is-change shown limits plain unapplied later fresh answers slots =
       let block = record_at s.geometry i in
@@ -339,8 +339,8 @@ module _ (s : Setting) (a i : ℕ) (within : i < s.geometry.images) (few : s.geo
         ],
         held-ends s a i command known (With image change) written' keeps' known (with_session known i (Some session')) (image_use i until) done'
             (λ m looks.
-            let slot = made (m.slots i) in
-            let is : (replied m a command done').slots i ≡ slot = slots m ∙ at-same m.slots i slot in
+            let slot = slot_after_change (m.slots i) in
+            let is : (model_after_reply m a command done').slots i ≡ slot = slots m ∙ at-same m.slots i slot in
             let image-is : slot.image ≡ image' = ap (λ (c : Option Image). unwrap_or c (m.slots i).image) (looks.slot.2 ∙ is-change) in
             let l : IsShown new [] slot.image = subst (λ (x : Image). IsShown new [] x) (sym image-is) shown in
             let K : Slot → Type 0 = λ t. Keeps s.geometry written' i t in
@@ -349,7 +349,7 @@ module _ (s : Setting) (a i : ℕ) (within : i < s.geometry.images) (few : s.geo
               subst K (sym is) (record { kept = new; writes = []; journal = journal'; either = inl l }),
               λ t known'.
                   let same : session' ≡ t = (let e : Some session' ≡ Some t = sym (at-same known.sessions i (Some session')) ∙ known' in cc) in
-                  subst (λ (x : Session). H x ((replied m a command done').slots i)) same
+                  subst (λ (x : Session). H x ((model_after_reply m a command done').slots i)) same
                   (subst (H session') (sym is) (record { owner = looks.slot.0; decided = refl; journal = journal'; left = l })),
               fine,
             )),

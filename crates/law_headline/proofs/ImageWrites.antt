@@ -1,7 +1,7 @@
 -- Writes of an image's record and journal: what a kind owes, in one lemma each, so that the invariant asks for no kind.
 use Rattle.std.proofs.Common.{◌≡◌, ℕ, ◌<◌, ◌⊎◌, inl, inr, List, [], ◌∷◌, Bool, true, Some, refl, ap, sym, subst, ◌∙◌, length}
 use Rattle.std.proofs.lemmas.Bool.Decides.{eqb_tells}
-use Rattle.plx_base.specs.Sectors.{Device, put, mixed}
+use Rattle.plx_base.specs.Sectors.{Device, put, with_landed_sectors}
 use Rattle.plx_base.specs.declared.write_kind.WriteKind.{WriteKind}
 use Rattle.plx_base.specs.declared.write_kind.WriteKind.TheVariants as kind
 use Rattle.plx_commands.specs.Model.{Model, Slot}
@@ -17,8 +17,7 @@ use Rattle.plx_rules.specs.Rests.{home_of}
 use Rattle.plx_rules.specs.Session.{Known}
 use Rattle.law_lease.proofs.Covers.{Covers, one-cover, lease-uncovered, home-covers, write-covered}
 use Rattle.law_lease.proofs.Frame.{SameUnder}
-use Rattle.law_lease.proofs.Leased.{MayAsk, MayUse, IsPlaced}
-use Rattle.law_lease.proofs.Lists.{same-some}
+use Rattle.law_lease.proofs.Leased.{MayWrite, MayUse, IsPlaced}
 use Rattle.law_lease.proofs.Rests.{home-in}
 use Rattle.law_headline.proofs.Content.{IsJournalled}
 use Rattle.law_headline.proofs.Held.{Regime, IsWith, Looks, IsOf, HeldPart, IsNamed}
@@ -26,6 +25,7 @@ use Rattle.law_headline.proofs.Journals.{Keeps, Same}
 use Rattle.law_headline.proofs.BytesByKind.{OnlyBytes}
 use Rattle.law_headline.proofs.PlacedByKind.{KeepsImage, PlacedBy}
 use Rattle.law_headline.proofs.Replied.{Names}
+use Rattle.plx_base.proofs.Tests.{same-some}
 
 -- ---- by kind
 
@@ -56,7 +56,7 @@ named-image g command block other is named = absurd is
 
 -- it uses leases that are held
 pub use-image : (g : Geometry) (boot : ℕ) (holds : ℕ → Hold) (rests : List ℕ) (block : ℕ) (bytes : List ℕ) (guard : ℕ) (k : WriteKind) → IsJournalled k →
-    MayAsk g boot holds rests k block bytes guard → MayUse g holds rests k block bytes guard
+    MayWrite g boot holds rests k block bytes guard → MayUse g holds rests k block bytes guard
 use-image g boot holds rests block bytes guard kind.Record is may = may
 use-image g boot holds rests block bytes guard kind.JData is may = may
 use-image g boot holds rests block bytes guard kind.JCommit is may = may
@@ -95,7 +95,7 @@ module _ (g : Geometry) (a i : ℕ) (command : Command) (known : Known) (regime 
   -- what an owner owes where it asks for a write of its image: whatever of it lands the image is kept, and what follows is right on the device with all of it landed
   pub record IsImageWrite (k : WriteKind) : Type 0 where
     pub of : IsOf g i block
-    pub keeps : (flags : List Bool) → length flags ≡ 8 → (m : Model) → Looks g a i command known regime m → Keeps g (put device block (mixed flags bytes (device block))) i (m.slots i)
+    pub keeps : (flags : List Bool) → length flags ≡ 8 → (m : Model) → Looks g a i command known regime m → Keeps g (put device block (with_landed_sectors flags bytes (device block))) i (m.slots i)
     pub follows : HeldPart g a i command known regime done (put device block bytes)
     pub changes : IsWith regime
     pub only : OnlyBytes k bytes (device block)

@@ -18,10 +18,10 @@ use Rattle.plx_geom.proofs.Places.{record-data, record-descriptor}
 use Rattle.plx_rules.specs.declared.journaled.Journaled.{Journaled}
 use Rattle.law_lease.proofs.Lists.{push-cases}
 use Rattle.plx_base.proofs.Tests.{eqb-true, eqb-false, nat_lt-true}
-use Rattle.plx_rules.specs.Journal.{journal_slot, is_unapplied, is_placed, counted, counted_of, Outside, Unused, Counts, finding, finding_of}
+use Rattle.plx_rules.specs.Journal.{journal_slot, is_unapplied, is_placed, counted_descriptor, counted_of, Outside, Unused, Counts, finding, finding_of, descriptor_of}
 use Rattle.plx_rules.specs.Records.{is_live, is_plain, generation_of, size_of, applied_of}
 use Rattle.law_headline.proofs.Owners.{both-true}
-use Rattle.law_headline.proofs.Journals.{descriptor_of, IsOld, IsJournal, Keeps, Same}
+use Rattle.law_headline.proofs.Journals.{IsOld, IsJournal, Keeps, Same}
 
 -- the write after so many stands in the slot of that number
 pub journal_slot-next : (slots n : ℕ) → n < slots → journal_slot slots (n + 1) ≡ n
@@ -185,7 +185,7 @@ commit-test g device image kept writes j k write at =
     counted-test g kept k (descriptor_of kept write) (has-live g device image kept writes j k write at) j.unapplied refl (j.numbers k write at) (omega (arith, below, fits))
 
 pub counted-commit : (g : Geometry) (device : Device) (image : ℕ) (kept : ImageRecord) (writes : List Journaled) → IsJournal g device image kept writes → g.slots ≤ 64 → (k : ℕ) (write : Journaled) →
-    slice_get writes k ≡ Some write → counted kept g.slots k (device (descriptor_at g image k)) ≡ Some (descriptor_of kept write)
+    slice_get writes k ≡ Some write → counted_descriptor kept g.slots k (device (descriptor_at g image k)) ≡ Some (descriptor_of kept write)
 counted-commit g device image kept writes j few k write at =
     ap (counted_of kept g.slots k) (read-commit g device image kept writes j few k write at)
     ∙ ap (λ test. if test then Some (descriptor_of kept write) else None) (commit-test g device image kept writes j k write at)
@@ -202,7 +202,7 @@ finding-commit g device image kept writes j few k write at =
     ∙ ap (λ test. if test then Counts d else Outside) (nat_lt-true d.vblock (size_of kept) (j.within k write at))))
 
 -- an unused slot doesn't count
-pub unused-uncounted : (kept : ImageRecord) (slots k : ℕ) (bytes : List ℕ) → finding kept slots k bytes ≡ Unused → counted kept slots k bytes ≡ None
+pub unused-uncounted : (kept : ImageRecord) (slots k : ℕ) (bytes : List ℕ) → finding kept slots k bytes ≡ Unused → counted_descriptor kept slots k bytes ≡ None
 unused-uncounted kept slots k bytes unused = by_read (read_descriptor bytes) unused
   where
     by_tests : (d : Descriptor) (t u v : Bool) → (if t then (if u && v then Counts d else Outside) else Unused) ≡ Unused → (if t && u then Some d else None) ≡ None

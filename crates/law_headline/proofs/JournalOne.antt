@@ -10,9 +10,10 @@ use Rattle.plx_gate.specs.Images.{read_image}
 use Rattle.plx_gate.specs.declared.image.ImageRecord.{ImageRecord}
 use Rattle.plx_rules.specs.Records.{is_live}
 use Rattle.law_headline.proofs.JournalFacts.{counted-commit, unused-uncounted}
-use Rattle.law_headline.proofs.Journals.{descriptor_of, IsJournal, ShowEither}
+use Rattle.law_headline.proofs.Journals.{IsJournal, ShowEither}
 use Rattle.plx_gate.proofs.Images.{image-back}
 use Rattle.plx_commands.specs.Model.{Slot}
+use Rattle.plx_rules.specs.Journal.{descriptor_of}
 
 same-entries : {X : Type 0} (xs ys : List X) → length xs ≡ length ys → ((k : ℕ) (x y : X) → slice_get xs k ≡ Some x → slice_get ys k ≡ Some y → x ≡ y) → xs ≡ ys
 same-entries [] [] e same = refl

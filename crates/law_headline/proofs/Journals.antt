@@ -11,13 +11,9 @@ use Rattle.plx_gate.specs.declared.descriptor.Descriptor.{Descriptor}
 use Rattle.plx_gate.specs.declared.image.ImageRecord.{ImageRecord}
 use Rattle.plx_geom.specs.Geometry.{Geometry, record_at, descriptor_at, data_at}
 use Rattle.plx_rules.specs.declared.journaled.Journaled.{Journaled}
-use Rattle.plx_rules.specs.Journal.{Unused, finding}
+use Rattle.plx_rules.specs.Journal.{Unused, finding, descriptor_of}
 use Rattle.plx_rules.specs.Records.{is_live, is_plain, generation_of, size_of, applied_of}
 use Rattle.plx_rules.specs.Session.{latest}
-
--- the descriptor of a journalled write of an image with this record
-abbrev pub descriptor_of : ImageRecord → Journaled → Descriptor
-descriptor_of kept write = record { generation = generation_of kept; vblock = write.vblock; number = write.number }
 
 -- bytes are zeros, or a descriptor of a generation up to this one
 abbrev pub IsOld : ImageRecord → List ℕ → Type 0

@@ -9,7 +9,9 @@ pub mod CrashesProved
 pub mod FairAttach
 pub mod FairCommands
 pub mod FairParts
+pub mod FairSpace
 pub mod Foreign
+pub mod HandFacts
 pub mod Harmless
 pub mod HeadlineProved
 pub mod Held
@@ -22,6 +24,7 @@ pub mod ImageWrites
 pub mod JournalFacts
 pub mod JournalOne
 pub mod Journals
+pub mod MapFacts
 pub mod ModelFacts
 pub mod Owners
 pub mod PlacedByKind

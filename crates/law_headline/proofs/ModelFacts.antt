@@ -7,11 +7,11 @@ use Rattle.plx_commands.specs.Facts.{refusals, where_holds, where_is, of_none, i
 use Rattle.plx_commands.specs.Images.{Image, report_of, count_dropped}
 use Rattle.plx_commands.specs.Judge.{Accepts, Permitted}
 use Rattle.plx_commands.specs.Model.{Model, Slot, first_model, images_in, owns_all, has_all}
-use Rattle.plx_commands.specs.Moves.{under_way, made, given_up, attached, given_back, where_owned, begins_change, started_at, refused_at, done_at, rested, forgotten, entered, left, given, done, succeeded, sorted, replied, replied_in, started, moved, model_of}
+use Rattle.plx_commands.specs.Moves.{under_way, slot_after_change, given_up, slot_after_attach, slot_without_owner, where_owned, begins_change, started_at, refused_at, done_at, model_at_rest, model_without_sessions, model_after_attach, model_after_detach, model_without_change, model_after_change, model_after_ok, model_after_sort, model_after_reply, replied_in, model_after_start, model_after, model_of}
 use Rattle.plx_commands.specs.Places.{at}
 use Rattle.plx_commands.specs.Replies.{number_of, is_own, ends_sessions}
 use Rattle.plx_commands.specs.Reports.{same_report, same_flag, same_bytes}
-use Rattle.plx_commands.specs.Slots.{named, changed, after}
+use Rattle.plx_commands.specs.Slots.{named_slots, changed_slot, image_after}
 use Rattle.plx_commands.specs.declared.command.Command.{Command}
 use Rattle.plx_commands.specs.declared.command.Command.TheVariants.{Attach, Detach, Create, Delete, Read, Write, Flush, Reserve, Renew, Retire, Reclaim}
 use Rattle.plx_commands.specs.declared.reply.Report.{Report}
@@ -21,7 +21,7 @@ use Rattle.plx_commands.specs.declared.entry.Entry.{Entry}
 use Rattle.plx_commands.specs.declared.entry.Entry.TheVariants as entry
 use Rattle.plx_commands.proofs.Accepted.{Answers, answers-of}
 use Rattle.plx_commands.proofs.Places.{at-same, at-other, at-all}
-use Rattle.plx_base.proofs.Tests.{eqb-false, nat_lt-true, and-false}
+use Rattle.plx_base.proofs.Tests.{eqb-false, nat_lt-true, and-no}
 use Rattle.law_headline.proofs.Owners.{both-true, owner-cases, disowned-not, disowned-other, changed-owned}
 
 -- a change under way is reported otherwise than its image
@@ -33,7 +33,7 @@ pub record Sound (m : Model) : Type 0 where
   pub differs : (j : ℕ) → Differs (m.slots j)
   pub within : (a j : ℕ) → (m.slots j).owner ≡ Some a → j < m.images
   pub session : (a j : ℕ) → (m.slots j).owner ≡ Some a → m.sessions a j ≡ true
-  pub decided : (a j : ℕ) (i : Image) → (m.slots j).owner ≡ Some a → (m.slots j).change ≡ Some i → (c : Command) × (m.running a ≡ Some c) × (changed c ≡ Some j)
+  pub decided : (a j : ℕ) (i : Image) → (m.slots j).owner ≡ Some a → (m.slots j).change ≡ Some i → (c : Command) × (m.running a ≡ Some c) × (changed_slot c ≡ Some j)
 
 -- a slot after a reply to appliance a, whose session of it is this flag
 record After (a : ℕ) (flag inside : Type 0) (s t : Slot) : Type 0 where
@@ -45,7 +45,7 @@ module _ (m : Model) (a : ℕ) where
   abbrev Goes : (ℕ → Slot) → (ℕ → Bool) → Type 0
   Goes slots sessions = (j : ℕ) → After a (sessions j ≡ true) (j < m.images) (m.slots j) (slots j)
 
-  sound-rested : (slots : ℕ → Slot) (sessions : ℕ → Bool) → Sound m → Goes slots sessions → Sound (rested m a slots sessions)
+  sound-rested : (slots : ℕ → Slot) (sessions : ℕ → Bool) → Sound m → Goes slots sessions → Sound (model_at_rest m a slots sessions)
   sound-rested slots sessions sound after = record {
     differs = λ j. (after j).differs (sound.differs j);
     within = λ b j e. elim (eqb_tells b a) [
@@ -70,7 +70,7 @@ module _ (m : Model) (a : ℕ) where
   }
 
   -- a slot that stays, where the appliance's command doesn't change it
-  after-same : (j : ℕ) (flag : Bool) → Sound m → flag ≡ m.sessions a j → ((c : Command) → m.running a ≡ Some c → changed c ≡ Some j → ⊥) →
+  after-same : (j : ℕ) (flag : Bool) → Sound m → flag ≡ m.sessions a j → ((c : Command) → m.running a ≡ Some c → changed_slot c ≡ Some j → ⊥) →
       After a (flag ≡ true) (j < m.images) (m.slots j) (m.slots j)
   after-same j flag sound is no_change = record {
     differs = λ d. d;
@@ -82,7 +82,7 @@ module _ (m : Model) (a : ℕ) where
       none None is' e = is'
       none (Some i) is' e = let w = sound.decided a j i e is' in absurd (no_change w.0 w.1 w.2)
 
-  after-back : (flag inside : Type 0) (s : Slot) → After a flag inside s (given_back s a)
+  after-back : (flag inside : Type 0) (s : Slot) → After a flag inside s (slot_without_owner s a)
   after-back flag inside s = record { differs = λ d. d; mine = λ e. absurd (disowned-not s.owner a e); others = λ b ne e. (disowned-other s.owner a b e, λ i c. c) }
 
   after-at : (slot : ℕ) (s : Slot) (sessions : ℕ → Bool) → After a (sessions slot ≡ true) (slot < m.images) (m.slots slot) s →
@@ -91,18 +91,18 @@ module _ (m : Model) (a : ℕ) where
 
   module _ (command : Command) (sound : Sound m) (runs : m.running a ≡ Some command) where
     -- the command that runs changes one slot, or none
-    changes-none : changed command ≡ None → (j : ℕ) (c : Command) → m.running a ≡ Some c → changed c ≡ Some j → ⊥
+    changes-none : changed_slot command ≡ None → (j : ℕ) (c : Command) → m.running a ≡ Some c → changed_slot c ≡ Some j → ⊥
     changes-none none j c is changes =
         let same : command ≡ c = (let e : Some command ≡ Some c = sym runs ∙ is in cc) in
-        let e : None ≡ Some j = sym none ∙ (ap changed same ∙ changes) in let P : ⊥ = cc in P
+        let e : None ≡ Some j = sym none ∙ (ap changed_slot same ∙ changes) in let P : ⊥ = cc in P
 
-    changes-other : (slot : ℕ) → changed command ≡ Some slot → (j : ℕ) → j ≢ slot → (c : Command) → m.running a ≡ Some c → changed c ≡ Some j → ⊥
+    changes-other : (slot : ℕ) → changed_slot command ≡ Some slot → (j : ℕ) → j ≢ slot → (c : Command) → m.running a ≡ Some c → changed_slot c ≡ Some j → ⊥
     changes-other slot some j ne c is changes =
         let same : command ≡ c = (let e : Some command ≡ Some c = sym runs ∙ is in cc) in
-        ne (let e : Some slot ≡ Some j = sym some ∙ (ap changed same ∙ changes) in cc)
+        ne (let e : Some slot ≡ Some j = sym some ∙ (ap changed_slot same ∙ changes) in cc)
 
     -- a change that is given up, and one that is made
-    after-refused : (o : Option ℕ) → changed command ≡ o → Goes (refused_at m a o) (m.sessions a)
+    after-refused : (o : Option ℕ) → changed_slot command ≡ o → Goes (refused_at m a o) (m.sessions a)
     after-refused None is j = after-same j (m.sessions a j) sound refl (changes-none is j)
     after-refused (Some slot) is k = elim (owner-cases (m.slots slot).owner a) [
       | inl mine ↦
@@ -130,9 +130,9 @@ module _ (m : Model) (a : ℕ) where
           | inr other ↦ (let w = sound.decided a j i e is' in changes-other slot is j other.1 w.0 w.1 w.2)
         ])
 
-    after-done : (o : Option ℕ) → changed command ≡ o → Goes (done_at m o) (m.sessions a)
+    after-done : (o : Option ℕ) → changed_slot command ≡ o → Goes (done_at m o) (m.sessions a)
     after-done None is j = after-same j (m.sessions a j) sound refl (changes-none is j)
-    after-done (Some slot) is k = after-at slot (made (m.slots slot)) (m.sessions a)
+    after-done (Some slot) is k = after-at slot (slot_after_change (m.slots slot)) (m.sessions a)
         (record {
           differs = λ d i e. absurd (let P : ⊥ = cc in P);
           mine = λ e. (refl, sound.session a slot e, sound.within a slot e);
@@ -140,19 +140,19 @@ module _ (m : Model) (a : ℕ) where
         })
         (λ j ne. after-same j (m.sessions a j) sound refl (changes-other slot is j ne)) k
 
-    sound-given : Sound (given m a command)
-    sound-given = sound-rested (refused_at m a (changed command)) (m.sessions a) sound (after-refused (changed command) refl)
+    sound-given : Sound (model_without_change m a command)
+    sound-given = sound-rested (refused_at m a (changed_slot command)) (m.sessions a) sound (after-refused (changed_slot command) refl)
 
-    sound-done : Sound (done m a command)
-    sound-done = sound-rested (done_at m (changed command)) (m.sessions a) sound (after-done (changed command) refl)
+    sound-done : Sound (model_after_change m a command)
+    sound-done = sound-rested (done_at m (changed_slot command)) (m.sessions a) sound (after-done (changed_slot command) refl)
 
-  sound-forgotten : Sound m → Sound (forgotten m a)
-  sound-forgotten sound = sound-rested (λ slot. given_back (m.slots slot) a) (λ slot. false) sound (λ j. after-back _ _ (m.slots j))
+  sound-forgotten : Sound m → Sound (model_without_sessions m a)
+  sound-forgotten sound = sound-rested (λ slot. slot_without_owner (m.slots slot) a) (λ slot. false) sound (λ j. after-back _ _ (m.slots j))
 
-  sound-entered : (slot : SlotNo) (report : Report) → Sound m → m.running a ≡ Some (Attach slot) → slot.0 < m.images → Sound (entered m a slot.0 report)
+  sound-entered : (slot : SlotNo) (report : Report) → Sound m → m.running a ≡ Some (Attach slot) → slot.0 < m.images → Sound (model_after_attach m a slot.0 report)
   sound-entered slot report sound runs inside =
-      sound-rested (at m.slots slot.0 (attached (m.slots slot.0) a report)) (at (m.sessions a) slot.0 true) sound
-      (after-at slot.0 (attached (m.slots slot.0) a report) (at (m.sessions a) slot.0 true)
+      sound-rested (at m.slots slot.0 (slot_after_attach (m.slots slot.0) a report)) (at (m.sessions a) slot.0 true) sound
+      (after-at slot.0 (slot_after_attach (m.slots slot.0) a report) (at (m.sessions a) slot.0 true)
       (record {
         differs = λ d i e. absurd (let P : ⊥ = cc in P);
         mine = λ e. (refl, at-same (m.sessions a) slot.0 true, inside);
@@ -160,23 +160,23 @@ module _ (m : Model) (a : ℕ) where
       })
       (λ j ne. after-same j (at (m.sessions a) slot.0 true j) sound (at-other (m.sessions a) slot.0 j true ne) (changes-none (Attach slot) sound runs refl j)))
 
-  sound-left : (slot : SlotNo) → Sound m → m.running a ≡ Some (Detach slot) → Sound (left m a slot.0)
+  sound-left : (slot : SlotNo) → Sound m → m.running a ≡ Some (Detach slot) → Sound (model_after_detach m a slot.0)
   sound-left slot sound runs =
-      sound-rested (at m.slots slot.0 (given_back (m.slots slot.0) a)) (at (m.sessions a) slot.0 false) sound
-      (after-at slot.0 (given_back (m.slots slot.0) a) (at (m.sessions a) slot.0 false) (after-back _ _ (m.slots slot.0))
+      sound-rested (at m.slots slot.0 (slot_without_owner (m.slots slot.0) a)) (at (m.sessions a) slot.0 false) sound
+      (after-at slot.0 (slot_without_owner (m.slots slot.0) a) (at (m.sessions a) slot.0 false) (after-back _ _ (m.slots slot.0))
       (λ j ne. after-same j (at (m.sessions a) slot.0 false j) sound (at-other (m.sessions a) slot.0 j false ne) (changes-none (Detach slot) sound runs refl j)))
 
   -- a command's own Ok
-  sound-succeeded : (command : Command) (reply : Reply) → Sound m → m.running a ≡ Some command → Answers m a command reply → Sound (succeeded m a command reply)
+  sound-succeeded : (command : Command) (reply : Reply) → Sound m → m.running a ≡ Some command → Answers m a command reply → Sound (model_after_ok m a command reply)
   sound-succeeded (Attach slot) (Attached report) sound runs answers = sound-entered slot report sound runs (answers.value refl).0
   sound-succeeded (Attach slot) reply sound runs answers = sound-done (Attach slot) sound runs
   sound-succeeded (Detach slot) reply sound runs answers = sound-left slot sound runs
   sound-succeeded command reply sound runs answers = sound-done command sound runs
 
-  sound-replied : (command : Command) (reply : Reply) → Sound m → m.running a ≡ Some command → Answers m a command reply → Sound (replied m a command reply)
+  sound-replied : (command : Command) (reply : Reply) → Sound m → m.running a ≡ Some command → Answers m a command reply → Sound (model_after_reply m a command reply)
   sound-replied command reply sound runs answers = by_sort (is_own command reply) (ends_sessions (number_of reply))
     where
-      by_sort : (own ends : Bool) → Sound (sorted own ends m a command reply)
+      by_sort : (own ends : Bool) → Sound (model_after_sort own ends m a command reply)
       by_sort true ends = sound-succeeded command reply sound runs answers
       by_sort false true = sound-forgotten sound
       by_sort false false = sound-given command sound runs
@@ -190,8 +190,8 @@ no-refusal false true e = refl
 no-refusal false false e = absurd (let P : ⊥ = cc in P)
 
 -- a change is reported otherwise than its image
-differs-after : (m : Model) (a : ℕ) (command : Command) (slot : ℕ) → changed command ≡ Some slot → slot < m.images → is_none (refusals m a command) ≡ true →
-    same_report (report_of (after (images_in m) slot command)) (report_of (m.slots slot).image) ≡ false
+differs-after : (m : Model) (a : ℕ) (command : Command) (slot : ℕ) → changed_slot command ≡ Some slot → slot < m.images → is_none (refusals m a command) ≡ true →
+    same_report (report_of (image_after (images_in m) slot command)) (report_of (m.slots slot).image) ≡ false
 differs-after m a (Write k v x) slot is inside fine =
     let i = (m.slots slot).image in
     ap (λ (b : Bool). b && ((i.generation == i.generation) && ((i.size == i.size) && ((length i.frozen == length i.frozen) && ((count_dropped i.frozen == count_dropped i.frozen) && (same_flag i.live i.live && same_bytes i.label i.label))))))
@@ -199,7 +199,7 @@ differs-after m a (Write k v x) slot is inside fine =
 differs-after m a (Create k size label) slot is inside fine =
     let i = (m.slots slot).image in
     let more : ((i.generation + 1) == i.generation) ≡ false = eqb-false (i.generation + 1) i.generation (omega arith) in
-    and-false (0 == i.writes) _ (ap (λ (b : Bool). b && ((size == i.size) && ((0 == length i.frozen) && ((0 == count_dropped i.frozen) && (same_flag true i.live && same_bytes label i.label))))) more)
+    and-no (0 == i.writes) _ (ap (λ (b : Bool). b && ((size == i.size) && ((0 == length i.frozen) && ((0 == count_dropped i.frozen) && (same_flag true i.live && same_bytes label i.label))))) more)
 differs-after m a (Delete k) slot is inside fine =
     let same : k.0 ≡ slot = cc in
     let there : nat_lt k.0 m.images ≡ true = nat_lt-true k.0 m.images (omega (arith, inside, same)) in
@@ -207,7 +207,7 @@ differs-after m a (Delete k) slot is inside fine =
     let live : (m.slots slot).image.live ≡ true =
     ap (λ (n : ℕ). (m.slots n).image.live) (sym same) ∙ no-refusal (not (has_all (m.sessions a) (k.0 ∷ []))) (m.slots k.0).image.live (subst F there fine) in
     let i = (m.slots slot).image in
-    and-false (0 == i.writes) _ (and-false (i.generation == i.generation) _ (and-false (0 == i.size) _ (and-false (0 == length i.frozen) _ (and-false (0 == count_dropped i.frozen) _
+    and-no (0 == i.writes) _ (and-no (i.generation == i.generation) _ (and-no (0 == i.size) _ (and-no (0 == length i.frozen) _ (and-no (0 == count_dropped i.frozen) _
     (ap (λ (b : Bool). same_flag false b && same_bytes [] i.label) live)))))
 differs-after m a (Attach k) slot is inside fine = absurd (let P : ⊥ = cc in P)
 differs-after m a (Detach k) slot is inside fine = absurd (let P : ⊥ = cc in P)
@@ -222,8 +222,8 @@ differs-after m a Reclaim slot is inside fine = absurd (let P : ⊥ = cc in P)
 abbrev with_slots : Model → ℕ → Command → (ℕ → Slot) → Model
 with_slots m a command slots = record m { slots = slots; running = at m.running a (Some command) }
 
-sound-started : (m : Model) (a : ℕ) (command : Command) → Sound m → m.running a ≡ None → Sound (started m a command)
-sound-started m a command sound idle = by_slot (changed command) refl
+sound-started : (m : Model) (a : ℕ) (command : Command) → Sound m → m.running a ≡ None → Sound (model_after_start m a command)
+sound-started m a command sound idle = by_slot (changed_slot command) refl
   where
     still : Sound (with_slots m a command m.slots)
     still = record {
@@ -236,21 +236,21 @@ sound-started m a command sound idle = by_slot (changed command) refl
       ]);
     }
 
-    begun : (slot : ℕ) → changed command ≡ Some slot → (m.slots slot).owner ≡ Some a → is_none (refusals m a command) ≡ true →
-        Sound (with_slots m a command (at m.slots slot (under_way (m.slots slot) (after (images_in m) slot command))))
+    begun : (slot : ℕ) → changed_slot command ≡ Some slot → (m.slots slot).owner ≡ Some a → is_none (refusals m a command) ≡ true →
+        Sound (with_slots m a command (at m.slots slot (under_way (m.slots slot) (image_after (images_in m) slot command))))
     begun slot changes mine fine =
         let was = still in
-        let new = under_way (m.slots slot) (after (images_in m) slot command) in
+        let new = under_way (m.slots slot) (image_after (images_in m) slot command) in
         record {
           differs = at-all (λ j t. Differs t) m.slots slot new
-              (λ i e. let f : after (images_in m) slot command ≡ i = cc in
+              (λ i e. let f : image_after (images_in m) slot command ≡ i = cc in
               let P : Image → Type 0 = λ x. same_report (report_of x) (report_of (m.slots slot).image) ≡ false in
               subst P f (differs-after m a command slot changes (sound.within a slot mine) fine))
               (λ j ne. was.differs j);
           within = λ b. at-all (λ j t. t.owner ≡ Some b → j < m.images) m.slots slot new (λ e. was.within b slot e) (λ j ne e. was.within b j e);
           session = λ b. at-all (λ j t. t.owner ≡ Some b → m.sessions b j ≡ true) m.slots slot new (λ e. was.session b slot e) (λ j ne e. was.session b j e);
           decided = λ b. at-all (λ j t. (i : Image) → t.owner ≡ Some b → t.change ≡ Some i →
-              (c : Command) × (at m.running a (Some command) b ≡ Some c) × (changed c ≡ Some j)) m.slots slot new
+              (c : Command) × (at m.running a (Some command) b ≡ Some c) × (changed_slot c ≡ Some j)) m.slots slot new
               (λ i e c. (
                 command,
                 (let same : a ≡ b = (let f : Some a ≡ Some b = sym mine ∙ e in cc) in
@@ -261,19 +261,19 @@ sound-started m a command sound idle = by_slot (changed command) refl
               (λ j ne i e c. was.decided b j i e c);
         }
 
-    by_test : (slot : ℕ) → changed command ≡ Some slot → (x : Bool) → begins_change m a command ≡ x →
-        Sound (with_slots m a command (where_owned x m.slots slot (under_way (m.slots slot) (after (images_in m) slot command))))
+    by_test : (slot : ℕ) → changed_slot command ≡ Some slot → (x : Bool) → begins_change m a command ≡ x →
+        Sound (with_slots m a command (where_owned x m.slots slot (under_way (m.slots slot) (image_after (images_in m) slot command))))
     by_test slot changes true e =
-        let b = both-true (owns_all m a (named command)) (is_none (refusals m a command)) e in
+        let b = both-true (owns_all m a (named_slots command)) (is_none (refusals m a command)) e in
         begun slot changes (changed-owned m a command slot changes b.0) b.1
     by_test slot changes false e = still
 
-    by_slot : (o : Option ℕ) → changed command ≡ o → Sound (with_slots m a command (started_at m a command o))
+    by_slot : (o : Option ℕ) → changed_slot command ≡ o → Sound (with_slots m a command (started_at m a command o))
     by_slot None e = still
     by_slot (Some slot) e = by_test slot e (begins_change m a command) refl
 
 -- an entry that is accepted keeps it
-pub sound-moved : (m : Model) (e : Entry) → Sound m → Accepts m e → Sound (moved m e)
+pub sound-moved : (m : Model) (e : Entry) → Sound m → Accepts m e → Sound (model_after m e)
 sound-moved m (entry.Start a command) sound accepts = sound-started m a.0 command sound accepts.idle
 sound-moved m (entry.Crash a) sound accepts = sound-forgotten m a.0 sound
 sound-moved m (entry.Reply a reply) sound accepts = by_running (m.running a.0) refl
@@ -295,21 +295,21 @@ sound-all images appliances (e ∷ older) permitted = sound-moved _ e (sound-all
 abbrev pub SameCounts : Model → Model → Type 0
 SameCounts m n = (n.images ≡ m.images) × (n.appliances ≡ m.appliances)
 
-counts-replied : (m : Model) (a : ℕ) (command : Command) (reply : Reply) → SameCounts m (replied m a command reply)
+counts-replied : (m : Model) (a : ℕ) (command : Command) (reply : Reply) → SameCounts m (model_after_reply m a command reply)
 counts-replied m a command reply = by_sort (is_own command reply) (ends_sessions (number_of reply))
   where
-    of_own : (c : Command) (r : Reply) → SameCounts m (succeeded m a c r)
+    of_own : (c : Command) (r : Reply) → SameCounts m (model_after_ok m a c r)
     of_own (Attach slot) (Attached report) = (refl, refl)
     of_own (Attach slot) r = (refl, refl)
     of_own (Detach slot) r = (refl, refl)
     of_own c r = (refl, refl)
 
-    by_sort : (own ends : Bool) → SameCounts m (sorted own ends m a command reply)
+    by_sort : (own ends : Bool) → SameCounts m (model_after_sort own ends m a command reply)
     by_sort true ends = of_own command reply
     by_sort false true = (refl, refl)
     by_sort false false = (refl, refl)
 
-counts-moved : (m : Model) (e : Entry) → SameCounts m (moved m e)
+counts-moved : (m : Model) (e : Entry) → SameCounts m (model_after m e)
 counts-moved m (entry.Start a command) = (refl, refl)
 counts-moved m (entry.Crash a) = (refl, refl)
 counts-moved m (entry.Reply a reply) = by_running (m.running a.0)

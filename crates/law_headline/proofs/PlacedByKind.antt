@@ -1,6 +1,6 @@
 -- What holds of a write's own block, by its kind, while its home stands.
 use Rattle.std.proofs.Common.{◌≡◌, ℕ, ◌<◌, List, Bool, length}
-use Rattle.plx_base.specs.Sectors.{Device, put, mixed}
+use Rattle.plx_base.specs.Sectors.{Device, put, with_landed_sectors}
 use Rattle.plx_base.specs.declared.write_kind.WriteKind.{WriteKind}
 use Rattle.plx_base.specs.declared.write_kind.WriteKind.TheVariants as kind
 use Rattle.plx_commands.specs.Model.{Slot}
@@ -11,13 +11,13 @@ use Rattle.law_headline.proofs.Journals.{Keeps}
 
 -- whatever of the write lands, the image is kept
 abbrev pub KeepsAll : Geometry → Device → (image : ℕ) → Slot → (block : ℕ) → (bytes : List ℕ) → Type 0
-KeepsAll g device i slot block bytes = (flags : List Bool) → length flags ≡ 8 → Keeps g (put device block (mixed flags bytes (device block))) i slot
+KeepsAll g device i slot block bytes = (flags : List Bool) → length flags ≡ 8 → Keeps g (put device block (with_landed_sectors flags bytes (device block))) i slot
 
 -- where the home is an image's lease the block is one of that image, which is kept whatever lands
 abbrev pub KeepsImage : Geometry → Device → (slots : ℕ → Slot) → (home block : ℕ) → (bytes : List ℕ) → Type 0
 KeepsImage g device slots home block bytes = (i : ℕ) → i < g.images → home ≡ image_lease i → IsOf g i block × KeepsAll g device i (slots i) block bytes
 
--- a record and a journal's blocks are the image's to write, and only their own bytes differ; nothing is said yet of maps and trees, and of leases by the law of leases
+-- a record and a journal's blocks are the image's to write, and only their own bytes differ; of maps more is said as they are issued, of leases by the law of leases, and nothing yet of trees
 abbrev pub PlacedBy : WriteKind → Geometry → Device → (slots : ℕ → Slot) → (home block : ℕ) → (bytes : List ℕ) → Type 0
 PlacedBy kind.Claim g device slots home block bytes = Unit {0}
 PlacedBy kind.Renew g device slots home block bytes = Unit {0}

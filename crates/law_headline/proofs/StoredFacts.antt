@@ -18,8 +18,9 @@ use Rattle.plx_rules.specs.Stored.{all_of, Holds, StoredImage, IsCounted, IsWrit
 use Rattle.plx_gate.proofs.Images.{image-back}
 use Rattle.law_lease.proofs.Latest.{IsLast, IsLatest, last-of, latest-is}
 use Rattle.law_headline.proofs.JournalFacts.{counted-commit, unused-uncounted}
-use Rattle.law_headline.proofs.Journals.{descriptor_of, IsJournal, IsShown, Keeps}
+use Rattle.law_headline.proofs.Journals.{IsJournal, IsShown, Keeps}
 use Rattle.law_headline.proofs.Owners.{both-true}
+use Rattle.plx_rules.specs.Journal.{descriptor_of}
 
 -- a plain record has no snapshots and no tree
 zero-tells : (n : ℕ) → (n == 0) ≡ true → n ≡ 0

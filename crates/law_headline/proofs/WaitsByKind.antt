@@ -1,7 +1,7 @@
 -- What a write waits on, by its kind: what holds of it while all claims on which it rests stand, beside those claims.
 use Rattle.std.proofs.Common.{◌≡◌, ℕ, List, Bool, true, false, Some, slice_set}
 use Rattle.std.specs.Prelude.{slice_get}
-use Rattle.plx_base.specs.Sectors.{Device, put, landed}
+use Rattle.plx_base.specs.Sectors.{Device, put, with_landed_sector}
 use Rattle.plx_base.specs.declared.write_kind.WriteKind.{WriteKind}
 use Rattle.plx_base.specs.declared.write_kind.WriteKind.TheVariants as kind
 use Rattle.plx_commands.specs.Replies.{is_in}
@@ -9,7 +9,7 @@ use Rattle.plx_disk.specs.Writes.{no_sectors}
 use Rattle.plx_geom.specs.Geometry.{Geometry}
 use Rattle.plx_rules.specs.Holds.{Hold}
 use Rattle.law_lease.proofs.Frame.{SameUnder}
-use Rattle.law_lease.proofs.Leased.{MayAsk}
+use Rattle.law_lease.proofs.Leased.{MayWrite}
 
 -- a lease, a map, a record, a log and a journal wait on nothing but their claims; no kind of trees is asked for yet
 abbrev pub WaitsOn : WriteKind → Geometry → Device → (block : ℕ) → (bytes : List ℕ) → (flags : List Bool) → Type 0
@@ -29,7 +29,7 @@ WaitsOn kind.JCommit g device block bytes flags = Unit {0}
 
 -- as it is asked
 pub waits-asked : (k : WriteKind) (g : Geometry) (boot : ℕ) (holds : ℕ → Hold) (rests : List ℕ) (device : Device) (block : ℕ) (bytes : List ℕ) (guard : ℕ) →
-    MayAsk g boot holds rests k block bytes guard → WaitsOn k g device block bytes no_sectors
+    MayWrite g boot holds rests k block bytes guard → WaitsOn k g device block bytes no_sectors
 waits-asked kind.Claim g boot holds rests device block bytes guard may = tt
 waits-asked kind.Renew g boot holds rests device block bytes guard may = tt
 waits-asked kind.Release g boot holds rests device block bytes guard may = tt
@@ -46,7 +46,7 @@ waits-asked kind.JCommit g boot holds rests device block bytes guard may = tt
 
 -- as a sector of its own lands
 pub waits-lands : (k : WriteKind) (g : Geometry) (device : Device) (block : ℕ) (bytes : List ℕ) (flags : List Bool) (sector : ℕ) → slice_get flags sector ≡ Some false →
-    WaitsOn k g device block bytes flags → WaitsOn k g (put device block (landed sector bytes (device block))) block bytes (slice_set flags sector true)
+    WaitsOn k g device block bytes flags → WaitsOn k g (put device block (with_landed_sector sector bytes (device block))) block bytes (slice_set flags sector true)
 waits-lands kind.Claim g device block bytes flags sector missing waits = tt
 waits-lands kind.Renew g device block bytes flags sector missing waits = tt
 waits-lands kind.Release g device block bytes flags sector missing waits = tt

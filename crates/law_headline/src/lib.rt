@@ -6,6 +6,7 @@
 
 ghost use Rattle.law_headline.specs.Crashes.{CrashesLeaveFreshBoots};
 ghost use Rattle.plx_rules.specs.Headline.{HeadlineOfAll, NeverDamaged};
+ghost use Rattle.plx_rules.specs.Pools.{MapsStay};
 
 /// Every world that events lead to meets the headline: its trace tells of its possible starts and
 /// crashes, the block-list model permits that trace, and the device stores the model's images.
@@ -22,4 +23,9 @@ pub fn never_damaged()
 /// write.
 pub fn crash_leaves_a_fresh_boot()
     ensures { CrashesLeaveFreshBoots }
+{}
+
+/// The block of each extent's map holds a map, in every world that events lead to.
+pub fn maps_stay()
+    ensures { MapsStay }
 {}

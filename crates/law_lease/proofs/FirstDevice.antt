@@ -2,7 +2,6 @@
 use Rattle.std.proofs.Common.{◌≡◌, ◌≢◌, ℕ, suc, ◌+◌, ◌-◌, ◌*◌, ◌%◌, ◌≤◌, ◌<◌, List, length, Bool, true, false, refl, ap, ◌∙◌, arith, inl, inr}
 use Rattle.std.specs.Prelude.{◌==◌, ◌&&◌, nat_lt, nat_le}
 use Rattle.std.proofs.lemmas.Bool.Decides.{eqb_tells, leb_tells}
-use Rattle.std.proofs.lemmas.List.{length-replicate}
 use Rattle.std.proofs.lemmas.Nat.{mod-mul-add}
 use Rattle.plx_base.proofs.Spelling.{length-zeros}
 use Rattle.plx_base.specs.Blocks.{zeros}
@@ -22,11 +21,7 @@ use Rattle.plx_geom.specs.declared.place.Place.{Place}
 use Rattle.plx_geom.specs.declared.place.Place.TheVariants.{Super, RootLease, ImageLease, ExtentLease, Record, Log, JDesc, JData, Map, Pool}
 use Rattle.plx_rules.specs.Formatted.{empty_map, formatted_block, IsFormatted}
 use Rattle.law_lease.specs.FirstDevice.{HasFormatted}
-
--- the map of an extent fills its block
-length-map : length empty_map ≡ 4096
-unfolding empty_map
-length-map = ap suc (length-replicate {A = ℕ} 4095 0)
+use Rattle.plx_rules.proofs.Maps.{length-map}
 
 -- what stands where, by tests: the superblock, the leases, the records and the maps, in this order
 abbrev by_tests : Geometry → (super lease image map : Bool) → List ℕ
@@ -41,8 +36,8 @@ abbrev begins_extent : Geometry → (block : ℕ) → Bool
 begins_extent g block = nat_le (extents_start g) block && ((block - extents_start g) % g.extent_blocks == 0)
 
 -- the formatted device of a geometry
-abbrev pub formatted : Geometry → Device
-formatted g = λ block. by_tests g (block == 0) (nat_lt block (record_at g 0)) (nat_lt block (log_at g 0)) (begins_extent g block)
+abbrev pub formatted_device : Geometry → Device
+formatted_device g = λ block. by_tests g (block == 0) (nat_lt block (record_at g 0)) (nat_lt block (log_at g 0)) (begins_extent g block)
 
 length-tests : (g : Geometry) (super lease image map : Bool) → length (by_tests g super lease image map) ≡ 4096
 length-tests g true lease image map = length-superblock g
@@ -65,20 +60,20 @@ least-off : (a b : ℕ) → b < a → nat_le a b ≡ false
 least-off a b past = elim (leb_tells a b) [ inl on ↦ absurd (omega (arith, on.1, past)) | inr off ↦ off.0 ]
 
 module _ (g : Geometry) (geometry : IsGeometry g) where
-  at-lease : (b : ℕ) → 1 ≤ b → b < record_at g 0 → formatted g b ≡ lease_bytes lease_is.Free
+  at-lease : (b : ℕ) → 1 ≤ b → b < record_at g 0 → formatted_device g b ≡ lease_bytes lease_is.Free
   at-lease b some under = λ i. by_tests g (eqb-off b 0 (λ e. omega (arith, e, some)) i) (least-on (suc b) (record_at g 0) under i) (nat_lt b (log_at g 0)) (begins_extent g b)
 
-  at-record : (b : ℕ) → record_at g 0 ≤ b → b < log_at g 0 → formatted g b ≡ image_bytes (image_is.Free 0)
+  at-record : (b : ℕ) → record_at g 0 ≤ b → b < log_at g 0 → formatted_device g b ≡ image_bytes (image_is.Free 0)
   at-record b past under =
       λ i. by_tests g (eqb-off b 0 (λ e. omega (arith, e, past)) i) (least-off (suc b) (record_at g 0) (omega (arith, past)) i) (least-on (suc b) (log_at g 0) under i) (begins_extent g b)
 
   -- past the records the map's test decides
-  at-rest : (b : ℕ) → log_at g 0 ≤ b → formatted g b ≡ by_tests g false false false (begins_extent g b)
+  at-rest : (b : ℕ) → log_at g 0 ≤ b → formatted_device g b ≡ by_tests g false false false (begins_extent g b)
   at-rest b past =
       λ i. by_tests g (eqb-off b 0 (λ e. omega (arith, e, past)) i) (least-off (suc b) (record_at g 0) (omega (arith, past)) i) (least-off (suc b) (log_at g 0) (omega (arith, past)) i) (begins_extent g b)
 
   -- below the extents there are zeros
-  at-zeros : (b : ℕ) → log_at g 0 ≤ b → b < extents_start g → formatted g b ≡ zeros
+  at-zeros : (b : ℕ) → log_at g 0 ≤ b → b < extents_start g → formatted_device g b ≡ zeros
   at-zeros b past under =
       at-rest b past ∙ ap (λ (low : Bool). by_tests g false false false (low && ((b - extents_start g) % g.extent_blocks == 0))) (least-off (extents_start g) b under)
 
@@ -89,10 +84,10 @@ module _ (g : Geometry) (geometry : IsGeometry g) where
       let rest : (pool_at g d bit - extents_start g) % g.extent_blocks ≡ bit = ap (λ n. n % g.extent_blocks) back ∙ mod-mul-add d g.extent_blocks bit below in
       λ i. least-on (extents_start g) (pool_at g d bit) (omega arith) i && (rest i == 0)
 
-  at-extent : (d bit : ℕ) → bit < g.extent_blocks → formatted g (pool_at g d bit) ≡ by_tests g false false false (bit == 0)
+  at-extent : (d bit : ℕ) → bit < g.extent_blocks → formatted_device g (pool_at g d bit) ≡ by_tests g false false false (bit == 0)
   at-extent d bit below = at-rest (pool_at g d bit) (omega arith) ∙ ap (by_tests g false false false) (in-extent d bit below)
 
-  at-place : (place : Place) → IsPlace g place → formatted g (block_of g place) ≡ formatted_block g place
+  at-place : (place : Place) → IsPlace g place → formatted_device g (block_of g place) ≡ formatted_block g place
   at-place Super is = refl
   at-place RootLease is = at-lease 1 (omega arith) (omega arith)
   at-place (ImageLease image) is = at-lease (lease_at (image_lease image.0)) (omega arith) (omega (arith, is))
@@ -104,15 +99,15 @@ module _ (g : Geometry) (geometry : IsGeometry g) where
   at-place (Map extent) is =
       let some : 0 < g.extent_blocks = (let low = geometry.blocks_low in omega arith) in
       let e : map_at g extent.0 ≡ pool_at g extent.0 0 = omega arith in
-      ap (formatted g) e ∙ at-extent extent.0 0 some
+      ap (formatted_device g) e ∙ at-extent extent.0 0 some
   at-place (Pool extent bit) is = at-extent extent.0 bit is.2 ∙ ap (by_tests g false false false) (eqb-off bit 0 (λ e. let some = is.1 in omega (arith, e, some)))
 
   -- it is formatted
-  pub formatted-is : IsFormatted g (formatted g)
+  pub formatted-is : IsFormatted g (formatted_device g)
   formatted-is = record {
     whole = λ block. length-tests g (block == 0) (nat_lt block (record_at g 0)) (nat_lt block (log_at g 0)) (begins_extent g block);
     places = at-place;
   }
 
 pub has-formatted : HasFormatted
-has-formatted g geometry = (formatted g, formatted-is g geometry)
+has-formatted g geometry = (formatted_device g, formatted-is g geometry)

@@ -3,7 +3,7 @@ use Rattle.std.proofs.Common.{◌≡◌, ◌≢◌, ℕ, zero, suc, ◌+◌, ◌
 use Rattle.std.specs.Prelude.{slice_get, ◌==◌}
 use Rattle.std.proofs.lemmas.Bool.Decides.{eqb_tells}
 use Rattle.std.proofs.lemmas.Option.{slice_get_within}
-use Rattle.plx_base.specs.Sectors.{Device, put, landed}
+use Rattle.plx_base.specs.Sectors.{Device, put, with_landed_sector}
 use Rattle.plx_base.proofs.Devices.{put-other}
 use Rattle.plx_base.specs.declared.lease.Claim.{Claim}
 use Rattle.plx_base.specs.declared.write_kind.WriteKind.{WriteKind}
@@ -25,9 +25,10 @@ use Rattle.law_lease.proofs.Covers.{Covers, lease-uncovered, home-covers, write-
 use Rattle.law_lease.proofs.LeaseFrames.{grip-open, grip_while-open, grip_while-away}
 use Rattle.law_lease.proofs.LeaseLands.{MayBeAsked, unlanded-before, asked-may, grip-asked, first-set, pending-other, not-whole}
 use Rattle.law_lease.proofs.Leased.{IsPlaced, IsAskedAt, IsRight, Unlanded, grip_while, grip_at, Leased}
-use Rattle.law_lease.proofs.Lists.{pending-is, push-cases, same-some}
+use Rattle.law_lease.proofs.Lists.{pending-is, push-cases}
 use Rattle.law_lease.proofs.Open.{GripsLease, IsOpen, open-found, open-alone, lands-open}
 use Rattle.law_lease.proofs.Rests.{either-in, home-in, rests-home, needs-before, needs-last}
+use Rattle.plx_base.proofs.Tests.{same-some}
 
 -- ---- what a landing does, as one lease sees it
 
@@ -203,7 +204,7 @@ module _ (w : World) (leased : Leased w) (number sector : ℕ) (write : Issued) 
   now = slice_set writes number (with_sector write sector)
 
   abbrev after : Device
-  after = put device write.block (landed sector write.bytes (device write.block))
+  after = put device write.block (with_landed_sector sector write.bytes (device write.block))
 
   right : IsRight g (w.rests number) write
   right = leased.right number write may.found
@@ -333,7 +334,7 @@ module _ (w : World) (leased : Leased w) (number sector : ℕ) (write : Issued) 
       is-away : (Covers g lease write.block → ⊥) → IsAway g device after write.block lease
       is-away un = record {
         uncovered = un;
-        same = λ block covers. put-other device write.block (landed sector write.bytes (device write.block)) block (λ e. un (subst (λ (c : ℕ). Covers g lease c) e covers));
+        same = λ block covers. put-other device write.block (with_landed_sector sector write.bytes (device write.block)) block (λ e. un (subst (λ (c : ℕ). Covers g lease c) e covers));
       }
 
   -- the write that lands is open after only where it was before

@@ -6,13 +6,13 @@ use Rattle.plx_rules.specs.Session.{latest}
 use Rattle.plx_rules.specs.declared.journaled.Journaled.{Journaled}
 
 -- the place of the last write
-last-place : (x : Journaled) (xs : List Journaled) → (k : ℕ) × (write : Journaled) × (slice_get (x ∷ xs) k ≡ Some write) × (k + 1 ≡ length (x ∷ xs))
-last-place x [] = (0, x, refl, omega arith)
-last-place x (y ∷ ys) = let before = last-place y ys in (suc before.0, before.1, before.2, (let one = before.3 in omega arith))
+last-write-place : (x : Journaled) (xs : List Journaled) → (k : ℕ) × (write : Journaled) × (slice_get (x ∷ xs) k ≡ Some write) × (k + 1 ≡ length (x ∷ xs))
+last-write-place x [] = (0, x, refl, omega arith)
+last-write-place x (y ∷ ys) = let before = last-write-place y ys in (suc before.0, before.1, before.2, (let one = before.3 in omega arith))
 
 pub last-of : (xs : List Journaled) → (length xs ≡ 0) ⊎ ((k : ℕ) × (write : Journaled) × (slice_get xs k ≡ Some write) × (k + 1 ≡ length xs))
 last-of [] = inl refl
-last-of (x ∷ xs) = inr (last-place x xs)
+last-of (x ∷ xs) = inr (last-write-place x xs)
 
 -- the newest write of a virtual block, where there is one
 pub record IsLast (writes : List Journaled) (vblock k : ℕ) (write : Journaled) : Type 0 where

@@ -6,14 +6,12 @@ use Rattle.std.specs.Prelude.{if◌then◌else◌, nat_le, nat_lt, ◌==◌, not
 use Rattle.std.specs.Str.{bytes_eq}
 use Rattle.plx_base.proofs.Spelling.{length-spelled}
 use Rattle.plx_base.specs.Labels.{IsLabel}
-use Rattle.plx_base.specs.Payload.{bytes_of}
 use Rattle.plx_base.specs.declared.lease.Claim.{Claim}
 use Rattle.plx_base.specs.declared.lease.LeaseRecord.{LeaseRecord}
 use Rattle.plx_base.specs.declared.lease.LeaseRecord.TheVariants.{Free, Claimed}
 use Rattle.plx_commands.specs.Facts.{is_size, is_worn}
 use Rattle.plx_commands.specs.Limits.{last_claim, last_generation, last_write, greatest_size}
 use Rattle.plx_commands.specs.declared.command.Command.{Command}
-use Rattle.plx_commands.specs.declared.command.Command.TheVariants.{Attach, Detach, Create, Delete, Read, Write, Flush, Reserve, Renew, Retire, Reclaim}
 use Rattle.plx_commands.specs.declared.reply.Reply.{Reply}
 use Rattle.plx_commands.specs.declared.reply.Reply.TheVariants as reply
 use Rattle.plx_commands.proofs.Places.{at-same, at-other}
@@ -22,26 +20,26 @@ use Rattle.plx_gate.specs.Leases.{read_lease, lease_bytes}
 use Rattle.plx_gate.specs.declared.image.ImageRecord.{ImageRecord}
 use Rattle.plx_gate.specs.declared.image.ImageRecord.TheVariants as image_is
 use Rattle.plx_gate.proofs.Descriptors.{length-descriptor}
-use Rattle.plx_geom.specs.Geometry.{Geometry, IsGeometry, data_at, descriptor_at, lease_count, image_lease, lease_at}
+use Rattle.plx_geom.specs.Geometry.{Geometry, data_at, descriptor_at, lease_count, image_lease, lease_at}
 use Rattle.plx_geom.proofs.Places.{lease-lease, image-below}
 use Rattle.plx_rules.specs.Part.{Part, Ends, ReadThen, WriteThen, ClockThen, UntilThen}
 use Rattle.plx_rules.specs.declared.journaled.Journaled.{Journaled}
 use Rattle.plx_rules.specs.Attaching.{image_use, after_load, load_journal, after_record, load_image, after_claim, claim_image, attach_part}
 use Rattle.plx_rules.specs.Claims.{ClaimEnd, ClaimHeld, ClaimBusy, ClaimLost, ClaimReadFault, ClaimWriteFault, ClaimDamaged, claim_of, own_record, own_use, claim_in_time, claim_damaged, reread_by, reread_part, written_part, if_expired, seen_part, claim_part}
-use Rattle.plx_rules.specs.Commands.{unless, attached_part, detach_part, record_part, create_part, delete_part, read_part, write_part, journal_part, next_slot, next_descriptor, next_write, later_of, renewal, renew_part, attached_uses, IsWellFormed, command_part}
+use Rattle.plx_rules.specs.Commands.{unless, attached_part, detach_part, record_part, create_part, delete_part, read_part, write_part, journal_part, next_slot, next_descriptor, next_write, later_of, renewal, renew_part}
 use Rattle.plx_rules.specs.Ends.{End, ends, lost, in_time, ends_in_time}
-use Rattle.plx_rules.specs.Holds.{Hold, Nothing, Seen, Wrote, Waited, Held, after_first, first_hold, session_at, seen_by, shown, timed}
+use Rattle.plx_rules.specs.Holds.{Hold, Nothing, Seen, Wrote, Waited, Held, first_hold, seen_by, hold_after_read, hold_after_reading}
 use Rattle.plx_rules.specs.InUse.{InUse, first_reached, unless_reached}
 use Rattle.plx_rules.specs.Journal.{Finding, Outside, Unused, Counts, finding}
 use Rattle.plx_rules.specs.Loading.{LoadEnd, Loaded, LoadReadFault, LoadDamaged, load_found, load_part}
 use Rattle.plx_rules.specs.Parts.{followed_by}
 use Rattle.plx_rules.specs.Records.{is_live, generation_of, size_of, made_record, attached_record}
-use Rattle.plx_rules.specs.Session.{Session, Known, with_claim, with_session, new_session, with_write, write_count, inserted}
+use Rattle.plx_rules.specs.Session.{Session, Known, with_claim, with_session, new_session, with_write, write_count, with_write_by_number}
 use Rattle.plx_rules.specs.Settings.{Setting}
 use Rattle.plx_rules.specs.Times.{is_expired, term}
 use Rattle.plx_gate.proofs.Leases.{length-lease}
 use Rattle.law_lease.proofs.Leased.{IsGranted, Lawful, LawfulRest}
-use Rattle.law_lease.proofs.Rests.{one-in, lease-found, record-found, data-found, descriptor-found}
+use Rattle.law_lease.proofs.Rests.{one-in, lease-place-found, record-found, data-found, descriptor-place-found}
 
 -- between commands a lease is held, or not
 abbrev pub IsRest : Hold → Type 0
@@ -96,7 +94,7 @@ module _ (g : Geometry) (boot : ℕ) (command : Command) where
     lawful.4,
   )
   lawful-followed At At' (ClockThen rest) next holds sample lawful then' = λ reading early. lawful-followed At At' (rest reading) next _ _ (lawful reading early) then'
-  lawful-followed At At' (UntilThen from rest) next holds sample lawful then' = λ reading early. lawful-followed At At' (rest reading) next _ _ (lawful reading early) then'
+  lawful-followed At At' (UntilThen from rest) next holds sample lawful then' = λ reading past early. lawful-followed At At' (rest reading) next _ _ (lawful reading past early) then'
 
   -- ---- a claim
 
@@ -121,7 +119,7 @@ module _ (g : Geometry) (boot : ℕ) (command : Command) where
       holds (lease_at lease) ≡ Seen sample → LawfulRest g boot command holds last (written_part others lease (claim_of boot number sample))
   claim-written others lease number sample holds last within few early is = (
     record { lease = lease; number = number; sample = sample; within = within; at_lease = refl; alone = refl; hold = is; spells = refl; few = few; early = early; guarded = refl },
-    λ reading below. claim-in_time uses reading (reread_part uses lease claim) _ _ (
+    λ reading past below. claim-in_time uses reading (reread_part uses lease claim) _ _ (
       λ bytes. claim-reread (bytes_eq bytes (lease_bytes (own_record claim))) uses claim (read_lease bytes) _ _,
       tt,
     ),
@@ -150,9 +148,9 @@ module _ (g : Geometry) (boot : ℕ) (command : Command) where
       LawfulRest g boot command holds last (claim_part boot others lease number)
   lawful-claim others lease number holds last within few is = λ sample early. claim-in_time others sample _ _ _ (
     λ bytes.
-        let before : ℕ → Hold = λ block. timed sample (holds block) in
+        let before : ℕ → Hold = λ block. hold_after_reading sample (holds block) in
         claim-seen others lease number sample (read_lease bytes) _ within few early
-        (at-same before (lease_at lease) (shown (Some sample) bytes (before (lease_at lease))) ∙ ap (λ (h : Hold). shown (Some sample) bytes (timed sample h)) is),
+        (at-same before (lease_at lease) (hold_after_read (Some sample) bytes (before (lease_at lease))) ∙ ap (λ (h : Hold). hold_after_read (Some sample) bytes (hold_after_reading sample h)) is),
     tt,
   )
 
@@ -168,7 +166,7 @@ module _ (g : Geometry) (boot : ℕ) (command : Command) where
     where
       by_found : (found : Finding) (h : ℕ → Hold) (s : Option ℕ) → ((h' : ℕ → Hold) (s' : Option ℕ) (w : List Journaled) → LawfulRest g boot command h' s' (load_part g image kept left (slot + 1) w)) →
           LawfulRest g boot command h s (load_found (descriptor_at g image slot) found (load_part g image kept left (slot + 1) writes)
-          (λ number vblock. ReadThen (data_at g image slot) (λ data'. load_part g image kept left (slot + 1) (inserted (record { number = number; vblock = vblock; block = data' }) writes)) (Ends (LoadReadFault (data_at g image slot)))))
+          (λ number vblock. ReadThen (data_at g image slot) (λ data'. load_part g image kept left (slot + 1) (with_write_by_number (record { number = number; vblock = vblock; block = data' }) writes)) (Ends (LoadReadFault (data_at g image slot)))))
       by_found Outside h s rest = tt
       by_found Unused h s rest = rest h s writes
       by_found (Counts d) h s rest = (λ data'. rest _ _ _, tt)
@@ -183,7 +181,7 @@ module _ (s : Setting) (command : Command) where
 
   -- ---- tests and last readings
 
-  right-in_time : (known : Known) (uses : List InUse) (reading : ℕ) (part : Part End) (holds : ℕ → Hold) (sample : Option ℕ) → Right holds sample part →
+  pub right-in_time : (known : Known) (uses : List InUse) (reading : ℕ) (part : Part End) (holds : ℕ → Hold) (sample : Option ℕ) → Right holds sample part →
       Right holds sample (in_time s known uses reading part)
   right-in_time known uses reading part holds sample right = by_found (first_reached uses reading)
     where
@@ -191,7 +189,7 @@ module _ (s : Setting) (command : Command) where
       by_found None = right
       by_found (Some due) = tt
 
-  right-ends : (known : Known) (uses : List InUse) (reply : Reply) (after : Known) (holds : ℕ → Hold) (sample : Option ℕ) → Right holds sample (ends_in_time s known uses reply after)
+  pub right-ends : (known : Known) (uses : List InUse) (reply : Reply) (after : Known) (holds : ℕ → Hold) (sample : Option ℕ) → Right holds sample (ends_in_time s known uses reply after)
   right-ends known uses reply after holds sample = λ reading early. right-in_time known uses reading (ends reply after) _ _ tt
 
   right-unless : (refused : Bool) (refusal : Reply) (known : Known) (part : Part End) (holds : ℕ → Hold) (sample : Option ℕ) → Right holds sample part →
@@ -237,7 +235,7 @@ module _ (s : Setting) (command : Command) where
       (lawful-claim s.geometry s.boot command [] (image_lease image) known.claims holds sample (image-below s.geometry image within) (omega (arith, few)) is)
       (λ end h l any. right-claimed (with_claim known) image end h l)
 
-  right-attach : (known : Known) (image : ℕ) (holds : ℕ → Hold) (sample : Option ℕ) (session : Option Session) (within : Bool) (hold : Hold) → nat_lt image s.geometry.images ≡ within →
+  pub right-attach : (known : Known) (image : ℕ) (holds : ℕ → Hold) (sample : Option ℕ) (session : Option Session) (within : Bool) (hold : Hold) → nat_lt image s.geometry.images ≡ within →
       holds (lease_at (image_lease image)) ≡ hold → IsRest hold → Right holds sample (attach_part s known image session within hold)
   right-attach known image holds sample (Some session) within hold e is rests = tt
   right-attach known image holds sample None false hold e is rests = tt
@@ -250,7 +248,7 @@ module _ (s : Setting) (command : Command) where
 
   -- ---- commands of an attached image
 
-  right-attached : (known : Known) (image reading : ℕ) (holds : ℕ → Hold) (sample : Option ℕ) (session : Option Session) (within : Bool) (hold : Hold) (rest : Session → ℕ → Part End) →
+  pub right-attached : (known : Known) (image reading : ℕ) (holds : ℕ → Hold) (sample : Option ℕ) (session : Option Session) (within : Bool) (hold : Hold) (rest : Session → ℕ → Part End) →
       nat_lt image s.geometry.images ≡ within → holds (lease_at (image_lease image)) ≡ hold →
       ((session : Session) (claim : Claim) (until : ℕ) → image < s.geometry.images → holds (lease_at (image_lease image)) ≡ Held claim until → Right holds sample (rest session until)) →
       Right holds sample (attached_part s known image session within hold reading rest)
@@ -269,9 +267,9 @@ module _ (s : Setting) (command : Command) where
     granted : (lease : ℕ) → lease ≡ image_lease image → IsGranted holds lease until
     granted lease same = record { claim = claim; until = until; hold = ap (λ (n : ℕ). holds (lease_at n)) same ∙ is; guarded = omega arith }
 
-    right-detach : (session : Session) → Right holds sample (detach_part s known image session until)
+    pub right-detach : (session : Session) → Right holds sample (detach_part s known image session until)
     right-detach session = (
-      record { lease = image_lease image; claim = claim; until = until; within = image-below s.geometry image within; at_lease = refl; alone = ap (λ (n : ℕ). n ∷ []) (lease-found (image_lease image)); hold = is; spells = refl; guarded = refl },
+      record { lease = image_lease image; claim = claim; until = until; within = image-below s.geometry image within; at_lease = refl; alone = ap (λ (n : ℕ). n ∷ []) (lease-place-found (image_lease image)); hold = is; spells = refl; guarded = refl },
       tt,
       tt,
       λ r. tt,
@@ -290,19 +288,19 @@ module _ (s : Setting) (command : Command) where
       length-labelled made short,
     )
 
-    right-create : (size : ℕ) (label : List ℕ) (session : Session) → IsLabel label → Right holds sample (create_part s known image size label session until)
+    pub right-create : (size : ℕ) (label : List ℕ) (session : Session) → IsLabel label → Right holds sample (create_part s known image size label session until)
     right-create size label session label-is =
         right-unless (is_live session.image) reply.Exists known _ holds sample
         (right-unless (not (is_size size)) (reply.OutOfRange greatest_size) known _ holds sample
         (right-unless (is_worn last_generation (generation_of session.image)) (reply.WornOut last_generation) known _ holds sample
         (right-made (made_record (generation_of session.image + 1) size label) reply.Created label-is.short)))
 
-    right-delete : (session : Session) → Right holds sample (delete_part s known image session until)
+    pub right-delete : (session : Session) → Right holds sample (delete_part s known image session until)
     right-delete session =
         right-unless (not (is_live session.image)) reply.NoImage known _ holds sample
         (right-made (image_is.Free (generation_of session.image)) reply.Deleted (omega arith))
 
-    right-read : (vblock : ℕ) (session : Session) → Right holds sample (read_part s known image vblock session until)
+    pub right-read : (vblock : ℕ) (session : Session) → Right holds sample (read_part s known image vblock session until)
     right-read vblock session =
         right-unless (not (is_live session.image)) reply.NoImage known _ holds sample
         (right-unless (nat_le (size_of session.image) vblock) (reply.OutOfRange (size_of session.image)) known _ holds sample
@@ -316,8 +314,8 @@ module _ (s : Setting) (command : Command) where
       },
       (
         record {
-          placed = (image, next_slot s session, within, room, refl, ap (λ (n : ℕ). image_lease n ∷ []) (descriptor-found s.geometry image (next_slot s session) room));
-          grants = λ lease needs. granted lease (one-in lease _ needs ∙ ap image_lease (descriptor-found s.geometry image (next_slot s session) room));
+          placed = (image, next_slot s session, within, room, refl, ap (λ (n : ℕ). image_lease n ∷ []) (descriptor-place-found s.geometry image (next_slot s session) room));
+          grants = λ lease needs. granted lease (one-in lease _ needs ∙ ap image_lease (descriptor-place-found s.geometry image (next_slot s session) room));
         },
         right-ends known (image_use image until) (reply.Written (write_count session + 1)) (with_session known image (Some (with_write session (next_write session vblock bytes)))) _ None,
         tt,
@@ -332,7 +330,7 @@ module _ (s : Setting) (command : Command) where
         room : next_slot s session < s.geometry.slots
         room = mod-lt (write_count session + 1 - 1) (omega arith)
 
-    right-write : (vblock : ℕ) (bytes : List ℕ) (session : Session) → 2 ≤ s.geometry.slots → length bytes ≡ 4096 → Right holds sample (write_part s known image vblock bytes session until)
+    pub right-write : (vblock : ℕ) (bytes : List ℕ) (session : Session) → 2 ≤ s.geometry.slots → length bytes ≡ 4096 → Right holds sample (write_part s known image vblock bytes session until)
     right-write vblock bytes session some long =
         right-unless (not (is_live session.image)) reply.NoImage known _ holds sample
         (right-unless (nat_le (size_of session.image) vblock) (reply.OutOfRange (size_of session.image)) known _ holds sample
@@ -348,7 +346,7 @@ module _ (s : Setting) (command : Command) where
   later-below : (a b m : ℕ) → a < m → b < m → later_of a b < m
   later-below a b m one other = elim (leb_tells a b) [ inl below ↦ rw below.0 other | inr not' ↦ rw not'.0 one ]
 
-  right-renew : (known : Known) (holds0 : ℕ → Hold) (reading left lease : ℕ) (holds : ℕ → Hold) (sample : Option ℕ) → reading < 2 ^ 48 → left + lease ≡ lease_count s.geometry →
+  pub right-renew : (known : Known) (holds0 : ℕ → Hold) (reading left lease : ℕ) (holds : ℕ → Hold) (sample : Option ℕ) → reading < 2 ^ 48 → left + lease ≡ lease_count s.geometry →
       ((j : ℕ) → lease ≤ j → holds (lease_at j) ≡ holds0 (lease_at j)) → Right holds sample (renew_part s known holds0 reading left lease)
   right-renew known holds0 reading zero lease holds sample early all same = tt
   right-renew known holds0 reading (suc left) lease holds sample early all same =
@@ -365,7 +363,7 @@ module _ (s : Setting) (command : Command) where
               next = next;
               within = omega arith;
               at_lease = refl;
-              alone = ap (λ (n : ℕ). n ∷ []) (lease-found lease);
+              alone = ap (λ (n : ℕ). n ∷ []) (lease-place-found lease);
               hold = is;
               spells = refl;
               later = later-least until (reading + term);
@@ -381,33 +379,3 @@ module _ (s : Setting) (command : Command) where
       by_hold rest (Seen l) is = rest holds sample (λ j past. same j (omega arith))
       by_hold rest (Wrote claim until) is = rest holds sample (λ j past. same j (omega arith))
       by_hold rest (Waited claim until) is = rest holds sample (λ j past. same j (omega arith))
-
--- ---- all commands
-
-pub lawful-command : (s : Setting) → IsGeometry s.geometry → (known : Known) (holds : ℕ → Hold) (reading : ℕ) (command : Command) → reading < 2 ^ 48 → IsWellFormed command →
-    LawfulRest s.geometry s.boot command (after_first s.geometry known reading holds) (Some reading) (command_part s known (after_first s.geometry known reading holds) reading command)
-lawful-command s geometry known holds reading (Attach slot) early whole =
-    right-attach s (Attach slot) known slot.0 (after_first s.geometry known reading holds) (Some reading) (known.sessions slot.0) (nat_lt slot.0 s.geometry.images) _ refl refl
-    (first-rests (session_at s.geometry known (lease_at (image_lease slot.0))) reading (holds (lease_at (image_lease slot.0))))
-lawful-command s geometry known holds reading (Detach slot) early whole =
-    right-attached s (Detach slot) known slot.0 reading (after_first s.geometry known reading holds) (Some reading) (known.sessions slot.0) (nat_lt slot.0 s.geometry.images) _ (detach_part s known slot.0) refl refl
-    (λ session claim until within is. right-detach s (Detach slot) known slot.0 (after_first s.geometry known reading holds) (Some reading) claim until within is session)
-lawful-command s geometry known holds reading (Create slot size label) early whole =
-    right-attached s (Create slot size label) known slot.0 reading (after_first s.geometry known reading holds) (Some reading) (known.sessions slot.0) (nat_lt slot.0 s.geometry.images) _ (create_part s known slot.0 size label) refl refl
-    (λ session claim until within is. right-create s (Create slot size label) known slot.0 (after_first s.geometry known reading holds) (Some reading) claim until within is size label session whole)
-lawful-command s geometry known holds reading (Delete slot) early whole =
-    right-attached s (Delete slot) known slot.0 reading (after_first s.geometry known reading holds) (Some reading) (known.sessions slot.0) (nat_lt slot.0 s.geometry.images) _ (delete_part s known slot.0) refl refl
-    (λ session claim until within is. right-delete s (Delete slot) known slot.0 (after_first s.geometry known reading holds) (Some reading) claim until within is session)
-lawful-command s geometry known holds reading (Read slot vblock) early whole =
-    right-attached s (Read slot vblock) known slot.0 reading (after_first s.geometry known reading holds) (Some reading) (known.sessions slot.0) (nat_lt slot.0 s.geometry.images) _ (read_part s known slot.0 vblock) refl refl
-    (λ session claim until within is. right-read s (Read slot vblock) known slot.0 (after_first s.geometry known reading holds) (Some reading) claim until within is vblock session)
-lawful-command s geometry known holds reading (Write slot vblock payload) early whole =
-    right-attached s (Write slot vblock payload) known slot.0 reading (after_first s.geometry known reading holds) (Some reading) (known.sessions slot.0) (nat_lt slot.0 s.geometry.images) _ (write_part s known slot.0 vblock (bytes_of payload)) refl refl
-    (λ session claim until within is. right-write s (Write slot vblock payload) known slot.0 (after_first s.geometry known reading holds) (Some reading) claim until within is vblock (bytes_of payload) session geometry.slots_low whole)
-lawful-command s geometry known holds reading Renew early whole =
-    right-in_time s Renew known (attached_uses known (after_first s.geometry known reading holds) s.geometry.images 0) reading _ (after_first s.geometry known reading holds) (Some reading)
-    (right-renew s Renew known (after_first s.geometry known reading holds) reading (lease_count s.geometry) 0 (after_first s.geometry known reading holds) (Some reading) early (omega arith) (λ j past. refl))
-lawful-command s geometry known holds reading (Flush slot) early whole = tt
-lawful-command s geometry known holds reading (Reserve count) early whole = tt
-lawful-command s geometry known holds reading Retire early whole = tt
-lawful-command s geometry known holds reading Reclaim early whole = tt

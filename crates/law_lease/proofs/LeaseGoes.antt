@@ -20,7 +20,7 @@ use Rattle.plx_rules.specs.Claims.{claim_of}
 use Rattle.plx_rules.specs.Ends.{End}
 use Rattle.plx_rules.specs.Holds.{Hold, Nothing, Seen, Wrote, Waited, Held}
 use Rattle.plx_geom.specs.Geometry.{Geometry, lease_at}
-use Rattle.plx_rules.specs.Holds.{after_write, after_reply, first_hold, timed, shown, seen_for, seen_by, reread, renewed, wrote}
+use Rattle.plx_rules.specs.Holds.{after_write, holds_after_reply, first_hold, hold_after_reading, hold_after_read, seen_for, seen_by, hold_after_reread, hold_after_renewal, hold_after_claim}
 use Rattle.plx_gate.specs.Leases.{lease_bytes, read_lease, IsLease, IsClaimed}
 use Rattle.plx_rules.specs.Times.{wait, term, is_expired}
 use Rattle.plx_commands.specs.declared.reply.Reply.{Reply}
@@ -31,13 +31,13 @@ use Rattle.plx_rules.specs.World.{Seat, setting_at}
 use Rattle.plx_gate.proofs.Leases.{lease-back, lease-same}
 use Rattle.law_lease.proofs.LeaseFrames.{grip-open}
 use Rattle.law_lease.proofs.LeaseLands.{asked-may, grip-asked, first-set}
-use Rattle.law_lease.proofs.Leased.{MayAsk, LawfulAt, IsLive, Unlanded, Clear, Good, grip_while, grip_at, GoodSeat, LeaseOn, IsAskedAt}
+use Rattle.law_lease.proofs.Leased.{MayWrite, LawfulAt, IsLive, Unlanded, Clear, Good, grip_while, grip_at, GoodSeat, LeaseOn, IsAskedAt}
 use Rattle.plx_geom.proofs.Places.{lease-lease}
 
 module _ (rests : ℕ → List ℕ) (time : ℕ) (writes : List Issued) (lease : ℕ) (standing : LeaseRecord) (boot : ℕ) where
   -- a reply keeps what is right, or drops it
   good-reply : (reply : Reply) (holds : ℕ → Hold) (block : ℕ) → Good rests time writes lease standing boot None (holds block) →
-      Good rests time writes lease standing boot None (after_reply reply holds block)
+      Good rests time writes lease standing boot None (holds_after_reply reply holds block)
   good-reply (reply.Lost i u r) holds block good = tt
   good-reply other holds block good = good
 
@@ -50,7 +50,7 @@ module _ (rests : ℕ → List ℕ) (time : ℕ) (writes : List Issued) (lease :
   good-part (UntilThen from rest) holds block good = good
 
   -- a reading: a claim may have waited
-  pub good-timed : (reading : ℕ) (hold : Hold) → reading ≤ time + 50 → Good rests time writes lease standing boot None hold → Good rests time writes lease standing boot None (timed reading hold)
+  pub good-timed : (reading : ℕ) (hold : Hold) → reading ≤ time + 50 → Good rests time writes lease standing boot None hold → Good rests time writes lease standing boot None (hold_after_reading reading hold)
   good-timed reading Nothing early good = tt
   good-timed reading (Seen sample) early good = good
   good-timed reading (Waited claim until) early good = good
@@ -111,14 +111,14 @@ module _ (rests : ℕ → List ℕ) (time : ℕ) (writes : List Issued) (lease :
         ]
 
     pub good-shown : (sample : Option ℕ) (hold : Hold) → ((s : ℕ) → sample ≡ Some s → s ≤ time + 50) → Good rests time writes lease standing boot None hold →
-        Good rests time writes lease standing boot None (shown sample (lease_bytes standing) hold)
+        Good rests time writes lease standing boot None (hold_after_read sample (lease_bytes standing) hold)
     good-shown sample Nothing sampled good = good-seen sample sampled
     good-shown sample (Seen s) sampled good = good-seen sample sampled
     good-shown sample (Wrote claim until) sampled good = good-seen sample sampled
     good-shown sample (Held claim until) sampled good = good
     good-shown sample (Waited claim until) sampled good = by_test (bytes_eq (lease_bytes standing) (lease_bytes (Claimed claim until))) (bytes_eq-Decides (lease_bytes standing) (lease_bytes (Claimed claim until))).0
       where
-        by_test : (a : Bool) → (a ≡ true → lease_bytes standing ≡ lease_bytes (Claimed claim until)) → Good rests time writes lease standing boot None (reread a (Held claim until))
+        by_test : (a : Bool) → (a ≡ true → lease_bytes standing ≡ lease_bytes (Claimed claim until)) → Good rests time writes lease standing boot None (hold_after_reread a (Held claim until))
         by_test false tells = tt
         by_test true tells =
             let there : standing ≡ Claimed claim until = lease-same standing (Claimed claim until) limits good.0.limits (tells refl) in
@@ -197,17 +197,17 @@ module _ (g : Geometry) (rests : ℕ → List ℕ) (appliances time : ℕ) (devi
 
   -- a read is answered
   pub good-read : a < appliances → (seats a).pending ≡ None → ((s : ℕ) → p.sample ≡ Some s → s ≤ time + 50) → (block : ℕ) →
-      Good rests time writes lease on.standing boot None (at p.holds block (shown p.sample (device block) (p.holds block)) (lease_at lease))
+      Good rests time writes lease on.standing boot None (at p.holds block (hold_after_read p.sample (device block) (p.holds block)) (lease_at lease))
   good-read below free sampled block = elim (eqb_tells (lease_at lease) block) [
     | inl here ↦
         let P : Hold → Type 0 = λ h. Good rests time writes lease on.standing boot None h in
-        let Q : List ℕ → Type 0 = λ x. P (shown p.sample x (p.holds (lease_at lease))) in
-        let R : ℕ → Type 0 = λ b. P (at p.holds b (shown p.sample (device b) (p.holds b)) (lease_at lease)) in
-        subst R here.1 (subst P (sym (at-same p.holds (lease_at lease) (shown p.sample (device (lease_at lease)) (p.holds (lease_at lease)))))
+        let Q : List ℕ → Type 0 = λ x. P (hold_after_read p.sample x (p.holds (lease_at lease))) in
+        let R : ℕ → Type 0 = λ b. P (at p.holds b (hold_after_read p.sample (device b) (p.holds b)) (lease_at lease)) in
+        subst R here.1 (subst P (sym (at-same p.holds (lease_at lease) (hold_after_read p.sample (device (lease_at lease)) (p.holds (lease_at lease)))))
         (subst Q (sym on.spells) (good-shown rests time writes lease on.standing boot on.limits p.sample (p.holds (lease_at lease)) sampled (good-free below free))))
     | inr away ↦
         let P : Hold → Type 0 = λ h. Good rests time writes lease on.standing boot None h in
-        subst P (sym (at-other p.holds block (lease_at lease) (shown p.sample (device block) (p.holds block)) away.1)) (good-free below free)
+        subst P (sym (at-other p.holds block (lease_at lease) (hold_after_read p.sample (device block) (p.holds block)) away.1)) (good-free below free)
   ]
 
   -- a write is done
@@ -227,7 +227,7 @@ module _ (g : Geometry) (rests : ℕ → List ℕ) (appliances time : ℕ) (devi
         let P : Hold → Type 0 = λ h. Good rests time writes lease on.standing boot (Some n) h in
         good-done rests time writes lease on.standing boot n (whole-closed rests time writes lease n write found all) _ (subst P e (subst G waited (on.each a below)))
 
-    done-of : (k : WriteKind) → (leases : List ℕ) → MayAsk g boot p.holds leases k write.block write.bytes write.guard →
+    done-of : (k : WriteKind) → (leases : List ℕ) → MayWrite g boot p.holds leases k write.block write.bytes write.guard →
         Good rests time writes lease on.standing boot None (grip_while k (lease_at lease == write.block) true write.bytes hold) →
         Good rests time writes lease on.standing boot None (after_write k write.block write.bytes p.holds (lease_at lease))
     done-of kind.Claim leases may good = elim (eqb_tells (lease_at lease) write.block) [
@@ -242,24 +242,24 @@ module _ (g : Geometry) (rests : ℕ → List ℕ) (appliances time : ℕ) (devi
           let small : boot < 2 ^ 128 = omega (arith, below, most, boots) in
           let limits : IsClaimed claim (may.sample + term) = record { boot = small; number = omega arith; sample = early; low = omega arith; high = omega arith } in
           let back : read_lease write.bytes ≡ Some (Claimed claim (may.sample + term)) = ap read_lease may.spells ∙ lease-back (Claimed claim (may.sample + term)) limits in
-          let R : Option LeaseRecord → Type 0 = λ r. P (wrote r) in
-          let new : P (wrote (read_lease write.bytes)) = subst R (sym back) (record { own = refl; ends = refl; limits = limits; mine = is-seen.mine }) in
-          let B : ℕ → Type 0 = λ b. P (at p.holds b (wrote (read_lease write.bytes)) (lease_at lease)) in
-          subst B here.1 (subst P (sym (at-same p.holds (lease_at lease) (wrote (read_lease write.bytes)))) new)
+          let R : Option LeaseRecord → Type 0 = λ r. P (hold_after_claim r) in
+          let new : P (hold_after_claim (read_lease write.bytes)) = subst R (sym back) (record { own = refl; ends = refl; limits = limits; mine = is-seen.mine }) in
+          let B : ℕ → Type 0 = λ b. P (at p.holds b (hold_after_claim (read_lease write.bytes)) (lease_at lease)) in
+          subst B here.1 (subst P (sym (at-same p.holds (lease_at lease) (hold_after_claim (read_lease write.bytes)))) new)
       | inr away ↦
           let P : Hold → Type 0 = λ h. Good rests time writes lease on.standing boot None h in
-          subst P (sym (at-other p.holds write.block (lease_at lease) (wrote (read_lease write.bytes)) away.1)) good
+          subst P (sym (at-other p.holds write.block (lease_at lease) (hold_after_claim (read_lease write.bytes)) away.1)) good
     ]
     done-of kind.Renew leases may good = elim (eqb_tells (lease_at lease) write.block) [
       | inl here ↦
           let P : Hold → Type 0 = λ h. Good rests time writes lease on.standing boot None h in
           let C : Bool → Type 0 = λ b. P (grip_while kind.Renew b true write.bytes hold) in
-          let B : ℕ → Type 0 = λ b. P (at p.holds b (renewed (read_lease write.bytes)) (lease_at lease)) in
-          subst B here.1 (subst P (sym (at-same p.holds (lease_at lease) (renewed (read_lease write.bytes)))) (subst C here.0 good))
+          let B : ℕ → Type 0 = λ b. P (at p.holds b (hold_after_renewal (read_lease write.bytes)) (lease_at lease)) in
+          subst B here.1 (subst P (sym (at-same p.holds (lease_at lease) (hold_after_renewal (read_lease write.bytes)))) (subst C here.0 good))
       | inr away ↦
           let P : Hold → Type 0 = λ h. Good rests time writes lease on.standing boot None h in
           let C : Bool → Type 0 = λ b. P (grip_while kind.Renew b true write.bytes hold) in
-          subst P (sym (at-other p.holds write.block (lease_at lease) (renewed (read_lease write.bytes)) away.1)) (subst C away.0 good)
+          subst P (sym (at-other p.holds write.block (lease_at lease) (hold_after_renewal (read_lease write.bytes)) away.1)) (subst C away.0 good)
     ]
     done-of kind.Release leases may good = elim (eqb_tells (lease_at lease) write.block) [
       | inl here ↦

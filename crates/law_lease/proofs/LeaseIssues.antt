@@ -24,7 +24,7 @@ use Rattle.law_lease.proofs.Rests.{rests-or, rests-home, needs-before, needs-las
 use Rattle.plx_rules.specs.Settings.{boot_number}
 use Rattle.plx_rules.specs.World.{Seat, setting_at}
 use Rattle.law_lease.proofs.LeaseFrames.{Shrinks, good-shrinks, one-claim, grip-open}
-use Rattle.law_lease.proofs.Leased.{MayAsk, MayUse, IsLive, NoneLive, LiveOnly, IsBacked, IsOfKind, IsClaiming, Good, grip_at, GoodSeat, LeaseOn}
+use Rattle.law_lease.proofs.Leased.{MayWrite, MayUse, IsLive, NoneLive, LiveOnly, IsBacked, IsOfKind, IsClaiming, Good, grip_at, GoodSeat, LeaseOn}
 use Rattle.plx_geom.proofs.Places.{lease-lease}
 
 -- boots of two appliances have two numbers
@@ -233,7 +233,7 @@ module _ (g : Geometry) (rests : ℕ → List ℕ) (appliances time : ℕ) (devi
       | inr no' ↦ issue-still no' (λ c. absurd (unclaimed (sym is ∙ c)))
     ]
 
-    issue-of : (k : WriteKind) → what ≡ k → MayAsk g boot p.holds leases k block bytes guard → LeaseOn g since appliances time device now seats' lease
+    issue-of : (k : WriteKind) → what ≡ k → MayWrite g boot p.holds leases k block bytes guard → LeaseOn g since appliances time device now seats' lease
     issue-of kind.Claim is may = issue-still (λ need. let e : false ≡ true = subst (λ (l : List ℕ). is_in lease l ≡ true) may.alone need in let P : ⊥ = cc in P)
         (λ k here.
         let same : lease ≡ may.lease = lease-lease lease may.lease (sym here ∙ may.at_lease) in
@@ -281,5 +281,5 @@ module _ (g : Geometry) (rests : ℕ → List ℕ) (appliances time : ℕ) (devi
     issue-of kind.JCommit is may = issue-use kind.JCommit is may (λ k. let P : ⊥ = cc in P) (λ c u limits. tt)
     issue-of other is may = absurd may
 
-    pub lease-issued : MayAsk g boot p.holds leases what block bytes guard → LeaseOn g since appliances time device now seats' lease
+    pub lease-issued : MayWrite g boot p.holds leases what block bytes guard → LeaseOn g since appliances time device now seats' lease
     lease-issued may = issue-of what refl may

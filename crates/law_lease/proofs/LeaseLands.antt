@@ -2,7 +2,7 @@
 use Rattle.std.proofs.Common.{◌≡◌, ◌≢◌, ℕ, zero, suc, ◌+◌, ◌≤◌, ◌<◌, ◌⊎◌, inl, inr, List, [], ◌∷◌, Bool, true, false, Option, Some, None, refl, ap, sym, subst, ◌∙◌, arith, slice_set}
 use Rattle.std.specs.Prelude.{slice_get, ◌==◌}
 use Rattle.std.proofs.lemmas.Bool.Decides.{eqb_tells}
-use Rattle.plx_base.specs.Sectors.{Device, put, landed}
+use Rattle.plx_base.specs.Sectors.{Device, put, with_landed_sector}
 use Rattle.plx_base.proofs.Devices.{put-same, put-other}
 use Rattle.plx_base.specs.declared.lease.LeaseRecord.{LeaseRecord}
 use Rattle.plx_base.specs.declared.lease.LeaseRecord.TheVariants.{Free, Claimed}
@@ -16,7 +16,7 @@ use Rattle.law_lease.proofs.Lists.{pending-is, whole-none}
 use Rattle.plx_rules.specs.Boot.{Place, Idle, Begins, In, position}
 use Rattle.plx_rules.specs.Holds.{Hold, Held}
 use Rattle.plx_geom.specs.Geometry.{Geometry, lease_count, lease_at}
-use Rattle.plx_rules.specs.Holds.{renewed}
+use Rattle.plx_rules.specs.Holds.{hold_after_renewal}
 use Rattle.plx_gate.specs.Leases.{lease_bytes, read_lease, IsLease, IsClaimed}
 use Rattle.plx_rules.specs.Owners.{first_landed, pending_write, is_set}
 use Rattle.plx_rules.specs.Rests.{IsUnder, rests_on}
@@ -26,7 +26,7 @@ use Rattle.plx_rules.specs.World.{Seat, setting_at}
 use Rattle.plx_gate.proofs.Leases.{lease-back, lease-same}
 use Rattle.law_lease.proofs.LeaseSectors.{sector-first, sector-past}
 use Rattle.law_lease.proofs.LeaseFrames.{Shrinks, good-shrinks, good-changed, claim-alone, claim-clears, renew-clears, grip_while-open, grip_while-away}
-use Rattle.law_lease.proofs.Leased.{MayAsk, LawfulAt, Unlanded, IsLive, NoneLive, IsBacked, IsOfKind, Clear, IsClaiming, Good, grip_while, grip_at, GoodSeat, LeaseOn, IsPlaced, IsRight, IsAskedAt, IsSeat}
+use Rattle.law_lease.proofs.Leased.{MayWrite, LawfulAt, Unlanded, IsLive, NoneLive, IsBacked, IsOfKind, Clear, IsClaiming, Good, grip_while, grip_at, GoodSeat, LeaseOn, IsPlaced, IsRight, IsAskedAt, IsSeat}
 use Rattle.plx_geom.proofs.Places.{lease-lease, lease-data, lease-descriptor, lease-map, lease-record}
 
 -- a missing flag of a write on which one more sector has landed was missing before
@@ -54,7 +54,7 @@ first-set write flag e = ap is_set e
 
 -- it may be asked, whatever it rests on
 abbrev pub MayBeAsked : Geometry → ℕ → (ℕ → Hold) → WriteKind → ℕ → List ℕ → ℕ → Type 0
-MayBeAsked g boot holds kind block bytes guard = (rests : List ℕ) × MayAsk g boot holds rests kind block bytes guard
+MayBeAsked g boot holds kind block bytes guard = (rests : List ℕ) × MayWrite g boot holds rests kind block bytes guard
 
 pub asked-may : (g : Geometry) (boot : ℕ) (holds : ℕ → Hold) (sample : Option ℕ) (place : Place) (write : Issued) → IsAskedAt place boot write →
     LawfulAt g boot holds sample place → MayBeAsked g boot holds write.kind write.block write.bytes write.guard
@@ -106,7 +106,7 @@ module _ (g : Geometry) (rests : ℕ → List ℕ) (appliances time : ℕ) (devi
   now = slice_set writes number (with_sector write sector)
 
   abbrev after : Device
-  after = put device write.block (landed sector write.bytes (device write.block))
+  after = put device write.block (with_landed_sector sector write.bytes (device write.block))
 
   -- the write that lands, and every other
   landed-is : (m : ℕ) (x : Issued) → slice_get now m ≡ Some x → ((m ≡ number) × (x ≡ with_sector write sector)) ⊎ ((m ≢ number) × (slice_get writes m ≡ Some x))
@@ -235,7 +235,7 @@ module _ (g : Geometry) (rests : ℕ → List ℕ) (appliances time : ℕ) (devi
   land-away : lease_at lease ≢ write.block → LeaseOn g rests appliances time after now seats lease
   land-away ne =
       let e = eqb-other (lease_at lease) write.block ne in
-      land-still (put-other device write.block (landed sector write.bytes (device write.block)) (lease_at lease) ne)
+      land-still (put-other device write.block (with_landed_sector sector write.bytes (device write.block)) (lease_at lease) ne)
       (λ hold. ap (λ (b : Bool). grip_while write.kind b (first_landed (Some (with_sector write sector))) write.bytes hold) e
       ∙ (grip_while-away write.kind (first_landed (Some (with_sector write sector))) write.bytes hold
       ∙ sym (ap (λ (b : Bool). grip_while write.kind b (first_landed (Some write)) write.bytes hold) e ∙ grip_while-away write.kind (first_landed (Some write)) write.bytes hold)))
@@ -247,11 +247,11 @@ module _ (g : Geometry) (rests : ℕ → List ℕ) (appliances time : ℕ) (devi
         let at : device write.block ≡ lease_bytes on.standing = ap device (sym here.1) ∙ on.spells in
         let flag : slice_get (slice_set write.landed sector true) 0 ≡ slice_get write.landed 0 = set-other write.landed sector 0 true (λ e. omega (arith, e, is)) in
         land-still
-        (ap (put device write.block (landed sector write.bytes (device write.block))) here.1
-        ∙ (put-same device write.block (landed sector write.bytes (device write.block))
-        ∙ (ap (λ (s : ℕ). landed s write.bytes (device write.block)) is
-        ∙ (ap (λ (b : List ℕ). landed (suc k) b (device write.block)) spells
-        ∙ (ap (landed (suc k) (lease_bytes r)) at ∙ (sector-past on.standing r k ∙ (sym at ∙ ap device (sym here.1))))))))
+        (ap (put device write.block (with_landed_sector sector write.bytes (device write.block))) here.1
+        ∙ (put-same device write.block (with_landed_sector sector write.bytes (device write.block))
+        ∙ (ap (λ (s : ℕ). with_landed_sector s write.bytes (device write.block)) is
+        ∙ (ap (λ (b : List ℕ). with_landed_sector (suc k) b (device write.block)) spells
+        ∙ (ap (with_landed_sector (suc k) (lease_bytes r)) at ∙ (sector-past on.standing r k ∙ (sym at ∙ ap device (sym here.1))))))))
         (λ hold. ap (λ (o : Option Bool). grip_while write.kind (lease_at lease == write.block) (is_set o) write.bytes hold) flag)
     | inr away ↦ land-away away.1
   ]
@@ -260,10 +260,10 @@ module _ (g : Geometry) (rests : ℕ → List ℕ) (appliances time : ℕ) (devi
   first-lands : lease_at lease ≡ write.block → sector ≡ 0 → (r : LeaseRecord) → write.bytes ≡ lease_bytes r → after (lease_at lease) ≡ lease_bytes r
   first-lands here is r spells =
       let at : device write.block ≡ lease_bytes on.standing = ap device (sym here) ∙ on.spells in
-      ap (put device write.block (landed sector write.bytes (device write.block))) here
-      ∙ (put-same device write.block (landed sector write.bytes (device write.block))
-      ∙ (ap (λ (s : ℕ). landed s write.bytes (device write.block)) is
-      ∙ (ap (λ (b : List ℕ). landed 0 b (device write.block)) spells ∙ (ap (landed 0 (lease_bytes r)) at ∙ sector-first on.standing r))))
+      ap (put device write.block (with_landed_sector sector write.bytes (device write.block))) here
+      ∙ (put-same device write.block (with_landed_sector sector write.bytes (device write.block))
+      ∙ (ap (λ (s : ℕ). with_landed_sector s write.bytes (device write.block)) is
+      ∙ (ap (λ (b : List ℕ). with_landed_sector 0 b (device write.block)) spells ∙ (ap (with_landed_sector 0 (lease_bytes r)) at ∙ sector-first on.standing r))))
 
   -- where the record changes no write is live
   land-changed : (changed : LeaseRecord) → IsLease changed → after (lease_at lease) ≡ lease_bytes changed → NoneLive rests time now lease →
@@ -394,7 +394,7 @@ module _ (g : Geometry) (rests : ℕ → List ℕ) (appliances time : ℕ) (devi
       let alike : changed ≡ Claimed renew.claim renew.next =
       lease-same changed (Claimed renew.claim renew.next) limits renewed-limits (two-spellings write.bytes (lease_bytes changed) (lease_bytes (Claimed renew.claim renew.next)) spells renew.spells) in
       let Q : WriteKind → Hold → Type 0 = λ k h. Good rests time now lease changed boot (seats a).pending (grip_while k true true write.bytes h) in
-      let R : Option LeaseRecord → Type 0 = λ r. Good rests time now lease changed boot (seats a).pending (renewed r) in
+      let R : Option LeaseRecord → Type 0 = λ r. Good rests time now lease changed boot (seats a).pending (hold_after_renewal r) in
       let done : R (Some (Claimed renew.claim renew.next)) = record {
         own = old.own;
         limits = renewed-limits;

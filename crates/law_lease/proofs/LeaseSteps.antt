@@ -6,7 +6,7 @@ use Rattle.std.proofs.lemmas.List.{length-set}
 use Rattle.std.proofs.lemmas.Option.{slice_get_within}
 use Rattle.plx_base.proofs.Devices.{put-all}
 use Rattle.plx_base.proofs.Landed.{length-landed}
-use Rattle.plx_base.specs.Sectors.{Device, put, landed}
+use Rattle.plx_base.specs.Sectors.{Device, put, with_landed_sector}
 use Rattle.plx_base.specs.declared.lease.LeaseRecord.TheVariants.{Free, Claimed}
 use Rattle.plx_base.specs.declared.numbers.ExtentNo.{ExtentNo}
 use Rattle.plx_base.specs.declared.numbers.SlotNo.{SlotNo}
@@ -25,24 +25,25 @@ use Rattle.plx_geom.specs.Geometry.{Geometry, IsGeometry, lease_count, image_lea
 use Rattle.plx_geom.specs.declared.place.Place.TheVariants as place
 use Rattle.plx_gate.specs.Leases.{lease_bytes}
 use Rattle.plx_rules.specs.Part.{Part, Ends, ReadThen, WriteThen, ClockThen, UntilThen}
-use Rattle.plx_rules.specs.Boot.{Happening, Began, Asked, Place, Idle, Begins, In, Position, position, place_of, after_part, goes_to, begun, went_on}
+use Rattle.plx_rules.specs.Boot.{Happening, Began, Asked, Place, Idle, Begins, In, Position, position, place_of, after_part, goes_to, place_after_begin, first_part, went_on}
 use Rattle.plx_rules.specs.Claims.{claim_of}
-use Rattle.plx_rules.specs.Commands.{command_part, IsWellFormed}
+use Rattle.plx_rules.specs.Commands.{IsWellFormed}
 use Rattle.plx_rules.specs.Ends.{End}
 use Rattle.plx_rules.specs.Formatted.{IsFormatted}
-use Rattle.plx_rules.specs.Holds.{Hold, no_holds, after_answer, after_write, after_first, session_at, timed}
+use Rattle.plx_rules.specs.Hands.{hand_held}
+use Rattle.plx_rules.specs.Holds.{Hold, no_holds, after_answer, after_write, after_first, session_at, hold_after_reading}
 use Rattle.plx_rules.specs.Rests.{rests_on}
 use Rattle.plx_rules.specs.Session.{Known}
 use Rattle.plx_rules.specs.Settings.{Setting, boot_number}
 use Rattle.plx_rules.specs.World as world
 use Rattle.plx_rules.specs.World.{World, Seat, Step, Reached, IsReading, first_world, setting_at}
 use Rattle.plx_rules.specs.Times.{term}
-use Rattle.law_lease.proofs.LawfulCommands.{lawful-command}
+use Rattle.law_lease.proofs.EachCommand.{lawful-command}
 use Rattle.law_lease.proofs.LeaseFrames.{Shrinks, good-shrinks}
 use Rattle.law_lease.proofs.LeaseGoes.{good-part, good-timed, good-first, lease-log, good-free, good-read, good-written}
 use Rattle.law_lease.proofs.LeaseIssues.{lease-issued}
 use Rattle.law_lease.proofs.LeaseLands.{lease-lands}
-use Rattle.law_lease.proofs.Leased.{MayAsk, LawfulRest, LawfulAt, IsLive, Good, GoodSeat, LeaseOn, IsPlaced, IsRight, IsAskedAt, IsSeat, Leased}
+use Rattle.law_lease.proofs.Leased.{MayWrite, LawfulRest, LawfulAt, IsLive, Good, GoodSeat, LeaseOn, IsPlaced, IsRight, IsAskedAt, IsSeat, Leased}
 use Rattle.law_lease.proofs.Lists.{push-cases, none-some}
 
 -- ---- time passes
@@ -141,12 +142,12 @@ module _ (w : World) (leased : Leased w) (a : ℕ) (below : a < w.appliances) (t
   }
 
   -- an ask was answered
-  went-leased : (log : List Happening) (known : Known) (command : Command) (holds : ℕ → Hold) (sample : Option ℕ) (part : Part End) →
-      position setting log ≡ goes_to known command holds sample part →
+  went-leased : (log : List Happening) (known : Known) (command : Command) (holds : ℕ → Hold) (hand : List ℕ) (sample : Option ℕ) (found : Option (ℕ × List ℕ)) (part : Part End) →
+      position setting log ≡ goes_to g known command holds hand sample found part →
       ((lease : ℕ) (within : lease < lease_count g) → Good w.rests time writes lease (leased.on lease within).standing boot None (holds (lease_at lease))) →
       LawfulRest g boot command holds sample part → ((s : ℕ) → sample ≡ Some s → s ≤ time + 50) → Leased (with-log log)
-  went-leased log known command holds sample part leads good lawful sampled =
-      log-leased log (goes_to known command holds sample part) leads
+  went-leased log known command holds hand sample found part leads good lawful sampled =
+      log-leased log (goes_to g known command holds hand sample found part) leads
       (λ lease within. good-part w.rests time writes lease (leased.on lease within).standing boot part holds (lease_at lease) (good lease within))
       (lawful-placed g boot known command holds sample part lawful) sampled
 
@@ -159,9 +160,9 @@ module _ (w : World) (leased : Leased w) (a : ℕ) (below : a < w.appliances) (t
   pub start-leased : (known : Known) (command : Command) → p.place ≡ Idle known → IsWellFormed command → Leased (with-log (Began command ∷ seat.log))
   start-leased known command here whole =
       let free = not-waiting g time writes a seat (Idle known) (leased.seated a below) here (λ b x no'. no') in
-      log-leased (Began command ∷ seat.log) (record { holds = p.holds; sample = None; place = begun command p.place }) refl
+      log-leased (Began command ∷ seat.log) (record p { sample = None; found = None; place = place_after_begin command p.place }) refl
       (λ lease within. good-free g w.rests w.appliances time w.surface.device writes w.seats lease (leased.on lease within) a below free)
-      (let P : Place → Type 0 = λ q. LawfulAt g boot p.holds None (begun command q) in subst P (sym here) whole)
+      (let P : Place → Type 0 = λ q. LawfulAt g boot p.holds None (place_after_begin command q) in subst P (sym here) whole)
       (λ s e. absurd (none-some s e))
 
   -- a reading is below 2 ^ 48
@@ -175,12 +176,12 @@ module _ (w : World) (leased : Leased w) (a : ℕ) (below : a < w.appliances) (t
       Leased (with-log (Asked ask.Clock [] (answer.Reading reading) ∷ seat.log))
   begin-leased known command reading here is =
       let free = not-waiting g time writes a seat (Begins known command) (leased.seated a below) here (λ b x no'. no') in
-      went-leased (Asked ask.Clock [] (answer.Reading reading) ∷ seat.log) known command (after_first g known reading p.holds) (Some reading)
-      (command_part setting known (after_first g known reading p.holds) reading command)
+      went-leased (Asked ask.Clock [] (answer.Reading reading) ∷ seat.log) known command (after_first g known reading p.holds) _ (Some reading) _
+      (first_part setting known reading command p)
       (ap (went_on setting ask.Clock [] (answer.Reading reading) p) here)
       (λ lease within. good-first w.rests time writes lease (leased.on lease within).standing boot (session_at g known (lease_at lease)) reading (p.holds (lease_at lease))
       (good-free g w.rests w.appliances time w.surface.device writes w.seats lease (leased.on lease within) a below free))
-      (lawful-command setting leased.geometry known p.holds reading command (soon reading is) (lawful-at (Begins known command) here))
+      (lawful-command setting leased.geometry (let many = leased.few in let boots = (leased.seated a below).boots in omega (arith, below, many, boots)) known p.holds (hand_held g (after_first g known reading p.holds) p.hand) reading command (soon reading is) (lawful-at (Begins known command) here))
       (λ s e. let f = some-same reading s e in let l = is.early in omega (arith, f, l))
 
   module _ (known : Known) (command : Command) where
@@ -190,7 +191,7 @@ module _ (w : World) (leased : Leased w) (a : ℕ) (below : a < w.appliances) (t
         let free = not-waiting g time writes a seat _ (leased.seated a below) here (λ b x no'. no') in
         let bytes = w.surface.device block in
         went-leased (Asked (ask.Read (record { 0 = block })) [] (answer.Bytes bytes) ∷ seat.log) known command
-        (after_answer p.sample (ask.Read (record { 0 = block })) [] (answer.Bytes bytes) p.holds) None (rest bytes)
+        (after_answer p.sample (ask.Read (record { 0 = block })) [] (answer.Bytes bytes) p.holds) _ None _ (rest bytes)
         (ap (went_on setting (ask.Read (record { 0 = block })) [] (answer.Bytes bytes) p) here)
         (λ lease within. good-read g w.rests w.appliances time w.surface.device writes w.seats lease (leased.on lease within) a below free (leased.seated a below).sampled block)
         ((lawful-at (In known command (ReadThen block rest fault)) here).0 bytes)
@@ -200,7 +201,7 @@ module _ (w : World) (leased : Leased w) (a : ℕ) (below : a < w.appliances) (t
         Leased (with-log (Asked (ask.Read (record { 0 = block })) [] answer.Fault ∷ seat.log))
     fault-leased block rest fault here =
         let free = not-waiting g time writes a seat _ (leased.seated a below) here (λ b x no'. no') in
-        went-leased (Asked (ask.Read (record { 0 = block })) [] answer.Fault ∷ seat.log) known command p.holds None fault
+        went-leased (Asked (ask.Read (record { 0 = block })) [] answer.Fault ∷ seat.log) known command p.holds _ None _ fault
         (ap (went_on setting (ask.Read (record { 0 = block })) [] answer.Fault p) here)
         (λ lease within. good-free g w.rests w.appliances time w.surface.device writes w.seats lease (leased.on lease within) a below free)
         (lawful-at (In known command (ReadThen block rest fault)) here).1
@@ -210,22 +211,22 @@ module _ (w : World) (leased : Leased w) (a : ℕ) (below : a < w.appliances) (t
         Leased (with-log (Asked ask.Clock [] (answer.Reading reading) ∷ seat.log))
     clock-leased rest reading here is =
         let free = not-waiting g time writes a seat _ (leased.seated a below) here (λ b x no'. no') in
-        went-leased (Asked ask.Clock [] (answer.Reading reading) ∷ seat.log) known command (λ block. timed reading (p.holds block)) (Some reading) (rest reading)
+        went-leased (Asked ask.Clock [] (answer.Reading reading) ∷ seat.log) known command (λ block. hold_after_reading reading (p.holds block)) _ (Some reading) _ (rest reading)
         (ap (went_on setting ask.Clock [] (answer.Reading reading) p) here)
         (λ lease within. good-timed w.rests time writes lease (leased.on lease within).standing boot reading (p.holds (lease_at lease)) is.early
         (good-free g w.rests w.appliances time w.surface.device writes w.seats lease (leased.on lease within) a below free))
         (lawful-at (In known command (ClockThen rest)) here reading (soon reading is))
         (λ s e. let f = some-same reading s e in let l = is.early in omega (arith, f, l))
 
-    pub wait-leased : (from : ℕ) (rest : ℕ → Part End) (reading : ℕ) → p.place ≡ In known command (UntilThen from rest) → IsReading reading time →
+    pub wait-leased : (from : ℕ) (rest : ℕ → Part End) (reading : ℕ) → p.place ≡ In known command (UntilThen from rest) → IsReading reading time → from ≤ reading →
         Leased (with-log (Asked (ask.Until from) [] (answer.Reading reading) ∷ seat.log))
-    wait-leased from rest reading here is =
+    wait-leased from rest reading here is past =
         let free = not-waiting g time writes a seat _ (leased.seated a below) here (λ b x no'. no') in
-        went-leased (Asked (ask.Until from) [] (answer.Reading reading) ∷ seat.log) known command (λ block. timed reading (p.holds block)) (Some reading) (rest reading)
+        went-leased (Asked (ask.Until from) [] (answer.Reading reading) ∷ seat.log) known command (λ block. hold_after_reading reading (p.holds block)) _ (Some reading) _ (rest reading)
         (ap (went_on setting (ask.Until from) [] (answer.Reading reading) p) here)
         (λ lease within. good-timed w.rests time writes lease (leased.on lease within).standing boot reading (p.holds (lease_at lease)) is.early
         (good-free g w.rests w.appliances time w.surface.device writes w.seats lease (leased.on lease within) a below free))
-        (lawful-at (In known command (UntilThen from rest)) here reading (soon reading is))
+        (lawful-at (In known command (UntilThen from rest)) here reading past (soon reading is))
         (λ s e. let f = some-same reading s e in let l = is.early in omega (arith, f, l))
 
     -- a write is answered
@@ -233,13 +234,13 @@ module _ (w : World) (leased : Leased w) (a : ℕ) (below : a < w.appliances) (t
         (here : p.place ≡ In known command (WriteThen what block bytes guard done fault missed)) where
       pub write-fault-leased : Leased (with-log (Asked (ask.Write what (record { 0 = block }) guard) bytes answer.Fault ∷ seat.log))
       write-fault-leased =
-          went-leased (Asked (ask.Write what (record { 0 = block }) guard) bytes answer.Fault ∷ seat.log) known command no_holds None fault
+          went-leased (Asked (ask.Write what (record { 0 = block }) guard) bytes answer.Fault ∷ seat.log) known command no_holds _ None _ fault
           (ap (went_on setting (ask.Write what (record { 0 = block }) guard) bytes answer.Fault p) here)
           (λ lease within. tt) (lawful-at _ here).2 (λ s e. absurd (none-some s e))
 
       pub miss-leased : (reading : ℕ) → Leased (with-log (Asked (ask.Write what (record { 0 = block }) guard) bytes (answer.Missed reading) ∷ seat.log))
       miss-leased reading =
-          went-leased (Asked (ask.Write what (record { 0 = block }) guard) bytes (answer.Missed reading) ∷ seat.log) known command no_holds None (missed reading)
+          went-leased (Asked (ask.Write what (record { 0 = block }) guard) bytes (answer.Missed reading) ∷ seat.log) known command no_holds _ None _ (missed reading)
           (ap (went_on setting (ask.Write what (record { 0 = block }) guard) bytes (answer.Missed reading) p) here)
           (λ lease within. tt) ((lawful-at _ here).3 reading) (λ s e. absurd (none-some s e))
 
@@ -252,7 +253,7 @@ module _ (w : World) (leased : Leased w) (a : ℕ) (below : a < w.appliances) (t
           let all : write.landed ≡ all_sectors = ap (λ (x : Issued). x.landed) (sym same) ∙ landed.2 in
           let P : Place → Type 0 = λ q. IsAskedAt q boot write in
           let asked' = subst P here asked.2 in
-          went-leased (Asked (ask.Write what (record { 0 = block }) guard) bytes answer.Done ∷ seat.log) known command (after_write what block bytes p.holds) None done
+          went-leased (Asked (ask.Write what (record { 0 = block }) guard) bytes answer.Done ∷ seat.log) known command (after_write what block bytes p.holds) _ None _ done
           (ap (went_on setting (ask.Write what (record { 0 = block }) guard) bytes answer.Done p) here)
           (λ lease within.
           let good = good-written g w.rests w.appliances time w.surface.device writes w.seats lease (leased.on lease within) a below leased.few (leased.seated a below).boots n write waited asked.1 all asked.2
@@ -264,7 +265,7 @@ module _ (w : World) (leased : Leased w) (a : ℕ) (below : a < w.appliances) (t
 
 -- ---- a write is issued, or a sector of one lands
 
-pub placed-may : (g : Geometry) (b : ℕ) (holds : ℕ → Hold) (rests : List ℕ) (k : WriteKind) (block : ℕ) (bytes : List ℕ) (guard : ℕ) → MayAsk g b holds rests k block bytes guard → IsPlaced g k block bytes rests
+pub placed-may : (g : Geometry) (b : ℕ) (holds : ℕ → Hold) (rests : List ℕ) (k : WriteKind) (block : ℕ) (bytes : List ℕ) (guard : ℕ) → MayWrite g b holds rests k block bytes guard → IsPlaced g k block bytes rests
 placed-may g b holds rests kind.Claim block bytes guard may =
     (may.lease, may.within, may.at_lease, (Claimed (claim_of b may.number may.sample) (may.sample + term), may.spells), may.alone)
 placed-may g b holds rests kind.Renew block bytes guard may = (may.lease, may.within, may.at_lease, (Claimed may.claim may.next, may.spells), may.alone)
@@ -306,9 +307,9 @@ sector-below flags sector eight there = omega (arith, eight, slice_get_within fl
 
 -- each block keeps its length where a sector lands
 long-landed : (device : Device) (block sector : ℕ) (bytes : List ℕ) → ((b : ℕ) → length (device b) ≡ 4096) → length bytes ≡ 4096 → sector < 8 →
-    (b : ℕ) → length (put device block (landed sector bytes (device block)) b) ≡ 4096
+    (b : ℕ) → length (put device block (with_landed_sector sector bytes (device block)) b) ≡ 4096
 long-landed device block sector bytes long whole below =
-    put-all (λ b x. length x ≡ 4096) device block (landed sector bytes (device block))
+    put-all (λ b x. length x ≡ 4096) device block (with_landed_sector sector bytes (device block))
     (length-landed sector bytes (device block) (omega (arith, whole, below)) (omega (arith, long block, below)) ∙ long block)
     (λ b ne. long b)
 
@@ -333,7 +334,7 @@ keeps-leases (world.issues {w = w} {appliance = a} known command what block byte
     let p = position (setting_at w.geometry a.0 (w.seats a.0).boots) (w.seats a.0).log in
     let leases = rests_on w.geometry command p.holds what block bytes in
     let P : Place → Type 0 = λ q. LawfulAt w.geometry boot p.holds p.sample q in
-    let may : MayAsk w.geometry boot p.holds leases what block bytes guard = (subst P here (leased.seated a.0 below).lawful).0 in
+    let may : MayWrite w.geometry boot p.holds leases what block bytes guard = (subst P here (leased.seated a.0 below).lawful).0 in
     let long : length bytes ≡ 4096 = (subst P here (leased.seated a.0 below).lawful).4 in
     let write = fresh_write boot what block bytes guard in
     record {
@@ -401,7 +402,7 @@ keeps-leases (world.misses {w = w} {appliance = a} {reading = reading} known com
     miss-leased w leased a.0 below _ _ known command what block bytes guard done fault missed here reading
 keeps-leases (world.clocks {w = w} {appliance = a} {reading = reading} known command rest below here is) leased = clock-leased w leased a.0 below _ _ known command rest reading here is
 keeps-leases (world.waits {w = w} {appliance = a} {reading = reading} known command from rest below here is past) leased =
-    wait-leased w leased a.0 below _ _ known command from rest reading here is
+    wait-leased w leased a.0 below _ _ known command from rest reading here is past
 keeps-leases (world.crashes {w = w} {appliance = a} below room) leased = record {
   geometry = leased.geometry;
   few = leased.few;

@@ -18,7 +18,7 @@ use Rattle.plx_rules.specs.Rests.{IsUnder, rests_on}
 use Rattle.plx_commands.specs.Replies.{is_in}
 use Rattle.plx_commands.specs.declared.command.Command.{Command}
 use Rattle.plx_geom.specs.Geometry.{Geometry, IsGeometry, lease_count, root_lease, image_lease, extent_lease, map_at, record_at, lease_at, descriptor_at, data_at}
-use Rattle.plx_rules.specs.Holds.{Hold, Nothing, Seen, Wrote, Waited, Held, no_holds, after_answer, after_write, renewed, timed}
+use Rattle.plx_rules.specs.Holds.{Hold, Nothing, Seen, Wrote, Waited, Held, no_holds, after_answer, after_write, hold_after_renewal, hold_after_reading}
 use Rattle.plx_gate.specs.Leases.{lease_bytes, read_lease, IsLease, IsClaimed}
 use Rattle.plx_rules.specs.Owners.{first_landed, pending_write}
 use Rattle.plx_rules.specs.Settings.{boot_number}
@@ -99,17 +99,17 @@ pub record MayUse (g : Geometry) (holds : ℕ → Hold) (rests : List ℕ) (kind
   pub grants : (lease : ℕ) → is_in lease rests ≡ true → IsGranted holds lease guard
 
 -- a write that rests on these leases is allowed, by its kind
-abbrev pub MayAsk : Geometry → ℕ → (ℕ → Hold) → (rests : List ℕ) → WriteKind → ℕ → List ℕ → ℕ → Type 0
-MayAsk g boot holds rests kind.Claim block bytes guard = MayClaim g boot holds rests block bytes guard
-MayAsk g boot holds rests kind.Renew block bytes guard = MayRenew g holds rests block bytes guard
-MayAsk g boot holds rests kind.Release block bytes guard = MayRelease g holds rests block bytes guard
-MayAsk g boot holds rests kind.Take block bytes guard = MayUse g holds rests kind.Take block bytes guard
-MayAsk g boot holds rests kind.Give block bytes guard = MayUse g holds rests kind.Give block bytes guard
-MayAsk g boot holds rests kind.Sweep block bytes guard = MayUse g holds rests kind.Sweep block bytes guard
-MayAsk g boot holds rests kind.Record block bytes guard = MayUse g holds rests kind.Record block bytes guard
-MayAsk g boot holds rests kind.JData block bytes guard = MayUse g holds rests kind.JData block bytes guard
-MayAsk g boot holds rests kind.JCommit block bytes guard = MayUse g holds rests kind.JCommit block bytes guard
-MayAsk g boot holds rests other block bytes guard = ⊥
+abbrev pub MayWrite : Geometry → ℕ → (ℕ → Hold) → (rests : List ℕ) → WriteKind → ℕ → List ℕ → ℕ → Type 0
+MayWrite g boot holds rests kind.Claim block bytes guard = MayClaim g boot holds rests block bytes guard
+MayWrite g boot holds rests kind.Renew block bytes guard = MayRenew g holds rests block bytes guard
+MayWrite g boot holds rests kind.Release block bytes guard = MayRelease g holds rests block bytes guard
+MayWrite g boot holds rests kind.Take block bytes guard = MayUse g holds rests kind.Take block bytes guard
+MayWrite g boot holds rests kind.Give block bytes guard = MayUse g holds rests kind.Give block bytes guard
+MayWrite g boot holds rests kind.Sweep block bytes guard = MayUse g holds rests kind.Sweep block bytes guard
+MayWrite g boot holds rests kind.Record block bytes guard = MayUse g holds rests kind.Record block bytes guard
+MayWrite g boot holds rests kind.JData block bytes guard = MayUse g holds rests kind.JData block bytes guard
+MayWrite g boot holds rests kind.JCommit block bytes guard = MayUse g holds rests kind.JCommit block bytes guard
+MayWrite g boot holds rests other block bytes guard = ⊥
 
 -- however a rest of a command is answered, each write that it asks is allowed and is a block; `At` holds at each end, of what is held there
 abbrev pub Lawful : {E : Type 0} → (At : E → (ℕ → Hold) → Option ℕ → Type 0) → Geometry → ℕ → Command → (ℕ → Hold) → Option ℕ → Part E → Type 0
@@ -118,12 +118,12 @@ Lawful At g boot command holds sample (ReadThen block rest fault) =
     ((bytes : List ℕ) → Lawful At g boot command (after_answer sample (ask.Read (record { 0 = block })) [] (answer.Bytes bytes) holds) None (rest bytes))
     × Lawful At g boot command holds None fault
 Lawful At g boot command holds sample (WriteThen kind block bytes guard done fault missed) =
-    MayAsk g boot holds (rests_on g command holds kind block bytes) kind block bytes guard × Lawful At g boot command (after_write kind block bytes holds) None done × Lawful At g boot command no_holds None fault
+    MayWrite g boot holds (rests_on g command holds kind block bytes) kind block bytes guard × Lawful At g boot command (after_write kind block bytes holds) None done × Lawful At g boot command no_holds None fault
     × ((reading : ℕ) → Lawful At g boot command no_holds None (missed reading)) × (length bytes ≡ 4096)
 Lawful At g boot command holds sample (ClockThen rest) =
-    (reading : ℕ) → reading < 2 ^ 48 → Lawful At g boot command (λ block. timed reading (holds block)) (Some reading) (rest reading)
+    (reading : ℕ) → reading < 2 ^ 48 → Lawful At g boot command (λ block. hold_after_reading reading (holds block)) (Some reading) (rest reading)
 Lawful At g boot command holds sample (UntilThen from rest) =
-    (reading : ℕ) → reading < 2 ^ 48 → Lawful At g boot command (λ block. timed reading (holds block)) (Some reading) (rest reading)
+    (reading : ℕ) → from ≤ reading → reading < 2 ^ 48 → Lawful At g boot command (λ block. hold_after_reading reading (holds block)) (Some reading) (rest reading)
 
 -- the same, where nothing is asked of the ends
 abbrev pub LawfulRest : {E : Type 0} → Geometry → ℕ → Command → (ℕ → Hold) → Option ℕ → Part E → Type 0
@@ -233,7 +233,7 @@ Good rests time writes lease standing boot pending (Held claim until) = IsHeld r
 -- what a boot holds while a write of it is asked, once its first sector has landed
 abbrev pub grip_while : WriteKind → Bool → Bool → List ℕ → Hold → Hold
 grip_while kind.Release true true bytes hold = Nothing
-grip_while kind.Renew true true bytes hold = renewed (read_lease bytes)
+grip_while kind.Renew true true bytes hold = hold_after_renewal (read_lease bytes)
 grip_while kind same landed bytes hold = hold
 
 -- the same, at its place

@@ -1,7 +1,9 @@
 pub mod Covers
 pub mod Latest
 pub mod Frame
+pub mod EachCommand
 pub mod LawfulCommands
+pub mod LawfulSpace
 pub mod LeaseSectors
 pub mod LeaseFrames
 pub mod LeaseGoes

@@ -3,6 +3,7 @@ use Rattle.std.proofs.Common.{◌≡◌, ◌≢◌, ℕ, zero, suc, List, [], �
 use Rattle.std.specs.Prelude.{slice_get}
 use Rattle.std.proofs.lemmas.Bool.Decides.{eqb_tells}
 use Rattle.plx_disk.specs.Writes.{all_sectors}
+use Rattle.plx_base.proofs.Tests.{same-some}
 
 -- what stands at a place of a list with one more element
 pub push-cases : {X : Type 0} (xs : List X) (x y : X) (k : ℕ) → slice_get (xs ++ x ∷ []) k ≡ Some y →
@@ -15,10 +16,6 @@ push-cases (z ∷ xs) x y (suc k) h = elim (push-cases xs x y k h) [ inl e ↦ i
 -- nothing is no number
 pub none-some : (n : ℕ) → None ≢ Some n
 none-some n = λ e. cc
-
--- one number
-pub same-some : (m n : ℕ) → Some m ≡ Some n → m ≡ n
-same-some m n e = cc
 
 -- a write is waited for, or it isn't
 pub pending-is : (p : Option ℕ) (n : ℕ) → (p ≡ Some n) ⊎ (p ≢ Some n)

@@ -17,7 +17,7 @@ use Rattle.plx_rules.specs.World.{World, Seat, setting_at}
 use Rattle.law_lease.proofs.LeaseFrames.{one-claim}
 use Rattle.law_lease.proofs.LeaseIssues.{boots-apart}
 use Rattle.law_lease.proofs.Leased.{IsLive, Unlanded, IsHeld, Good, IsAskedAt, grip_at, Leased}
-use Rattle.law_lease.proofs.Lists.{same-some}
+use Rattle.plx_base.proofs.Tests.{same-some}
 
 -- an appliance's boot holds a lease, in time
 abbrev pub GripsLease : Geometry → (time : ℕ) → List Issued → (appliance : ℕ) → Seat → (lease : ℕ) → Claim → (until : ℕ) → Type 0

@@ -1,7 +1,7 @@
 -- At most one boot owns a lease, and what needed it changes nothing under another owner.
 use Rattle.std.proofs.Common.{◌≡◌, ℕ, zero, suc, ◌<◌, inl, inr, List, Bool, true, false, Option, refl, ap, sym, subst, ◌∙◌, arith}
 use Rattle.std.specs.Prelude.{slice_get, ◌==◌}
-use Rattle.plx_base.specs.Sectors.{Device, put, landed}
+use Rattle.plx_base.specs.Sectors.{Device, put, with_landed_sector}
 use Rattle.plx_base.proofs.Devices.{put-again}
 use Rattle.plx_base.specs.declared.lease.Claim.{Claim}
 use Rattle.plx_base.specs.declared.lease.LeaseRecord.{LeaseRecord}
@@ -15,7 +15,7 @@ use Rattle.plx_rules.specs.Holds.{Hold, Held}
 use Rattle.plx_geom.specs.Geometry.{Geometry, IsGeometry, lease_count, root_lease, image_lease, extent_lease, lease_at}
 use Rattle.plx_geom.proofs.Places.{lease-lease, map-map, record-record, data-data, descriptor-descriptor}
 use Rattle.plx_gate.specs.Leases.{lease_bytes}
-use Rattle.plx_rules.specs.Owners.{Owns, Needs, RestsAsNeeded, Exclusion, Guarding, held_while, held_at, first_landed, pending_write}
+use Rattle.plx_rules.specs.Owners.{Owns, Needs, RestsAsNeeded, Exclusion, Guarding, held_while, hold_at_place, first_landed, pending_write}
 use Rattle.plx_rules.specs.World.{World, setting_of, stands}
 use Rattle.plx_commands.specs.Replies.{is_in}
 use Rattle.law_lease.proofs.Rests.{rests-alone, rests-home, in-either, either-in}
@@ -36,7 +36,7 @@ grip_while-held kind.Renew true false bytes hold claim until e = e
 grip_while-held kind.Renew false landed bytes hold claim until e = e
 grip_while-held other here landed bytes hold claim until e = e
 
-grip-held : (place : Place) (pending : Option Issued) (lease : ℕ) (hold : Hold) (claim : Claim) (until : ℕ) → held_at place pending lease hold ≡ Held claim until →
+pub grip-held : (place : Place) (pending : Option Issued) (lease : ℕ) (hold : Hold) (claim : Claim) (until : ℕ) → hold_at_place place pending lease hold ≡ Held claim until →
     grip_at place pending lease hold ≡ Held claim until
 grip-held (In known command (WriteThen k block bytes guard done fault missed)) pending lease hold claim until e =
     grip_while-held k (lease == block) (first_landed pending) bytes hold claim until e
@@ -93,16 +93,16 @@ guarding w reached number sector write lease b within needs may below owns apart
         (one-claim (leased.on lease within).standing owns.claim backed.claim owns.until backed.until (its.there owns.time) backed.there).0 ∙ backed.owner))
 
     past : (k : ℕ) → sector ≡ suc k → write.block ≡ lease_at lease → (r : LeaseRecord) → write.bytes ≡ lease_bytes r →
-        put w.surface.device write.block (landed sector write.bytes (w.surface.device write.block)) block ≡ w.surface.device block
+        put w.surface.device write.block (with_landed_sector sector write.bytes (w.surface.device write.block)) block ≡ w.surface.device block
     past k is here r spells =
         let on = leased.on lease within in
         let at : w.surface.device write.block ≡ lease_bytes on.standing = ap w.surface.device here ∙ on.spells in
-        put-nothing w.surface.device write.block (landed sector write.bytes (w.surface.device write.block))
-        (ap (λ (s : ℕ). landed s write.bytes (w.surface.device write.block)) is
-        ∙ (ap (λ (x : List ℕ). landed (suc k) x (w.surface.device write.block)) spells ∙ (ap (landed (suc k) (lease_bytes r)) at ∙ (sector-past on.standing r k ∙ sym at)))) block
+        put-nothing w.surface.device write.block (with_landed_sector sector write.bytes (w.surface.device write.block))
+        (ap (λ (s : ℕ). with_landed_sector s write.bytes (w.surface.device write.block)) is
+        ∙ (ap (λ (x : List ℕ). with_landed_sector (suc k) x (w.surface.device write.block)) spells ∙ (ap (with_landed_sector (suc k) (lease_bytes r)) at ∙ (sector-past on.standing r k ∙ sym at)))) block
 
     by_kind : (k : WriteKind) → write.kind ≡ k → (s : ℕ) → sector ≡ s →
-        put w.surface.device write.block (landed sector write.bytes (w.surface.device write.block)) block ≡ w.surface.device block
+        put w.surface.device write.block (with_landed_sector sector write.bytes (w.surface.device write.block)) block ≡ w.surface.device block
     by_kind kind.Renew is zero at =
         let U : WriteKind → Type 0 = λ k. Unlanded k write.landed in
         absurd (closed (subst U (sym is) (ap (slice_get write.landed) (sym at) ∙ may.missing)))

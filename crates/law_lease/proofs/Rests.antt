@@ -70,16 +70,16 @@ needs-last rests writes leases n lease last needs =
     subst (λ (l : List ℕ). is_in lease l ≡ true) (ap (at rests (length writes) leases) last ∙ at-same rests (length writes) leases) needs
 
 -- the block of a lease is that lease's
-pub lease-found : (lease : ℕ) → lease_in (lease_at lease) ≡ lease
-lease-found lease = omega arith
+pub lease-place-found : (lease : ℕ) → lease_in (lease_at lease) ≡ lease
+lease-place-found lease = omega arith
 
 -- the record of an image is that image's
 pub record-found : (g : Geometry) (image : ℕ) → image_of_record g (record_at g image) ≡ image
 record-found g image = omega arith
 
 -- and so is a descriptor of its journal
-pub descriptor-found : (g : Geometry) (image slot : ℕ) → slot < g.slots → image_of_journal g (descriptor_at g image slot) ≡ image
-descriptor-found g image slot below =
+pub descriptor-place-found : (g : Geometry) (image slot : ℕ) → slot < g.slots → image_of_journal g (descriptor_at g image slot) ≡ image
+descriptor-place-found g image slot below =
     let row = image * g.slots + slot in
     let e : (descriptor_at g image slot - journal_start g) / 2 ≡ row = omega arith in
     ap (λ n. n / g.slots) e ∙ div-mul-add image g.slots slot below

@@ -18,14 +18,14 @@ use Rattle.plx_rules.specs.Boot as boot
 use Rattle.plx_rules.specs.Boot.{Happening, Place, Idle, Begins, In, asks, writes_out, IsRun}
 use Rattle.plx_rules.specs.Ends.{End}
 use Rattle.plx_rules.specs.Sequences as play
-use Rattle.plx_rules.specs.Sequences.{missing, one_more, landing, next_landing, next_of_write, next_of_part, next_at, next_event, stops, Runs, RunsPartly, Makes, IsPlayed, Plays, MakesPartly, PlaysPartly, RunsGoOn, PlayedIsReached}
+use Rattle.plx_rules.specs.Sequences.{missing, next_sector, landing, next_landing, next_of_write, next_of_part, next_at, next_event, stops, Runs, RunsPartly, Makes, IsPlayed, Plays, MakesPartly, PlaysPartly, RunsGoOn, PlayedIsReached}
 use Rattle.plx_rules.specs.Session.{Known}
 use Rattle.plx_rules.specs.Settings.{boot_number}
 use Rattle.plx_rules.specs.World as world
 use Rattle.plx_rules.specs.World.{World, Seat, Step, Reached, BootsRun, IsReading, IsBack, setting_at, setting_of, stands, is_boot_of, issued_by}
 use Rattle.law_lease.proofs.LeaseSteps.{reached-leased}
 use Rattle.law_lease.proofs.Leased.{IsAskedAt, Leased}
-use Rattle.law_lease.proofs.Lists.{same-some}
+use Rattle.plx_base.proofs.Tests.{same-some}
 
 -- ---- each boot's log is a run
 
@@ -81,7 +81,7 @@ missing-there [] sector e = cc
 missing-there (false ∷ flags) sector e = let s : 0 ≡ sector = cc in subst (λ (k : ℕ). slice_get (false ∷ flags) k ≡ Some false) s refl
 missing-there (true ∷ flags) sector e = by_rest (λ k found. missing-there flags k found) (missing flags) refl e
   where
-    by_rest : ((k : ℕ) → missing flags ≡ Some k → slice_get flags k ≡ Some false) → (m : Option ℕ) → missing flags ≡ m → one_more m ≡ Some sector → slice_get (true ∷ flags) sector ≡ Some false
+    by_rest : ((k : ℕ) → missing flags ≡ Some k → slice_get flags k ≡ Some false) → (m : Option ℕ) → missing flags ≡ m → next_sector m ≡ Some sector → slice_get (true ∷ flags) sector ≡ Some false
     by_rest ih None is more = cc
     by_rest ih (Some k) is more =
         let f : k + 1 ≡ sector = same-some (k + 1) sector more in
@@ -94,7 +94,7 @@ missing-none (false ∷ flags) e k below = cc
 missing-none (true ∷ flags) e zero below = refl
 missing-none (true ∷ flags) e (suc k) below = by_rest (λ none. missing-none flags none k (omega (arith, below))) (missing flags) refl e
   where
-    by_rest : (missing flags ≡ None → slice_get flags k ≡ Some true) → (m : Option ℕ) → missing flags ≡ m → one_more m ≡ None → slice_get (true ∷ flags) (suc k) ≡ Some true
+    by_rest : (missing flags ≡ None → slice_get flags k ≡ Some true) → (m : Option ℕ) → missing flags ≡ m → next_sector m ≡ None → slice_get (true ∷ flags) (suc k) ≡ Some true
     by_rest ih None is more = ih is
     by_rest ih (Some j) is more = cc
 

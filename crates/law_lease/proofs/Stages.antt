@@ -4,7 +4,7 @@ use Rattle.std.specs.Prelude.{slice_get, drop}
 use Rattle.std.proofs.lemmas.Bool.Decides.{eqb_tells}
 use Rattle.plx_base.proofs.Devices.{put-same, put-other, put-all}
 use Rattle.plx_base.proofs.Mixed.{mixed-landed, mixed-none, mixed-all}
-use Rattle.plx_base.specs.Sectors.{Device, put, landed, mixed}
+use Rattle.plx_base.specs.Sectors.{Device, put, with_landed_sector, with_landed_sectors}
 use Rattle.plx_base.specs.declared.numbers.ApplianceNo.{ApplianceNo}
 use Rattle.plx_base.specs.declared.write_kind.WriteKind.{WriteKind}
 use Rattle.plx_base.specs.declared.write_kind.WriteKind.TheVariants as kind
@@ -25,15 +25,16 @@ use Rattle.plx_disk.specs.declared.ask.Answer.{Answer}
 use Rattle.plx_disk.specs.declared.ask.Answer.TheVariants as answer
 use Rattle.plx_geom.specs.Geometry.{Geometry, block_count}
 use Rattle.plx_rules.specs.Part.{Part, Ends, ReadThen, WriteThen, ClockThen, UntilThen, answered}
-use Rattle.plx_rules.specs.Boot.{Happening, Began, Asked, Place, Idle, Begins, In, Position, position, begun, went_on, goes_to, after_part, place_of}
+use Rattle.plx_rules.specs.Boot.{Happening, Began, Asked, Place, Idle, Begins, In, Position, position, place_after_begin, first_part, went_on, goes_to, after_part, place_of}
+use Rattle.plx_rules.specs.Hands.{found_by, hand_answered}
 use Rattle.plx_rules.specs.Commands.{IsBuilt, IsWellFormed, command_part}
 use Rattle.plx_rules.specs.Ends.{End}
-use Rattle.plx_rules.specs.Holds.{Hold, shown, after_answer, after_write, after_reply, after_first, first_hold, session_at, sample_of}
+use Rattle.plx_rules.specs.Holds.{Hold, hold_after_read, after_answer, after_write, holds_after_reply, after_first, first_hold, session_at, sample_of}
 use Rattle.plx_rules.specs.Session.{Known}
 use Rattle.plx_rules.specs.Settings.{boot_number}
 use Rattle.plx_rules.specs.World as world
 use Rattle.plx_rules.specs.Rests.{rests_on}
-use Rattle.plx_rules.specs.World.{World, Seat, Step, Reached, IsReading, IsBack, setting_at, setting_of, stands, told, with_happening, goes_on, with_surface, after_start, after_issue, issued_by, is_boot_of}
+use Rattle.plx_rules.specs.World.{World, Seat, Step, Reached, IsReading, IsBack, setting_at, setting_of, stands, with_reply_of, with_happening, goes_on, with_surface, after_start, after_issue, issued_by, is_boot_of}
 use Rattle.law_lease.proofs.LeaseSteps.{reached-leased}
 use Rattle.law_lease.proofs.Runs.{own-boot}
 
@@ -54,9 +55,9 @@ answer-alone : (lease : ℕ) (sample : Option ℕ) (asked : Ask) (bytes : List �
     after_answer sample asked bytes ans holds lease ≡ after_answer sample asked bytes ans (λ b. holds lease) lease
 answer-alone lease sample (ask.Read block) bytes (answer.Bytes found) holds = elim (eqb_tells lease block.0) [
   | inl same ↦
-      let P : ℕ → Type 0 = λ n. at holds n (shown sample found (holds n)) lease ≡ at (λ b. holds lease) n (shown sample found (holds lease)) lease in
-      subst P same.1 (at-same holds lease (shown sample found (holds lease)) ∙ sym (at-same (λ b. holds lease) lease (shown sample found (holds lease))))
-  | inr away ↦ at-other holds block.0 lease (shown sample found (holds block.0)) away.1 ∙ sym (at-other (λ b. holds lease) block.0 lease (shown sample found (holds lease)) away.1)
+      let P : ℕ → Type 0 = λ n. at holds n (hold_after_read sample found (holds n)) lease ≡ at (λ b. holds lease) n (hold_after_read sample found (holds lease)) lease in
+      subst P same.1 (at-same holds lease (hold_after_read sample found (holds lease)) ∙ sym (at-same (λ b. holds lease) lease (hold_after_read sample found (holds lease))))
+  | inr away ↦ at-other holds block.0 lease (hold_after_read sample found (holds block.0)) away.1 ∙ sym (at-other (λ b. holds lease) block.0 lease (hold_after_read sample found (holds lease)) away.1)
 ]
 answer-alone lease sample (ask.Write what block guard) bytes answer.Done holds = write-alone what block.0
   where
@@ -94,7 +95,7 @@ answer-alone lease sample (ask.Until from) bytes answer.Fault holds = refl
 part-alone : (lease : ℕ) (part : Part End) (holds : ℕ → Hold) → after_part part holds lease ≡ after_part part (λ b. holds lease) lease
 part-alone lease (Ends end) holds = reply-alone end.reply
   where
-    reply-alone : (r : Reply) → after_reply r holds lease ≡ after_reply r (λ b. holds lease) lease
+    reply-alone : (r : Reply) → holds_after_reply r holds lease ≡ holds_after_reply r (λ b. holds lease) lease
     reply-alone (reply.Lost name until reading) = refl
     reply-alone other = refl
 part-alone lease (ReadThen block rest fault) holds = refl
@@ -204,9 +205,9 @@ module _ (g : Geometry) (appliances : ℕ) (few : appliances ≤ 8) (lease : ℕ
         IsSpot lease (place_in a.0 (with_happening seat (Asked asked bytes ans))) (spot_next known command hold ans rest)
     spot-next known command part here asked bytes ans rest leads hold held seat is =
         let q : Position = place_in a.0 seat in
-        let e : place_in a.0 (with_happening seat (Asked asked bytes ans)) ≡ goes_to known command (after_answer q.sample asked bytes ans q.holds) (sample_of ans) rest =
+        let e : place_in a.0 (with_happening seat (Asked asked bytes ans)) ≡ goes_to g known command (after_answer q.sample asked bytes ans q.holds) (hand_answered g q.found asked bytes ans q.hand) (sample_of ans) (found_by asked ans) rest =
         ap (went_on (setting_at g a.0 seat.boots) asked bytes ans q) (is.place ∙ here)
-        ∙ ap (goes_to known command (after_answer q.sample asked bytes ans q.holds) (sample_of ans)) leads in
+        ∙ ap (goes_to g known command (after_answer q.sample asked bytes ans q.holds) (hand_answered g q.found asked bytes ans q.hand) (sample_of ans) (found_by asked ans)) leads in
         subst (λ (x : Position). IsSpot lease x (spot_next known command hold ans rest)) (sym e) (record {
           hold = next-holds lease q r is asked bytes ans rest ∙ held;
           sample = refl;
@@ -216,22 +217,22 @@ module _ (g : Geometry) (appliances : ℕ) (few : appliances ≤ 8) (lease : ℕ
     -- an ask of a command is answered
     go-in : (known : Known) (command : Command) (part : Part End) → r.place ≡ In known command part → (one : Event) (asked : Ask) (bytes : List ℕ) (ans : Answer) (rest : Part End) →
         answered part ans ≡ rest → (hold : Hold) → hold_next lease r asked bytes ans rest ≡ hold → Step w one (goes_on w one a asked bytes ans (answered part ans)) →
-        Stage t d (at p a.0 (spot_next known command hold ans rest)) (told a rest tr)
+        Stage t d (at p a.0 (spot_next known command hold ans rest)) (with_reply_of a rest tr)
     go-in known command part here one asked bytes ans rest leads hold held step =
-        go (Asked asked bytes ans) (one ∷ st.history) (told a rest tr) _
+        go (Asked asked bytes ans) (one ∷ st.history) (with_reply_of a rest tr) _
         (world.later st.reached (subst (λ (x : Part End). Step w one (goes_on w one a asked bytes ans x)) leads step))
         (spot-next known command part here asked bytes ans rest leads hold held (st.seats a.0) (st.places a.0))
 
     -- the clock answers
     pub clocked : (known : Known) (command : Command) (next : ℕ → Part End) → r.place ≡ In known command (ClockThen next) → (rest : Part End) → next t ≡ rest →
-        (hold : Hold) → hold_next lease r ask.Clock [] (answer.Reading t) rest ≡ hold → Stage t d (at p a.0 (spot_next known command hold (answer.Reading t) rest)) (told a rest tr)
+        (hold : Hold) → hold_next lease r ask.Clock [] (answer.Reading t) rest ≡ hold → Stage t d (at p a.0 (spot_next known command hold (answer.Reading t) rest)) (with_reply_of a rest tr)
     clocked known command next here rest is hold held =
         go-in known command (ClockThen next) here (event.Reading a t) ask.Clock [] (answer.Reading t) rest is hold held
         (world.clocks {reading = t} known command next below (stands-at _ here) now)
 
     -- a wait is over
     pub waited : (known : Known) (command : Command) (from : ℕ) (next : ℕ → Part End) → r.place ≡ In known command (UntilThen from next) → from ≤ t → (rest : Part End) → next t ≡ rest →
-        (hold : Hold) → hold_next lease r (ask.Until from) [] (answer.Reading t) rest ≡ hold → Stage t d (at p a.0 (spot_next known command hold (answer.Reading t) rest)) (told a rest tr)
+        (hold : Hold) → hold_next lease r (ask.Until from) [] (answer.Reading t) rest ≡ hold → Stage t d (at p a.0 (spot_next known command hold (answer.Reading t) rest)) (with_reply_of a rest tr)
     waited known command from next here past rest is hold held =
         go-in known command (UntilThen from next) here (event.Reading a t) (ask.Until from) [] (answer.Reading t) rest is hold held
         (world.waits {reading = t} known command from next below (stands-at _ here) now past)
@@ -240,7 +241,7 @@ module _ (g : Geometry) (appliances : ℕ) (few : appliances ≤ 8) (lease : ℕ
     pub read : (known : Known) (command : Command) (block : ℕ) (next : List ℕ → Part End) (fault : Part End) → r.place ≡ In known command (ReadThen block next fault) →
         (found : List ℕ) → d block ≡ found → (rest : Part End) → next found ≡ rest →
         (hold : Hold) → hold_next lease r (ask.Read (record { 0 = block })) [] (answer.Bytes found) rest ≡ hold →
-        Stage t d (at p a.0 (spot_next known command hold (answer.Bytes found) rest)) (told a rest tr)
+        Stage t d (at p a.0 (spot_next known command hold (answer.Bytes found) rest)) (with_reply_of a rest tr)
     read known command block next fault here found there rest is hold held =
         let P : List ℕ → Type 0 = λ bytes. Step w (event.Read a) (goes_on w (event.Read a) a (ask.Read (record { 0 = block })) [] (answer.Bytes bytes) (next bytes)) in
         go-in known command (ReadThen block next fault) here (event.Read a) (ask.Read (record { 0 = block })) [] (answer.Bytes found) rest is hold held
@@ -252,23 +253,23 @@ module _ (g : Geometry) (appliances : ℕ) (few : appliances ≤ 8) (lease : ℕ
     starts-now known command here whole built =
         go (Began command) (event.Start a command ∷ st.history) (entry.Start a command ∷ tr) _
         (world.later st.reached (world.starts known below (stands-at _ here) whole built))
-        (record { hold = (st.places a.0).hold; sample = refl; place = ap (begun command) (stands-at _ here) })
+        (record { hold = (st.places a.0).hold; sample = refl; place = ap (place_after_begin command) (stands-at _ here) })
 
     -- and its first reading comes: what it asks goes by what is held of the lease
     pub first-reading : (known : Known) (command : Command) → r.place ≡ Begins known command → (rest : Part End) →
-        ((holds : ℕ → Hold) → holds lease ≡ r.hold → command_part (setting_at g a.0 0) known (after_first g known t holds) t command ≡ rest) →
+        ((holds : ℕ → Hold) (hand : List ℕ) → holds lease ≡ r.hold → command_part (setting_at g a.0 0) known (after_first g known t holds) hand t command ≡ rest) →
         (hold : Hold) → after_part rest (λ b. after_first g known t (λ c. r.hold) lease) lease ≡ hold →
-        Stage t d (at p a.0 (spot_next known command hold (answer.Reading t) rest)) (told a rest tr)
+        Stage t d (at p a.0 (spot_next known command hold (answer.Reading t) rest)) (with_reply_of a rest tr)
     first-reading known command here rest is hold held =
         let q : Position = stands w a.0 in
         let held-q : q.holds lease ≡ r.hold = (st.places a.0).hold in
-        let part : (boots : ℕ) → Part End = λ boots. command_part (setting_at g a.0 boots) known (after_first g known t q.holds) t command in
-        let all : part (st.seats a.0).boots ≡ rest = ap part (st.boots a.0) ∙ is q.holds held-q in
+        let part : (boots : ℕ) → Part End = λ boots. first_part (setting_at g a.0 boots) known t command q in
+        let all : part (st.seats a.0).boots ≡ rest = ap part (st.boots a.0) ∙ is q.holds _ held-q in
         let P : Part End → Type 0 = λ x. Step w (event.Reading a t) (goes_on w (event.Reading a t) a ask.Clock [] (answer.Reading t) x) in
-        let e : place_in a.0 (with_happening (st.seats a.0) (Asked ask.Clock [] (answer.Reading t))) ≡ goes_to known command (after_first g known t q.holds) (Some t) rest =
+        let e : place_in a.0 (with_happening (st.seats a.0) (Asked ask.Clock [] (answer.Reading t))) ≡ goes_to g known command (after_first g known t q.holds) q.hand (Some t) None rest =
         ap (went_on (setting_at g a.0 (st.seats a.0).boots) ask.Clock [] (answer.Reading t) q) (stands-at _ here)
-        ∙ ap (goes_to known command (after_first g known t q.holds) (Some t)) all in
-        go (Asked ask.Clock [] (answer.Reading t)) (event.Reading a t ∷ st.history) (told a rest tr) _
+        ∙ ap (goes_to g known command (after_first g known t q.holds) q.hand (Some t) None) all in
+        go (Asked ask.Clock [] (answer.Reading t)) (event.Reading a t ∷ st.history) (with_reply_of a rest tr) _
         (world.later st.reached (subst P all (world.begins {reading = t} known command below (stands-at _ here) now)))
         (subst (λ (x : Position). IsSpot lease x (spot_next known command hold (answer.Reading t) rest)) (sym e) (record {
           hold = part-alone lease rest (after_first g known t q.holds) ∙ ((λ i. after_part rest (λ b. first_hold (session_at g known lease) t (held-q i)) lease) ∙ held);
@@ -279,33 +280,33 @@ module _ (g : Geometry) (appliances : ℕ) (few : appliances ≤ 8) (lease : ℕ
     -- a write is issued, lands sector after sector, and is done
     module _ (known : Known) (command : Command) (what : WriteKind) (block : ℕ) (bytes : List ℕ) (guard : ℕ) (done fault : Part End) (missed : ℕ → Part End)
         (here : r.place ≡ In known command (WriteThen what block bytes guard done fault missed)) (early : t ≤ guard + 50) (long : length bytes ≡ 4096) where
-      abbrev number : ℕ
+      abbrev pub number : ℕ
       number = length st.writes
 
-      abbrev owner : ℕ
+      abbrev pub owner : ℕ
       owner = boot_number a.0 (st.seats a.0).boots
 
-      abbrev write_of : List Bool → Issued
+      abbrev pub write_of : List Bool → Issued
       write_of flags = record { owner = owner; kind = what; block = block; bytes = bytes; guard = guard; landed = flags; cancelled = false }
 
-      abbrev waiting : ℕ → Seat
+      abbrev pub waiting : ℕ → Seat
       waiting = at st.seats a.0 (record (st.seats a.0) { pending = Some number })
 
-      abbrev since : ℕ → List ℕ
+      abbrev pub since : ℕ → List ℕ
       since = at st.rests number (rests_on g command (stands w a.0).holds what block bytes)
 
       old-long : length (st.device block) ≡ 4096
       old-long = (reached-leased st.reached).long block
 
       -- so much of it has landed
-      record Landing (flags : List Bool) : Type 0 where
-        device : Device
-        writes : List Issued
-        history : List Event
-        reached : Reached (world_at t device writes since waiting tr history)
-        found : slice_get writes number ≡ Some (write_of flags)
-        there : device block ≡ mixed flags bytes (st.device block)
-        others : (b : ℕ) → b ≢ block → device b ≡ st.device b
+      pub record Landing (flags : List Bool) : Type 0 where
+        pub device : Device
+        pub writes : List Issued
+        pub history : List Event
+        pub reached : Reached (world_at t device writes since waiting tr history)
+        pub found : slice_get writes number ≡ Some (write_of flags)
+        pub there : device block ≡ with_landed_sectors flags bytes (st.device block)
+        pub others : (b : ℕ) → b ≢ block → device b ≡ st.device b
 
       issued-first : Landing no_sectors
       issued-first = record {
@@ -320,37 +321,37 @@ module _ (g : Geometry) (appliances : ℕ) (few : appliances ≤ 8) (lease : ℕ
 
       lands-next : (flags : List Bool) (k : ℕ) → length flags ≡ 8 → slice_get flags k ≡ Some false → Landing flags → Landing (slice_set flags k true)
       lands-next flags k eight missing l = record {
-        device = put l.device block (landed k bytes (l.device block));
+        device = put l.device block (with_landed_sector k bytes (l.device block));
         writes = slice_set l.writes number (write_of (slice_set flags k true));
         history = event.Land a (issued_by a.0 (drop (number + 1) l.writes)) k ∷ l.history;
         reached = world.later l.reached (world.lands {back = issued_by a.0 (drop (number + 1) l.writes)} {sector = k} number (write_of flags) below
             (record { found = l.found; owner = own-boot a.0 (st.seats a.0).boots (omega (arith, few, below)); newer = refl })
             (record { found = l.found; open_yet = refl; missing = missing; early = early }));
         found = set-same l.writes number (write_of (slice_set flags k true)) (write_of flags) l.found;
-        there = put-same l.device block (landed k bytes (l.device block))
-            ∙ (ap (landed k bytes) l.there ∙ mixed-landed flags bytes (st.device block) k false missing (omega (arith, long, eight)) (omega (arith, old-long, eight)));
-        others = λ b ne. put-other l.device block (landed k bytes (l.device block)) b ne ∙ l.others b ne;
+        there = put-same l.device block (with_landed_sector k bytes (l.device block))
+            ∙ (ap (with_landed_sector k bytes) l.there ∙ mixed-landed flags bytes (st.device block) k false missing (omega (arith, long, eight)) (omega (arith, old-long, eight)));
+        others = λ b ne. put-other l.device block (with_landed_sector k bytes (l.device block)) b ne ∙ l.others b ne;
       }
 
-      landed-whole : Landing all_sectors
+      pub landed-whole : Landing all_sectors
       landed-whole =
           lands-next (first_flags 7) 7 refl refl (lands-next (first_flags 6) 6 refl refl (lands-next (first_flags 5) 5 refl refl (lands-next (first_flags 4) 4 refl refl
           (lands-next (first_flags 3) 3 refl refl (lands-next (first_flags 2) 2 refl refl (lands-next (first_flags 1) 1 refl refl (lands-next (first_flags 0) 0 refl refl issued-first)))))))
 
-      still-places : (b : ℕ) → IsSpot lease (place_in b (waiting b)) (p b)
+      pub still-places : (b : ℕ) → IsSpot lease (place_in b (waiting b)) (p b)
       still-places = at-all (λ b s. IsSpot lease (place_in b s) (p b)) st.seats a.0 _ (st.places a.0) (λ b ne. st.places b)
 
       still-boots : (b : ℕ) → (waiting b).boots ≡ 0
       still-boots = at-all (λ b s. s.boots ≡ 0) st.seats a.0 _ (st.boots a.0) (λ b ne. st.boots b)
 
-      waits-for : (waiting a.0).pending ≡ Some number
+      pub waits-for : (waiting a.0).pending ≡ Some number
       waits-for = ap (λ (s : Seat). s.pending) (at-same st.seats a.0 (record (st.seats a.0) { pending = Some number }))
 
-      abbrev last : World
+      abbrev pub last : World
       last = world_at t landed-whole.device landed-whole.writes since waiting tr landed-whole.history
 
       pub written : (rest : Part End) → done ≡ rest → (hold : Hold) → hold_next lease r (ask.Write what (record { 0 = block }) guard) bytes answer.Done rest ≡ hold →
-          Stage t (put d block bytes) (at p a.0 (spot_next known command hold answer.Done rest)) (told a rest tr)
+          Stage t (put d block bytes) (at p a.0 (spot_next known command hold answer.Done rest)) (with_reply_of a rest tr)
       written rest is hold held = record {
         device = landed-whole.device;
         writes = landed-whole.writes;

@@ -35,19 +35,19 @@ use Rattle.plx_rules.specs.Boot.{Place, Idle, Begins, In, Position, position}
 use Rattle.plx_rules.specs.Claims.{ClaimEnd, ClaimReadFault, claim_of, end_of_term, own_use, claim_in_time, reread_by, reread_part, written_part, seen_part, claim_part}
 use Rattle.plx_rules.specs.Commands.{record_part, journal_part, next_write}
 use Rattle.plx_rules.specs.Ends.{End, ends, ends_in_time, lost, write_then}
-use Rattle.plx_rules.specs.Holds.{Hold, Nothing, Seen, Wrote, Waited, Held, wrote, seen_by, reread}
+use Rattle.plx_rules.specs.Holds.{Hold, Nothing, Seen, Wrote, Waited, Held, hold_after_claim, seen_by, hold_after_reread}
 use Rattle.plx_rules.specs.InUse.{InUse}
 use Rattle.plx_rules.specs.Journal.{finding_of}
 use Rattle.plx_rules.specs.Loading.{LoadEnd, load_read, load_found, load_part}
-use Rattle.plx_rules.specs.Owners.{Owns, held_at, pending_write}
+use Rattle.plx_rules.specs.Owners.{Owns, hold_at_place, pending_write}
 use Rattle.plx_rules.specs.Parts.{followed_by}
 use Rattle.plx_rules.specs.Records.{made_record, plain_record}
-use Rattle.plx_rules.specs.Session.{Session, Known, nothing_known, with_claim, with_session, new_session, with_write, inserted}
+use Rattle.plx_rules.specs.Session.{Session, Known, nothing_known, with_claim, with_session, new_session, with_write, with_write_by_number}
 use Rattle.plx_rules.specs.Settings.{Setting}
 use Rattle.plx_rules.specs.World as world
 use Rattle.plx_rules.specs.World.{setting_at}
 use Rattle.law_lease.specs.TakenOver.{one, other, slot, free_report, written_report, trace_before, trace_after, TakenOver}
-use Rattle.law_lease.proofs.FirstDevice.{formatted, formatted-is}
+use Rattle.law_lease.proofs.FirstDevice.{formatted_device, formatted-is}
 use Rattle.law_lease.proofs.Stages.{Spot, Stage, world_at, starts-now, first-reading, clocked, waited, read, written, ticked}
 
 -- one image, one extent and two journal slots, and its formatted device
@@ -68,7 +68,7 @@ small-is = record {
 
 -- the device as it is formatted
 abbrev first_device : Device
-first_device = formatted small_geometry
+first_device = formatted_device small_geometry
 
 -- the claims of the two boots, and the image that is made
 abbrev mine : Claim
@@ -154,8 +154,8 @@ few = omega arith
 one-in : 0 < 2
 one-in = omega arith
 
-other-in : 1 < 2
-other-in = omega arith
+other-appliance-in : 1 < 2
+other-appliance-in = omega arith
 
 -- a stage of the example, with the lease in block 2
 abbrev S : ℕ → Device → (ℕ → Spot) → List Entry → Type 0
@@ -251,7 +251,7 @@ abbrev p2 : ℕ → Spot
 p2 = one_at p1 Nothing (Some 1000) (In k0 (Attach slot) (asks_clock s0 mine))
 
 t2 : S 1000 first_device p2 e1
-t2 = first-reading small_geometry 2 few 2 t1 one one-in k0 (Attach slot) refl (asks_clock s0 mine) (λ holds e. rw e refl) Nothing refl
+t2 = first-reading small_geometry 2 few 2 t1 one one-in k0 (Attach slot) refl (asks_clock s0 mine) (λ holds hand e. rw e refl) Nothing refl
 
 -- the places once it has sampled its clock before it reads the lease
 abbrev p3 : ℕ → Spot
@@ -275,7 +275,7 @@ p5 = one_at p4 (Wrote mine 11000) None (In k0 (Attach slot) (awaits s0 mine))
 
 t5 : S 1000 d1 p5 e1
 t5 = written small_geometry 2 few 2 t4 one one-in k0 (Attach slot) kind.Claim 2 mine_bytes 1200 _ _ _ refl (omega arith) (length-lease (Claimed mine 11000))
-    (awaits s0 mine) refl (Wrote mine 11000) (ap wrote mine-back)
+    (awaits s0 mine) refl (Wrote mine 11000) (ap hold_after_claim mine-back)
 
 t6 : S 1601 d1 p5 e1
 t6 = ticked small_geometry 2 few 2 t5 601 (omega arith)
@@ -294,7 +294,7 @@ p8 = one_at p7 (Held mine 11000) None (In k0 (Attach slot) (loads s0 mine))
 t8 : S 1601 d1 p8 e1
 t8 = read small_geometry 2 few 2 t7 one one-in k0 (Attach slot) 2 _ _ refl mine_bytes refl (loads s0 mine)
     (ap (λ (own : Bool). followed_by (reread_by own (uses s0 mine) mine (read_lease mine_bytes)) (then_load s0 mine)) (bytes_eq-same mine_bytes))
-    (Held mine 11000) (ap (λ (own : Bool). reread own (Held mine 11000)) (bytes_eq-same mine_bytes))
+    (Held mine 11000) (ap (λ (own : Bool). hold_after_reread own (Held mine 11000)) (bytes_eq-same mine_bytes))
 
 -- the places once it has read the slot's record
 abbrev p9 : ℕ → Spot
@@ -346,7 +346,7 @@ abbrev p12 : ℕ → Spot
 p12 = one_at p11 (Held mine 11000) (Some 1601) (In k2 create (record_part s0 k2 0 11000 made_image reply.Created))
 
 t12 : S 1601 d1 p12 (Start one create ∷ e2)
-t12 = first-reading small_geometry 2 few 2 t11 one one-in k2 create refl (record_part s0 k2 0 11000 made_image reply.Created) (λ holds e. rw e refl) (Held mine 11000) refl
+t12 = first-reading small_geometry 2 few 2 t11 one one-in k2 create refl (record_part s0 k2 0 11000 made_image reply.Created) (λ holds hand e. rw e refl) (Held mine 11000) refl
 
 -- the places once its record has landed
 abbrev p13 : ℕ → Spot
@@ -397,7 +397,7 @@ abbrev p16 : ℕ → Spot
 p16 = one_at p15 (Held mine 11000) (Some 1601) (In k3 write (journal_part s0 k3 0 3 block made_session 11000))
 
 t16 : S 1601 d2 p16 (Start one write ∷ e3)
-t16 = first-reading small_geometry 2 few 2 t15 one one-in k3 write refl (journal_part s0 k3 0 3 block made_session 11000) (λ holds e. rw e refl) (Held mine 11000) refl
+t16 = first-reading small_geometry 2 few 2 t15 one one-in k3 write refl (journal_part s0 k3 0 3 block made_session 11000) (λ holds hand e. rw e refl) (Held mine 11000) refl
 
 -- what is left once the descriptor has landed
 abbrev final_part : Part End
@@ -450,28 +450,28 @@ abbrev p21 : ℕ → Spot
 p21 = other_at p19 Nothing None (Begins k0 (Attach slot))
 
 t21 : S 11101 d4 p21 e4
-t21 = starts-now small_geometry 2 few 2 t20 other other-in k0 (Attach slot) refl tt tt
+t21 = starts-now small_geometry 2 few 2 t20 other other-appliance-in k0 (Attach slot) refl tt tt
 
 -- the places once it has read its clock
 abbrev p22 : ℕ → Spot
 p22 = other_at p21 Nothing (Some 11101) (In k0 (Attach slot) (asks_clock s1 its))
 
 t22 : S 11101 d4 p22 e4
-t22 = first-reading small_geometry 2 few 2 t21 other other-in k0 (Attach slot) refl (asks_clock s1 its) (λ holds e. rw e refl) Nothing refl
+t22 = first-reading small_geometry 2 few 2 t21 other other-appliance-in k0 (Attach slot) refl (asks_clock s1 its) (λ holds hand e. rw e refl) Nothing refl
 
 -- the places once it has sampled its clock before it reads the lease
 abbrev p23 : ℕ → Spot
 p23 = other_at p22 Nothing (Some 11101) (In k0 (Attach slot) (reads_lease s1 its))
 
 t23 : S 11101 d4 p23 e4
-t23 = clocked small_geometry 2 few 2 t22 other other-in k0 (Attach slot) _ refl (reads_lease s1 its) refl Nothing refl
+t23 = clocked small_geometry 2 few 2 t22 other other-appliance-in k0 (Attach slot) _ refl (reads_lease s1 its) refl Nothing refl
 
 -- the places once it has read the first one's claim, which is over
 abbrev p24 : ℕ → Spot
 p24 = other_at p23 (Seen 11101) None (In k0 (Attach slot) (writes_claim s1 its))
 
 t24 : S 11101 d4 p24 e4
-t24 = read small_geometry 2 few 2 t23 other other-in k0 (Attach slot) 2 _ _ refl mine_bytes refl (writes_claim s1 its)
+t24 = read small_geometry 2 few 2 t23 other other-appliance-in k0 (Attach slot) 2 _ _ refl mine_bytes refl (writes_claim s1 its)
     (ap (λ (seen : Option LeaseRecord). followed_by (seen_part [] 1 its seen) (then_load s1 its)) mine-back)
     (Seen 11101) (ap (λ (seen : Option LeaseRecord). seen_by seen 11101) mine-back)
 
@@ -480,8 +480,8 @@ abbrev p25 : ℕ → Spot
 p25 = other_at p24 (Wrote its 21101) None (In k0 (Attach slot) (awaits s1 its))
 
 t25 : S 11101 d5 p25 e4
-t25 = written small_geometry 2 few 2 t24 other other-in k0 (Attach slot) kind.Claim 2 its_bytes 11301 _ _ _ refl (omega arith) (length-lease (Claimed its 21101))
-    (awaits s1 its) refl (Wrote its 21101) (ap wrote its-back)
+t25 = written small_geometry 2 few 2 t24 other other-appliance-in k0 (Attach slot) kind.Claim 2 its_bytes 11301 _ _ _ refl (omega arith) (length-lease (Claimed its 21101))
+    (awaits s1 its) refl (Wrote its 21101) (ap hold_after_claim its-back)
 
 t26 : S 11702 d5 p25 e4
 t26 = ticked small_geometry 2 few 2 t25 601 (omega arith)
@@ -491,16 +491,16 @@ abbrev p27 : ℕ → Spot
 p27 = other_at p25 (Waited its 21101) (Some 11702) (In k0 (Attach slot) (rereads s1 its))
 
 t27 : S 11702 d5 p27 e4
-t27 = waited small_geometry 2 few 2 t26 other other-in k0 (Attach slot) 11702 _ refl (omega arith) (rereads s1 its) refl (Waited its 21101) refl
+t27 = waited small_geometry 2 few 2 t26 other other-appliance-in k0 (Attach slot) 11702 _ refl (omega arith) (rereads s1 its) refl (Waited its 21101) refl
 
 -- the places once it has read its own claim again
 abbrev p28 : ℕ → Spot
 p28 = other_at p27 (Held its 21101) None (In k0 (Attach slot) (loads s1 its))
 
 t28 : S 11702 d5 p28 e4
-t28 = read small_geometry 2 few 2 t27 other other-in k0 (Attach slot) 2 _ _ refl its_bytes refl (loads s1 its)
+t28 = read small_geometry 2 few 2 t27 other other-appliance-in k0 (Attach slot) 2 _ _ refl its_bytes refl (loads s1 its)
     (ap (λ (own : Bool). followed_by (reread_by own (uses s1 its) its (read_lease its_bytes)) (then_load s1 its)) (bytes_eq-same its_bytes))
-    (Held its 21101) (ap (λ (own : Bool). reread own (Held its 21101)) (bytes_eq-same its_bytes))
+    (Held its 21101) (ap (λ (own : Bool). hold_after_reread own (Held its 21101)) (bytes_eq-same its_bytes))
 
 -- the journal: its first slot counts, and its second is empty
 abbrev then_end : LoadEnd → Part End
@@ -511,8 +511,8 @@ abbrev reads_journal : Part End
 reads_journal = followed_by (load_part small_geometry 0 made_image 2 0 []) then_end
 
 -- the one write of the journal
-abbrev journaled : List Journaled
-journaled = record { number = 1; vblock = 3; block = block } ∷ []
+abbrev witness_writes : List Journaled
+witness_writes = record { number = 1; vblock = 3; block = block } ∷ []
 
 -- what is left once it has read the first descriptor
 abbrev reads_data : Part End
@@ -520,11 +520,11 @@ reads_data = followed_by (load_read 7 (λ data'. load_part small_geometry 0 made
 
 -- what is left once it has read the first slot
 abbrev reads_second : Part End
-reads_second = followed_by (load_part small_geometry 0 made_image 1 1 journaled) then_end
+reads_second = followed_by (load_part small_geometry 0 made_image 1 1 witness_writes) then_end
 
 -- the session with which it ends
 abbrev its_session : Session
-its_session = record { image = made_image; writes = journaled }
+its_session = record { image = made_image; writes = witness_writes }
 
 -- what the other knows once it has attached
 abbrev k5 : Known
@@ -535,7 +535,7 @@ abbrev p29 : ℕ → Spot
 p29 = other_at p28 (Held its 21101) None (In k0 (Attach slot) reads_journal)
 
 t29 : S 11702 d5 p29 e4
-t29 = read small_geometry 2 few 2 t28 other other-in k0 (Attach slot) 4 _ _ refl (image_bytes made_image) refl reads_journal
+t29 = read small_geometry 2 few 2 t28 other other-appliance-in k0 (Attach slot) 4 _ _ refl (image_bytes made_image) refl reads_journal
     (ap (λ (found : Option ImageRecord). after_record s1 k1 0 21101 (plain_record found)) made-back)
     (Held its 21101) refl
 
@@ -544,7 +544,7 @@ abbrev p30 : ℕ → Spot
 p30 = other_at p29 (Held its 21101) None (In k0 (Attach slot) reads_data)
 
 t30 : S 11702 d5 p30 e4
-t30 = read small_geometry 2 few 2 t29 other other-in k0 (Attach slot) 6 _ _ refl (descriptor_bytes d) refl reads_data
+t30 = read small_geometry 2 few 2 t29 other other-appliance-in k0 (Attach slot) 6 _ _ refl (descriptor_bytes d) refl reads_data
     (ap (λ (found : Option (Option Descriptor)). followed_by (load_found 6 (finding_of made_image 2 0 found) (load_part small_geometry 0 made_image 1 1 [])
     (λ number vblock. load_read 7 (λ data'. load_part small_geometry 0 made_image 1 1 (record { number = number; vblock = vblock; block = data' } ∷ [])))) then_end) d-back)
     (Held its 21101) refl
@@ -554,16 +554,16 @@ abbrev p31 : ℕ → Spot
 p31 = other_at p30 (Held its 21101) None (In k0 (Attach slot) reads_second)
 
 t31 : S 11702 d5 p31 e4
-t31 = read small_geometry 2 few 2 t30 other other-in k0 (Attach slot) 7 _ _ refl block refl reads_second refl (Held its 21101) refl
+t31 = read small_geometry 2 few 2 t30 other other-appliance-in k0 (Attach slot) 7 _ _ refl block refl reads_second refl (Held its 21101) refl
 
 -- the places once it has read the second slot's descriptor, an empty one
 abbrev p32 : ℕ → Spot
 p32 = other_at p31 (Held its 21101) None (In k0 (Attach slot) (attach_ends s1 k1 0 21101 its_session))
 
 t32 : S 11702 d5 p32 e4
-t32 = read small_geometry 2 few 2 t31 other other-in k0 (Attach slot) 8 _ _ refl zeros refl (attach_ends s1 k1 0 21101 its_session)
-    (ap (λ (found : Option (Option Descriptor)). followed_by (load_found 8 (finding_of made_image 2 1 found) (load_part small_geometry 0 made_image 0 2 journaled)
-    (λ number vblock. load_read 9 (λ data'. load_part small_geometry 0 made_image 0 2 (inserted (record { number = number; vblock = vblock; block = data' }) journaled)))) then_end) read-zeros)
+t32 = read small_geometry 2 few 2 t31 other other-appliance-in k0 (Attach slot) 8 _ _ refl zeros refl (attach_ends s1 k1 0 21101 its_session)
+    (ap (λ (found : Option (Option Descriptor)). followed_by (load_found 8 (finding_of made_image 2 1 found) (load_part small_geometry 0 made_image 0 2 witness_writes)
+    (λ number vblock. load_read 9 (λ data'. load_part small_geometry 0 made_image 0 2 (with_write_by_number (record { number = number; vblock = vblock; block = data' }) witness_writes)))) then_end) read-zeros)
     (Held its 21101) refl
 
 -- the trace once its attach is answered
@@ -575,7 +575,7 @@ abbrev p33 : ℕ → Spot
 p33 = other_at p32 (Held its 21101) (Some 11702) (Idle k5)
 
 t33 : S 11702 d5 p33 e5
-t33 = clocked small_geometry 2 few 2 t32 other other-in k0 (Attach slot) _ refl (ends (reply.Attached written_report) k5) refl (Held its 21101) refl
+t33 = clocked small_geometry 2 few 2 t32 other other-appliance-in k0 (Attach slot) _ refl (ends (reply.Attached written_report) k5) refl (Held its 21101) refl
 
 -- ---- the one learns of its loss
 
@@ -595,7 +595,7 @@ abbrev p35 : ℕ → Spot
 p35 = one_at p34 Nothing (Some 11702) (Idle (nothing_known 1))
 
 t35 : S 11702 d5 p35 trace_after
-t35 = first-reading small_geometry 2 few 2 t34 one one-in k4 again refl (lost s0 k4 (record { lease = 1; until = 11000 }) 11702) (λ holds e. rw e refl) Nothing refl
+t35 = first-reading small_geometry 2 few 2 t34 one one-in k4 again refl (lost s0 k4 (record { lease = 1; until = 11000 }) 11702) (λ holds hand e. rw e refl) Nothing refl
 
 -- ---- who owns
 
@@ -608,7 +608,7 @@ owns-idle st a known claim until here held early =
       within = omega arith;
       claim = claim;
       until = until;
-      held = ap (λ (place : Place). held_at place (pending_write st.writes (st.seats a).pending) (lease_at (image_lease 0)) (q.holds (lease_at (image_lease 0)))) ((st.places a).place ∙ here)
+      held = ap (λ (place : Place). hold_at_place place (pending_write st.writes (st.seats a).pending) (lease_at (image_lease 0)) (q.holds (lease_at (image_lease 0)))) ((st.places a).place ∙ here)
           ∙ ((st.places a).hold ∙ held);
       time = early;
     }

@@ -22,7 +22,7 @@ use Rattle.plx_rules.specs.Settings.{Setting}
 use Rattle.law_run.specs.AllowedAsks.{WentOn, MayWrite}
 use Rattle.law_run.specs.CommandLogs.{Exchange, Finished, first_reading}
 use Rattle.law_run.specs.Holdings as holdings
-use Rattle.law_run.specs.Holdings.{hold_of, IsUntil, claims_in, claims_begun}
+use Rattle.law_run.specs.Holdings.{hold_by_log, IsUntil, claims_in, claims_begun}
 use Rattle.law_run.specs.Refusals.{IsNamedFirst}
 use Rattle.law_run.specs.Replies.{IsConfirmed, IsInUse, going, unread, of_clock, WasLost, RestsOn, of_need, Comes, IsReplied, worked}
 use Rattle.law_run.specs.Replies as replies
@@ -30,7 +30,7 @@ use Rattle.law_run.proofs.Holding.{Course, Going, going-clock}
 use Rattle.law_run.proofs.Meets.{exchange}
 use Rattle.law_run.proofs.OnImage.{NamesOne, names-own, names-only, lease-name, by-time}
 use Rattle.law_run.proofs.Passed.{Passed, passed-all}
-use Rattle.law_run.proofs.Rests.{rests-lost, rests-failed}
+use Rattle.law_run.proofs.Rests.{rests-lost, written-none, rests-failed}
 use Rattle.law_run.proofs.Right.{clock, Rests, finish, log_on, Right}
 use Rattle.law_run.proofs.Tests.{lt-cases}
 
@@ -76,7 +76,7 @@ asks-write s before known command reading fine done lease until k block bytes th
     replied-fine s before command reading fine (x ∷ done) (rw first refl) (reply.Lost (lease_name s.geometry lease) until reading')
         (replies.missed k (record { 0 = block }) bytes (done, refl)
         (of_need (subst (λ l. Needs s.geometry k block l) (sym (number-name s.geometry lease within)) needs))),
-    rests-lost s before command (x ∷ done) (lease_name s.geometry lease) until reading' known.claims (let m = more x refl in omega arith),
+    rests-lost s before command (x ∷ done) (lease_name s.geometry lease) until reading' known.claims (written-none s.geometry (lease_name s.geometry lease) until reading' x done refl) (let m = more x refl in omega arith),
   )),
 )
 
@@ -97,18 +97,18 @@ module _ (s : Setting) (before : List Finished) (known : Known) (command : Comma
         replied-fine s before command c.reading fine (clock reading ∷ done) after.first (reply.Lost (lease.Image slot) c.until reading)
             (replies.reached slot (of_clock (done, refl))
             (going (names-own command slot.0 one) (holdings.held c.claim after.held)) past (λ other until' is le. alone other until' is)),
-        rests-lost s before command (clock reading ∷ done) (lease.Image slot) c.until reading known.claims (let b = after.begun in omega arith),
+        rests-lost s before command (clock reading ∷ done) (lease.Image slot) c.until reading known.claims refl (let b = after.begun in omega arith),
       )
     where
       alone : (other until' : ℕ) → IsInUse s (log_on before command (clock reading ∷ done)) other until' → IsNamedFirst slot.0 c.until other until'
       alone other until' (going named is) =
           let same = names-only command slot.0 one other named in
-          let here = subst (λ o. IsUntil until' (hold_of s before (clock reading ∷ done) (image_lease o))) same is in
+          let here = subst (λ o. IsUntil until' (hold_by_log s before (clock reading ∷ done) (image_lease o))) same is in
           inr (one-until c.claim c.until until' _ (going-clock s before done reading slot.0 c going').held here, omega arith)
       alone other until' (unread claim bytes r older named last waited none gone) =
           let same = names-only command slot.0 one other named in
           let e : Held c.claim c.until ≡ Nothing =
-          sym (going-clock s before done reading slot.0 c going').held ∙ subst (λ o. hold_of s before (clock reading ∷ done) (image_lease o) ≡ Nothing) same gone in
+          sym (going-clock s before done reading slot.0 c going').held ∙ subst (λ o. hold_by_log s before (clock reading ∷ done) (image_lease o) ≡ Nothing) same gone in
           absurd (let P : ⊥ = cc in P)
 
   -- a reply after one more reading

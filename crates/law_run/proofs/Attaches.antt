@@ -15,18 +15,18 @@ use Rattle.plx_rules.specs.Holds.{Hold, Nothing, Seen, Wrote, Waited, Held}
 use Rattle.plx_rules.specs.Session.{Session, Known}
 use Rattle.plx_rules.specs.Settings.{Setting}
 use Rattle.law_run.specs.CommandLogs.{Finished}
-use Rattle.law_run.specs.Holdings.{at_first, holds_after, hold_of}
+use Rattle.law_run.specs.Holdings.{at_first, holds_after, hold_by_log}
 use Rattle.law_run.specs.Refusals.{already_attached, no_slot, claims}
 use Rattle.law_run.specs.Replies.{refused}
 use Rattle.law_run.specs.Sessions.{is_attached}
 use Rattle.law_run.proofs.Asking.{IsFine}
 use Rattle.law_run.proofs.Attaching.{twice, twice-is, attach-one, unattached-by, right-load}
-use Rattle.law_run.proofs.Holding.{first-hold, first-held, spared-first, Course, going-first}
+use Rattle.law_run.proofs.Holding.{first-hold, hold-after-first, spared-first, Course, going-first}
 use Rattle.law_run.proofs.OnImage.{names-own, names-other}
-use Rattle.law_run.proofs.Passed.{passed}
+use Rattle.law_run.proofs.Passed.{passed-at-most}
 use Rattle.law_run.proofs.Rests.{rests-by, own-still}
 use Rattle.law_run.proofs.Right.{clock, FitsAt, Rests, log_on, Right}
-use Rattle.law_run.proofs.Runs.{start}
+use Rattle.law_run.proofs.Runs.{start, hand_start}
 use Rattle.law_run.proofs.Tests.{lt-cases, lt-is, lt-isn't}
 use Rattle.law_run.proofs.Claiming.{attach-passed, right-claim}
 
@@ -36,7 +36,7 @@ Within s before slot reading part = (left : ℕ) × (left ≤ 8 + 2 * s.geometry
 
 module _ (s : Setting) (boot_small : s.boot < 2 ^ 128) (before : List Finished) (known : Known) (slot : SlotNo) (reading : ℕ) (rests : Rests s before known) where
   -- the lease isn't held
-  by-claims : (hold : Hold) → hold_of s before (clock reading ∷ []) (image_lease slot.0) ≡ hold → ((claim : Claim) (until : ℕ) → ¬ (hold ≡ Held claim until)) → slot.0 < s.geometry.images →
+  by-claims : (hold : Hold) → hold_by_log s before (clock reading ∷ []) (image_lease slot.0) ≡ hold → ((claim : Claim) (until : ℕ) → ¬ (hold ≡ Held claim until)) → slot.0 < s.geometry.images →
       is_attached before slot.0 ≡ false → Within s before slot reading (claim_image (nat_lt known.claims last_claim) s known slot.0)
   by-claims hold is none within missing = elim (lt-cases known.claims last_claim) [
     | inl few ↦ rw few.0 (
@@ -50,7 +50,7 @@ module _ (s : Setting) (boot_small : s.boot < 2 ^ 128) (before : List Finished) 
       (
         refused 9 (reading, refl)
             (claims slot refl (reading, refl, λ claim until e. none claim until (sym is ∙ (first-hold s before reading slot.0 within ∙ e))) (let c = rests.claims in omega (arith, worn.1)))
-            (λ p other refuses. passed s (log_on before (Attach slot) (clock reading ∷ [])) 9 p other
+            (λ p other refuses. passed-at-most s (log_on before (Attach slot) (clock reading ∷ [])) 9 p other
             (attach-passed s before slot (clock reading ∷ []) 9 (λ lt. missing) (λ lt. within) (λ lt. absurd (omega arith))) refuses),
         unattached-by s before known known slot missing (λ image. refl) rests (clock reading ∷ []) (reply.WornOut last_claim) (λ other b. refl) (λ h. refl) (spared-first s before reading slot.0)
             (let c = rests.claims in omega arith),
@@ -58,7 +58,7 @@ module _ (s : Setting) (boot_small : s.boot < 2 ^ 128) (before : List Finished) 
     )
   ]
 
-  by-hold : (hold : Hold) → hold_of s before (clock reading ∷ []) (image_lease slot.0) ≡ hold → slot.0 < s.geometry.images → is_attached before slot.0 ≡ false →
+  by-hold : (hold : Hold) → hold_by_log s before (clock reading ∷ []) (image_lease slot.0) ≡ hold → slot.0 < s.geometry.images → is_attached before slot.0 ≡ false →
       Within s before slot reading (attach_held s known slot.0 hold)
   by-hold (Held claim until) is within missing =
       let c : Course = record { reading = reading; claim = claim; until = until; begun = 0 } in
@@ -87,7 +87,7 @@ module _ (s : Setting) (boot_small : s.boot < 2 ^ 128) (before : List Finished) 
     omega arith,
     (
       refused 4 (reading, refl) (no_slot slot refl (lt-isn't slot.0 s.geometry.images is))
-          (λ p other refuses. passed s (log_on before (Attach slot) (clock reading ∷ [])) 4 p other
+          (λ p other refuses. passed-at-most s (log_on before (Attach slot) (clock reading ∷ [])) 4 p other
           (attach-passed s before slot (clock reading ∷ []) 4 (λ lt. missing) (λ lt. absurd (omega arith)) (λ lt. absurd (omega arith))) refuses),
       unattached-by s before known known slot missing (λ image. refl) rests (clock reading ∷ []) reply.NoImage (λ other b. refl) (λ h. refl) (spared-first s before reading slot.0)
           (let c = rests.claims in omega arith),
@@ -102,17 +102,17 @@ module _ (s : Setting) (boot_small : s.boot < 2 ^ 128) (before : List Finished) 
     omega arith,
     (
       refused 2 (reading, refl) (already_attached slot refl fits.0)
-          (λ p other refuses. passed s (log_on before (Attach slot) (clock reading ∷ [])) 2 p other
+          (λ p other refuses. passed-at-most s (log_on before (Attach slot) (clock reading ∷ [])) 2 p other
           (attach-passed s before slot (clock reading ∷ []) 2 (λ lt. absurd (omega arith)) (λ lt. absurd (omega arith)) (λ lt. absurd (omega arith))) refuses),
       rests-by s before (Attach slot) (clock reading ∷ []) reply.AlreadyAttached known known slot.0 (names-other (Attach slot) slot.0 (attach-one slot)) (λ other apart. refl) (λ other b apart. refl) (λ h. refl)
           (spared-first s before reading slot.0)
           (own-still s before (Attach slot) (clock reading ∷ []) reply.AlreadyAttached slot.0 (known.sessions slot.0) (λ b. refl) (λ h. refl) (rests.sessions slot.0)
           (λ attached. rw (names-own (Attach slot) slot.0 (attach-one slot), attached) refl)
-          (λ attached. (let h = fits.2 in (h.0, h.1, first-held s before reading slot.0 h.0 h.1 fits.1.within fits.0 h.2))))
+          (λ attached. (let h = fits.2 in (h.0, h.1, hold-after-first s before reading slot.0 h.0 h.1 fits.1.within fits.0 h.2))))
           (let c = rests.claims in omega arith) rests,
     ),
   )
 
 pub attach-begins : (s : Setting) → s.boot < 2 ^ 128 → (before : List Finished) (known : Known) (slot : SlotNo) (reading : ℕ) → Rests s before known →
-    Within s before slot reading (command_part s known (start s before reading) reading (Attach slot))
+    Within s before slot reading (command_part s known (start s before reading) (hand_start s before reading) reading (Attach slot))
 attach-begins s boot_small before known slot reading rests = by-session s boot_small before known slot reading rests (known.sessions slot.0) refl (rests.sessions slot.0)

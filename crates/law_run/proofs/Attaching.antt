@@ -16,24 +16,24 @@ use Rattle.plx_geom.proofs.Places.{record-record, record-log, record-descriptor,
 use Rattle.plx_rules.specs.Part.{Part}
 use Rattle.plx_rules.specs.declared.journaled.Journaled.{Journaled}
 use Rattle.plx_rules.specs.Attaching.{image_use, attach_ends, after_load, load_journal, after_record, load_image}
-use Rattle.plx_rules.specs.Ends.{End, read_then, damaged}
-use Rattle.plx_rules.specs.Journal.{journal_slot, Finding, Outside, Unused, Counts, finding}
+use Rattle.plx_rules.specs.Ends.{End, read_then, damaged_part}
+use Rattle.plx_rules.specs.Journal.{journal_slot, Finding, Outside, Unused, Counts, finding, descriptor_of}
 use Rattle.plx_rules.specs.Loading.{LoadEnd, gap_found, load_found, load_read, load_part}
 use Rattle.plx_rules.specs.Parts.{followed_by}
 use Rattle.plx_rules.specs.Records.{is_live, is_plain, size_of, applied_of, plain_record, attached_record}
-use Rattle.plx_rules.specs.Session.{Session, Known, with_session, inserted, first_gap, session_report}
+use Rattle.plx_rules.specs.Session.{Session, Known, with_session, with_write_by_number, first_gap, session_report}
 use Rattle.plx_rules.specs.Settings.{Setting}
 use Rattle.plx_rules.specs.Stored.{Given, record_in, record_on, Stores}
 use Rattle.law_run.specs.CommandLogs.{Exchange, Finished, IsIn}
-use Rattle.law_run.specs.Holdings.{hold_of, is_lease_read, claims_in, claims_begun}
+use Rattle.law_run.specs.Holdings.{hold_by_log, is_lease_read, claims_in, claims_begun}
 use Rattle.plx_rules.specs.Holds.{Held}
-use Rattle.law_run.specs.KnownBytes.{nothing_given, with_block, learnt, known_in}
+use Rattle.law_run.specs.KnownBytes.{nothing_given, given_with, given_after_command, known_in}
 use Rattle.law_run.specs.Outside.{IsOutside, no_record, not_plain, no_descriptor, misplaced, past_size, past_gap}
-use Rattle.law_run.specs.Replies.{ReadRestsOn, of_record, of_log, of_descriptor, of_data}
+use Rattle.law_run.specs.Replies.{ReadRestsOn, of_record, of_log, of_descriptor, of_data, in_image}
 use Rattle.law_run.specs.Sessions.{attached_by, is_attached}
 use Rattle.law_run.proofs.Asking.{IsFine, replied-fine, asks-confirm}
-use Rattle.law_run.proofs.Facts.{image_of, plain-parts, stores-session}
-use Rattle.law_run.proofs.Grown.{with-same, with-other, fits-empty}
+use Rattle.law_run.proofs.Facts.{stored_by_session, plain-parts, stores-session}
+use Rattle.law_run.proofs.Grown.{with-block-same, with-other, fits-empty}
 use Rattle.law_run.proofs.Holding.{first-more, claims-more, Spared, spared-more, Course, Going, going-more}
 use Rattle.law_run.proofs.Inside.{AllInside, inside-of, inside-record, not-outside}
 use Rattle.law_run.proofs.Inserted.{gap-is}
@@ -41,7 +41,7 @@ use Rattle.law_run.proofs.Loading.{Says, says, Loading, loads-first, loads-none,
 use Rattle.law_run.proofs.Meets.{exchange, meets-more}
 use Rattle.law_run.proofs.OnImage.{NamesOne, names-own, names-other}
 use Rattle.law_run.proofs.Rests.{KeepsHolds, rests-by}
-use Rattle.law_run.proofs.Right.{read_of, clock, descriptor_of, Fits, FitsAt, Rests, finish, log_on, May, Shows, Right}
+use Rattle.law_run.proofs.Right.{read_of, clock, Fits, FitsAt, Rests, finish, log_on, May, Shows, Right}
 use Rattle.plx_base.proofs.Tests.{nat_le-true, nat_le-false}
 use Rattle.law_run.proofs.Tests.{lt-cases, clash, eqb-isn't}
 use Rattle.plx_commands.proofs.Places.{at-other, at-same}
@@ -112,7 +112,7 @@ module _ (s : Setting) (before : List Finished) (known next : Known) (slot : Slo
     (rests : Rests s before known) where
   -- what is known of the image
   abbrev told_now : List Exchange → Given
-  told_now done = learnt s.geometry slot.0 (Attach slot) done nothing_given
+  told_now done = given_after_command s.geometry slot.0 (Attach slot) done nothing_given
 
   known-now : (done : List Exchange) → known_in s.geometry (log_on before (Attach slot) done) slot.0 ≡ told_now done
   known-now done = rw (names-own (Attach slot) slot.0 (attach-one slot), missing) refl
@@ -151,11 +151,11 @@ module _ (s : Setting) (before : List Finished) (known next : Known) (slot : Slo
   right-damaged : (done : List Exchange) (block : ℕ) (bytes : List ℕ) → Going s before done slot.0 c →
       IsIn (read_of block bytes) done → IsOutside s.geometry (told_now done) slot.0 block bytes →
       ((other : ℕ) → other < s.geometry.images → ReadRestsOn s.geometry block other → other ≡ slot.0) → (n : ℕ) →
-      Right s before (Attach slot) done (damaged s next (image_use slot.0 c.until) block) (suc n)
+      Right s before (Attach slot) done (damaged_part s next (image_use slot.0 c.until) block) (suc n)
   right-damaged done block bytes going read outside own n =
       asks-confirm s before next (Attach slot) slot c (attach-one slot) within fine claims done (reply.Damaged (record { 0 = block })) next n going
       (λ reading early after confirmed. (
-        record {
+        in_image (record {
           image = slot.0;
           named = names-own (Attach slot) slot.0 (attach-one slot);
           bytes = bytes;
@@ -165,8 +165,8 @@ module _ (s : Setting) (before : List Finished) (known next : Known) (slot : Slo
           last = (done, refl);
           below = λ other less rests'. (
               let is = own other less rests' in
-              (c.until, (c.claim, subst (λ o. hold_of s before (clock reading ∷ done) (image_lease o) ≡ Held c.claim c.until) (sym is) after.held), early));
-        },
+              (c.until, (c.claim, subst (λ o. hold_by_log s before (clock reading ∷ done) (image_lease o) ≡ Held c.claim c.until) (sym is) after.held), early));
+        }),
         unattached (clock reading ∷ done) (reply.Damaged (record { 0 = block })) (λ other b. refl) (λ h. refl) after,
       ))
 
@@ -183,8 +183,8 @@ module _ (s : Setting) (before : List Finished) (known next : Known) (slot : Slo
           slot = slot;
           command = refl;
           confirmed = confirmed;
-          image = image_of session;
-          stores = subst (λ (g : Given). Stores s.geometry g slot.0 (image_of session)) (sym here)
+          image = stored_by_session session;
+          stores = subst (λ (g : Given). Stores s.geometry g slot.0 (stored_by_session session)) (sym here)
               (stores-session s.geometry (told_now done) slot.0 session fits);
           whole = (plain-parts session.image fits.plain).0;
           told = refl;
@@ -254,7 +254,7 @@ module _ (s : Setting) (before : List Finished) (known next : Known) (slot : Slo
     after_data place bytes done = read_of (data_at s.geometry slot.0 place) bytes ∷ done
 
     abbrev with_read : Descriptor → (bytes : List ℕ) → List Journaled → List Journaled
-    with_read d bytes writes = inserted (record { number = d.number; vblock = d.vblock; block = bytes }) writes
+    with_read d bytes writes = with_write_by_number (record { number = d.number; vblock = d.vblock; block = bytes }) writes
 
     -- the journal is read up to this slot, and the rest of its reading is right
     abbrev IsLoading : (place : ℕ) → List Journaled → List Exchange → Type 0
@@ -289,13 +289,13 @@ module _ (s : Setting) (before : List Finished) (known next : Known) (slot : Slo
             Right s before (Attach slot) (after_descriptor place bytes done)
             (followed_by (load_found (descriptor_at s.geometry slot.0 place) f (load_part s.geometry slot.0 kept left (place + 1) writes)
             (λ number vblock. load_read (data_at s.geometry slot.0 place) (λ data'.
-            load_part s.geometry slot.0 kept left (place + 1) (inserted (record { number = number; vblock = vblock; block = data' }) writes)))) (after_load s next slot.0 c.until kept))
+            load_part s.geometry slot.0 kept left (place + 1) (with_write_by_number (record { number = number; vblock = vblock; block = data' }) writes)))) (after_load s next slot.0 c.until kept))
             (suc (suc (twice left)))
         by-finding bytes going1 Outside says' none counts =
             let g = s.geometry in
             let room : place < g.slots = omega arith in
             let done1 = read_of (descriptor_at g slot.0 place) bytes ∷ done in
-            let given1 = with_block (told_now done) (descriptor_at g slot.0 place) bytes in
+            let given1 = given_with (told_now done) (descriptor_at g slot.0 place) bytes in
             let found : record_on g given1 slot.0 ≡ Some kept =
             ap record_in (with-other (told_now done) (descriptor_at g slot.0 place) bytes (record_at g slot.0) (record-descriptor g slot.0 slot.0 place within)) ∙ l.found in
             right-damaged done1 (descriptor_at g slot.0 place) bytes going1 (inl refl)
@@ -334,11 +334,11 @@ module _ (s : Setting) (before : List Finished) (known next : Known) (slot : Slo
       (λ bytes going1. by-record bytes going1 (attached_record bytes) refl)
     where
       record-now : (bytes : List ℕ) (kept : ImageRecord) → read_image bytes ≡ Some kept →
-          record_on s.geometry (with_block (told_now done) (record_at s.geometry slot.0) bytes) slot.0 ≡ Some kept
-      record-now bytes kept found = ap record_in (with-same (told_now done) (record_at s.geometry slot.0) bytes) ∙ found
+          record_on s.geometry (given_with (told_now done) (record_at s.geometry slot.0) bytes) slot.0 ≡ Some kept
+      record-now bytes kept found = ap record_in (with-block-same (told_now done) (record_at s.geometry slot.0) bytes) ∙ found
 
       journal-unknown : (bytes : List ℕ) (place : ℕ) →
-          with_block (told_now done) (record_at s.geometry slot.0) bytes (descriptor_at s.geometry slot.0 place) ≡ None
+          given_with (told_now done) (record_at s.geometry slot.0) bytes (descriptor_at s.geometry slot.0 place) ≡ None
       journal-unknown bytes place =
           with-other (told_now done) (record_at s.geometry slot.0) bytes (descriptor_at s.geometry slot.0 place)
           (λ e. record-descriptor s.geometry slot.0 slot.0 place within (sym e)) ∙ unknown place
@@ -349,12 +349,12 @@ module _ (s : Setting) (before : List Finished) (known next : Known) (slot : Slo
       by-live bytes kept plain going1 found true is =
           let g = s.geometry in
           loads kept plain g.slots 0 (read_of (record_at g slot.0) bytes ∷ done) [] (omega arith) going1
-          (loads-first g (with_block (told_now done) (record_at g slot.0) bytes) slot.0 kept
+          (loads-first g (given_with (told_now done) (record_at g slot.0) bytes) slot.0 kept
           (read_of (record_at g slot.0) bytes ∷ done) (record-now bytes kept found) (journal-unknown bytes) (inside-record g slot.0 kept bytes within found, inside kept))
       by-live bytes kept plain going1 found false is =
           let g = s.geometry in
           right-ends (read_of (record_at g slot.0) bytes ∷ done) (record { image = kept; writes = [] }) going1 (inside-record g slot.0 kept bytes within found, inside kept)
-          (fits-empty g (with_block (told_now done) (record_at g slot.0) bytes) slot.0 kept within (record-now bytes kept found) plain (journal-unknown bytes)) (twice g.slots)
+          (fits-empty g (given_with (told_now done) (record_at g slot.0) bytes) slot.0 kept within (record-now bytes kept found) plain (journal-unknown bytes)) (twice g.slots)
 
       by-record : (bytes : List ℕ) → Going s before (read_of (record_at s.geometry slot.0) bytes ∷ done) slot.0 c →
           (found : Option ImageRecord) → attached_record bytes ≡ found →

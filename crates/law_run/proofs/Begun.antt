@@ -12,25 +12,29 @@ use Rattle.law_run.proofs.Detaching.{detach-begins}
 use Rattle.law_run.proofs.Making.{create-begins, delete-begins}
 use Rattle.law_run.proofs.Reading.{read-begins}
 use Rattle.law_run.proofs.Renewing.{renew-begins}
+use Rattle.law_run.proofs.Reserving.{reserve-begins}
+use Rattle.law_run.proofs.Retiring.{retire-begins}
 use Rattle.law_run.proofs.Runs as runs
 use Rattle.law_run.proofs.Runs.{BeginsRight, runs-keep}
 use Rattle.law_run.proofs.Writing.{write-begins}
 
 begins-right : (s : Setting) → IsSetting s → BeginsRight s
-begins-right s is before known (Attach slot) reading formed built rests small =
+begins-right s is before known (Attach slot) reading formed built older rests small =
     let r = attach-begins s is.boot before known slot reading rests in (r.0, (let b = r.1 in omega arith), r.2)
-begins-right s is before known (Detach slot) reading formed built rests small = (1, omega arith, detach-begins s before known slot reading rests)
-begins-right s is before known (Create slot size label) reading formed built rests small = (2, omega arith, create-begins s before known slot size label reading rests formed)
-begins-right s is before known (Delete slot) reading formed built rests small = (2, omega arith, delete-begins s before known slot reading rests)
-begins-right s is before known (Read slot vblock) reading formed built rests small = (1, omega arith, read-begins s before known slot vblock reading rests)
-begins-right s is before known (Write slot vblock payload) reading formed built rests small =
+begins-right s is before known (Detach slot) reading formed built older rests small = (1, omega arith, detach-begins s before known slot reading rests)
+begins-right s is before known (Create slot size label) reading formed built older rests small = (2, omega arith, create-begins s before known slot size label reading rests formed)
+begins-right s is before known (Delete slot) reading formed built older rests small = (2, omega arith, delete-begins s before known slot reading rests)
+begins-right s is before known (Read slot vblock) reading formed built older rests small = (1, omega arith, read-begins s before known slot vblock reading rests)
+begins-right s is before known (Write slot vblock payload) reading formed built older rests small =
     (3, omega arith, write-begins s (let g = is.geometry in let low = g.slots_low in omega arith) before known slot vblock payload reading rests formed)
-begins-right s is before known (Flush slot) reading formed built rests small = absurd built
-begins-right s is before known (Reserve count) reading formed built rests small = absurd built
-begins-right s is before known Renew reading formed built rests small =
+begins-right s is before known (Flush slot) reading formed built older rests small = absurd built
+begins-right s is before known (Reserve count) reading formed built older rests small =
+    let r = reserve-begins s is.geometry is.boot before known count reading older rests in (r.0, (let b = r.1 in omega arith), r.2)
+begins-right s is before known Renew reading formed built older rests small =
     let r = renew-begins s before known reading rests small in (r.0, (let b = r.1 in omega arith), r.2)
-begins-right s is before known Retire reading formed built rests small = absurd built
-begins-right s is before known Reclaim reading formed built rests small = absurd built
+begins-right s is before known Retire reading formed built older rests small =
+    let r = retire-begins s is.geometry before known reading older rests in (r.0, (let b = r.1 in omega arith), r.2)
+begins-right s is before known Reclaim reading formed built older rests small = absurd built
 
 some-bound : (s : Setting) (before : List Finished) (command : Command) → 1 ≤ bound s before command
 some-bound s before (Attach slot) = omega arith

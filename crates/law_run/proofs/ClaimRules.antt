@@ -12,16 +12,16 @@ use Rattle.plx_gate.proofs.Leases.{lease-only}
 use Rattle.plx_geom.specs.Geometry.{lease_at}
 use Rattle.plx_rules.specs.Part.{Part, Ends, standing}
 use Rattle.plx_rules.specs.Claims.{ClaimEnd, ClaimLost, ClaimDamaged, claim_of, own_record, own_use, claim_in_time, claim_damaged, reread_by, reread_part, written_part, if_expired, seen_part, claim_part}
-use Rattle.plx_rules.specs.Holds.{Held, reread}
+use Rattle.plx_rules.specs.Holds.{Held, hold_after_reread}
 use Rattle.plx_rules.specs.InUse.{InUse, earlier, first_reached, unless_reached}
 use Rattle.plx_rules.specs.Settings.{Setting}
 use Rattle.plx_rules.specs.Times.{window, wait, term, is_expired}
 use Rattle.law_run.specs.AllowedAsks.{WentOn, claim_of_lease}
+use Rattle.law_run.specs.Busy.{unexpired, taken}
 use Rattle.law_run.specs.ClaimEnds.{AreInUse, beside, with_own, missed, reached, ShowsClaim, claim_bound, MayBeginClaim, IsClaimAsk, IsClaimEnd, ClaimsKeepRules}
-use Rattle.law_run.specs.CommandLogs.{Exchange, CommandLog, IsIn}
-use Rattle.law_run.specs.Replies.{of_clock, of_wait, unexpired, taken}
+use Rattle.law_run.specs.CommandLogs.{Exchange, CommandLog, IsIn, with_exchanges}
+use Rattle.law_run.specs.Replies.{of_clock, of_wait}
 use Rattle.law_run.proofs.ClaimSteps.{read_of_lease, after_sight, after_claiming, after_waiting, after_rereading, held-sight, held-claiming, held-waiting, held-rereading}
-use Rattle.law_run.specs.Machines.{with_exchanges}
 use Rattle.law_run.proofs.Machines.{MeetsWork, meets-keeps}
 use Rattle.law_run.proofs.Right.{clock}
 use Rattle.law_run.proofs.Runs.{HasFirst}
@@ -69,7 +69,7 @@ module _ (s : Setting) (boot_small : s.boot < 2 ^ 128) (log : CommandLog) (other
         (reread_by same (own_use lease (claim_of s.boot number sample) ∷ others) (claim_of s.boot number sample) found) 1
     after-again again true is found reads =
         held-rereading s boot_small log.before log.exchanges has lease number may.few sample small bytes reading again past early
-        ∙ ap (λ t. reread t (Held (claim_of s.boot number sample) (sample + term))) is
+        ∙ ap (λ t. hold_after_reread t (Held (claim_of s.boot number sample) (sample + term))) is
     after-again again false is (Some other) reads =
         taken (claim_of s.boot number sample) (sample + term) again (after_waiting log.exchanges s.boot lease number sample bytes reading) refl
         (held-waiting s boot_small log.before log.exchanges has lease number may.few sample small bytes reading past early) reads

@@ -12,17 +12,17 @@ use Rattle.plx_gate.specs.Leases.{lease_bytes, read_lease, IsClaimed}
 use Rattle.plx_gate.proofs.Leases.{lease-back}
 use Rattle.plx_geom.specs.Geometry.{Geometry, lease_count, lease_at}
 use Rattle.plx_rules.specs.Claims.{claim_of, own_record}
-use Rattle.plx_rules.specs.Holds.{Hold, Nothing, Seen, Wrote, Waited, Held, wrote, reread, seen_by, shown, timed}
+use Rattle.plx_rules.specs.Holds.{Hold, Nothing, Seen, Wrote, Waited, Held, hold_after_claim, hold_after_reread, seen_by, hold_after_read, hold_after_reading}
 use Rattle.plx_rules.specs.Settings.{Setting}
 use Rattle.plx_rules.specs.Times.{window, wait, term, is_expired}
 use Rattle.law_run.specs.CommandLogs.{Exchange, Finished}
-use Rattle.law_run.specs.Holdings.{holds_along, holds_after, hold_of, is_lease_read, claims_in}
+use Rattle.law_run.specs.Holdings.{holds_along, holds_after, hold_by_log, is_lease_read, claims_in}
 use Rattle.law_run.specs.Sessions.{is_attached}
 use Rattle.law_run.proofs.Holding.{claims-more}
 use Rattle.law_run.proofs.Meets.{exchange}
 use Rattle.law_run.proofs.Right.{clock}
 use Rattle.law_run.proofs.Runs.{HasFirst, along-more}
-use Rattle.plx_base.proofs.Tests.{nat_le-true, nat_lt-true, nat_lt-false, and-false}
+use Rattle.plx_base.proofs.Tests.{nat_le-true, nat_lt-true, nat_lt-false, and-no}
 
 -- the read of a lease, its claim, and the wait
 abbrev pub read_of_lease : (lease : ℕ) → Answer → Exchange
@@ -71,7 +71,7 @@ counts-waiting g first boot lease number sample bytes reading has within =
 pub counts-rereading : (g : Geometry) (first : List Exchange) (boot lease number sample : ℕ) (bytes : List ℕ) (reading : ℕ) (x : Answer) → HasFirst first → lease < lease_count g →
     claims_in g (read_of_lease lease x ∷ after_waiting first boot lease number sample bytes reading) ≡ 1 + claims_in g first
 counts-rereading g first boot lease number sample bytes reading x has within =
-    (let e = and-false (is_lease_read g (read_of_lease lease x).ask) false refl in rw e (omega arith)) ∙ counts-waiting g first boot lease number sample bytes reading has within
+    (let e = and-no (is_lease_read g (read_of_lease lease x).ask) false refl in rw e (omega arith)) ∙ counts-waiting g first boot lease number sample bytes reading has within
 
 -- ---- what is held of the lease
 
@@ -84,34 +84,34 @@ module _ (s : Setting) (boot_small : s.boot < 2 ^ 128) (before : List Finished) 
   pub own-back : read_lease (lease_bytes (own_record (claim_of s.boot number sample))) ≡ Some (own_record (claim_of s.boot number sample))
   own-back = lease-back (own_record (claim_of s.boot number sample)) own-limits
 
-  pub held-sight : hold_of s before first lease ≡ Nothing → (seen : LeaseRecord) → read_lease bytes ≡ Some seen → is_expired seen sample ≡ true →
-      hold_of s before (after_sight first lease sample bytes) lease ≡ Seen sample
+  pub held-sight : hold_by_log s before first lease ≡ Nothing → (seen : LeaseRecord) → read_lease bytes ≡ Some seen → is_expired seen sample ≡ true →
+      hold_by_log s before (after_sight first lease sample bytes) lease ≡ Seen sample
   held-sight nothing seen sees expired =
       let H = holds_along s.geometry (is_attached before) (holds_after s.geometry before) (clock sample ∷ first) in
-      let step : hold_of s before (clock sample ∷ first) lease ≡ Nothing =
-      ap (λ (h : ℕ → Hold). h (lease_at lease)) (along-more s.geometry (is_attached before) (holds_after s.geometry before) (clock sample) first has) ∙ ap (timed sample) nothing in
-      at-same H (lease_at lease) (shown (Some sample) bytes (H (lease_at lease)))
-      ∙ (ap (shown (Some sample) bytes) step ∙ (ap (λ o. seen_by o sample) sees ∙ ap (λ t. if t then Seen sample else Nothing) expired))
+      let step : hold_by_log s before (clock sample ∷ first) lease ≡ Nothing =
+      ap (λ (h : ℕ → Hold). h (lease_at lease)) (along-more s.geometry (is_attached before) (holds_after s.geometry before) (clock sample) first has) ∙ ap (hold_after_reading sample) nothing in
+      at-same H (lease_at lease) (hold_after_read (Some sample) bytes (H (lease_at lease)))
+      ∙ (ap (hold_after_read (Some sample) bytes) step ∙ (ap (λ o. seen_by o sample) sees ∙ ap (λ t. if t then Seen sample else Nothing) expired))
 
-  pub held-claiming : hold_of s before (after_claiming first s.boot lease number sample bytes) lease ≡ Wrote (claim_of s.boot number sample) (sample + term)
+  pub held-claiming : hold_by_log s before (after_claiming first s.boot lease number sample bytes) lease ≡ Wrote (claim_of s.boot number sample) (sample + term)
   held-claiming =
       let H = holds_along s.geometry (is_attached before) (holds_after s.geometry before) (after_sight first lease sample bytes) in
-      at-same H (lease_at lease) (wrote (read_lease (lease_bytes (own_record (claim_of s.boot number sample))))) ∙ ap wrote own-back
+      at-same H (lease_at lease) (hold_after_claim (read_lease (lease_bytes (own_record (claim_of s.boot number sample))))) ∙ ap hold_after_claim own-back
 
-  step-waiting : (reading : ℕ) → hold_of s before (after_waiting first s.boot lease number sample bytes reading) lease ≡ timed reading (Wrote (claim_of s.boot number sample) (sample + term))
-  step-waiting reading = ap (timed reading) held-claiming
+  step-waiting : (reading : ℕ) → hold_by_log s before (after_waiting first s.boot lease number sample bytes reading) lease ≡ hold_after_reading reading (Wrote (claim_of s.boot number sample) (sample + term))
+  step-waiting reading = ap (hold_after_reading reading) held-claiming
 
   pub held-waiting : (reading : ℕ) → sample + wait ≤ reading → reading < sample + term →
-      hold_of s before (after_waiting first s.boot lease number sample bytes reading) lease ≡ Waited (claim_of s.boot number sample) (sample + term)
+      hold_by_log s before (after_waiting first s.boot lease number sample bytes reading) lease ≡ Waited (claim_of s.boot number sample) (sample + term)
   held-waiting reading past early = step-waiting reading ∙ rw (nat_le-true (sample + wait) reading past, nat_lt-true reading (sample + term) early) refl
 
   pub held-late : (reading : ℕ) → sample + term ≤ reading →
-      hold_of s before (after_waiting first s.boot lease number sample bytes reading) lease ≡ Wrote (claim_of s.boot number sample) (sample + term)
-  held-late reading late = step-waiting reading ∙ rw (and-false (nat_le (sample + wait) reading) (nat_lt reading (sample + term)) (nat_lt-false reading (sample + term) late)) refl
+      hold_by_log s before (after_waiting first s.boot lease number sample bytes reading) lease ≡ Wrote (claim_of s.boot number sample) (sample + term)
+  held-late reading late = step-waiting reading ∙ rw (and-no (nat_le (sample + wait) reading) (nat_lt reading (sample + term)) (nat_lt-false reading (sample + term) late)) refl
 
   pub held-rereading : (reading : ℕ) (again : List ℕ) → sample + wait ≤ reading → reading < sample + term →
-      hold_of s before (after_rereading first s.boot lease number sample bytes reading again) lease
-      ≡ reread (bytes_eq again (lease_bytes (own_record (claim_of s.boot number sample)))) (Held (claim_of s.boot number sample) (sample + term))
+      hold_by_log s before (after_rereading first s.boot lease number sample bytes reading again) lease
+      ≡ hold_after_reread (bytes_eq again (lease_bytes (own_record (claim_of s.boot number sample)))) (Held (claim_of s.boot number sample) (sample + term))
   held-rereading reading again past early =
       let H = holds_along s.geometry (is_attached before) (holds_after s.geometry before) (after_waiting first s.boot lease number sample bytes reading) in
-      at-same H (lease_at lease) (shown (Some reading) again (H (lease_at lease))) ∙ ap (shown (Some reading) again) (held-waiting reading past early)
+      at-same H (lease_at lease) (hold_after_read (Some reading) again (H (lease_at lease))) ∙ ap (hold_after_read (Some reading) again) (held-waiting reading past early)

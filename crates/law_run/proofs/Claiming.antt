@@ -24,7 +24,7 @@ use Rattle.plx_rules.specs.Part.{Part, Ends}
 use Rattle.plx_rules.specs.Attaching.{load_image, after_claim, claim_image}
 use Rattle.plx_rules.specs.Claims.{ClaimEnd, ClaimReadFault, ClaimDamaged, claim_of, own_record, own_use, claim_in_time, reread_by, reread_part, written_part, if_expired, seen_part}
 use Rattle.plx_rules.specs.Ends.{End, ends, lost}
-use Rattle.plx_rules.specs.Holds.{Hold, Nothing, Seen, Wrote, Waited, Held, reread, timed}
+use Rattle.plx_rules.specs.Holds.{Hold, Nothing, Seen, Wrote, Waited, Held, hold_after_reread, hold_after_reading}
 use Rattle.plx_rules.specs.Parts.{followed_by}
 use Rattle.plx_rules.specs.Session.{Known, with_claim, nothing_known}
 use Rattle.plx_rules.specs.Settings.{Setting}
@@ -32,11 +32,12 @@ use Rattle.plx_rules.specs.Times.{window, wait, term, is_expired}
 use Rattle.law_run.specs.AllowedAsks.{WentOn, claim_of_lease}
 use Rattle.law_run.specs.CommandLogs.{Exchange, Finished, first_reading}
 use Rattle.law_run.specs.Holdings as holdings
-use Rattle.law_run.specs.Holdings.{at_first, holds_along, holds_after, hold_of, IsUntil, is_lease_read, is_clock, claims_in, claims_begun, IsNotHeld}
-use Rattle.law_run.specs.KnownBytes.{nothing_given, with_block, learnt}
+use Rattle.law_run.specs.Holdings.{at_first, holds_along, holds_after, hold_by_log, IsUntil, is_lease_read, is_clock, claims_in, claims_begun, IsNotHeld}
+use Rattle.law_run.specs.KnownBytes.{nothing_given, given_with, given_after_command}
 use Rattle.law_run.specs.Outside.{no_lease}
 use Rattle.law_run.specs.Refusals.{IsNamedFirst, NeedsClaim, NamesBlock, of_read, of_write, NeedsImage, of_delete, of_block}
-use Rattle.law_run.specs.Replies.{IsInUse, going, unread, of_clock, of_wait, of_claim, ReadRestsOn, of_record, of_log, of_descriptor, of_data, unexpired, taken, refused}
+use Rattle.law_run.specs.Busy.{unexpired, taken}
+use Rattle.law_run.specs.Replies.{IsInUse, going, unread, of_clock, of_wait, of_claim, ReadRestsOn, of_record, of_log, of_descriptor, of_data, of_image, in_image, refused}
 use Rattle.law_run.specs.Replies as replies
 use Rattle.law_run.specs.Sessions.{attached_by, is_attached}
 use Rattle.law_run.proofs.Asking.{IsFine, replied-fine}
@@ -105,17 +106,17 @@ written-until claim until other hold is (holdings.waited c e) = absurd (let P : 
 written-until claim until other hold is (holdings.held c e) = absurd (let P : ⊥ = cc in P)
 
 -- at the first reading a lease is held, or nothing of it
-first-nothing : (attached : Bool) (reading : ℕ) (hold : Hold) → IsNotHeld (at_first attached reading hold) → at_first attached reading hold ≡ Nothing
-first-nothing true reading Nothing none = refl
-first-nothing true reading (Seen sample) none = refl
-first-nothing true reading (Wrote c u) none = refl
-first-nothing true reading (Waited c u) none = refl
-first-nothing true reading (Held c u) none = absurd (none c u refl)
-first-nothing false reading Nothing none = refl
-first-nothing false reading (Seen sample) none = refl
-first-nothing false reading (Wrote c u) none = refl
-first-nothing false reading (Waited c u) none = refl
-first-nothing false reading (Held c u) none = by-flag (nat_le u reading) none
+unheld-at-first : (attached : Bool) (reading : ℕ) (hold : Hold) → IsNotHeld (at_first attached reading hold) → at_first attached reading hold ≡ Nothing
+unheld-at-first true reading Nothing none = refl
+unheld-at-first true reading (Seen sample) none = refl
+unheld-at-first true reading (Wrote c u) none = refl
+unheld-at-first true reading (Waited c u) none = refl
+unheld-at-first true reading (Held c u) none = absurd (none c u refl)
+unheld-at-first false reading Nothing none = refl
+unheld-at-first false reading (Seen sample) none = refl
+unheld-at-first false reading (Wrote c u) none = refl
+unheld-at-first false reading (Waited c u) none = refl
+unheld-at-first false reading (Held c u) none = by-flag (nat_le u reading) none
   where
     by-flag : (test : Bool) → IsNotHeld (if test then Nothing else Held c u) → (if test then Nothing else Held c u) ≡ Nothing
     by-flag true some = refl
@@ -124,7 +125,7 @@ first-nothing false reading (Held c u) none = by-flag (nat_le u reading) none
 -- ---- a claim of the lease of the image
 
 module _ (s : Setting) (boot_small : s.boot < 2 ^ 128) (before : List Finished) (known : Known) (slot : SlotNo) (reading : ℕ) (within : slot.0 < s.geometry.images) (missing : is_attached before slot.0 ≡ false)
-    (rests : Rests s before known) (few : known.claims < last_claim) (not_held : IsNotHeld (hold_of s before (clock reading ∷ []) (image_lease slot.0))) where
+    (rests : Rests s before known) (few : known.claims < last_claim) (not_held : IsNotHeld (hold_by_log s before (clock reading ∷ []) (image_lease slot.0))) where
   fine : IsFine s before (Attach slot) reading
   fine done first = attach-passed s before slot done 11 (λ lt. missing) (λ lt. within) (λ lt needed. (let c = rests.claims in omega arith))
 
@@ -214,29 +215,29 @@ module _ (s : Setting) (boot_small : s.boot < 2 ^ 128) (before : List Finished) 
   one-more done is = let c = rests.claims in omega arith
 
   -- what is held of the lease
-  nothing-held : hold_of s before d0 (image_lease slot.0) ≡ Nothing
+  nothing-held : hold_by_log s before d0 (image_lease slot.0) ≡ Nothing
   nothing-held =
       let first = first-hold s before reading slot.0 within in
-      first ∙ first-nothing (is_attached before slot.0) reading (holds_after s.geometry before (lease_at (image_lease slot.0))) (λ c u e. not_held c u (first ∙ e))
+      first ∙ unheld-at-first (is_attached before slot.0) reading (holds_after s.geometry before (lease_at (image_lease slot.0))) (λ c u e. not_held c u (first ∙ e))
 
   seen2 : (sample : ℕ) → sample < 2 ^ 48 → (bytes : List ℕ) (seen : LeaseRecord) → read_lease bytes ≡ Some seen → is_expired seen sample ≡ true →
-      hold_of s before (d2 sample bytes) (image_lease slot.0) ≡ Seen sample
+      hold_by_log s before (d2 sample bytes) (image_lease slot.0) ≡ Seen sample
   seen2 sample small bytes seen sees expired = held-sight s boot_small before d0 tt (image_lease slot.0) known.claims few-claims sample small bytes nothing-held seen sees expired
 
-  held3 : (sample : ℕ) (bytes : List ℕ) → sample < 2 ^ 48 → hold_of s before (d3 sample bytes) (image_lease slot.0) ≡ Wrote (claim_of s.boot known.claims sample) (sample + term)
+  held3 : (sample : ℕ) (bytes : List ℕ) → sample < 2 ^ 48 → hold_by_log s before (d3 sample bytes) (image_lease slot.0) ≡ Wrote (claim_of s.boot known.claims sample) (sample + term)
   held3 sample bytes small = held-claiming s boot_small before d0 tt (image_lease slot.0) known.claims few-claims sample small bytes
 
   waited4 : (sample : ℕ) (bytes : List ℕ) (reading' : ℕ) → sample < 2 ^ 48 → sample + wait ≤ reading' → reading' < sample + term →
-      hold_of s before (d4 sample bytes reading') (image_lease slot.0) ≡ Waited (claim_of s.boot known.claims sample) (sample + term)
+      hold_by_log s before (d4 sample bytes reading') (image_lease slot.0) ≡ Waited (claim_of s.boot known.claims sample) (sample + term)
   waited4 sample bytes reading' small past early = held-waiting s boot_small before d0 tt (image_lease slot.0) known.claims few-claims sample small bytes reading' past early
 
   wrote4 : (sample : ℕ) (bytes : List ℕ) (reading' : ℕ) → sample < 2 ^ 48 → sample + term ≤ reading' →
-      hold_of s before (d4 sample bytes reading') (image_lease slot.0) ≡ Wrote (claim_of s.boot known.claims sample) (sample + term)
+      hold_by_log s before (d4 sample bytes reading') (image_lease slot.0) ≡ Wrote (claim_of s.boot known.claims sample) (sample + term)
   wrote4 sample bytes reading' small late = held-late s boot_small before d0 tt (image_lease slot.0) known.claims few-claims sample small bytes reading' late
 
   held5 : (sample : ℕ) (bytes : List ℕ) (reading' : ℕ) (again : List ℕ) → sample < 2 ^ 48 → sample + wait ≤ reading' → reading' < sample + term →
-      hold_of s before (d5 sample bytes reading' again) (image_lease slot.0)
-      ≡ reread (bytes_eq again (lease_bytes (own_record (claim_of s.boot known.claims sample)))) (Held (claim_of s.boot known.claims sample) (sample + term))
+      hold_by_log s before (d5 sample bytes reading' again) (image_lease slot.0)
+      ≡ hold_after_reread (bytes_eq again (lease_bytes (own_record (claim_of s.boot known.claims sample)))) (Held (claim_of s.boot known.claims sample) (sample + term))
   held5 sample bytes reading' again small past early = held-rereading s boot_small before d0 tt (image_lease slot.0) known.claims few-claims sample small bytes reading' again past early
 
   -- a reply that leaves no session
@@ -263,7 +264,7 @@ module _ (s : Setting) (boot_small : s.boot < 2 ^ 128) (before : List Finished) 
       let block = lease_at (image_lease slot.0) in (
         replied-fine s before (Attach slot) reading fine (clock last ∷ done') (first-more done' (clock last) reading (first-more done (read_lease_of (answer.Bytes bytes)) reading first))
             (reply.Damaged (record { 0 = block }))
-            (record {
+            (in_image (record {
               image = slot.0;
               named = names-own (Attach slot) slot.0 (attach-one slot);
               bytes = bytes;
@@ -272,12 +273,12 @@ module _ (s : Setting) (boot_small : s.boot < 2 ^ 128) (before : List Finished) 
               outside = no_lease (image_lease slot.0) lease-within refl none;
               last = (done', refl);
               below = λ other less on. absurd (rests-on-none s.geometry (image_lease slot.0) lease-within other less on);
-            }),
+            })),
         unheld (clock last ∷ done') (reply.Damaged (record { 0 = block })) (λ other b. refl) (λ h. refl) (others done' (clock last) tt (λ other apart. tt) spared) begun,
       )
 
   -- the lease is held by this boot's claim
-  goes-held : (sample : ℕ) (bytes : List ℕ) (reading' : ℕ) (again : List ℕ) → read_lease bytes ≢ None → read_lease again ≢ None → hold_of s before (d5 sample bytes reading' again) (image_lease slot.0) ≡ Held (claim_of s.boot known.claims sample) (sample + term) →
+  goes-held : (sample : ℕ) (bytes : List ℕ) (reading' : ℕ) (again : List ℕ) → read_lease bytes ≢ None → read_lease again ≢ None → hold_by_log s before (d5 sample bytes reading' again) (image_lease slot.0) ≡ Held (claim_of s.boot known.claims sample) (sample + term) →
       Right s before (Attach slot) (d5 sample bytes reading' again) (load_image s (with_claim known) slot.0 (sample + term)) (suc (suc (twice s.geometry.slots)))
   goes-held sample bytes reading' again some some' held =
       let c : Course = record { reading = reading; claim = claim_of s.boot known.claims sample; until = sample + term; begun = 1 } in
@@ -286,12 +287,12 @@ module _ (s : Setting) (boot_small : s.boot < 2 ^ 128) (before : List Finished) 
       (λ place. unknown place)
       (λ kept. (inside-lease s.geometry slot.0 kept (image_lease slot.0) again lease-within some', (tt, (tt, (inside-lease s.geometry slot.0 kept (image_lease slot.0) bytes lease-within some, (tt, (tt, tt)))))))
     where
-      unknown : (place : ℕ) → learnt s.geometry slot.0 (Attach slot) (d5 sample bytes reading' again) nothing_given (descriptor_at s.geometry slot.0 place) ≡ None
+      unknown : (place : ℕ) → given_after_command s.geometry slot.0 (Attach slot) (d5 sample bytes reading' again) nothing_given (descriptor_at s.geometry slot.0 place) ≡ None
       unknown place =
           let block = lease_at (image_lease slot.0) in
           let apart : descriptor_at s.geometry slot.0 place ≢ block = λ e. lease-descriptor s.geometry (image_lease slot.0) slot.0 place lease-within (sym e) in
-          with-other (with_block (with_block nothing_given block bytes) block (lease_bytes (own_record (claim_of s.boot known.claims sample)))) block again (descriptor_at s.geometry slot.0 place) apart
-          ∙ (with-other (with_block nothing_given block bytes) block (lease_bytes (own_record (claim_of s.boot known.claims sample))) (descriptor_at s.geometry slot.0 place) apart
+          with-other (given_with (given_with nothing_given block bytes) block (lease_bytes (own_record (claim_of s.boot known.claims sample)))) block again (descriptor_at s.geometry slot.0 place) apart
+          ∙ (with-other (given_with nothing_given block bytes) block (lease_bytes (own_record (claim_of s.boot known.claims sample))) (descriptor_at s.geometry slot.0 place) apart
           ∙ with-other nothing_given block bytes (descriptor_at s.geometry slot.0 place) apart)
 
   -- a reading has reached the end of the claim
@@ -322,15 +323,15 @@ module _ (s : Setting) (boot_small : s.boot < 2 ^ 128) (before : List Finished) 
       let same : again ≡ lease_bytes (own_record own') = (bytes_eq-Decides again (lease_bytes (own_record own'))).0 is in
       let spelled : read_lease again ≡ Some (own_record own') = ap read_lease same ∙ own-back s boot_small before d0 tt (image_lease slot.0) known.claims few-claims sample small again in
       goes-held sample bytes reading' again some (λ e. (let P : ⊥ = cc in P)) (held5 sample bytes reading' again small past early
-      ∙ ap (λ t. reread t (Held (claim_of s.boot known.claims sample) (sample + term))) is)
+      ∙ ap (λ t. hold_after_reread t (Held (claim_of s.boot known.claims sample) (sample + term))) is)
   after-reread sample bytes reading' again small some past early false is (Some seen) sees =
       let own' = claim_of s.boot known.claims sample in
       let done = d5 sample bytes reading' again in
       let name = lease-name s.geometry slot.0 within in
       subst (λ (n : LeaseName). Right s before (Attach slot) done (ends (reply.Busy n seen) (with_claim known)) (suc (suc (twice s.geometry.slots)))) (sym name) (
         replied-fine s before (Attach slot) reading fine done refl (reply.Busy (lease.Image slot) seen)
-            (taken own' (sample + term) again (d4 sample bytes reading') refl (waited4 sample bytes reading' small past early) sees
-            (λ e. bytes-other again (lease_bytes (own_record own')) is ((lease-only again seen sees).1 ∙ ap lease_bytes e))),
+            (of_image slot (names-own (Attach slot) slot.0 (attach-one slot)) (taken own' (sample + term) again (d4 sample bytes reading') refl (waited4 sample bytes reading' small past early) sees
+            (λ e. bytes-other again (lease_bytes (own_record own')) is ((lease-only again seen sees).1 ∙ ap lease_bytes e)))),
         unheld done (reply.Busy (lease.Image slot) seen) (λ other b. refl) (λ h. refl) (spared5 sample bytes reading' (answer.Bytes again)) (begun5 sample bytes reading' (answer.Bytes again)),
       )
   after-reread sample bytes reading' again small some past early false is None sees = (
@@ -344,13 +345,13 @@ module _ (s : Setting) (boot_small : s.boot < 2 ^ 128) (before : List Finished) 
         by-own-rest P sample last (Ends ClaimDamaged) (λ late. lost-name (clock last ∷ done) until last n (
           replied-fine s before (Attach slot) reading fine (clock last ∷ done) refl (reply.Lost (lease.Image slot) until last)
               (replies.reached slot (of_clock (done, refl)) (in-use last) late (λ other until' used le. alone last other until' used)),
-          rests-lost s before (Attach slot) (clock last ∷ done) (lease.Image slot) until last (known.claims + 1) (one-more (clock last ∷ done) (begun6 sample bytes reading' again last)),
+          rests-lost s before (Attach slot) (clock last ∷ done) (lease.Image slot) until last (known.claims + 1) refl (one-more (clock last ∷ done) (begun6 sample bytes reading' again last)),
         ))
         (λ soon. no-lease (d4 sample bytes reading') again last n refl sees (spared5 sample bytes reading' (answer.Bytes again)) (begun6 sample bytes reading' again last)),
   )
     where
-      gone : (last : ℕ) → hold_of s before (clock last ∷ d5 sample bytes reading' again) (image_lease slot.0) ≡ Nothing
-      gone last = ap (timed last) (held5 sample bytes reading' again small past early ∙ ap (λ t. reread t (Held (claim_of s.boot known.claims sample) (sample + term))) is)
+      gone : (last : ℕ) → hold_by_log s before (clock last ∷ d5 sample bytes reading' again) (image_lease slot.0) ≡ Nothing
+      gone last = ap (hold_after_reading last) (held5 sample bytes reading' again small past early ∙ ap (λ t. hold_after_reread t (Held (claim_of s.boot known.claims sample) (sample + term))) is)
 
       in-use : (last : ℕ) → IsInUse s (log_on before (Attach slot) (clock last ∷ d5 sample bytes reading' again)) slot.0 (sample + term)
       in-use last = unread (claim_of s.boot known.claims sample) again last (d4 sample bytes reading') (names-own (Attach slot) slot.0 (attach-one slot)) refl
@@ -359,12 +360,12 @@ module _ (s : Setting) (boot_small : s.boot < 2 ^ 128) (before : List Finished) 
       alone : (last other until' : ℕ) → IsInUse s (log_on before (Attach slot) (clock last ∷ d5 sample bytes reading' again)) other until' → IsNamedFirst slot.0 (sample + term) other until'
       alone last other until' (going named is') =
           let same = names-only (Attach slot) slot.0 (attach-one slot) other named in
-          absurd (nothing-used until' _ (gone last) (subst (λ o. IsUntil until' (hold_of s before (clock last ∷ d5 sample bytes reading' again) (image_lease o))) same is'))
+          absurd (nothing-used until' _ (gone last) (subst (λ o. IsUntil until' (hold_by_log s before (clock last ∷ d5 sample bytes reading' again) (image_lease o))) same is'))
       alone last other until' (unread c bytes' r older named at_end waited none gone') =
           let same = names-only (Attach slot) slot.0 (attach-one slot) other named in
           let e : older ≡ d4 sample bytes reading' = cc in
-          let w : hold_of s before (d4 sample bytes reading') (image_lease slot.0) ≡ Waited c until' =
-          subst (λ (o : List Exchange). hold_of s before o (image_lease slot.0) ≡ Waited c until') e (subst (λ i. hold_of s before older (image_lease i) ≡ Waited c until') same waited) in
+          let w : hold_by_log s before (d4 sample bytes reading') (image_lease slot.0) ≡ Waited c until' =
+          subst (λ (o : List Exchange). hold_by_log s before o (image_lease slot.0) ≡ Waited c until') e (subst (λ i. hold_by_log s before older (image_lease i) ≡ Waited c until') same waited) in
           let u : Waited (claim_of s.boot known.claims sample) (sample + term) ≡ Waited c until' = sym (waited4 sample bytes reading' small past early) ∙ w in
           inr ((let v : sample + term ≡ until' = cc in v), omega arith)
 
@@ -385,7 +386,7 @@ module _ (s : Setting) (boot_small : s.boot < 2 ^ 128) (before : List Finished) 
         replied-fine s before (Attach slot) reading fine done refl (reply.Lost (lease.Image slot) until reading')
             (replies.reached slot (of_wait (sample + wait) (d3 sample bytes, refl)) (going (names-own (Attach slot) slot.0 (attach-one slot)) (holdings.wrote own' (wrote4 sample bytes reading' small late))) late
             (λ other until' used le. alone late other until' used)),
-        rests-lost s before (Attach slot) done (lease.Image slot) until reading' (known.claims + 1) (one-more done (begun4 sample bytes reading')),
+        rests-lost s before (Attach slot) done (lease.Image slot) until reading' (known.claims + 1) refl (one-more done (begun4 sample bytes reading')),
       ))
       (λ early. (
         (went4 sample bytes reading', tt),
@@ -398,7 +399,7 @@ module _ (s : Setting) (boot_small : s.boot < 2 ^ 128) (before : List Finished) 
           let same = names-only (Attach slot) slot.0 (attach-one slot) other named in
           inr (
             written-until (claim_of s.boot known.claims sample) (sample + term) until' _ (wrote4 sample bytes reading' small late)
-                (subst (λ o. IsUntil until' (hold_of s before (d4 sample bytes reading') (image_lease o))) same is),
+                (subst (λ o. IsUntil until' (hold_by_log s before (d4 sample bytes reading') (image_lease o))) same is),
             omega arith,
           )
       alone late other until' (unread c bytes' r older named at_end waited none gone) =
@@ -424,7 +425,8 @@ module _ (s : Setting) (boot_small : s.boot < 2 ^ 128) (before : List Finished) 
       by-expired false is =
           subst (λ (n : LeaseName). Right s before (Attach slot) (d2 sample bytes) (ends (reply.Busy n seen) (with_claim known)) (suc (suc (suc (suc (suc (twice s.geometry.slots)))))))
           (sym (lease-name s.geometry slot.0 within)) (
-            replied-fine s before (Attach slot) reading fine (d2 sample bytes) refl (reply.Busy (lease.Image slot) seen) (unexpired sample bytes d0 refl sees is),
+            replied-fine s before (Attach slot) reading fine (d2 sample bytes) refl (reply.Busy (lease.Image slot) seen)
+                (of_image slot (names-own (Attach slot) slot.0 (attach-one slot)) (unexpired sample bytes d0 refl sees is)),
             unheld (d2 sample bytes) (reply.Busy (lease.Image slot) seen) (λ other b. refl) (λ h. refl) (spared2 sample (answer.Bytes bytes)) (begun2 sample (answer.Bytes bytes)),
           )
       by-expired true is =
@@ -449,7 +451,7 @@ module _ (s : Setting) (boot_small : s.boot < 2 ^ 128) (before : List Finished) 
             λ late past small'. lost-name (claims_lease sample (answer.Missed late) ∷ d2 sample bytes) (sample + window) late n (
               replied-fine s before (Attach slot) reading fine (claims_lease sample (answer.Missed late) ∷ d2 sample bytes) refl (reply.Lost (lease.Image slot) (sample + window) late)
                   (replies.missed kind.Claim (record { 0 = block }) (lease_bytes (own_record own')) (d2 sample bytes, refl) (of_claim refl)),
-              rests-lost s before (Attach slot) (claims_lease sample (answer.Missed late) ∷ d2 sample bytes) (lease.Image slot) (sample + window) late (known.claims + 1)
+              rests-lost s before (Attach slot) (claims_lease sample (answer.Missed late) ∷ d2 sample bytes) (lease.Image slot) (sample + window) late (known.claims + 1) refl
                   (one-more (claims_lease sample (answer.Missed late) ∷ d2 sample bytes) (begun3 sample bytes (answer.Missed late))),
             ),
           )

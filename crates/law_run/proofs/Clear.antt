@@ -19,7 +19,7 @@ use Rattle.plx_rules.specs.Session.{Session, Known, write_count}
 use Rattle.plx_rules.specs.Settings.{Setting}
 use Rattle.plx_rules.specs.Stored.{Given, record_on, IsWriteCount}
 use Rattle.law_run.specs.CommandLogs.{Exchange, Finished, first_reading}
-use Rattle.law_run.specs.KnownBytes.{known_after, known_from, record_known}
+use Rattle.law_run.specs.KnownBytes.{given_after, known_from, record_known}
 use Rattle.law_run.specs.Refusals.{NamesBlock, of_read, of_write, NeedsImage, of_delete, of_block}
 use Rattle.law_run.specs.Sessions.{names, attached_by}
 use Rattle.law_run.proofs.Facts.{count-one, write-count}
@@ -64,7 +64,7 @@ image-named command image (of_block vblock names) = block-named command image vb
 module _ (s : Setting) (before : List Finished) (known : Known) (command : Command) (slot : SlotNo) (reading : ℕ) (on : OnImage command slot.0) (rests : Rests s before known)
     (session : Session) (claim : Claim) (until : ℕ) (ready : Ready s before known command slot reading on rests session claim until) where
   -- what is known as the command begins
-  pub known-here : (done : List Exchange) → known_from s.geometry (log_on before command done) slot.0 ≡ known_after s.geometry before slot.0
+  pub known-here : (done : List Exchange) → known_from s.geometry (log_on before command done) slot.0 ≡ given_after s.geometry before slot.0
   known-here done = known-attached s.geometry before command done slot.0 ready.attached
 
   kept-is : (done : List Exchange) (image : ℕ) (kept : ImageRecord) → names command image ≡ true → record_known s.geometry (log_on before command done) image ≡ Some kept → kept ≡ session.image
@@ -80,11 +80,11 @@ module _ (s : Setting) (before : List Finished) (known : Known) (command : Comma
       let same = names-only command slot.0 on.named image named in
       let one : IsWriteCount s.geometry (known_from s.geometry (log_on before command done) slot.0) slot.0 kept count =
       subst (λ n. IsWriteCount s.geometry (known_from s.geometry (log_on before command done) n) n kept count) same counts in
-      let two : IsWriteCount s.geometry (known_after s.geometry before slot.0) slot.0 session.image count =
-      subst (λ (r : ImageRecord). IsWriteCount s.geometry (known_after s.geometry before slot.0) slot.0 r count) is
+      let two : IsWriteCount s.geometry (given_after s.geometry before slot.0) slot.0 session.image count =
+      subst (λ (r : ImageRecord). IsWriteCount s.geometry (given_after s.geometry before slot.0) slot.0 r count) is
       (subst (λ (g : Given). IsWriteCount s.geometry g slot.0 kept count) (known-here done) one) in
-      count-one s.geometry (known_after s.geometry before slot.0) slot.0 session.image count (write_count session) two
-      (write-count s.geometry (known_after s.geometry before slot.0) slot.0 session ready.fits)
+      count-one s.geometry (given_after s.geometry before slot.0) slot.0 session.image count (write_count session) two
+      (write-count s.geometry (given_after s.geometry before slot.0) slot.0 session ready.fits)
 
   -- no fact holds before this place
   pub clear : (done : List Exchange) (n : ℕ) → first_reading done ≡ Some reading → Clear s.geometry.slots command session n → Passed s (log_on before command done) n
@@ -119,7 +119,7 @@ module _ (s : Setting) (before : List Finished) (known : Known) (command : Comma
   -- a reply that leaves all as it is
   pub still-at : (done : List Exchange) (r : Reply) → ((other : ℕ) (b : Bool) → attached_by r command other b ≡ b) → KeepsHolds r →
       (c : Course) → Going s before done slot.0 c → c.begun ≡ 0 →
-      known_after s.geometry (finish command done r ∷ before) slot.0 ≡ known_after s.geometry before slot.0 → Rests s (finish command done r ∷ before) known
+      given_after s.geometry (finish command done r ∷ before) slot.0 ≡ given_after s.geometry before slot.0 → Rests s (finish command done r ∷ before) known
   still-at done r none keeps c going zero' still =
       rests-by s before command done r known known slot.0 (names-other command slot.0 on.named) (λ other apart. refl) (λ other b apart. none other b) keeps going.spared
       (own-still s before command done r slot.0 (known.sessions slot.0) (λ b. none slot.0 b) keeps (rests.sessions slot.0) (λ attached. still) (λ attached. (c.claim, c.until, going.held)))

@@ -5,43 +5,43 @@ use Rattle.plx_gate.specs.Descriptors.{read_descriptor, descriptor_bytes}
 use Rattle.plx_gate.specs.declared.descriptor.Descriptor.{Descriptor}
 use Rattle.plx_gate.specs.declared.image.ImageRecord.{ImageRecord}
 use Rattle.plx_geom.specs.Geometry.{Geometry, descriptor_at}
-use Rattle.plx_rules.specs.Journal.{journal_slot, is_unapplied, is_placed, counted, counted_of}
+use Rattle.plx_rules.specs.Journal.{journal_slot, is_unapplied, is_placed, counted_descriptor, counted_of}
 use Rattle.plx_rules.specs.Records.{is_live, generation_of, applied_of}
 use Rattle.plx_rules.specs.Stored.{Given, counted_in, IsCounted}
 use Rattle.plx_base.proofs.Tests.{eqb-true, nat_lt-true}
 use Rattle.law_run.proofs.Tests.{and-parts, eqb-is, lt-is}
 
 -- a descriptor that counts in a slot: the image is live, the generation is its own, the number is above the last one applied, and it stands in the slot of its number
-pub record Tells (kept : ImageRecord) (slots slot : ℕ) (d : Descriptor) : Type 0 where
+pub record TellsFirst (kept : ImageRecord) (slots slot : ℕ) (d : Descriptor) : Type 0 where
   pub live : is_live kept ≡ true
   pub generation : d.generation ≡ generation_of kept
   pub above : applied_of kept < d.number
   pub place : journal_slot slots d.number ≡ slot
 
-pub tells-test : (kept : ImageRecord) (slots slot : ℕ) (d : Descriptor) → (is_unapplied kept d && is_placed slots slot d) ≡ true → Tells kept slots slot d
+pub tells-test : (kept : ImageRecord) (slots slot : ℕ) (d : Descriptor) → (is_unapplied kept d && is_placed slots slot d) ≡ true → TellsFirst kept slots slot d
 tells-test kept slots slot d e =
     let one = and-parts (is_unapplied kept d) (is_placed slots slot d) e in
     let two = and-parts (is_live kept) ((d.generation == generation_of kept) && nat_lt (applied_of kept) d.number) one.0 in
     let three = and-parts (d.generation == generation_of kept) (nat_lt (applied_of kept) d.number) two.1 in
     record { live = two.0; generation = eqb-is d.generation (generation_of kept) three.0; above = lt-is (applied_of kept) d.number three.1; place = eqb-is (journal_slot slots d.number) slot one.1 }
 
-by-test : (test : Bool) (d e : Descriptor) → (if test then Some e else None) ≡ Some d → (test ≡ true) × (e ≡ d)
-by-test true d e h = (refl, cc)
-by-test false d e h = absurd (let P : ⊥ = cc in P)
+some-by-test : (test : Bool) (d e : Descriptor) → (if test then Some e else None) ≡ Some d → (test ≡ true) × (e ≡ d)
+some-by-test true d e h = (refl, cc)
+some-by-test false d e h = absurd (let P : ⊥ = cc in P)
 
-pub counted-tells : (kept : ImageRecord) (slots slot : ℕ) (found : Option (Option Descriptor)) (d : Descriptor) → counted_of kept slots slot found ≡ Some d → (found ≡ Some (Some d)) × Tells kept slots slot d
+pub counted-tells : (kept : ImageRecord) (slots slot : ℕ) (found : Option (Option Descriptor)) (d : Descriptor) → counted_of kept slots slot found ≡ Some d → (found ≡ Some (Some d)) × TellsFirst kept slots slot d
 counted-tells kept slots slot None d h = absurd (let P : ⊥ = cc in P)
 counted-tells kept slots slot (Some None) d h = absurd (let P : ⊥ = cc in P)
 counted-tells kept slots slot (Some (Some e)) d h =
-    let both = by-test (is_unapplied kept e && is_placed slots slot e) d e h in
+    let both = some-by-test (is_unapplied kept e && is_placed slots slot e) d e h in
     (ap (λ (x : Descriptor). Some (Some x)) both.1, tells-test kept slots slot d (ap (λ (x : Descriptor). is_unapplied kept x && is_placed slots slot x) (sym both.1) ∙ both.0))
 
 counted-bytes : (kept : ImageRecord) (slots slot : ℕ) (bytes : Option (List ℕ)) (d : Descriptor) → counted_in kept slots slot bytes ≡ Some d →
-    (read : List ℕ) × (bytes ≡ Some read) × (read_descriptor read ≡ Some (Some d)) × Tells kept slots slot d
+    (read : List ℕ) × (bytes ≡ Some read) × (read_descriptor read ≡ Some (Some d)) × TellsFirst kept slots slot d
 counted-bytes kept slots slot None d h = absurd (let P : ⊥ = cc in P)
 counted-bytes kept slots slot (Some read) d h = let both = counted-tells kept slots slot (read_descriptor read) d h in (read, refl, both.0, both.1)
 
-pub counts-tells : (g : Geometry) (given : Given) (image : ℕ) (kept : ImageRecord) (slot : ℕ) (d : Descriptor) → IsCounted g given image kept slot d → Tells kept g.slots slot d
+pub counts-tells : (g : Geometry) (given : Given) (image : ℕ) (kept : ImageRecord) (slot : ℕ) (d : Descriptor) → IsCounted g given image kept slot d → TellsFirst kept g.slots slot d
 counts-tells g given image kept slot d counts = (counted-bytes kept g.slots slot (given (descriptor_at g image slot)) d counts.found).3
 
 -- a block that isn't given counts nothing
@@ -55,8 +55,8 @@ unapplied-true kept d live generation above =
     rw (live, eqb-true d.generation (generation_of kept) generation, nat_lt-true (applied_of kept) d.number above) refl
 
 -- a descriptor within the limits counts where it stands in the slot of its number
-pub counts-spelled : (kept : ImageRecord) (slots slot : ℕ) (d : Descriptor) → read_descriptor (descriptor_bytes d) ≡ Some (Some d) → Tells kept slots slot d →
-    counted kept slots slot (descriptor_bytes d) ≡ Some d
+pub counts-spelled : (kept : ImageRecord) (slots slot : ℕ) (d : Descriptor) → read_descriptor (descriptor_bytes d) ≡ Some (Some d) → TellsFirst kept slots slot d →
+    counted_descriptor kept slots slot (descriptor_bytes d) ≡ Some d
 counts-spelled kept slots slot d spelled tells =
     ap (counted_of kept slots slot) spelled
     ∙ rw (unapplied-true kept d tells.live tells.generation tells.above, eqb-true (journal_slot slots d.number) slot tells.place) refl

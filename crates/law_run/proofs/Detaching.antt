@@ -25,7 +25,7 @@ use Rattle.law_run.proofs.Meets.{exchange}
 use Rattle.law_run.proofs.OnImage.{OnImage, names-own, names-other, on-image, Ready}
 use Rattle.law_run.proofs.Rests.{rests-by}
 use Rattle.law_run.proofs.Right.{clock, FitsAt, Rests, finish, Right}
-use Rattle.law_run.proofs.Runs.{start}
+use Rattle.law_run.proofs.Runs.{start, hand_start}
 use Rattle.plx_commands.proofs.Places.{at-other, at-same}
 
 on-detach : (slot : SlotNo) → OnImage (Detach slot) slot.0
@@ -78,7 +78,7 @@ right-detach s before known slot reading rests session claim until ready =
     )
 
 pub detach-begins : (s : Setting) (before : List Finished) (known : Known) (slot : SlotNo) (reading : ℕ) → Rests s before known →
-    Right s before (Detach slot) (clock reading ∷ []) (command_part s known (start s before reading) reading (Detach slot)) 1
+    Right s before (Detach slot) (clock reading ∷ []) (command_part s known (start s before reading) (hand_start s before reading) reading (Detach slot)) 1
 detach-begins s before known slot reading rests =
     on-image s before known (Detach slot) slot reading (on-detach slot) rests 1 (detach_part s known slot.0)
     (λ session claim until ready. right-detach s before known slot reading rests session claim until ready)

@@ -9,19 +9,19 @@ use Rattle.plx_gate.specs.declared.image.ImageRecord.{ImageRecord}
 use Rattle.plx_gate.proofs.Images.{image-only}
 use Rattle.plx_geom.specs.Geometry.{Geometry, record_at, data_at}
 use Rattle.plx_rules.specs.declared.journaled.Journaled.{Journaled}
-use Rattle.plx_rules.specs.Journal.{journal_slot}
+use Rattle.plx_rules.specs.Journal.{journal_slot, descriptor_of}
 use Rattle.plx_rules.specs.Records.{is_live, generation_of, size_of, taken_of, root_of, applied_of, is_plain}
 use Rattle.plx_rules.specs.Session.{Session, write_count, latest, content}
 use Rattle.plx_rules.specs.Stored.{Given, Holds, standing_in, leads_to, digits_of, StoredImage, record_in, record_on, IsCounted, IsWriteCount, IsNewest, IsContent, journalled, unwritten, Stores}
 use Rattle.law_run.proofs.Counted.{counts-tells}
 use Rattle.law_lease.proofs.Latest.{last-of, IsLast, IsLatest, latest-is}
-use Rattle.law_run.proofs.Right.{descriptor_of, Fits}
+use Rattle.law_run.proofs.Right.{Fits}
 use Rattle.law_run.proofs.Slots.{slot-apart}
 use Rattle.law_run.proofs.Tests.{and-parts, eqb-is}
 
 -- the image of a session
-abbrev pub image_of : Session → StoredImage
-image_of session = record {
+abbrev pub stored_by_session : Session → StoredImage
+stored_by_session session = record {
   live = is_live session.image;
   generation = generation_of session.image;
   size = size_of session.image;
@@ -99,7 +99,7 @@ module _ (g : Geometry) (given : Given) (image : ℕ) (session : Session) (fits 
   pub content-held : (vblock : ℕ) → IsContent g given image session.image vblock (Holds (content session vblock))
   content-held vblock = content-is vblock (latest zeros vblock session.writes) (latest-is zeros vblock session.writes)
 
-  pub stores-session : Stores g given image (image_of session)
+  pub stores-session : Stores g given image (stored_by_session session)
   stores-session = record {
     kept = session.image;
     found = fits.found;

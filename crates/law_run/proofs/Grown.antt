@@ -10,24 +10,24 @@ use Rattle.plx_gate.proofs.Descriptors.{read-descriptor, descriptor-back}
 use Rattle.plx_geom.specs.Geometry.{Geometry, record_at, descriptor_at, data_at}
 use Rattle.plx_geom.proofs.Places.{record-descriptor, record-data, data-descriptor}
 use Rattle.plx_rules.specs.declared.journaled.Journaled.{Journaled}
-use Rattle.plx_rules.specs.Journal.{journal_slot}
+use Rattle.plx_rules.specs.Journal.{journal_slot, descriptor_of}
 use Rattle.plx_rules.specs.Records.{is_live, is_plain}
 use Rattle.plx_rules.specs.Session.{Session, write_count, with_write}
 use Rattle.plx_rules.specs.Stored.{Given, record_in, record_on, counted_in, IsCounted}
 use Rattle.law_run.specs.AllowedAsks.{last_known}
-use Rattle.law_run.specs.KnownBytes.{with_block}
+use Rattle.law_run.specs.KnownBytes.{given_with}
 use Rattle.law_run.proofs.Counted.{counts-spelled, no-count}
 use Rattle.law_run.proofs.Facts.{place-apart}
 use Rattle.law_lease.proofs.Latest.{at_push, get-push, get-old}
-use Rattle.law_run.proofs.Right.{descriptor_of, Fits}
+use Rattle.law_run.proofs.Right.{Fits}
 use Rattle.law_run.proofs.Slots.{slot-below}
 use Rattle.plx_base.proofs.Tests.{eqb-true, eqb-false}
 
 -- one more block is given
-pub with-same : (given : Given) (block : ℕ) (bytes : List ℕ) → with_block given block bytes block ≡ Some bytes
-with-same given block bytes = rw (eqb-true block block refl) refl
+pub with-block-same : (given : Given) (block : ℕ) (bytes : List ℕ) → given_with given block bytes block ≡ Some bytes
+with-block-same given block bytes = rw (eqb-true block block refl) refl
 
-pub with-other : (given : Given) (block : ℕ) (bytes : List ℕ) (b : ℕ) → b ≢ block → with_block given block bytes b ≡ given b
+pub with-other : (given : Given) (block : ℕ) (bytes : List ℕ) (b : ℕ) → b ≢ block → given_with given block bytes b ≡ given b
 with-other given block bytes b other = rw (eqb-false b block other) refl
 
 -- what counts goes by the descriptor's block alone
@@ -76,10 +76,10 @@ descriptor-one g image s t same = omega (arith, same)
 
 -- data in a slot that holds no write
 pub fits-data : (g : Geometry) (given : Given) (image : ℕ) (session : Session) (bytes : List ℕ) → Fits g given image session → length session.writes < g.slots →
-    Fits g (with_block given (data_at g image (journal_slot g.slots (write_count session + 1))) bytes) image session
+    Fits g (given_with given (data_at g image (journal_slot g.slots (write_count session + 1))) bytes) image session
 fits-data g given image session bytes fits room =
     let slot = journal_slot g.slots (write_count session + 1) in
-    let more = with_block given (data_at g image slot) bytes in
+    let more = given_with given (data_at g image slot) bytes in
     let same : (s : ℕ) → more (descriptor_at g image s) ≡ given (descriptor_at g image s) =
     λ s. with-other given (data_at g image slot) bytes (descriptor_at g image s) (λ e. data-descriptor g image image slot s (sym e)) in
     record {
@@ -108,25 +108,25 @@ module _ (g : Geometry) (given : Given) (image : ℕ) (session : Session) (write
       (record { live = live; generation = refl; above = omega arith; place = refl })
 
   abbrev Grown : Given
-  Grown = with_block given (descriptor_at g image (journal_slot g.slots write.number)) (descriptor_bytes (descriptor_of session.image write))
+  Grown = given_with given (descriptor_at g image (journal_slot g.slots write.number)) (descriptor_bytes (descriptor_of session.image write))
 
-  at_here : with_block given (descriptor_at g image (journal_slot g.slots write.number)) (descriptor_bytes (descriptor_of session.image write)) (descriptor_at g image (journal_slot g.slots write.number))
+  at_here : given_with given (descriptor_at g image (journal_slot g.slots write.number)) (descriptor_bytes (descriptor_of session.image write)) (descriptor_at g image (journal_slot g.slots write.number))
       ≡ Some (descriptor_bytes (descriptor_of session.image write))
-  at_here = with-same given (descriptor_at g image (journal_slot g.slots write.number)) (descriptor_bytes (descriptor_of session.image write))
+  at_here = with-block-same given (descriptor_at g image (journal_slot g.slots write.number)) (descriptor_bytes (descriptor_of session.image write))
 
   elsewhere : (s : ℕ) → s ≢ journal_slot g.slots write.number →
-      with_block given (descriptor_at g image (journal_slot g.slots write.number)) (descriptor_bytes (descriptor_of session.image write)) (descriptor_at g image s) ≡ given (descriptor_at g image s)
+      given_with given (descriptor_at g image (journal_slot g.slots write.number)) (descriptor_bytes (descriptor_of session.image write)) (descriptor_at g image s) ≡ given (descriptor_at g image s)
   elsewhere s other = with-other given (descriptor_at g image (journal_slot g.slots write.number)) (descriptor_bytes (descriptor_of session.image write)) (descriptor_at g image s)
       (λ e. other (descriptor-one g image s (journal_slot g.slots write.number) e))
 
-  beside : (s : ℕ) → with_block given (descriptor_at g image (journal_slot g.slots write.number)) (descriptor_bytes (descriptor_of session.image write)) (data_at g image s) ≡ given (data_at g image s)
+  beside : (s : ℕ) → given_with given (descriptor_at g image (journal_slot g.slots write.number)) (descriptor_bytes (descriptor_of session.image write)) (data_at g image s) ≡ given (data_at g image s)
   beside s = with-other given (descriptor_at g image (journal_slot g.slots write.number)) (descriptor_bytes (descriptor_of session.image write)) (data_at g image s)
       (data-descriptor g image image s (journal_slot g.slots write.number))
 
   new-counts : IsCounted g Grown image session.image (journal_slot g.slots write.number) (descriptor_of session.image write)
   new-counts = record { within = slot-below g.slots write.number some; found = ap (counted_in session.image g.slots (journal_slot g.slots write.number)) at_here ∙ spelled }
 
-  pub fits-more : Fits g (with_block given (descriptor_at g image (journal_slot g.slots write.number)) (descriptor_bytes (descriptor_of session.image write))) image (with_write session write)
+  pub fits-more : Fits g (given_with given (descriptor_at g image (journal_slot g.slots write.number)) (descriptor_bytes (descriptor_of session.image write))) image (with_write session write)
   fits-more = record {
     within = fits.within;
     found = ap record_in (with-other given (descriptor_at g image (journal_slot g.slots write.number)) (descriptor_bytes (descriptor_of session.image write)) (record_at g image)

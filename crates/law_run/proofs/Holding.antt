@@ -10,11 +10,11 @@ use Rattle.plx_disk.specs.declared.ask.Answer.{Answer}
 use Rattle.plx_disk.specs.declared.ask.Answer.TheVariants as answer
 use Rattle.plx_geom.specs.Geometry.{Geometry, image_lease, lease_at}
 use Rattle.plx_commands.specs.Places.{at}
-use Rattle.plx_rules.specs.Holds.{Hold, Held, after_answer, after_write, shown, timed}
+use Rattle.plx_rules.specs.Holds.{Hold, Held, after_answer, after_write, hold_after_read, hold_after_reading}
 use Rattle.plx_rules.specs.Settings.{Setting}
 use Rattle.law_run.specs.AllowedAsks.{GoesOn, WentOn}
 use Rattle.law_run.specs.CommandLogs.{Exchange, Finished, first_reading}
-use Rattle.law_run.specs.Holdings.{lease_attached, at_first, holds_along, holds_after, hold_of, is_lease_read, claims_in}
+use Rattle.law_run.specs.Holdings.{lease_attached, at_first, holds_along, holds_after, hold_by_log, is_lease_read, claims_in}
 use Rattle.law_run.specs.Sessions.{is_attached}
 use Rattle.law_run.proofs.Right.{clock, IsHeld}
 use Rattle.law_run.proofs.Runs.{HasFirst, last_sample, along-more}
@@ -37,34 +37,34 @@ leaves-write kind.Renew b guard bytes holds block claim until apart held = at-ot
 leaves-write kind.Release b guard bytes holds block claim until apart held = at-other holds b block _ apart ∙ held
 leaves-write k b guard bytes holds block claim until apart held = held
 
-shown-held : (sample : Option ℕ) (found : List ℕ) (holds : ℕ → Hold) (b block : ℕ) (claim : Claim) (until : ℕ) → holds block ≡ Held claim until →
-    at holds b (shown sample found (holds b)) block ≡ Held claim until
-shown-held sample found holds b block claim until held = elim (eqb_tells block b) [
-  | inl same ↦ rw same.0 (ap (λ n. shown sample found (holds n)) (sym same.1) ∙ ap (shown sample found) held)
+shown-stays-held : (sample : Option ℕ) (found : List ℕ) (holds : ℕ → Hold) (b block : ℕ) (claim : Claim) (until : ℕ) → holds block ≡ Held claim until →
+    at holds b (hold_after_read sample found (holds b)) block ≡ Held claim until
+shown-stays-held sample found holds b block claim until held = elim (eqb_tells block b) [
+  | inl same ↦ rw same.0 (ap (λ n. hold_after_read sample found (holds n)) (sym same.1) ∙ ap (hold_after_read sample found) held)
   | inr other ↦ rw other.0 held
 ]
 
-pub leaves : (sample : Option ℕ) (a : Ask) (bytes : List ℕ) (x : Answer) (holds : ℕ → Hold) (block : ℕ) (claim : Claim) (until : ℕ) →
+pub answer-leaves : (sample : Option ℕ) (a : Ask) (bytes : List ℕ) (x : Answer) (holds : ℕ → Hold) (block : ℕ) (claim : Claim) (until : ℕ) →
     LeavesHeld block a x → holds block ≡ Held claim until → after_answer sample a bytes x holds block ≡ Held claim until
-leaves sample (ask.Read b) bytes (answer.Bytes found) holds block claim until leave held = shown-held sample found holds b.0 block claim until held
-leaves sample (ask.Read b) bytes (answer.Reading reading) holds block claim until leave held = ap (timed reading) held
-leaves sample (ask.Read b) bytes x holds block claim until leave held = held
-leaves sample (ask.Write k b guard) bytes answer.Done holds block claim until leave held = leaves-write k b.0 guard bytes holds block claim until leave held
-leaves sample (ask.Write k b guard) bytes answer.Fault holds block claim until leave held = absurd leave
-leaves sample (ask.Write k b guard) bytes (answer.Missed reading) holds block claim until leave held = absurd leave
-leaves sample (ask.Write k b guard) bytes (answer.Reading reading) holds block claim until leave held = ap (timed reading) held
-leaves sample (ask.Write k b guard) bytes (answer.Bytes found) holds block claim until leave held = held
-leaves sample ask.Clock bytes (answer.Reading reading) holds block claim until leave held = ap (timed reading) held
-leaves sample ask.Clock bytes x holds block claim until leave held = held
-leaves sample (ask.Until from) bytes (answer.Reading reading) holds block claim until leave held = ap (timed reading) held
-leaves sample (ask.Until from) bytes x holds block claim until leave held = held
+answer-leaves sample (ask.Read b) bytes (answer.Bytes found) holds block claim until leave held = shown-stays-held sample found holds b.0 block claim until held
+answer-leaves sample (ask.Read b) bytes (answer.Reading reading) holds block claim until leave held = ap (hold_after_reading reading) held
+answer-leaves sample (ask.Read b) bytes x holds block claim until leave held = held
+answer-leaves sample (ask.Write k b guard) bytes answer.Done holds block claim until leave held = leaves-write k b.0 guard bytes holds block claim until leave held
+answer-leaves sample (ask.Write k b guard) bytes answer.Fault holds block claim until leave held = absurd leave
+answer-leaves sample (ask.Write k b guard) bytes (answer.Missed reading) holds block claim until leave held = absurd leave
+answer-leaves sample (ask.Write k b guard) bytes (answer.Reading reading) holds block claim until leave held = ap (hold_after_reading reading) held
+answer-leaves sample (ask.Write k b guard) bytes (answer.Bytes found) holds block claim until leave held = held
+answer-leaves sample ask.Clock bytes (answer.Reading reading) holds block claim until leave held = ap (hold_after_reading reading) held
+answer-leaves sample ask.Clock bytes x holds block claim until leave held = held
+answer-leaves sample (ask.Until from) bytes (answer.Reading reading) holds block claim until leave held = ap (hold_after_reading reading) held
+answer-leaves sample (ask.Until from) bytes x holds block claim until leave held = held
 
 -- a lease that is held stays so
-pub stays : (s : Setting) (before : List Finished) (done : List Exchange) (x : Exchange) (lease : ℕ) (claim : Claim) (until : ℕ) → HasFirst done →
-    LeavesHeld (lease_at lease) x.ask x.answer → hold_of s before done lease ≡ Held claim until → hold_of s before (x ∷ done) lease ≡ Held claim until
-stays s before done x lease claim until has leave held =
+pub hold-stays : (s : Setting) (before : List Finished) (done : List Exchange) (x : Exchange) (lease : ℕ) (claim : Claim) (until : ℕ) → HasFirst done →
+    LeavesHeld (lease_at lease) x.ask x.answer → hold_by_log s before done lease ≡ Held claim until → hold_by_log s before (x ∷ done) lease ≡ Held claim until
+hold-stays s before done x lease claim until has leave held =
     ap (λ (h : ℕ → Hold). h (lease_at lease)) (along-more s.geometry (is_attached before) (holds_after s.geometry before) x done has)
-    ∙ leaves (last_sample done) x.ask x.bytes x.answer (holds_along s.geometry (is_attached before) (holds_after s.geometry before) done) (lease_at lease) claim until leave held
+    ∙ answer-leaves (last_sample done) x.ask x.bytes x.answer (holds_along s.geometry (is_attached before) (holds_after s.geometry before) done) (lease_at lease) claim until leave held
 
 -- ---- the first reading
 
@@ -76,14 +76,14 @@ lease-attached g attached image within =
 
 -- what the first reading leaves of an image's lease
 pub first-hold : (s : Setting) (before : List Finished) (reading image : ℕ) → image < s.geometry.images →
-    hold_of s before (clock reading ∷ []) (image_lease image) ≡ at_first (is_attached before image) reading (holds_after s.geometry before (lease_at (image_lease image)))
+    hold_by_log s before (clock reading ∷ []) (image_lease image) ≡ at_first (is_attached before image) reading (holds_after s.geometry before (lease_at (image_lease image)))
 first-hold s before reading image within =
     ap (λ test. at_first test reading (holds_after s.geometry before (lease_at (image_lease image)))) (lease-attached s.geometry (is_attached before) image within)
 
 -- a session's lease is held as before
-pub first-held : (s : Setting) (before : List Finished) (reading image : ℕ) (claim : Claim) (until : ℕ) → image < s.geometry.images → is_attached before image ≡ true →
-    holds_after s.geometry before (lease_at (image_lease image)) ≡ Held claim until → hold_of s before (clock reading ∷ []) (image_lease image) ≡ Held claim until
-first-held s before reading image claim until within attached held =
+pub hold-after-first : (s : Setting) (before : List Finished) (reading image : ℕ) (claim : Claim) (until : ℕ) → image < s.geometry.images → is_attached before image ≡ true →
+    holds_after s.geometry before (lease_at (image_lease image)) ≡ Held claim until → hold_by_log s before (clock reading ∷ []) (image_lease image) ≡ Held claim until
+hold-after-first s before reading image claim until within attached held =
     first-hold s before reading image within
     ∙ (ap (λ test. at_first test reading (holds_after s.geometry before (lease_at (image_lease image)))) attached ∙ ap (at_first true reading) held)
 
@@ -92,7 +92,7 @@ first-held s before reading image claim until within attached held =
 -- the leases of all other attached images are still held
 abbrev pub Spared : Setting → List Finished → List Exchange → (image : ℕ) → Type 0
 Spared s before done image = (other : ℕ) → other ≢ image → other < s.geometry.images → is_attached before other ≡ true →
-    IsHeld (holds_after s.geometry before (lease_at (image_lease other))) → IsHeld (hold_of s before done (image_lease other))
+    IsHeld (holds_after s.geometry before (lease_at (image_lease other))) → IsHeld (hold_by_log s before done (image_lease other))
 
 -- an exchange leaves them held
 abbrev pub LeavesOthers : (image : ℕ) → Exchange → Type 0
@@ -100,13 +100,13 @@ LeavesOthers image x = (other : ℕ) → other ≢ image → LeavesHeld (lease_a
 
 pub spared-first : (s : Setting) (before : List Finished) (reading image : ℕ) → Spared s before (clock reading ∷ []) image
 spared-first s before reading image other ne within attached held =
-    (held.0, held.1, first-held s before reading other held.0 held.1 within attached held.2)
+    (held.0, held.1, hold-after-first s before reading other held.0 held.1 within attached held.2)
 
 pub spared-more : (s : Setting) (before : List Finished) (done : List Exchange) (x : Exchange) (image : ℕ) → HasFirst done → LeavesOthers image x →
     Spared s before done image → Spared s before (x ∷ done) image
 spared-more s before done x image has leave spared other ne within attached held =
     let old = spared other ne within attached held in
-    (old.0, old.1, stays s before done x (image_lease other) old.0 old.1 has (leave other ne) old.2)
+    (old.0, old.1, hold-stays s before done x (image_lease other) old.0 old.1 has (leave other ne) old.2)
 
 -- ---- along a command whose image's lease is held
 
@@ -121,12 +121,12 @@ pub record Course : Type 0 where
 pub record Going (s : Setting) (before : List Finished) (done : List Exchange) (image : ℕ) (c : Course) : Type 0 where
   pub has : HasFirst done
   pub first : first_reading done ≡ Some c.reading
-  pub held : hold_of s before done (image_lease image) ≡ Held c.claim c.until
+  pub held : hold_by_log s before done (image_lease image) ≡ Held c.claim c.until
   pub spared : Spared s before done image
   pub begun : claims_in s.geometry done ≡ c.begun
   pub went : WentOn done
 
-pub going-first : (s : Setting) (before : List Finished) (image : ℕ) (claim : Claim) (until reading : ℕ) → hold_of s before (clock reading ∷ []) (image_lease image) ≡ Held claim until →
+pub going-first : (s : Setting) (before : List Finished) (image : ℕ) (claim : Claim) (until reading : ℕ) → hold_by_log s before (clock reading ∷ []) (image_lease image) ≡ Held claim until →
     Going s before (clock reading ∷ []) image (record { reading = reading; claim = claim; until = until; begun = 0 })
 going-first s before image claim until reading held = record { has = tt; first = refl; held = held; spared = spared-first s before reading image; begun = refl; went = (tt, tt) }
 
@@ -144,7 +144,7 @@ pub going-more : (s : Setting) (before : List Finished) (done : List Exchange) (
 going-more s before done x image c leave others none on g = record {
   has = tt;
   first = first-more done x c.reading g.first;
-  held = stays s before done x (image_lease image) c.claim c.until g.has leave g.held;
+  held = hold-stays s before done x (image_lease image) c.claim c.until g.has leave g.held;
   spared = spared-more s before done x image g.has others g.spared;
   begun = claims-more s.geometry done x g.has none ∙ g.begun;
   went = (on, g.went);

@@ -2,7 +2,7 @@
 use Rattle.std.proofs.Common.{◌≡◌, ◌≢◌, ℕ, zero, suc, ◌+◌, ◌≤◌, ◌<◌, List, [], ◌∷◌, length, Bool, true, false, Option, Some, None, refl, ap, sym, subst, ◌∙◌, arith, inl, inr, ◌⊎◌}
 use Rattle.std.specs.Prelude.{slice_get, nat_lt, if◌then◌else◌, ◌==◌}
 use Rattle.std.proofs.lemmas.Bool.Decides.{eqb_tells}
-use Rattle.plx_rules.specs.Session.{inserted, first_gap}
+use Rattle.plx_rules.specs.Session.{with_write_by_number, first_gap}
 use Rattle.plx_rules.specs.declared.journaled.Journaled.{Journaled}
 use Rattle.law_run.proofs.Tests.{lt-cases, eqb-is, eqb-isn't}
 
@@ -13,7 +13,7 @@ has-later : (x : Journaled) (writes : List Journaled) (write : Journaled) → Ha
 has-later x writes write has = (suc has.0, has.1)
 
 -- what is there once one more is inserted
-pub has-inserted : (new : Journaled) (writes : List Journaled) (write : Journaled) → HasWrite (inserted new writes) write → (write ≡ new) ⊎ HasWrite writes write
+pub has-inserted : (new : Journaled) (writes : List Journaled) (write : Journaled) → HasWrite (with_write_by_number new writes) write → (write ≡ new) ⊎ HasWrite writes write
 has-inserted new [] write (zero, e) = inl cc
 has-inserted new [] write (suc k, e) = absurd (let P : ⊥ = cc in P)
 has-inserted new (x ∷ writes) write has = by-test (nat_lt new.number x.number) (has-inserted new writes write) has
@@ -26,38 +26,38 @@ has-inserted new (x ∷ writes) write has = by-test (nat_lt new.number x.number)
     at-old (inl e) = inl e
     at-old (inr has') = inr (has-later x writes write has')
 
-    past : (k : ℕ) → slice_get (x ∷ inserted new writes) k ≡ Some write → (HasWrite (inserted new writes) write → (write ≡ new) ⊎ HasWrite writes write) → (write ≡ new) ⊎ HasWrite (x ∷ writes) write
+    past : (k : ℕ) → slice_get (x ∷ with_write_by_number new writes) k ≡ Some write → (HasWrite (with_write_by_number new writes) write → (write ≡ new) ⊎ HasWrite writes write) → (write ≡ new) ⊎ HasWrite (x ∷ writes) write
     past zero e ih = inr (zero, e)
     past (suc k) e ih = at-old (ih (k, e))
 
-    by-test : (test : Bool) → (HasWrite (inserted new writes) write → (write ≡ new) ⊎ HasWrite writes write) → HasWrite (if test then new ∷ x ∷ writes else x ∷ inserted new writes) write →
+    by-test : (test : Bool) → (HasWrite (with_write_by_number new writes) write → (write ≡ new) ⊎ HasWrite writes write) → HasWrite (if test then new ∷ x ∷ writes else x ∷ with_write_by_number new writes) write →
         (write ≡ new) ⊎ HasWrite (x ∷ writes) write
     by-test true ih h = at-new h.0 h.1
     by-test false ih h = past h.0 h.1 ih
 
-pub inserted-new : (new : Journaled) (writes : List Journaled) → HasWrite (inserted new writes) new
+pub inserted-new : (new : Journaled) (writes : List Journaled) → HasWrite (with_write_by_number new writes) new
 inserted-new new [] = (zero, refl)
 inserted-new new (x ∷ writes) = by-test (nat_lt new.number x.number) (inserted-new new writes)
   where
-    by-test : (test : Bool) → HasWrite (inserted new writes) new → HasWrite (if test then new ∷ x ∷ writes else x ∷ inserted new writes) new
+    by-test : (test : Bool) → HasWrite (with_write_by_number new writes) new → HasWrite (if test then new ∷ x ∷ writes else x ∷ with_write_by_number new writes) new
     by-test true ih = (zero, refl)
-    by-test false ih = has-later x (inserted new writes) new ih
+    by-test false ih = has-later x (with_write_by_number new writes) new ih
 
-pub inserted-old : (new : Journaled) (writes : List Journaled) (write : Journaled) → HasWrite writes write → HasWrite (inserted new writes) write
+pub inserted-old : (new : Journaled) (writes : List Journaled) (write : Journaled) → HasWrite writes write → HasWrite (with_write_by_number new writes) write
 inserted-old new [] write has = absurd (let e = has.1 in let P : ⊥ = cc in P)
 inserted-old new (x ∷ writes) write has = by-test (nat_lt new.number x.number) has.0 has.1 (inserted-old new writes write)
   where
-    by-test : (test : Bool) (k : ℕ) → slice_get (x ∷ writes) k ≡ Some write → (HasWrite writes write → HasWrite (inserted new writes) write) →
-        HasWrite (if test then new ∷ x ∷ writes else x ∷ inserted new writes) write
+    by-test : (test : Bool) (k : ℕ) → slice_get (x ∷ writes) k ≡ Some write → (HasWrite writes write → HasWrite (with_write_by_number new writes) write) →
+        HasWrite (if test then new ∷ x ∷ writes else x ∷ with_write_by_number new writes) write
     by-test true k e ih = (suc k, e)
     by-test false zero e ih = (zero, e)
-    by-test false (suc k) e ih = has-later x (inserted new writes) write (ih (k, e))
+    by-test false (suc k) e ih = has-later x (with_write_by_number new writes) write (ih (k, e))
 
-pub length-inserted : (new : Journaled) (writes : List Journaled) → length (inserted new writes) ≡ suc (length writes)
+pub length-inserted : (new : Journaled) (writes : List Journaled) → length (with_write_by_number new writes) ≡ suc (length writes)
 length-inserted new [] = refl
 length-inserted new (x ∷ writes) = by-test (nat_lt new.number x.number) (length-inserted new writes)
   where
-    by-test : (test : Bool) → length (inserted new writes) ≡ suc (length writes) → length (if test then new ∷ x ∷ writes else x ∷ inserted new writes) ≡ suc (suc (length writes))
+    by-test : (test : Bool) → length (with_write_by_number new writes) ≡ suc (length writes) → length (if test then new ∷ x ∷ writes else x ∷ with_write_by_number new writes) ≡ suc (suc (length writes))
     by-test true ih = refl
     by-test false ih = ap suc ih
 
@@ -67,7 +67,7 @@ Ascending before [] = Unit {0}
 Ascending before (write ∷ writes) = (before < write.number) × Ascending write.number writes
 
 pub ascending-inserted : (before : ℕ) (new : Journaled) (writes : List Journaled) → before < new.number → ((write : Journaled) → HasWrite writes write → write.number ≢ new.number) →
-    Ascending before writes → Ascending before (inserted new writes)
+    Ascending before writes → Ascending before (with_write_by_number new writes)
 ascending-inserted before new [] above apart ascending = (above, tt)
 ascending-inserted before new (x ∷ writes) above apart ascending = elim (lt-cases new.number x.number) [
   | inl below ↦ rw below.0 (above, (below.1, ascending.1))

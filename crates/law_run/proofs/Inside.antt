@@ -12,7 +12,7 @@ use Rattle.plx_gate.specs.declared.descriptor.Descriptor.{Descriptor}
 use Rattle.plx_gate.specs.declared.image.ImageRecord.{ImageRecord}
 use Rattle.plx_geom.specs.Geometry.{Geometry, lease_count, lease_at, record_at, descriptor_at, data_at}
 use Rattle.plx_geom.proofs.Places.{lease-record, lease-descriptor, lease-data, record-descriptor, record-data, data-descriptor}
-use Rattle.plx_rules.specs.Journal.{journal_slot, is_unapplied, is_placed}
+use Rattle.plx_rules.specs.Journal.{journal_slot, is_unapplied, is_placed, descriptor_of}
 use Rattle.plx_rules.specs.Records.{is_plain, size_of, applied_of}
 use Rattle.plx_rules.specs.Session.{Session}
 use Rattle.plx_rules.specs.Stored.{Given, IsCounted}
@@ -21,7 +21,7 @@ use Rattle.law_run.specs.Outside.{IsMissing, IsOutside, no_lease, no_record, not
 use Rattle.law_run.proofs.Facts.{counts-number}
 use Rattle.law_run.proofs.Grown.{descriptor-one}
 use Rattle.law_run.proofs.Meets.{exchange}
-use Rattle.law_run.proofs.Right.{descriptor_of, Fits}
+use Rattle.law_run.proofs.Right.{Fits}
 use Rattle.law_run.proofs.Tests.{clash, eqb-is, lt-is}
 
 -- what a slot's block says is within the format

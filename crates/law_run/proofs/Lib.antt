@@ -28,6 +28,14 @@ pub mod Renewing
 pub mod Loading
 pub mod Attaching
 pub mod Claiming
+pub mod Hands
+pub mod OnExtent
+pub mod Retiring
+pub mod FreeBlocks
+pub mod Beside
+pub mod Taking
+pub mod TakeClaims
+pub mod Reserving
 pub mod Begun
 pub mod Worlds
 pub mod Inside

@@ -17,11 +17,11 @@ use Rattle.plx_disk.specs.declared.ask.Answer.TheVariants as answer
 use Rattle.plx_gate.specs.Leases.{lease_bytes, read_lease, IsClaimed}
 use Rattle.plx_gate.proofs.Leases.{lease-only}
 use Rattle.plx_geom.specs.Geometry.{Geometry, lease_at}
-use Rattle.plx_rules.specs.Holds.{Hold, Nothing, Seen, Wrote, Waited, Held, wrote, renewed, after_write, reread, seen_by, seen_for, shown, timed, after_answer, after_reply, sample_of}
+use Rattle.plx_rules.specs.Holds.{Hold, Nothing, Seen, Wrote, Waited, Held, hold_after_claim, hold_after_renewal, after_write, hold_after_reread, seen_by, seen_for, hold_after_read, hold_after_reading, after_answer, holds_after_reply, sample_of}
 use Rattle.plx_rules.specs.Settings.{Setting}
 use Rattle.plx_rules.specs.Times.{wait, is_expired}
 use Rattle.law_run.specs.CommandLogs.{Exchange, Finished}
-use Rattle.law_run.specs.Holdings.{lease_attached, at_first, after_first_answer, holds_along, holds_after, hold_of}
+use Rattle.law_run.specs.Holdings.{lease_attached, at_first, after_first_answer, holds_along, holds_after, hold_by_log}
 use Rattle.law_run.specs.Sessions.{is_attached}
 
 -- the claim of a hold is within its limits
@@ -42,19 +42,19 @@ by-flag false a b one other = other
 limited-at : (holds : ℕ → Hold) (place : ℕ) (hold : Hold) → Limited hold → AllLimited holds → AllLimited (at holds place hold)
 limited-at holds place hold new old block = elim (eqb_tells block place) [ inl same ↦ rw same.0 new | inr other ↦ rw other.0 (old block) ]
 
-limited-wrote : (bytes : List ℕ) (found : Option LeaseRecord) → read_lease bytes ≡ found → Limited (wrote found)
+limited-wrote : (bytes : List ℕ) (found : Option LeaseRecord) → read_lease bytes ≡ found → Limited (hold_after_claim found)
 limited-wrote bytes None e = tt
 limited-wrote bytes (Some Free) e = tt
 limited-wrote bytes (Some (Claimed claim until)) e = (lease-only bytes (Claimed claim until) e).0
 
-limited-renewed : (bytes : List ℕ) (found : Option LeaseRecord) → read_lease bytes ≡ found → Limited (renewed found)
+limited-renewed : (bytes : List ℕ) (found : Option LeaseRecord) → read_lease bytes ≡ found → Limited (hold_after_renewal found)
 limited-renewed bytes None e = tt
 limited-renewed bytes (Some Free) e = tt
 limited-renewed bytes (Some (Claimed claim until)) e = (lease-only bytes (Claimed claim until) e).0
 
 limited-write : (k : WriteKind) (block : ℕ) (bytes : List ℕ) (holds : ℕ → Hold) → AllLimited holds → AllLimited (after_write k block bytes holds)
-limited-write kind.Claim block bytes holds old = limited-at holds block (wrote (read_lease bytes)) (limited-wrote bytes (read_lease bytes) refl) old
-limited-write kind.Renew block bytes holds old = limited-at holds block (renewed (read_lease bytes)) (limited-renewed bytes (read_lease bytes) refl) old
+limited-write kind.Claim block bytes holds old = limited-at holds block (hold_after_claim (read_lease bytes)) (limited-wrote bytes (read_lease bytes) refl) old
+limited-write kind.Renew block bytes holds old = limited-at holds block (hold_after_renewal (read_lease bytes)) (limited-renewed bytes (read_lease bytes) refl) old
 limited-write kind.Release block bytes holds old = limited-at holds block Nothing tt old
 limited-write k block bytes holds old = old
 
@@ -66,18 +66,18 @@ limited-for : (sample : Option ℕ) (bytes : List ℕ) → Limited (seen_for sam
 limited-for None bytes = tt
 limited-for (Some sample) bytes = limited-seen (read_lease bytes) sample
 
-limited-reread : (same : Bool) (hold : Hold) → Limited hold → Limited (reread same hold)
+limited-reread : (same : Bool) (hold : Hold) → Limited hold → Limited (hold_after_reread same hold)
 limited-reread true hold old = old
 limited-reread false hold old = tt
 
-limited-shown : (sample : Option ℕ) (bytes : List ℕ) (hold : Hold) → Limited hold → Limited (shown sample bytes hold)
+limited-shown : (sample : Option ℕ) (bytes : List ℕ) (hold : Hold) → Limited hold → Limited (hold_after_read sample bytes hold)
 limited-shown sample bytes (Waited claim until) old = limited-reread (bytes_eq bytes (lease_bytes (Claimed claim until))) (Held claim until) old
 limited-shown sample bytes (Held claim until) old = old
 limited-shown sample bytes Nothing old = limited-for sample bytes
 limited-shown sample bytes (Seen s) old = limited-for sample bytes
 limited-shown sample bytes (Wrote claim until) old = limited-for sample bytes
 
-limited-timed : (reading : ℕ) (hold : Hold) → Limited hold → Limited (timed reading hold)
+limited-timed : (reading : ℕ) (hold : Hold) → Limited hold → Limited (hold_after_reading reading hold)
 limited-timed reading (Wrote claim until) old = by-flag (nat_le (claim.sample + wait) reading && nat_lt reading until) (Waited claim until) (Wrote claim until) old old
 limited-timed reading Nothing old = tt
 limited-timed reading (Seen s) old = tt
@@ -85,7 +85,7 @@ limited-timed reading (Waited claim until) old = old
 limited-timed reading (Held claim until) old = old
 
 limited-answer : (sample : Option ℕ) (a : Ask) (bytes : List ℕ) (x : Answer) (holds : ℕ → Hold) → AllLimited holds → AllLimited (after_answer sample a bytes x holds)
-limited-answer sample (ask.Read block) bytes (answer.Bytes found) holds old = limited-at holds block.0 (shown sample found (holds block.0)) (limited-shown sample found (holds block.0) (old block.0)) old
+limited-answer sample (ask.Read block) bytes (answer.Bytes found) holds old = limited-at holds block.0 (hold_after_read sample found (holds block.0)) (limited-shown sample found (holds block.0) (old block.0)) old
 limited-answer sample (ask.Write k block guard) bytes answer.Done holds old = limited-write k block.0 bytes holds old
 limited-answer sample (ask.Write k block guard) bytes answer.Fault holds old = λ b. tt
 limited-answer sample (ask.Write k block guard) bytes (answer.Missed reading) holds old = λ b. tt
@@ -107,7 +107,7 @@ limited-along g attached begin (x ∷ []) old = limited-begun g attached x.answe
 limited-along g attached begin (x ∷ y ∷ older) old =
     limited-answer (sample_of y.answer) x.ask x.bytes x.answer (holds_along g attached begin (y ∷ older)) (limited-along g attached begin (y ∷ older) old)
 
-limited-reply : (r : Reply) (holds : ℕ → Hold) → AllLimited holds → AllLimited (after_reply r holds)
+limited-reply : (r : Reply) (holds : ℕ → Hold) → AllLimited holds → AllLimited (holds_after_reply r holds)
 limited-reply (reply.Lost lease until reading) holds old = λ b. tt
 limited-reply r holds old = old
 
@@ -118,5 +118,5 @@ limited-after g (f ∷ before) =
     (limited-along g (is_attached before) (holds_after g before) f.exchanges (limited-after g before))
 
 -- what is held of a lease
-pub limited : (s : Setting) (before : List Finished) (done : List Exchange) (lease : ℕ) → Limited (hold_of s before done lease)
+pub limited : (s : Setting) (before : List Finished) (done : List Exchange) (lease : ℕ) → Limited (hold_by_log s before done lease)
 limited s before done lease = limited-along s.geometry (is_attached before) (holds_after s.geometry before) done (limited-after s.geometry before) (lease_at lease)

@@ -10,18 +10,18 @@ use Rattle.plx_gate.proofs.Descriptors.{descriptor-back, descriptor-only, read-e
 use Rattle.plx_geom.specs.Geometry.{Geometry, record_at, descriptor_at, data_at}
 use Rattle.plx_geom.proofs.Places.{record-descriptor, record-data, data-descriptor}
 use Rattle.plx_rules.specs.declared.journaled.Journaled.{Journaled}
-use Rattle.plx_rules.specs.Journal.{journal_slot, is_unapplied, is_placed, counted, counted_of, Finding, Outside, Unused, Counts, finding_of}
+use Rattle.plx_rules.specs.Journal.{journal_slot, is_unapplied, is_placed, counted_descriptor, counted_of, Finding, Outside, Unused, Counts, finding_of, descriptor_of}
 use Rattle.plx_rules.specs.Records.{is_plain, size_of, applied_of}
-use Rattle.plx_rules.specs.Session.{inserted, first_gap}
+use Rattle.plx_rules.specs.Session.{with_write_by_number, first_gap}
 use Rattle.plx_rules.specs.Stored.{Given, record_in, record_on, counted_in, IsCounted}
 use Rattle.law_run.specs.AllowedAsks.{last_known}
 use Rattle.law_run.specs.CommandLogs.{Exchange, IsIn}
-use Rattle.law_run.specs.KnownBytes.{with_block}
-use Rattle.law_run.proofs.Counted.{Tells, counted-tells, no-count}
-use Rattle.law_run.proofs.Grown.{with-same, with-other, counts-same, data-one, descriptor-one}
+use Rattle.law_run.specs.KnownBytes.{given_with}
+use Rattle.law_run.proofs.Counted.{TellsFirst, counted-tells, no-count}
+use Rattle.law_run.proofs.Grown.{with-block-same, with-other, counts-same, data-one, descriptor-one}
 use Rattle.law_run.proofs.Inside.{IsSound, AllInside, inside-descriptor, inside-data}
 use Rattle.law_run.proofs.Inserted.{HasWrite, has-inserted, inserted-new, inserted-old, length-inserted, Ascending, ascending-inserted, numbered}
-use Rattle.law_run.proofs.Right.{read_of, descriptor_of, Fits}
+use Rattle.law_run.proofs.Right.{read_of, Fits}
 use Rattle.law_run.proofs.Tests.{clash}
 
 -- ---- what is found in a slot
@@ -121,35 +121,35 @@ loaded-fits g given image kept writes done within plain l follows = record {
 -- one more descriptor is read
 module _ (g : Geometry) (given : Given) (image : ℕ) (kept : ImageRecord) (place : ℕ) (writes : List Journaled) (done : List Exchange) (l : Loading g given image kept place writes done)
     (image_within : image < g.images) (within : place < g.slots) (bytes : List ℕ) (whole : drop 512 bytes ≡ drop 512 zeros) (sound : IsSound kept g.slots place (read_descriptor bytes)) where
-  elsewhere : (slot : ℕ) → slot ≢ place → with_block given (descriptor_at g image place) bytes (descriptor_at g image slot) ≡ given (descriptor_at g image slot)
+  elsewhere : (slot : ℕ) → slot ≢ place → given_with given (descriptor_at g image place) bytes (descriptor_at g image slot) ≡ given (descriptor_at g image slot)
   elsewhere slot other = with-other given (descriptor_at g image place) bytes (descriptor_at g image slot) (λ e. other (descriptor-one g image slot place e))
 
-  old-record : record_on g (with_block given (descriptor_at g image place) bytes) image ≡ Some kept
+  old-record : record_on g (given_with given (descriptor_at g image place) bytes) image ≡ Some kept
   old-record = ap record_in (with-other given (descriptor_at g image place) bytes (record_at g image) (record-descriptor g image image place image_within)) ∙ l.found
 
   old-counts : (write : Journaled) → HasWrite writes write →
-      IsCounted g (with_block given (descriptor_at g image place) bytes) image kept (journal_slot g.slots write.number) (descriptor_of kept write)
+      IsCounted g (given_with given (descriptor_at g image place) bytes) image kept (journal_slot g.slots write.number) (descriptor_of kept write)
   old-counts write has =
-      counts-same g given (with_block given (descriptor_at g image place) bytes) image kept (journal_slot g.slots write.number) (descriptor_of kept write)
+      counts-same g given (given_with given (descriptor_at g image place) bytes) image kept (journal_slot g.slots write.number) (descriptor_of kept write)
       (elsewhere (journal_slot g.slots write.number) (λ e. (let b = l.below write has in omega arith))) (l.counts write has)
 
-  old-only : (slot : ℕ) (d : Descriptor) → slot ≢ place → IsCounted g (with_block given (descriptor_at g image place) bytes) image kept slot d →
+  old-only : (slot : ℕ) (d : Descriptor) → slot ≢ place → IsCounted g (given_with given (descriptor_at g image place) bytes) image kept slot d →
       (write : Journaled) × HasWrite writes write × (d ≡ descriptor_of kept write)
   old-only slot d other counts =
-      l.only slot d (counts-same g (with_block given (descriptor_at g image place) bytes) given image kept slot d (sym (elsewhere slot other)) counts)
+      l.only slot d (counts-same g (given_with given (descriptor_at g image place) bytes) given image kept slot d (sym (elsewhere slot other)) counts)
 
-  old-later : (slot : ℕ) → place + 1 ≤ slot → with_block given (descriptor_at g image place) bytes (descriptor_at g image slot) ≡ None
+  old-later : (slot : ℕ) → place + 1 ≤ slot → given_with given (descriptor_at g image place) bytes (descriptor_at g image slot) ≡ None
   old-later slot past = elsewhere slot (λ e. (let P : ⊥ = omega arith in P)) ∙ l.later slot (omega arith)
 
-  old-data : (write : Journaled) → HasWrite writes write → with_block given (descriptor_at g image place) bytes (data_at g image (journal_slot g.slots write.number)) ≡ Some write.block
+  old-data : (write : Journaled) → HasWrite writes write → given_with given (descriptor_at g image place) bytes (data_at g image (journal_slot g.slots write.number)) ≡ Some write.block
   old-data write has =
       with-other given (descriptor_at g image place) bytes (data_at g image (journal_slot g.slots write.number)) (data-descriptor g image image (journal_slot g.slots write.number) place)
       ∙ l.blocks write has
 
-  more-whole : (slot : ℕ) → slot < place + 1 → drop 512 (last_known (with_block given (descriptor_at g image place) bytes (descriptor_at g image slot))) ≡ drop 512 zeros
+  more-whole : (slot : ℕ) → slot < place + 1 → drop 512 (last_known (given_with given (descriptor_at g image place) bytes (descriptor_at g image slot))) ≡ drop 512 zeros
   more-whole slot below = elim (eqb_tells slot place) [
-    | inl same ↦ subst (λ n. drop 512 (last_known (with_block given (descriptor_at g image place) bytes (descriptor_at g image n))) ≡ drop 512 zeros) (sym same.1)
-        (ap (λ o. drop 512 (last_known o)) (with-same given (descriptor_at g image place) bytes) ∙ whole)
+    | inl same ↦ subst (λ n. drop 512 (last_known (given_with given (descriptor_at g image place) bytes (descriptor_at g image n))) ≡ drop 512 zeros) (sym same.1)
+        (ap (λ o. drop 512 (last_known o)) (with-block-same given (descriptor_at g image place) bytes) ∙ whole)
     | inr other ↦ ap (λ o. drop 512 (last_known o)) (elsewhere slot other.1) ∙ l.whole slot (let ne = other.1 in omega arith)
   ]
 
@@ -162,8 +162,8 @@ module _ (g : Geometry) (given : Given) (image : ℕ) (kept : ImageRecord) (plac
   ]
 
   -- it doesn't count
-  pub loads-none : counted kept g.slots place bytes ≡ None →
-      Loading g (with_block given (descriptor_at g image place) bytes) image kept (place + 1) writes (read_of (descriptor_at g image place) bytes ∷ done)
+  pub loads-none : counted_descriptor kept g.slots place bytes ≡ None →
+      Loading g (given_with given (descriptor_at g image place) bytes) image kept (place + 1) writes (read_of (descriptor_at g image place) bytes ∷ done)
   loads-none none = record {
     found = old-record;
     room = (let r = l.room in omega arith);
@@ -173,8 +173,8 @@ module _ (g : Geometry) (given : Given) (image : ℕ) (kept : ImageRecord) (plac
     blocks = old-data;
     only = λ slot d counts. elim (eqb_tells slot place) [
       | inl same ↦
-          let found = subst (λ n. counted_in kept g.slots n (with_block given (descriptor_at g image place) bytes (descriptor_at g image n)) ≡ Some d) same.1 counts.found in
-          let here : counted kept g.slots place bytes ≡ Some d = sym (ap (counted_in kept g.slots place) (with-same given (descriptor_at g image place) bytes)) ∙ found in
+          let found = subst (λ n. counted_in kept g.slots n (given_with given (descriptor_at g image place) bytes (descriptor_at g image n)) ≡ Some d) same.1 counts.found in
+          let here : counted_descriptor kept g.slots place bytes ≡ Some d = sym (ap (counted_in kept g.slots place) (with-block-same given (descriptor_at g image place) bytes)) ∙ found in
           absurd (let P : ⊥ = cc in P)
       | inr other ↦ old-only slot d other.1 counts
     ];
@@ -185,26 +185,26 @@ module _ (g : Geometry) (given : Given) (image : ℕ) (kept : ImageRecord) (plac
   }
 
   -- it counts, and its data is read
-  module _ (d : Descriptor) (found : counted kept g.slots place bytes ≡ Some d) (block : List ℕ) where
+  module _ (d : Descriptor) (found : counted_descriptor kept g.slots place bytes ≡ Some d) (block : List ℕ) where
     abbrev new : Journaled
     new = record { number = d.number; vblock = d.vblock; block = block }
 
     abbrev Both : Given
-    Both = with_block (with_block given (descriptor_at g image place) bytes) (data_at g image place) block
+    Both = given_with (given_with given (descriptor_at g image place) bytes) (data_at g image place) block
 
-    tells : Tells kept g.slots place d
+    tells : TellsFirst kept g.slots place d
     tells = (counted-tells kept g.slots place (read_descriptor bytes) d found).1
 
     spells : d ≡ descriptor_of kept (record { number = d.number; vblock = d.vblock; block = block })
     spells = let made = tells.generation in λ j. record { generation = made j; vblock = d.vblock; number = d.number }
 
-    beside : (slot : ℕ) → Both (descriptor_at g image slot) ≡ with_block given (descriptor_at g image place) bytes (descriptor_at g image slot)
-    beside slot = with-other (with_block given (descriptor_at g image place) bytes) (data_at g image place) block (descriptor_at g image slot) (λ e. data-descriptor g image image place slot (sym e))
+    beside : (slot : ℕ) → Both (descriptor_at g image slot) ≡ given_with given (descriptor_at g image place) bytes (descriptor_at g image slot)
+    beside slot = with-other (given_with given (descriptor_at g image place) bytes) (data_at g image place) block (descriptor_at g image slot) (λ e. data-descriptor g image image place slot (sym e))
 
     new-counts : IsCounted g Both image kept place d
     new-counts = record {
       within = within;
-      found = ap (counted_in kept g.slots place) (beside place ∙ with-same given (descriptor_at g image place) bytes) ∙ found;
+      found = ap (counted_in kept g.slots place) (beside place ∙ with-block-same given (descriptor_at g image place) bytes) ∙ found;
     }
 
     new-fits : IsCounted g Both image kept (journal_slot g.slots d.number) (descriptor_of kept (record { number = d.number; vblock = d.vblock; block = block }))
@@ -213,14 +213,14 @@ module _ (g : Geometry) (given : Given) (image : ℕ) (kept : ImageRecord) (plac
 
     both-counts : (write : Journaled) → HasWrite writes write → IsCounted g Both image kept (journal_slot g.slots write.number) (descriptor_of kept write)
     both-counts write has =
-        counts-same g (with_block given (descriptor_at g image place) bytes) Both image kept (journal_slot g.slots write.number) (descriptor_of kept write) (beside (journal_slot g.slots write.number)) (old-counts write has)
+        counts-same g (given_with given (descriptor_at g image place) bytes) Both image kept (journal_slot g.slots write.number) (descriptor_of kept write) (beside (journal_slot g.slots write.number)) (old-counts write has)
 
-    pub loads-write : Loading g (with_block (with_block given (descriptor_at g image place) bytes) (data_at g image place) block) image kept (place + 1)
-        (inserted (record { number = d.number; vblock = d.vblock; block = block }) writes)
+    pub loads-write : Loading g (given_with (given_with given (descriptor_at g image place) bytes) (data_at g image place) block) image kept (place + 1)
+        (with_write_by_number (record { number = d.number; vblock = d.vblock; block = block }) writes)
         (read_of (data_at g image place) block
         ∷ read_of (descriptor_at g image place) bytes ∷ done)
     loads-write = record {
-      found = ap record_in (with-other (with_block given (descriptor_at g image place) bytes) (data_at g image place) block (record_at g image) (record-data g image image place image_within)) ∙ old-record;
+      found = ap record_in (with-other (given_with given (descriptor_at g image place) bytes) (data_at g image place) block (record_at g image) (record-data g image image place image_within)) ∙ old-record;
       room = (let r = l.room in let e = length-inserted (record { number = d.number; vblock = d.vblock; block = block }) writes in omega arith);
       ascending = ascending-inserted (applied_of kept) (record { number = d.number; vblock = d.vblock; block = block }) writes tells.above
           (λ write has e. (let b = l.below write has in let p = tells.place in let same = ap (journal_slot g.slots) e in omega arith)) l.ascending;
@@ -235,8 +235,8 @@ module _ (g : Geometry) (given : Given) (image : ℕ) (kept : ImageRecord) (plac
       blocks = λ write has. elim (has-inserted (record { number = d.number; vblock = d.vblock; block = block }) writes write has) [
         | inl is ↦ subst (λ (w : Journaled). Both (data_at g image (journal_slot g.slots w.number)) ≡ Some w.block) (sym is)
             (subst (λ n. Both (data_at g image n) ≡ Some block) (sym tells.place)
-            (with-same (with_block given (descriptor_at g image place) bytes) (data_at g image place) block))
-        | inr old ↦ with-other (with_block given (descriptor_at g image place) bytes) (data_at g image place) block (data_at g image (journal_slot g.slots write.number))
+            (with-block-same (given_with given (descriptor_at g image place) bytes) (data_at g image place) block))
+        | inr old ↦ with-other (given_with given (descriptor_at g image place) bytes) (data_at g image place) block (data_at g image (journal_slot g.slots write.number))
             (λ e. (let same = data-one g image (journal_slot g.slots write.number) place e in let b = l.below write old in omega arith)) ∙ old-data write old
       ];
       only = λ slot e counts. elim (eqb_tells slot place) [
@@ -246,7 +246,7 @@ module _ (g : Geometry) (given : Given) (image : ℕ) (kept : ImageRecord) (plac
             let is : d ≡ e = cc in
             (record { number = d.number; vblock = d.vblock; block = block }, inserted-new (record { number = d.number; vblock = d.vblock; block = block }) writes, sym is ∙ spells)
         | inr other ↦
-            let old = old-only slot e other.1 (counts-same g Both (with_block given (descriptor_at g image place) bytes) image kept slot e (sym (beside slot)) counts) in
+            let old = old-only slot e other.1 (counts-same g Both (given_with given (descriptor_at g image place) bytes) image kept slot e (sym (beside slot)) counts) in
             (old.0, inserted-old (record { number = d.number; vblock = d.vblock; block = block }) writes old.0 old.1, old.2)
       ];
       later = λ slot past. beside slot ∙ old-later slot past;

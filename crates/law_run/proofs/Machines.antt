@@ -5,8 +5,8 @@ use Rattle.plx_disk.specs.declared.ask.Answer.{Answer}
 use Rattle.plx_rules.specs.Part.{Part, answered, bytes_out}
 use Rattle.plx_rules.specs.Settings.{Setting}
 use Rattle.law_run.specs.AllowedAsks.{MayAsk}
-use Rattle.law_run.specs.CommandLogs.{Exchange, CommandLog}
-use Rattle.law_run.specs.Machines.{HasCome, MovesOn, begins, goes_on, with_exchanges, IsOfBlock, Keeps}
+use Rattle.law_run.specs.CommandLogs.{Exchange, CommandLog, with_exchanges}
+use Rattle.law_run.specs.Machines.{HasCome, MovesOn, begins, goes_on, IsOfBlock, Keeps}
 use Rattle.law_run.specs.Rules.{AllAllowed}
 use Rattle.law_run.proofs.Meets.{Meets, answers, exchange}
 

@@ -29,21 +29,21 @@ use Rattle.plx_rules.specs.Attaching.{image_use}
 use Rattle.plx_rules.specs.Stored.{Given, record_in, record_on, Stores}
 use Rattle.law_run.specs.AllowedAsks.{last_known, IsFirstSector, MayWrite, record_of_create, record_of_delete}
 use Rattle.law_run.specs.CommandLogs.{Exchange, Finished, first_reading}
-use Rattle.law_run.specs.KnownBytes.{with_block, without_journal, is_making, known_after, known_from, known_in, known_before}
+use Rattle.law_run.specs.KnownBytes.{given_with, without_journal, is_making, given_after, known_from, known_in, known_before}
 use Rattle.law_run.specs.Refusals.{NamesBlock, of_read, of_write, NeedsImage, of_delete, of_block, no_image, exists, out_of_limits, generations}
 use Rattle.law_run.specs.Replies.{IsConfirmed, refused, Comes}
 use Rattle.law_run.specs.Sessions.{names, attached_by}
 use Rattle.law_run.proofs.Asking.{IsFine, asks-write, asks-confirm}
 use Rattle.law_run.proofs.Clear.{by-unless, Clear, known-here, clear}
-use Rattle.law_run.proofs.Facts.{image_of, limits, record-spelled, stores-session}
-use Rattle.law_run.proofs.Grown.{with-same, fits-empty}
+use Rattle.law_run.proofs.Facts.{stored_by_session, limits, record-spelled, stores-session}
+use Rattle.law_run.proofs.Grown.{with-block-same, fits-empty}
 use Rattle.law_run.proofs.Holding.{Course, going-first, going-more}
 use Rattle.law_run.proofs.Meets.{exchange}
 use Rattle.law_run.proofs.OnImage.{OnImage, names-own, names-other, still, on-image, Ready}
-use Rattle.law_run.proofs.Passed.{Passed, passed}
+use Rattle.law_run.proofs.Passed.{Passed, passed-at-most}
 use Rattle.law_run.proofs.Rests.{KeepsHolds, held-after, rests-by}
 use Rattle.law_run.proofs.Right.{clock, Fits, FitsAt, Rests, finish, log_on, Right}
-use Rattle.law_run.proofs.Runs.{start}
+use Rattle.law_run.proofs.Runs.{start, hand_start}
 use Rattle.law_run.proofs.Spelled.{image-rest}
 use Rattle.plx_base.proofs.Tests.{eqb-true, nat_le-true, nat_le-false}
 use Rattle.law_run.proofs.Tests.{and-parts, le-is, le-isn't, lt-is, opposite-false, opposite-true}
@@ -52,10 +52,10 @@ use Rattle.plx_commands.proofs.Places.{at-other, at-same}
 
 -- what is known of an image once its record was written anew
 abbrev pub made_known : Geometry → (image : ℕ) → ImageRecord → Given → Given
-made_known g image made given = without_journal g (with_block given (record_at g image) (image_bytes made))
+made_known g image made given = without_journal g (given_with given (record_at g image) (image_bytes made))
 
 record-there : (g : Geometry) (image : ℕ) (made : ImageRecord) (given : Given) → image < g.images → made_known g image made given (record_at g image) ≡ Some (image_bytes made)
-record-there g image made given within = rw (nat_le-false (journal_start g) (record_at g image) (omega (arith, within))) (with-same given (record_at g image) (image_bytes made))
+record-there g image made given within = rw (nat_le-false (journal_start g) (record_at g image) (omega (arith, within))) (with-block-same given (record_at g image) (image_bytes made))
 
 journal-gone : (g : Geometry) (image slot : ℕ) (made : ImageRecord) (given : Given) → made_known g image made given (descriptor_at g image slot) ≡ None
 journal-gone g image slot made given = rw (nat_le-true (journal_start g) (descriptor_at g image slot) (omega arith)) refl
@@ -83,19 +83,19 @@ module _ (s : Setting) (before : List Finished) (known : Known) (command : Comma
   written = exchange (ask.Write kind.Record (record { 0 = record_at s.geometry slot.0 }) until) (image_bytes made) answer.Done
 
   abbrev Learnt : Given
-  Learnt = made_known s.geometry slot.0 made (known_after s.geometry before slot.0)
+  Learnt = made_known s.geometry slot.0 made (given_after s.geometry before slot.0)
 
   known-made : (reading' : ℕ) →
       known_in s.geometry (log_on before command (clock reading' ∷ exchange (ask.Write kind.Record (record { 0 = record_at s.geometry slot.0 }) until) (image_bytes made) answer.Done ∷ clock reading ∷ [])) slot.0
-      ≡ made_known s.geometry slot.0 made (known_after s.geometry before slot.0)
+      ≡ made_known s.geometry slot.0 made (given_after s.geometry before slot.0)
   known-made reading' = rw (names-own command slot.0 on.named, ready.attached, eqb-true (record_at s.geometry slot.0) (record_at s.geometry slot.0) refl, making) refl
 
   pub right-record : MayWrite s (log_on before command (clock reading ∷ [])) kind.Record (record_at s.geometry slot.0) (image_bytes made) until →
       ((reading' : ℕ) →
       let done = clock reading' ∷ exchange (ask.Write kind.Record (record { 0 = record_at s.geometry slot.0 }) until) (image_bytes made) answer.Done ∷ clock reading ∷ [] in
       IsConfirmed s (log_on before command done) slot.0 →
-      Stores s.geometry (known_before s.geometry (log_on before command done) slot.0) slot.0 (image_of session) →
-      Stores s.geometry (known_in s.geometry (log_on before command done) slot.0) slot.0 (image_of (new_session made)) → Comes s (log_on before command done) r) →
+      Stores s.geometry (known_before s.geometry (log_on before command done) slot.0) slot.0 (stored_by_session session) →
+      Stores s.geometry (known_in s.geometry (log_on before command done) slot.0) slot.0 (stored_by_session (new_session made)) → Comes s (log_on before command done) r) →
       Right s before command (clock reading ∷ []) (record_part s known slot.0 until made r) 2
   right-record may shows =
       let x = exchange (ask.Write kind.Record (record { 0 = record_at s.geometry slot.0 }) until) (image_bytes made) answer.Done in
@@ -108,15 +108,15 @@ module _ (s : Setting) (before : List Finished) (known : Known) (command : Comma
       (asks-confirm s before known command slot c on.named ready.fits.within fine (let a = rests.claims in omega arith) (x ∷ clock reading ∷ []) r next 0 going1
       (λ reading' early going confirmed.
       let done = clock reading' ∷ x ∷ clock reading ∷ [] in
-      let fits = fits-made s.geometry slot.0 made (known_after s.geometry before slot.0) ready.fits.within is plain in
+      let fits = fits-made s.geometry slot.0 made (given_after s.geometry before slot.0) ready.fits.within is plain in
       let same = known-made reading' in
-      let was : known_before s.geometry (log_on before command done) slot.0 ≡ known_after s.geometry before slot.0 =
+      let was : known_before s.geometry (log_on before command done) slot.0 ≡ given_after s.geometry before slot.0 =
       (λ j block. unwritten-quiet done (known_from s.geometry (log_on before command done) slot.0) block (tt, (tt, (tt, tt))) j)
       ∙ known-here s before known command slot reading on rests session claim until ready done in (
         shows reading' confirmed
-            (subst (λ (g : Given). Stores s.geometry g slot.0 (image_of session)) (sym was) (stores-session s.geometry (known_after s.geometry before slot.0) slot.0 session ready.fits))
-            (subst (λ (g : Given). Stores s.geometry g slot.0 (image_of (new_session made))) (sym same)
-            (stores-session s.geometry (made_known s.geometry slot.0 made (known_after s.geometry before slot.0)) slot.0 (new_session made) fits)),
+            (subst (λ (g : Given). Stores s.geometry g slot.0 (stored_by_session session)) (sym was) (stores-session s.geometry (given_after s.geometry before slot.0) slot.0 session ready.fits))
+            (subst (λ (g : Given). Stores s.geometry g slot.0 (stored_by_session (new_session made))) (sym same)
+            (stores-session s.geometry (made_known s.geometry slot.0 made (given_after s.geometry before slot.0)) slot.0 (new_session made) fits)),
         rests-by s before command done r known next slot.0 (names-other command slot.0 on.named) (λ other apart. at-other known.sessions slot.0 other (Some (new_session made)) apart)
             (λ other b apart. none other b) keeps going.spared
             (subst (λ o. FitsAt s (finish command done r ∷ before) slot.0 o) (sym (at-same known.sessions slot.0 (Some (new_session made)))) (
@@ -167,7 +167,7 @@ right-create s before known slot size label reading rests labelled session claim
     let on = on-create slot size label in
     let log = log_on before command (clock reading ∷ []) in
     let here = known-here s before known command slot reading on rests session claim until ready in
-    let known1 : known_in s.geometry log slot.0 ≡ known_after s.geometry before slot.0 = rw (names-own command slot.0 on.named, ready.attached) refl in
+    let known1 : known_in s.geometry log slot.0 ≡ given_after s.geometry before slot.0 = rw (names-own command slot.0 on.named, ready.attached) refl in
     let found = ap (λ (g : Given). record_on s.geometry g slot.0) (here (clock reading ∷ [])) ∙ ready.fits.found in
     let found1 = ap (λ (g : Given). record_on s.geometry g slot.0) known1 ∙ ready.fits.found in
     let generation = generation_of session.image in
@@ -177,19 +177,19 @@ right-create s before known slot size label reading rests labelled session claim
     by-unless (λ part. Right s before command (clock reading ∷ []) part 2) (is_live session.image) reply.Exists known _
     (λ live. (
       refused 5 (reading, refl) (exists slot size label session.image refl found live)
-          (λ p other refuses. passed s log 5 p other (place 5 (λ lt. absurd (omega arith)) (λ lt. absurd (omega arith)) (λ lt. absurd (omega arith)) (clock reading ∷ []) refl) refuses),
+          (λ p other refuses. passed-at-most s log 5 p other (place 5 (λ lt. absurd (omega arith)) (λ lt. absurd (omega arith)) (λ lt. absurd (omega arith)) (clock reading ∷ []) refl) refuses),
       still s before known command slot reading on rests reply.Exists (λ other b. refl) (λ h. refl),
     ))
     (λ free. by-unless (λ part. Right s before command (clock reading ∷ []) part 2) (not (is_size size)) (reply.OutOfRange greatest_size) known _
     (λ wrong. (
       refused 6 (reading, refl) (out_of_limits slot size label refl ready.attached (opposite-true (is_size size) wrong))
-          (λ p other refuses. passed s log 6 p other (place 6 (λ lt. free) (λ lt. absurd (omega arith)) (λ lt. absurd (omega arith)) (clock reading ∷ []) refl) refuses),
+          (λ p other refuses. passed-at-most s log 6 p other (place 6 (λ lt. free) (λ lt. absurd (omega arith)) (λ lt. absurd (omega arith)) (clock reading ∷ []) refl) refuses),
       still s before known command slot reading on rests (reply.OutOfRange greatest_size) (λ other b. refl) (λ h. refl),
     ))
     (λ sized. by-unless (λ part. Right s before command (clock reading ∷ []) part 2) (is_worn last_generation generation) (reply.WornOut last_generation) known _
     (λ worn. (
       refused 9 (reading, refl) (generations slot size label session.image refl found (le-is last_generation generation worn))
-          (λ p other refuses. passed s log 9 p other (place 9 (λ lt. free) (λ lt. opposite-false (is_size size) sized) (λ lt. absurd (omega arith)) (clock reading ∷ []) refl) refuses),
+          (λ p other refuses. passed-at-most s log 9 p other (place 9 (λ lt. free) (λ lt. opposite-false (is_size size) sized) (λ lt. absurd (omega arith)) (clock reading ∷ []) refl) refuses),
       still s before known command slot reading on rests (reply.WornOut last_generation) (λ other b. refl) (λ h. refl),
     ))
     (λ fresh.
@@ -210,21 +210,21 @@ right-create s before known slot size label reading rests labelled session claim
     right-record s before known command slot reading on rests session claim until ready refl
     (place 11 (λ lt. free) (λ lt. good) (λ lt. below)) made is refl reply.Created (λ other b. refl) (λ h. refl)
     (record_of_create slot size label generation refl (claim, ready.now) refl (found1 ∙ ap Some (free-is session.image free)) refl
-    (first-sector s.geometry (known_in s.geometry log slot.0) slot.0 session.image made found1 (limits s.geometry (known_after s.geometry before slot.0) slot.0 session ready.fits) is))
+    (first-sector s.geometry (known_in s.geometry log slot.0) slot.0 session.image made found1 (limits s.geometry (given_after s.geometry before slot.0) slot.0 session ready.fits) is))
     (λ reading' confirmed before' after. record {
       slot = slot;
       size = size;
       label = label;
       command = refl;
       confirmed = confirmed;
-      image = image_of session;
+      image = stored_by_session session;
       free = free;
       before = before';
       after = after;
     }))))
 
 pub create-begins : (s : Setting) (before : List Finished) (known : Known) (slot : SlotNo) (size : ℕ) (label : Label) (reading : ℕ) → Rests s before known → IsLabel label →
-    Right s before (Create slot size label) (clock reading ∷ []) (command_part s known (start s before reading) reading (Create slot size label)) 2
+    Right s before (Create slot size label) (clock reading ∷ []) (command_part s known (start s before reading) (hand_start s before reading) reading (Create slot size label)) 2
 create-begins s before known slot size label reading rests labelled =
     on-image s before known (Create slot size label) slot reading (on-create slot size label) rests 2 (create_part s known slot.0 size label)
     (λ session claim until ready. right-create s before known slot size label reading rests labelled session claim until ready)
@@ -262,7 +262,7 @@ right-delete s before known slot reading rests session claim until ready =
     let on = on-delete slot in
     let log = log_on before command (clock reading ∷ []) in
     let here = known-here s before known command slot reading on rests session claim until ready in
-    let known1 : known_in s.geometry log slot.0 ≡ known_after s.geometry before slot.0 = rw (names-own command slot.0 on.named, ready.attached) refl in
+    let known1 : known_in s.geometry log slot.0 ≡ given_after s.geometry before slot.0 = rw (names-own command slot.0 on.named, ready.attached) refl in
     let found = ap (λ (g : Given). record_on s.geometry g slot.0) (here (clock reading ∷ [])) ∙ ready.fits.found in
     let found1 = ap (λ (g : Given). record_on s.geometry g slot.0) known1 ∙ ready.fits.found in
     let place : (n : ℕ) → (5 ≤ n → is_live session.image ≡ true) → (done : List Exchange) → first_reading done ≡ Some reading → Passed s (log_on before command done) n =
@@ -270,12 +270,12 @@ right-delete s before known slot reading rests session claim until ready =
     by-unless (λ part. Right s before command (clock reading ∷ []) part 2) (not (is_live session.image)) reply.NoImage known _
     (λ dead. (
       refused 4 (reading, refl) (no_image slot.0 session.image (of_delete slot refl refl) found (opposite-true (is_live session.image) dead))
-          (λ p other refuses. passed s log 4 p other (place 4 (λ lt. absurd (omega arith)) (clock reading ∷ []) refl) refuses),
+          (λ p other refuses. passed-at-most s log 4 p other (place 4 (λ lt. absurd (omega arith)) (clock reading ∷ []) refl) refuses),
       still s before known command slot reading on rests reply.NoImage (λ other b. refl) (λ h. refl),
     ))
     (λ alive.
     let live = opposite-false (is_live session.image) alive in
-    let is = limits s.geometry (known_after s.geometry before slot.0) slot.0 session ready.fits in
+    let is = limits s.geometry (given_after s.geometry before slot.0) slot.0 session ready.fits in
     let made = image_is.Free (generation_of session.image) in
     let made_is : IsImage made = generation-below session.image is in
     right-record s before known command slot reading on rests session claim until ready refl
@@ -286,14 +286,14 @@ right-delete s before known slot reading rests session claim until ready =
       slot = slot;
       command = refl;
       confirmed = confirmed;
-      image = image_of session;
+      image = stored_by_session session;
       live = live;
       before = before';
       after = after;
     }))
 
 pub delete-begins : (s : Setting) (before : List Finished) (known : Known) (slot : SlotNo) (reading : ℕ) → Rests s before known →
-    Right s before (Delete slot) (clock reading ∷ []) (command_part s known (start s before reading) reading (Delete slot)) 2
+    Right s before (Delete slot) (clock reading ∷ []) (command_part s known (start s before reading) (hand_start s before reading) reading (Delete slot)) 2
 delete-begins s before known slot reading rests =
     on-image s before known (Delete slot) slot reading (on-delete slot) rests 2 (delete_part s known slot.0)
     (λ session claim until ready. right-delete s before known slot reading rests session claim until ready)

@@ -20,13 +20,13 @@ use Rattle.plx_rules.specs.InUse.{lease_name}
 use Rattle.plx_rules.specs.Session.{Session, Known, nothing_known}
 use Rattle.plx_rules.specs.Settings.{Setting}
 use Rattle.law_run.specs.CommandLogs.{Exchange, Finished, CommandLog, first_reading}
-use Rattle.law_run.specs.Holdings.{holds_after, hold_of}
-use Rattle.law_run.specs.KnownBytes.{known_after}
+use Rattle.law_run.specs.Holdings.{holds_after, hold_by_log}
+use Rattle.law_run.specs.KnownBytes.{given_after}
 use Rattle.law_run.specs.Refusals.{IsExpired, IsNamedFirst, not_attached, expired}
 use Rattle.law_run.specs.Replies.{refused}
 use Rattle.law_run.specs.Sessions.{names, uses, needs, attached_by, is_attached}
-use Rattle.law_run.proofs.Holding.{spared-first, first-held}
-use Rattle.law_run.proofs.Passed.{Passed, passed}
+use Rattle.law_run.proofs.Holding.{spared-first, hold-after-first}
+use Rattle.law_run.proofs.Passed.{Passed, passed-at-most}
 use Rattle.law_run.proofs.Rests.{KeepsHolds, rests-by, own-still, rests-lost}
 use Rattle.law_run.proofs.Right.{clock, IsHeld, Fits, FitsAt, Rests, finish, log_on, Right}
 use Rattle.law_run.proofs.Runs.{start}
@@ -135,14 +135,14 @@ module _ (s : Setting) (before : List Finished) (known : Known) (command : Comma
       (λ attached. held-here (known.sessions slot.0) attached (rests.sessions slot.0)))
       (let c = rests.claims in omega arith) rests
     where
-      held-here : (found : Option Session) → is_attached before slot.0 ≡ true → FitsAt s before slot.0 found → IsHeld (hold_of s before (clock reading ∷ []) (image_lease slot.0))
+      held-here : (found : Option Session) → is_attached before slot.0 ≡ true → FitsAt s before slot.0 found → IsHeld (hold_by_log s before (clock reading ∷ []) (image_lease slot.0))
       held-here None attached fits = absurd (clash (is_attached before slot.0) attached fits)
       held-here (Some session) attached fits =
-          let h = fits.2 in (h.0, h.1, first-held s before reading slot.0 h.0 h.1 fits.1.within fits.0 h.2)
+          let h = fits.2 in (h.0, h.1, hold-after-first s before reading slot.0 h.0 h.1 fits.1.within fits.0 h.2)
 
   not-attached : is_attached before slot.0 ≡ false → (left : ℕ) → Right s before command (clock reading ∷ []) (ends reply.NotAttached known) left
   not-attached missing left = (
-    refused 1 (reading, refl) (not_attached slot.0 (on.needed slot.0 ∙ names-own command slot.0 on.named) missing) (λ p other refuses. passed s (log_on before command (clock reading ∷ [])) 1 p other (passed-first s _) refuses),
+    refused 1 (reading, refl) (not_attached slot.0 (on.needed slot.0 ∙ names-own command slot.0 on.named) missing) (λ p other refuses. passed-at-most s (log_on before command (clock reading ∷ [])) 1 p other (passed-first s _) refuses),
     still reply.NotAttached (λ other b. refl) (λ h. refl),
   )
 
@@ -154,9 +154,9 @@ module _ (s : Setting) (before : List Finished) (known : Known) (command : Comma
         refused 3 (reading, refl)
             (expired slot (record { used = on.used slot.0 ∙ names-own command slot.0 on.named; attached = attached; claim = claim; held = held; first = refl; reached = past })
             (λ other until' is. alone other until' is))
-            (λ p other refuses. passed s (log_on before command (clock reading ∷ [])) 3 p other
+            (λ p other refuses. passed-at-most s (log_on before command (clock reading ∷ [])) 3 p other
             (passed-sessions s _ (needs-attached before command slot.0 on attached) (λ n is. absurd (on.no_attach n is))) refuses),
-        rests-lost s before command (clock reading ∷ []) (lease.Image slot) until reading known.claims (let c = rests.claims in omega arith),
+        rests-lost s before command (clock reading ∷ []) (lease.Image slot) until reading known.claims refl (let c = rests.claims in omega arith),
       )
     where
       alone : (other until' : ℕ) → IsExpired s (log_on before command (clock reading ∷ [])) other until' reading → IsNamedFirst slot.0 until other until'
@@ -170,9 +170,9 @@ module _ (s : Setting) (before : List Finished) (known : Known) (command : Comma
   -- the image has a session, and its lease is held at the first reading
   pub record Ready (session : Session) (claim : Claim) (until : ℕ) : Type 0 where
     pub attached : is_attached before slot.0 ≡ true
-    pub fits : Fits s.geometry (known_after s.geometry before slot.0) slot.0 session
+    pub fits : Fits s.geometry (given_after s.geometry before slot.0) slot.0 session
     pub held : holds_after s.geometry before (lease_at (image_lease slot.0)) ≡ Held claim until
-    pub now : hold_of s before (clock reading ∷ []) (image_lease slot.0) ≡ Held claim until
+    pub now : hold_by_log s before (clock reading ∷ []) (image_lease slot.0) ≡ Held claim until
     pub below : reading < until
     pub is : known.sessions slot.0 ≡ Some session
 
@@ -184,7 +184,7 @@ module _ (s : Setting) (before : List Finished) (known : Known) (command : Comma
   with-session left rest right (Some session) is fits =
       let h = fits.2 in
       let P : Part End → Type 0 = λ part. Right s before command (clock reading ∷ []) part left in
-      let now = first-held s before reading slot.0 h.0 h.1 fits.1.within fits.0 h.2 in
+      let now = hold-after-first s before reading slot.0 h.0 h.1 fits.1.within fits.0 h.2 in
       rw (nat_lt-true slot.0 s.geometry.images fits.1.within, now)
       (by-time P s known slot.0 h.1 reading (rest session h.1) (λ past. late h.0 h.1 fits.1.within fits.0 h.2 past left)
       (λ below. right session h.0 h.1 (record { attached = fits.0; fits = fits.1; held = h.2; now = now; below = below; is = is })))

@@ -43,20 +43,20 @@ at-least : (n p : ℕ) → (suc p ≤ n → ⊥) → n ≤ p
 at-least n p not_below = elim (leb_tells n p) [ inl le ↦ le.1 | inr above ↦ absurd (not_below (omega (arith, above.1))) ]
 
 -- each refusal whose fact holds has this place or a later one
-pub passed : (s : Setting) (log : CommandLog) (n p : ℕ) (other : Reply) → Passed s log n → Refuses s log p other → n ≤ p
-passed s log n p other h (not_attached image needed missing) = at-least n 1 (λ lt. clash (is_attached log.before image) (h.sessions lt image needed) missing)
-passed s log n p other h (already_attached slot is attached) = at-least n 2 (λ lt. clash (is_attached log.before slot.0) attached (h.unattached lt slot is))
-passed s log n p other h (expired {until = until} {reading = reading} slot is first) = at-least n 3 (λ lt. h.in_time lt slot.0 until reading is)
-passed s log n p other h (no_slot slot is past) = at-least n 4 (λ lt. (let below = h.slots lt slot is in omega arith))
-passed s log n p other h (no_image image kept needed found missing) = at-least n 4 (λ lt. clash (is_live kept) (h.images lt image kept needed found) missing)
-passed s log n p other h (exists slot size label kept is found live) = at-least n 5 (λ lt. clash (is_live kept) live (h.free lt slot size label kept is found))
-passed s log n p other h (out_of_range image vblock kept names found size past) = at-least n 6 (λ lt. (let below = h.blocks lt image vblock kept names found in omega arith))
-passed s log n p other h (out_of_limits slot size label is attached wrong) = at-least n 6 (λ lt. clash (is_size size) (h.sizes lt slot size label is) wrong)
-passed s log n p other h (generations slot size label kept is found worn) = at-least n 9 (λ lt. (let below = h.fresh lt slot size label kept is found in omega arith))
-passed s log n p other h (writes slot vblock payload kept count is found counts worn) =
+pub passed-at-most : (s : Setting) (log : CommandLog) (n p : ℕ) (other : Reply) → Passed s log n → Refuses s log p other → n ≤ p
+passed-at-most s log n p other h (not_attached image needed missing) = at-least n 1 (λ lt. clash (is_attached log.before image) (h.sessions lt image needed) missing)
+passed-at-most s log n p other h (already_attached slot is attached) = at-least n 2 (λ lt. clash (is_attached log.before slot.0) attached (h.unattached lt slot is))
+passed-at-most s log n p other h (expired {until = until} {reading = reading} slot is first) = at-least n 3 (λ lt. h.in_time lt slot.0 until reading is)
+passed-at-most s log n p other h (no_slot slot is past) = at-least n 4 (λ lt. (let below = h.slots lt slot is in omega arith))
+passed-at-most s log n p other h (no_image image kept needed found missing) = at-least n 4 (λ lt. clash (is_live kept) (h.images lt image kept needed found) missing)
+passed-at-most s log n p other h (exists slot size label kept is found live) = at-least n 5 (λ lt. clash (is_live kept) live (h.free lt slot size label kept is found))
+passed-at-most s log n p other h (out_of_range image vblock kept names found size past) = at-least n 6 (λ lt. (let below = h.blocks lt image vblock kept names found in omega arith))
+passed-at-most s log n p other h (out_of_limits slot size label is attached wrong) = at-least n 6 (λ lt. clash (is_size size) (h.sizes lt slot size label is) wrong)
+passed-at-most s log n p other h (generations slot size label kept is found worn) = at-least n 9 (λ lt. (let below = h.fresh lt slot size label kept is found in omega arith))
+passed-at-most s log n p other h (writes slot vblock payload kept count is found counts worn) =
     at-least n 9 (λ lt. (let below = h.counted lt slot vblock payload kept count is found counts in omega arith))
-passed s log n p other h (claims slot is needed worn) = at-least n 9 (λ lt. (let below = h.claimed lt slot is needed in omega arith))
-passed s log n p other h (full slot vblock payload kept count is found counts all) = at-least n 10 (λ lt. h.room lt slot vblock payload kept count is found counts all)
+passed-at-most s log n p other h (claims slot is needed worn) = at-least n 9 (λ lt. (let below = h.claimed lt slot is needed in omega arith))
+passed-at-most s log n p other h (full slot vblock payload kept count is found counts all) = at-least n 10 (λ lt. h.room lt slot vblock payload kept count is found counts all)
 
 -- no refusal stands past the last place
 last-place : (s : Setting) (log : CommandLog) (p : ℕ) (other : Reply) → Refuses s log p other → p ≤ 10
@@ -76,4 +76,4 @@ last-place s log p other (full slot vblock payload kept count is found counts al
 -- no fact holds at all
 pub passed-all : (s : Setting) (log : CommandLog) → Passed s log 11 → (p : ℕ) (other : Reply) → ¬ Refuses s log p other
 passed-all s log h p other refuses =
-    let low = passed s log 11 p other h refuses in let high = last-place s log p other refuses in omega arith
+    let low = passed-at-most s log 11 p other h refuses in let high = last-place s log p other refuses in omega arith

@@ -25,9 +25,9 @@ pub record IsFirst (uses : List InUse) (reading : ℕ) (due : InUse) : Type 0 wh
   pub first : (other : InUse) → IsUse other uses → other.until ≤ reading → NotAfter due other
 
 -- what the reading says of them
-abbrev pub Tells : List InUse → ℕ → Option InUse → Type 0
-Tells uses reading None = (other : InUse) → IsUse other uses → reading < other.until
-Tells uses reading (Some due) = IsFirst uses reading due
+abbrev pub TellsFirst : List InUse → ℕ → Option InUse → Type 0
+TellsFirst uses reading None = (other : InUse) → IsUse other uses → reading < other.until
+TellsFirst uses reading (Some due) = IsFirst uses reading due
 
 after-trans : (a b c : InUse) → NotAfter a b → NotAfter b c → NotAfter a c
 after-trans a b c (inl x) (inl y) = inl (omega arith)
@@ -48,7 +48,7 @@ before-cases one other = elim (lt-cases one.until other.until) [
   ]
 ]
 
-by-earlier : (one : InUse) (others : List InUse) (reading : ℕ) (rest : Option InUse) → one.until ≤ reading → Tells others reading rest → IsFirst (one ∷ others) reading (earlier one rest)
+by-earlier : (one : InUse) (others : List InUse) (reading : ℕ) (rest : Option InUse) → one.until ≤ reading → TellsFirst others reading rest → IsFirst (one ∷ others) reading (earlier one rest)
 by-earlier one others reading None past tells = record {
   among = inl refl;
   past = past;
@@ -71,7 +71,7 @@ by-earlier one others reading (Some due) past tells = elim (before-cases due one
     one-first other (inl same) late order = inr (sym (ap (λ (u : InUse). u.until) same), (let e = ap (λ (u : InUse). u.lease) same in omega arith))
     one-first other (inr there) late order = after-trans one due other order (tells.first other there late)
 
-passes-by : (one : InUse) (others : List InUse) (reading : ℕ) (rest : Option InUse) → reading < one.until → Tells others reading rest → Tells (one ∷ others) reading rest
+passes-by : (one : InUse) (others : List InUse) (reading : ℕ) (rest : Option InUse) → reading < one.until → TellsFirst others reading rest → TellsFirst (one ∷ others) reading rest
 passes-by one others reading None early tells = go
   where
     go : (other : InUse) → IsUse other (one ∷ others) → reading < other.until
@@ -83,7 +83,7 @@ passes-by one others reading (Some due) early tells = record { among = inr tells
     go other (inl same) late = absurd (let e = ap (λ (u : InUse). u.until) same in omega arith)
     go other (inr there) late = tells.first other there late
 
-pub first-tells : (uses : List InUse) (reading : ℕ) → Tells uses reading (first_reached uses reading)
+pub first-tells : (uses : List InUse) (reading : ℕ) → TellsFirst uses reading (first_reached uses reading)
 first-tells [] reading = λ other is. absurd is
 first-tells (one ∷ others) reading = elim (leb_tells one.until reading) [
   | inl past ↦ rw past.0 (by-earlier one others reading (first_reached others reading) past.1 (first-tells others reading))

@@ -14,7 +14,7 @@ use Rattle.plx_rules.specs.Session.{Session, Known, content}
 use Rattle.plx_rules.specs.Settings.{Setting}
 use Rattle.plx_rules.specs.Stored.{Given, Holds, record_on, IsContent}
 use Rattle.law_run.specs.CommandLogs.{Exchange, Finished, first_reading}
-use Rattle.law_run.specs.KnownBytes.{known_after, known_in}
+use Rattle.law_run.specs.KnownBytes.{given_after, known_in}
 use Rattle.law_run.specs.Refusals.{NamesBlock, of_read, of_write, of_block, no_image, out_of_range}
 use Rattle.law_run.specs.Replies.{refused}
 use Rattle.law_run.proofs.Asking.{asks-confirm}
@@ -22,9 +22,9 @@ use Rattle.law_run.proofs.Clear.{by-unless, Clear, known-here, clear, still-at}
 use Rattle.law_run.proofs.Facts.{content-held}
 use Rattle.law_run.proofs.Holding.{Course, going-first}
 use Rattle.law_run.proofs.OnImage.{OnImage, names-own, still, on-image, Ready}
-use Rattle.law_run.proofs.Passed.{Passed, passed}
+use Rattle.law_run.proofs.Passed.{Passed, passed-at-most}
 use Rattle.law_run.proofs.Right.{clock, Rests, log_on, Right}
-use Rattle.law_run.proofs.Runs.{start}
+use Rattle.law_run.proofs.Runs.{start, hand_start}
 use Rattle.law_run.proofs.Tests.{le-is, le-isn't, opposite-false, opposite-true}
 
 pub on-read : (slot : SlotNo) (vblock : ℕ) → OnImage (Read slot vblock) slot.0
@@ -63,13 +63,13 @@ module _ (s : Setting) (before : List Finished) (known : Known) (slot : SlotNo) 
       by-unless (λ part. Right s before command (clock reading ∷ []) part 1) (not (is_live session.image)) reply.NoImage known _
       (λ dead. (
         refused 4 (reading, refl) (no_image slot.0 session.image (of_block vblock (of_read slot refl refl)) record' (opposite-true (is_live session.image) dead))
-            (λ p other refuses. passed s log 4 p other (place 4 (λ lt. absurd (omega arith)) (λ lt. absurd (omega arith)) (clock reading ∷ []) refl) refuses),
+            (λ p other refuses. passed-at-most s log 4 p other (place 4 (λ lt. absurd (omega arith)) (λ lt. absurd (omega arith)) (clock reading ∷ []) refl) refuses),
         still s before known command slot reading on rests reply.NoImage (λ other b. refl) (λ h. refl),
       ))
       (λ live. by-unless (λ part. Right s before command (clock reading ∷ []) part 1) (nat_le (size_of session.image) vblock) (reply.OutOfRange (size_of session.image)) known _
       (λ past. (
         refused 6 (reading, refl) (out_of_range slot.0 vblock session.image (of_read slot refl refl) record' refl (le-is (size_of session.image) vblock past))
-            (λ p other refuses. passed s log 6 p other (place 6 (λ lt. opposite-false (is_live session.image) live) (λ lt. absurd (omega arith)) (clock reading ∷ []) refl) refuses),
+            (λ p other refuses. passed-at-most s log 6 p other (place 6 (λ lt. opposite-false (is_live session.image) live) (λ lt. absurd (omega arith)) (clock reading ∷ []) refl) refuses),
         still s before known command slot reading on rests (reply.OutOfRange (size_of session.image)) (λ other b. refl) (λ h. refl),
       ))
       (λ below.
@@ -79,7 +79,7 @@ module _ (s : Setting) (before : List Finished) (known : Known) (slot : SlotNo) 
       (clock reading ∷ []) (reply.Data (payload_of (content session vblock))) known 0 (going-first s before slot.0 claim until reading ready.now)
       (λ reading' early going confirmed.
       let done = clock reading' ∷ clock reading ∷ [] in
-      let same : known_in s.geometry (log_on before command done) slot.0 ≡ known_after s.geometry before slot.0 = rw (names-own command slot.0 on.named, ready.attached) refl in (
+      let same : known_in s.geometry (log_on before command done) slot.0 ≡ given_after s.geometry before slot.0 = rw (names-own command slot.0 on.named, ready.attached) refl in (
         record {
           slot = slot;
           vblock = vblock;
@@ -88,14 +88,14 @@ module _ (s : Setting) (before : List Finished) (known : Known) (slot : SlotNo) 
           kept = session.image;
           found = ap (λ (g : Given). record_on s.geometry g slot.0) same ∙ ready.fits.found;
           content = subst (λ (g : Given). IsContent s.geometry g slot.0 session.image vblock (Holds (bytes_of (payload_of (content session vblock))))) (sym same)
-              (subst (λ (b : List ℕ). IsContent s.geometry (known_after s.geometry before slot.0) slot.0 session.image vblock (Holds b)) (sym (bytes_of-payload_of (content session vblock)))
-              (content-held s.geometry (known_after s.geometry before slot.0) slot.0 session ready.fits vblock));
+              (subst (λ (b : List ℕ). IsContent s.geometry (given_after s.geometry before slot.0) slot.0 session.image vblock (Holds b)) (sym (bytes_of-payload_of (content session vblock)))
+              (content-held s.geometry (given_after s.geometry before slot.0) slot.0 session ready.fits vblock));
         },
         still-at s before known command slot reading on rests session claim until ready done (reply.Data (payload_of (content session vblock))) (λ other b. refl) (λ h. refl) c going refl same,
       ))))
 
 pub read-begins : (s : Setting) (before : List Finished) (known : Known) (slot : SlotNo) (vblock reading : ℕ) → Rests s before known →
-    Right s before (Read slot vblock) (clock reading ∷ []) (command_part s known (start s before reading) reading (Read slot vblock)) 1
+    Right s before (Read slot vblock) (clock reading ∷ []) (command_part s known (start s before reading) (hand_start s before reading) reading (Read slot vblock)) 1
 read-begins s before known slot vblock reading rests =
     on-image s before known (Read slot vblock) slot reading (on-read slot vblock) rests 1 (read_part s known slot.0 vblock)
     (λ session claim until ready. right-read s before known slot vblock reading rests session claim until ready)

@@ -13,7 +13,7 @@ use Rattle.plx_rules.specs.Part.{Part, Ends, standing}
 use Rattle.plx_rules.specs.Settings.{Setting}
 use Rattle.law_run.specs.AllowedAsks.{release_of_lease}
 use Rattle.law_run.specs.CommandLogs.{Exchange, CommandLog}
-use Rattle.law_run.specs.Holdings.{hold_of, holds_along, holds_after}
+use Rattle.law_run.specs.Holdings.{hold_by_log, holds_along, holds_after}
 use Rattle.law_run.specs.Releases.{ReleaseEnd, release_part, ShowsRelease, IsReleaseAsk, IsReleaseEnd, ReleasesKeepRules}
 use Rattle.law_run.specs.Sessions.{is_attached}
 use Rattle.law_run.proofs.ClaimRules.{begun-first}
@@ -25,7 +25,7 @@ abbrev release_write : (lease until : ℕ) → Exchange
 release_write lease until = exchange (ask.Write kind.Release (record { 0 = lease_at lease }) until) (lease_bytes Free) answer.Done
 
 -- once it is done, nothing is held
-held-none : (s : Setting) (log : CommandLog) (lease until : ℕ) → HasFirst log.exchanges → hold_of s log.before (release_write lease until ∷ log.exchanges) lease ≡ Nothing
+held-none : (s : Setting) (log : CommandLog) (lease until : ℕ) → HasFirst log.exchanges → hold_by_log s log.before (release_write lease until ∷ log.exchanges) lease ≡ Nothing
 held-none s log lease until has =
     let before = holds_after s.geometry log.before in
     ap (λ (h : ℕ → Hold). h (lease_at lease)) (along-more s.geometry (is_attached log.before) before (release_write lease until) log.exchanges has)

@@ -17,7 +17,7 @@ use Rattle.plx_gate.proofs.Leases.{lease-back}
 use Rattle.plx_geom.specs.Geometry.{lease_count, image_lease, lease_at}
 use Rattle.plx_rules.specs.Commands.{later_of, renewal, renew_part, attached_uses, command_part}
 use Rattle.plx_rules.specs.Ends.{ends, lost}
-use Rattle.plx_rules.specs.Holds.{Hold, Nothing, Seen, Wrote, Waited, Held, renewed}
+use Rattle.plx_rules.specs.Holds.{Hold, Nothing, Seen, Wrote, Waited, Held, hold_after_renewal}
 use Rattle.plx_rules.specs.InUse.{InUse, lease_name, first_reached, unless_reached}
 use Rattle.plx_rules.specs.Session.{Session, Known, nothing_known}
 use Rattle.plx_rules.specs.Settings.{Setting}
@@ -25,20 +25,20 @@ use Rattle.plx_rules.specs.Times.{term}
 use Rattle.law_run.specs.AllowedAsks.{WentOn, renewal_of_lease}
 use Rattle.law_run.specs.Bounds.{one_held, count_held}
 use Rattle.law_run.specs.CommandLogs.{Exchange, Finished, IsIn, first_reading}
-use Rattle.law_run.specs.Holdings.{at_first, holds_along, holds_after, hold_of, claims_in}
+use Rattle.law_run.specs.Holdings.{at_first, holds_along, holds_after, hold_by_log, claims_in}
 use Rattle.law_run.specs.Refusals.{IsExpired, IsNamedFirst, NamesBlock, of_read, of_write, NeedsImage, of_delete, of_block, expired}
 use Rattle.law_run.specs.Replies.{refused}
 use Rattle.law_run.specs.Sessions.{is_attached}
 use Rattle.law_run.proofs.Asking.{IsFine, replied-fine, asks-write}
-use Rattle.law_run.proofs.Holding.{first-held, first-more, claims-more}
+use Rattle.law_run.proofs.Holding.{hold-after-first, first-more, claims-more}
 use Rattle.law_run.proofs.Limits.{Limited, limited}
 use Rattle.law_run.proofs.Meets.{exchange}
 use Rattle.law_run.proofs.OnImage.{passed-sessions, lease-name}
-use Rattle.law_run.proofs.Passed.{Passed, passed}
-use Rattle.law_run.proofs.Reached.{IsUse, NotAfter, IsFirst, Tells, first-tells, OfSession, of-session, session-use}
+use Rattle.law_run.proofs.Passed.{Passed, passed-at-most}
+use Rattle.law_run.proofs.Reached.{IsUse, NotAfter, IsFirst, TellsFirst, first-tells, OfSession, of-session, session-use}
 use Rattle.law_run.proofs.Rests.{rests-by, rests-lost}
 use Rattle.law_run.proofs.Right.{clock, IsHeld, FitsAt, Rests, finish, log_on, Right}
-use Rattle.law_run.proofs.Runs.{HasFirst, along-more, start}
+use Rattle.law_run.proofs.Runs.{HasFirst, along-more, start, hand_start}
 use Rattle.law_run.proofs.Tests.{clash}
 use Rattle.plx_commands.proofs.Places.{at-other, at-same}
 
@@ -121,10 +121,10 @@ record Renewing (s : Setting) (before : List Finished) (done : List Exchange) (r
   first : first_reading done ≡ Some reading
   begun : claims_in s.geometry done ≡ 0
   went : WentOn done
-  later : (l : ℕ) → lease ≤ l → hold_of s before done l ≡ start s before reading (lease_at l)
-  renewed : (l : ℕ) (claim : Claim) (until : ℕ) → l < lease → hold_of s before done l ≡ Held claim until →
+  later : (l : ℕ) → lease ≤ l → hold_by_log s before done l ≡ start s before reading (lease_at l)
+  renewed : (l : ℕ) (claim : Claim) (until : ℕ) → l < lease → hold_by_log s before done l ≡ Held claim until →
       (guard : ℕ) × IsIn (exchange (ask.Write kind.Renew (record { 0 = lease_at l }) guard) (lease_bytes (lease_is.Claimed claim until)) answer.Done) done
-  kept : (l : ℕ) → IsHeld (start s before reading (lease_at l)) → IsHeld (hold_of s before done l)
+  kept : (l : ℕ) → IsHeld (start s before reading (lease_at l)) → IsHeld (hold_by_log s before done l)
 
 later-low : (until other : ℕ) → until ≤ later_of until other
 later-low until other = elim (leb_tells until other) [
@@ -147,7 +147,7 @@ renewal_write lease claim until reading =
     exchange (ask.Write kind.Renew (record { 0 = lease_at lease }) until) (lease_bytes (lease_is.Claimed claim (later_of until (reading + term)))) answer.Done
 
 module _ (s : Setting) (before : List Finished) (done : List Exchange) (lease : ℕ) (claim : Claim) (until reading : ℕ) (small : reading < 2 ^ 48)
-    (held : hold_of s before done lease ≡ Held claim until) where
+    (held : hold_by_log s before done lease ≡ Held claim until) where
   -- it keeps the limits of leases
   renewal-limits : IsClaimed claim (later_of until (reading + term))
   renewal-limits =
@@ -160,12 +160,12 @@ module _ (s : Setting) (before : List Finished) (done : List Exchange) (lease : 
       }
 
   -- and from there on the lease is held up to the later moment
-  pub held-later : HasFirst done → hold_of s before (renewal_write lease claim until reading ∷ done) lease ≡ Held claim (later_of until (reading + term))
+  pub held-later : HasFirst done → hold_by_log s before (renewal_write lease claim until reading ∷ done) lease ≡ Held claim (later_of until (reading + term))
   held-later has =
       let H = holds_along s.geometry (is_attached before) (holds_after s.geometry before) done in
       let record' = lease_is.Claimed claim (later_of until (reading + term)) in
       ap (λ (h : ℕ → Hold). h (lease_at lease)) (along-more s.geometry (is_attached before) (holds_after s.geometry before) (renewal_write lease claim until reading) done has)
-      ∙ (at-same H (lease_at lease) (renewed (read_lease (lease_bytes record'))) ∙ ap renewed (lease-back record' renewal-limits))
+      ∙ (at-same H (lease_at lease) (hold_after_renewal (read_lease (lease_bytes record'))) ∙ ap hold_after_renewal (lease-back record' renewal-limits))
 
 module _ (s : Setting) (before : List Finished) (known : Known) (reading : ℕ) (rests : Rests s before known) (small : reading < 2 ^ 48) (fine : IsFine s before Renew reading) where
   -- all leases are renewed
@@ -173,7 +173,7 @@ module _ (s : Setting) (before : List Finished) (known : Known) (reading : ℕ) 
   all-renewed done r = (
     replied-fine s before Renew reading fine done r.first reply.Renewed (record { command = refl; renewed = λ l claim until within held. r.renewed l claim until within held }),
     rests-by s before Renew done reply.Renewed known known s.geometry.images (λ other apart. refl) (λ other apart. refl) (λ other b apart. refl) (λ h. refl)
-        (λ other apart within attached held. r.kept (image_lease other) (held.0, held.1, first-held s before reading other held.0 held.1 within attached held.2))
+        (λ other apart within attached held. r.kept (image_lease other) (held.0, held.1, hold-after-first s before reading other held.0 held.1 within attached held.2))
         (past (known.sessions s.geometry.images) (rests.sessions s.geometry.images))
         (let c = rests.claims in let b = r.begun in omega arith) rests,
   )
@@ -184,18 +184,18 @@ module _ (s : Setting) (before : List Finished) (known : Known) (reading : ℕ) 
 
   -- one renewal
   one-renewal : (done : List Exchange) (lease : ℕ) (claim : Claim) (until : ℕ) → lease < lease_count s.geometry → Renewing s before done reading lease →
-      hold_of s before done lease ≡ Held claim until →
+      hold_by_log s before done lease ≡ Held claim until →
       Renewing s before (renewal_write lease claim until reading ∷ done) reading (lease + 1)
   one-renewal done lease claim until within r held =
       let next = later_of until (reading + term) in
       let bytes = lease_bytes (lease_is.Claimed claim next) in
       let x = renewal_write lease claim until reading in
       let H = holds_along s.geometry (is_attached before) (holds_after s.geometry before) done in
-      let step : (l : ℕ) → hold_of s before (x ∷ done) l ≡ _ =
+      let step : (l : ℕ) → hold_by_log s before (x ∷ done) l ≡ _ =
       λ l. ap (λ (h : ℕ → Hold). h (lease_at l)) (along-more s.geometry (is_attached before) (holds_after s.geometry before) x done r.has) in
-      let here : hold_of s before (x ∷ done) lease ≡ Held claim next = held-later s before done lease claim until reading small held r.has in
-      let apart : (l : ℕ) → l ≢ lease → hold_of s before (x ∷ done) l ≡ hold_of s before done l =
-      λ l ne. step l ∙ at-other H (lease_at lease) (lease_at l) (renewed (read_lease bytes)) (lease-one l lease ne) in
+      let here : hold_by_log s before (x ∷ done) lease ≡ Held claim next = held-later s before done lease claim until reading small held r.has in
+      let apart : (l : ℕ) → l ≢ lease → hold_by_log s before (x ∷ done) l ≡ hold_by_log s before done l =
+      λ l ne. step l ∙ at-other H (lease_at lease) (lease_at l) (hold_after_renewal (read_lease bytes)) (lease-one l lease ne) in
       record {
         has = tt;
         first = first-more done x reading r.first;
@@ -204,7 +204,7 @@ module _ (s : Setting) (before : List Finished) (known : Known) (reading : ℕ) 
         later = λ l le. apart l (λ e. (let P : ⊥ = omega arith in P)) ∙ r.later l (omega arith);
         renewed = λ l claim' until' lt h. elim (eqb_tells l lease) [
           | inl same ↦
-              let mine : hold_of s before (x ∷ done) lease ≡ Held claim' until' = subst (λ n. hold_of s before (x ∷ done) n ≡ Held claim' until') same.1 h in
+              let mine : hold_by_log s before (x ∷ done) lease ≡ Held claim' until' = subst (λ n. hold_by_log s before (x ∷ done) n ≡ Held claim' until') same.1 h in
               let e : Held claim next ≡ Held claim' until' = sym here ∙ mine in
               let c : claim ≡ claim' = cc in
               let u : next ≡ until' = cc in
@@ -214,13 +214,13 @@ module _ (s : Setting) (before : List Finished) (known : Known) (reading : ℕ) 
               (before'.0, inr before'.1)
         ];
         kept = λ l h. elim (eqb_tells l lease) [
-          | inl same ↦ subst (λ n. IsHeld (hold_of s before (x ∷ done) n)) (sym same.1) (claim, next, here)
+          | inl same ↦ subst (λ n. IsHeld (hold_by_log s before (x ∷ done) n)) (sym same.1) (claim, next, here)
           | inr ne ↦ (let k = r.kept l h in (k.0, k.1, apart l ne.1 ∙ k.2))
         ];
       }
 
   -- a lease that isn't held is passed over
-  none-held : (done : List Exchange) (lease : ℕ) → Renewing s before done reading lease → ((claim : Claim) (until : ℕ) → ¬ (hold_of s before done lease ≡ Held claim until)) →
+  none-held : (done : List Exchange) (lease : ℕ) → Renewing s before done reading lease → ((claim : Claim) (until : ℕ) → ¬ (hold_by_log s before done lease ≡ Held claim until)) →
       Renewing s before done reading (lease + 1)
   none-held done lease r none = record {
     has = r.has;
@@ -229,7 +229,7 @@ module _ (s : Setting) (before : List Finished) (known : Known) (reading : ℕ) 
     went = r.went;
     later = λ l le. r.later l (omega arith);
     renewed = λ l claim until lt h. elim (eqb_tells l lease) [
-      | inl same ↦ absurd (none claim until (subst (λ n. hold_of s before done n ≡ Held claim until) same.1 h))
+      | inl same ↦ absurd (none claim until (subst (λ n. hold_by_log s before done n ≡ Held claim until) same.1 h))
       | inr ne ↦ r.renewed l claim until (omega (arith, ne.1)) h
     ];
     kept = r.kept;
@@ -240,7 +240,7 @@ module _ (s : Setting) (before : List Finished) (known : Known) (reading : ℕ) 
   renews zero lease done all r = all-renewed done (subst (λ l. Renewing s before done reading l) (let e : lease ≡ lease_count s.geometry = omega arith in e) r)
   renews (suc left) lease done all r = by-hold (start s before reading (lease_at lease)) (r.later lease (omega arith)) (λ done' r'. renews left (lease + 1) done' (omega arith) r')
     where
-      by-hold : (hold : Hold) → hold_of s before done lease ≡ hold →
+      by-hold : (hold : Hold) → hold_by_log s before done lease ≡ hold →
           ((done' : List Exchange) → Renewing s before done' reading (lease + 1) →
           Right s before Renew done' (renew_part s known (start s before reading) reading left (lease + 1)) (renewals (start s before reading) left (lease + 1))) →
           Right s before Renew done (renewal s known reading lease hold (renew_part s known (start s before reading) reading left (lease + 1)))
@@ -271,7 +271,7 @@ module _ (s : Setting) (before : List Finished) (known : Known) (reading : ℕ) 
   expired-use done image until reading' is =
       let a = attached-use image (known.sessions image) refl (rests.sessions image) is.attached in
       session-use known (start s before reading) s.geometry.images 0 image a.0 is.claim until (omega arith) (let w = a.2 in omega arith) a.1
-      (first-held s before reading image is.claim until a.2 is.attached is.held)
+      (hold-after-first s before reading image is.claim until a.2 is.attached is.held)
 
   -- what the one to be named tells
   due-expired : (due : InUse) → IsFirst (attached_uses known (start s before reading) s.geometry.images 0) reading due → (left : ℕ) →
@@ -284,7 +284,7 @@ module _ (s : Setting) (before : List Finished) (known : Known) (reading : ℕ) 
       by-session o at_image =
           let fits = subst (λ (found : Option Session). FitsAt s before o.image found) o.has at_image in
           let h = fits.2 in
-          let now = first-held s before reading o.image h.0 h.1 fits.1.within fits.0 h.2 in
+          let now = hold-after-first s before reading o.image h.0 h.1 fits.1.within fits.0 h.2 in
           let e : Held h.0 h.1 ≡ Held o.claim due.until = sym now ∙ o.held in
           let u : h.1 ≡ due.until = cc in
           let held : holds_after s.geometry before (lease_at (image_lease o.image)) ≡ Held h.0 due.until = h.2 ∙ ap (Held h.0) u in
@@ -294,9 +294,9 @@ module _ (s : Setting) (before : List Finished) (known : Known) (reading : ℕ) 
             refused 3 (reading, refl)
                 (expired slot (record { used = refl; attached = fits.0; claim = h.0; held = held; first = refl; reached = f.past })
                 (λ other until' is. order o.image o.is other until' (f.first (record { lease = image_lease other; until = until' }) (expired-use (clock reading ∷ []) other until' reading is) is.reached)))
-                (λ p other refuses. passed s (log_on before Renew (clock reading ∷ [])) 3 p other
+                (λ p other refuses. passed-at-most s (log_on before Renew (clock reading ∷ [])) 3 p other
                 (passed-sessions s _ (λ image needed. absurd (let P : ⊥ = cc in P)) (λ n is. absurd (let P : ⊥ = cc in P))) refuses),
-            rests-lost s before Renew (clock reading ∷ []) (lease.Image slot) due.until reading known.claims (let c = rests.claims in omega arith),
+            rests-lost s before Renew (clock reading ∷ []) (lease.Image slot) due.until reading known.claims refl (let c = rests.claims in omega arith),
           )
         where
           order : (image : ℕ) → due.lease ≡ image_lease image → (other until' : ℕ) → NotAfter due (record { lease = image_lease other; until = until' }) → IsNamedFirst image due.until other until'
@@ -312,7 +312,7 @@ module _ (s : Setting) (before : List Finished) (known : Known) (reading : ℕ) 
       let past = is.reached in
       omega arith))
 
-  by-due : reading < 2 ^ 48 → (found : Option InUse) → Tells (attached_uses known (start s before reading) s.geometry.images 0) reading found →
+  by-due : reading < 2 ^ 48 → (found : Option InUse) → TellsFirst (attached_uses known (start s before reading) s.geometry.images 0) reading found →
       Right s before Renew (clock reading ∷ [])
       (unless_reached found (λ due. lost s known due reading) (renew_part s known (start s before reading) reading (lease_count s.geometry) 0))
       (renewals (start s before reading) (lease_count s.geometry) 0)
@@ -330,7 +330,7 @@ module _ (s : Setting) (before : List Finished) (known : Known) (reading : ℕ) 
 
 pub renew-begins : (s : Setting) (before : List Finished) (known : Known) (reading : ℕ) → Rests s before known → reading < 2 ^ 48 →
     (left : ℕ) × (left ≤ count_held (holds_after s.geometry before) (lease_count s.geometry) 0)
-    × Right s before Renew (clock reading ∷ []) (command_part s known (start s before reading) reading Renew) left
+    × Right s before Renew (clock reading ∷ []) (command_part s known (start s before reading) (hand_start s before reading) reading Renew) left
 renew-begins s before known reading rests small = (
   renewals (start s before reading) (lease_count s.geometry) 0,
   renewals-fewer (start s before reading) (holds_after s.geometry before) (λ block. first-fewer _ reading (holds_after s.geometry before block)) (lease_count s.geometry) 0,

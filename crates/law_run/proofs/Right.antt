@@ -9,21 +9,20 @@ use Rattle.plx_disk.specs.declared.ask.Ask.{Ask}
 use Rattle.plx_disk.specs.declared.ask.Ask.TheVariants as ask
 use Rattle.plx_disk.specs.declared.ask.Answer.TheVariants as answer
 use Rattle.plx_gate.specs.declared.descriptor.Descriptor.{Descriptor}
-use Rattle.plx_gate.specs.declared.image.ImageRecord.{ImageRecord}
 use Rattle.plx_geom.specs.Geometry.{Geometry, image_lease, lease_at, descriptor_at, data_at}
 use Rattle.plx_rules.specs.Part.{Part}
 use Rattle.plx_rules.specs.declared.journaled.Journaled.{Journaled}
 use Rattle.plx_rules.specs.Ends.{End}
 use Rattle.plx_rules.specs.Holds.{Hold, Held}
-use Rattle.plx_rules.specs.Journal.{journal_slot}
-use Rattle.plx_rules.specs.Records.{is_plain, generation_of, applied_of}
+use Rattle.plx_rules.specs.Journal.{journal_slot, descriptor_of}
+use Rattle.plx_rules.specs.Records.{is_plain, applied_of}
 use Rattle.plx_rules.specs.Session.{Session, Known}
 use Rattle.plx_rules.specs.Settings.{Setting}
 use Rattle.plx_rules.specs.Stored.{Given, record_on, IsCounted}
 use Rattle.law_run.specs.AllowedAsks.{last_known, MayAsk}
 use Rattle.law_run.specs.CommandLogs.{Exchange, Finished, CommandLog}
 use Rattle.law_run.specs.Holdings.{holds_after, claims_begun}
-use Rattle.law_run.specs.KnownBytes.{known_after}
+use Rattle.law_run.specs.KnownBytes.{given_after}
 use Rattle.law_run.specs.Replies.{IsReplied}
 use Rattle.law_run.specs.Sessions.{is_attached}
 use Rattle.law_run.proofs.Meets.{exchange, Meets}
@@ -34,10 +33,6 @@ clock reading = exchange ask.Clock [] (answer.Reading reading)
 
 abbrev pub read_of : (block : ℕ) → List ℕ → Exchange
 read_of block bytes = exchange (ask.Read (record { 0 = block })) [] (answer.Bytes bytes)
-
--- the descriptor of a journalled write of an image with this record
-abbrev pub descriptor_of : ImageRecord → Journaled → Descriptor
-descriptor_of kept write = record { generation = generation_of kept; vblock = write.vblock; number = write.number }
 
 -- a session is what its image's known bytes store: its writes are those that count, numbered without a gap
 pub record Fits (g : Geometry) (given : Given) (image : ℕ) (session : Session) : Type 0 where
@@ -62,7 +57,7 @@ IsHeld hold = (claim : Claim) × (until : ℕ) × (hold ≡ Held claim until)
 abbrev pub FitsAt : Setting → List Finished → ℕ → Option Session → Type 0
 FitsAt s before image None = is_attached before image ≡ false
 FitsAt s before image (Some session) =
-    (is_attached before image ≡ true) × Fits s.geometry (known_after s.geometry before image) image session
+    (is_attached before image ≡ true) × Fits s.geometry (given_after s.geometry before image) image session
     × IsHeld (holds_after s.geometry before (lease_at (image_lease image)))
 
 -- what is known between commands fits them

@@ -9,16 +9,17 @@ use Rattle.plx_disk.specs.declared.ask.Answer.TheVariants as answer
 use Rattle.plx_geom.specs.Geometry.{Geometry}
 use Rattle.plx_rules.specs.Part.{Part, Ends, ReadThen, WriteThen, ClockThen, UntilThen, answered, standing, bytes_out}
 use Rattle.plx_rules.specs.Boot as boot
-use Rattle.plx_rules.specs.Boot.{Happening, Place, Idle, Begins, In, Position, position, place_of, after_part, goes_to, begun, first_read, went_on, asks, writes_out, reply_of, replies_at, Fits, IsRun}
+use Rattle.plx_rules.specs.Boot.{Happening, Place, Idle, Begins, In, Position, position, place_of, after_part, goes_to, place_after_begin, first_read, went_on, asks, writes_out, reply_of, replies_at, Fits, IsRun}
 use Rattle.plx_rules.specs.Commands.{IsBuilt, IsWellFormed, command_part}
 use Rattle.plx_rules.specs.Ends.{End}
-use Rattle.plx_rules.specs.Holds.{Hold, Nothing, Seen, Wrote, Waited, Held, after_answer, sample_of, after_reply, first_hold, after_first}
+use Rattle.plx_rules.specs.Hands.{found_by, hand_answered, hand_held}
+use Rattle.plx_rules.specs.Holds.{Hold, Nothing, Seen, Wrote, Waited, Held, after_answer, sample_of, holds_after_reply, first_hold, after_first}
 use Rattle.plx_rules.specs.Session.{Session, Known}
 use Rattle.plx_rules.specs.Settings.{Setting}
 use Rattle.law_run.specs.AllowedAsks.{WentOn, MayAsk}
 use Rattle.law_run.specs.Bounds.{bound}
 use Rattle.law_run.specs.CommandLogs.{Exchange, Finished, CommandLog, Commands, Between, Within, starting, following, commands}
-use Rattle.law_run.specs.Holdings.{at_first, after_first_answer, holds_along, holds_after}
+use Rattle.law_run.specs.Holdings.{at_first, after_first_answer, holds_along, holds_after, last_found, hand_told, hand_along, hand_after, hand_by_log}
 use Rattle.law_run.specs.Positions.{known_at, IsByCommands, PositionsAgree}
 use Rattle.law_run.specs.Rules.{AllAllowed, AllKept, KeepsRules, IsSetting, RunsKeepRules}
 use Rattle.law_run.specs.Sessions.{is_attached}
@@ -29,11 +30,15 @@ use Rattle.law_run.proofs.Right.{clock, FitsAt, Rests, May, Shows, Right}
 abbrev pub start : Setting → List Finished → (reading : ℕ) → ℕ → Hold
 start s before reading = holds_along s.geometry (is_attached before) (holds_after s.geometry before) (clock reading ∷ [])
 
+-- what is in hand then
+abbrev pub hand_start : Setting → List Finished → (reading : ℕ) → List ℕ
+hand_start s before reading = hand_by_log s before (clock reading ∷ [])
+
 -- a command that begins after these commands keeps the rules from its first reading on
 abbrev pub BeginsRight : Setting → Type 0
-BeginsRight s = (before : List Finished) (known : Known) (command : Command) (reading : ℕ) → IsWellFormed command → IsBuilt command → Rests s before known → reading < 2 ^ 48 →
+BeginsRight s = (before : List Finished) (known : Known) (command : Command) (reading : ℕ) → IsWellFormed command → IsBuilt command → AllKept s before → Rests s before known → reading < 2 ^ 48 →
     (left : ℕ) × (1 + left ≤ bound s before command)
-    × Right s before command (clock reading ∷ []) (command_part s known (start s before reading) reading command) left
+    × Right s before command (clock reading ∷ []) (command_part s known (start s before reading) (hand_start s before reading) reading command) left
 
 -- ---- the first reading
 
@@ -57,17 +62,17 @@ tells-attached : (s : Setting) (before : List Finished) (image : ℕ) (found : O
 tells-attached s before image None fits = (λ e. fits, λ x e. (let P : ⊥ = cc in absurd P))
 tells-attached s before image (Some session) fits = (λ e. (let P : ⊥ = cc in absurd P), λ x e. fits.0)
 
-first-block : (s : Setting) (before : List Finished) (known : Known) (reading : ℕ) (hold : Hold) (block : ℕ) (test : Bool) → FitsAt s before (block - 2) (known.sessions (block - 2)) →
+first-hold-by-log : (s : Setting) (before : List Finished) (known : Known) (reading : ℕ) (hold : Hold) (block : ℕ) (test : Bool) → FitsAt s before (block - 2) (known.sessions (block - 2)) →
     first_hold (if test then known.sessions (block - 2) else None) reading hold ≡ at_first (if test then is_attached before (block - 2) else false) reading hold
-first-block s before known reading hold block true fits =
+first-hold-by-log s before known reading hold block true fits =
     first-same (known.sessions (block - 2)) (is_attached before (block - 2)) reading hold (tells-attached s before (block - 2) (known.sessions (block - 2)) fits)
-first-block s before known reading hold block false fits = first-same None false reading hold (λ e. refl, λ x e. (let P : ⊥ = cc in absurd P))
+first-hold-by-log s before known reading hold block false fits = first-same None false reading hold (λ e. refl, λ x e. (let P : ⊥ = cc in absurd P))
 
 -- the sessions drop as the replies say
 pub first-is : (s : Setting) (before : List Finished) (known : Known) (reading : ℕ) → Rests s before known → (holds : ℕ → Hold) →
     after_first s.geometry known reading holds ≡ after_first_answer s.geometry (is_attached before) (answer.Reading reading) holds
 first-is s before known reading rests holds =
-    λ i block. first-block s before known reading (holds block) block (nat_le 2 block && nat_lt block (2 + s.geometry.images)) (rests.sessions (block - 2)) i
+    λ i block. first-hold-by-log s before known reading (holds block) block (nat_le 2 block && nat_lt block (2 + s.geometry.images)) (rests.sessions (block - 2)) i
 
 -- ---- one more exchange
 
@@ -83,6 +88,11 @@ pub along-more : (g : Geometry) (attached : ℕ → Bool) (before : ℕ → Hold
     holds_along g attached before (x ∷ done) ≡ after_answer (last_sample done) x.ask x.bytes x.answer (holds_along g attached before done)
 along-more g attached before x [] has = absurd has
 along-more g attached before x (y ∷ older) has = refl
+
+pub told-more : (g : Geometry) (attached : ℕ → Bool) (before : ℕ → Hold) (hand : List ℕ) (x : Exchange) (done : List Exchange) → HasFirst done →
+    hand_told g attached before hand (x ∷ done) ≡ hand_answered g (last_found done) x.ask x.bytes x.answer (hand_along g attached before hand done)
+told-more g attached before hand x [] has = absurd has
+told-more g attached before hand x (y ∷ older) has = refl
 
 -- ---- where a boot stands
 
@@ -107,83 +117,93 @@ abbrev pub held_in : Setting → CommandLog → ℕ → Hold
 held_in s log = holds_along s.geometry (is_attached log.before) (holds_after s.geometry log.before) log.exchanges
 
 -- where a boot stands fits its commands
-abbrev pub Agree : Setting → (ℕ → Hold) → Option ℕ → Place → Commands → Type 0
-Agree s holds sample (Idle known) (Between before) = AllKept s before × Rests s before known × (holds ≡ holds_after s.geometry before)
-Agree s holds sample (Begins known command) (Within log) = Begun s known command log × (holds ≡ holds_after s.geometry log.before)
-Agree s holds sample (In known command part) (Within log) =
+abbrev pub Agree : Setting → (ℕ → Hold) → List ℕ → Option ℕ → Option (ℕ × List ℕ) → Place → Commands → Type 0
+Agree s holds hand sample found (Idle known) (Between before) = AllKept s before × Rests s before known × (holds ≡ holds_after s.geometry before) × (hand ≡ hand_after s.geometry before)
+Agree s holds hand sample found (Begins known command) (Within log) = Begun s known command log × (holds ≡ holds_after s.geometry log.before) × (hand ≡ hand_after s.geometry log.before)
+Agree s holds hand sample found (In known command part) (Within log) =
     Runs s log part × (holds ≡ held_in s log) × (sample ≡ last_sample log.exchanges) × HasFirst log.exchanges × Rests s log.before known
-Agree s holds sample place commands = ⊥
+    × (hand ≡ hand_by_log s log.before log.exchanges) × (found ≡ last_found log.exchanges)
+Agree s holds hand sample found place commands = ⊥
 
 abbrev pub AgreeAt : Setting → Position → Commands → Type 0
-AgreeAt s p commands = Agree s p.holds p.sample p.place commands
+AgreeAt s p commands = Agree s p.holds p.hand p.sample p.found p.place commands
 
 -- an answered ask is one more exchange
-along : (s : Setting) (log : CommandLog) (x : Exchange) (known : Known) (command : Command) (holds : ℕ → Hold) (part : Part End) (left : ℕ) → AllKept s log.before → Rests s log.before known →
+along : (s : Setting) (log : CommandLog) (x : Exchange) (known : Known) (command : Command) (holds : ℕ → Hold) (hand : List ℕ) (part : Part End) (left : ℕ) → AllKept s log.before → Rests s log.before known →
     AllAllowed s log.before log.command log.exchanges → MayAsk s log x.ask x.bytes → Right s log.before log.command (x ∷ log.exchanges) part left →
     length log.exchanges + suc left ≤ bound s log.before log.command →
     holds ≡ holds_along s.geometry (is_attached log.before) (holds_after s.geometry log.before) (x ∷ log.exchanges) →
-    AgreeAt s (goes_to known command holds (sample_of x.answer) part) (following x (reply_of part) (Within log))
-along s log x known command holds (Ends end) left older rests allowed may right bounded same =
-    ((record { allowed = (may, allowed); replied = right.0; bounded = omega arith }, older), right.1, ap (after_reply end.reply) same)
-along s log x known command holds (ReadThen block rest fault) left older rests allowed may right bounded same =
-    (record { older = older; allowed = (may, allowed); left = left; right = right; bounded = omega arith }, same, refl, tt, rests)
-along s log x known command holds (WriteThen kind block bytes guard done fault missed) left older rests allowed may right bounded same =
-    (record { older = older; allowed = (may, allowed); left = left; right = right; bounded = omega arith }, same, refl, tt, rests)
-along s log x known command holds (ClockThen rest) left older rests allowed may right bounded same =
-    (record { older = older; allowed = (may, allowed); left = left; right = right; bounded = omega arith }, same, refl, tt, rests)
-along s log x known command holds (UntilThen from rest) left older rests allowed may right bounded same =
-    (record { older = older; allowed = (may, allowed); left = left; right = right; bounded = omega arith }, same, refl, tt, rests)
+    hand ≡ hand_told s.geometry (is_attached log.before) (holds_after s.geometry log.before) (hand_after s.geometry log.before) (x ∷ log.exchanges) →
+    AgreeAt s (goes_to s.geometry known command holds hand (sample_of x.answer) (found_by x.ask x.answer) part) (following x (reply_of part) (Within log))
+along s log x known command holds hand (Ends end) left older rests allowed may right bounded same told =
+    ((record { allowed = (may, allowed); replied = right.0; bounded = omega arith }, older), right.1, ap (holds_after_reply end.reply) same, λ i. hand_held s.geometry (holds_after_reply end.reply (same i)) (told i))
+along s log x known command holds hand (ReadThen block rest fault) left older rests allowed may right bounded same told =
+    (record { older = older; allowed = (may, allowed); left = left; right = right; bounded = omega arith }, same, refl, tt, rests, λ i. hand_held s.geometry (same i) (told i), refl)
+along s log x known command holds hand (WriteThen kind block bytes guard done fault missed) left older rests allowed may right bounded same told =
+    (record { older = older; allowed = (may, allowed); left = left; right = right; bounded = omega arith }, same, refl, tt, rests, λ i. hand_held s.geometry (same i) (told i), refl)
+along s log x known command holds hand (ClockThen rest) left older rests allowed may right bounded same told =
+    (record { older = older; allowed = (may, allowed); left = left; right = right; bounded = omega arith }, same, refl, tt, rests, λ i. hand_held s.geometry (same i) (told i), refl)
+along s log x known command holds hand (UntilThen from rest) left older rests allowed may right bounded same told =
+    (record { older = older; allowed = (may, allowed); left = left; right = right; bounded = omega arith }, same, refl, tt, rests, λ i. hand_held s.geometry (same i) (told i), refl)
 
 -- what follows the answer to the ask that stands
-follows : (s : Setting) (log : CommandLog) (known : Known) (command : Command) (holds : ℕ → Hold) (sample : Option ℕ) (part : Part End) (a : Ask) (x : Answer) →
-    Agree s holds sample (In known command part) (Within log) → standing part ≡ Some a → Fits a x →
-    AgreeAt s (goes_to known command (after_answer sample a (bytes_out part) x holds) (sample_of x) (answered part x))
+follows : (s : Setting) (log : CommandLog) (known : Known) (command : Command) (holds : ℕ → Hold) (hand : List ℕ) (sample : Option ℕ) (found : Option (ℕ × List ℕ)) (part : Part End) (a : Ask) (x : Answer) →
+    Agree s holds hand sample found (In known command part) (Within log) → standing part ≡ Some a → Fits a x →
+    AgreeAt s (goes_to s.geometry known command (after_answer sample a (bytes_out part) x holds) (hand_answered s.geometry found a (bytes_out part) x hand) (sample_of x) (found_by a x) (answered part x))
     (following (exchange a (bytes_out part) x) (reply_of (answered part x)) (Within log))
-follows s log known command holds sample part a x agree stands fits =
+follows s log known command holds hand sample found part a x agree stands fits =
     let r = agree.0 in
     let next = answers (May s log.before log.command) (Shows s log.before log.command) part log.exchanges a r.left r.right stands in
-    along s log (exchange a (bytes_out part) x) known command (after_answer sample a (bytes_out part) x holds) (answered part x) next.left r.older agree.4 r.allowed next.allowed
+    along s log (exchange a (bytes_out part) x) known command (after_answer sample a (bytes_out part) x holds) (hand_answered s.geometry found a (bytes_out part) x hand) (answered part x) next.left r.older agree.4 r.allowed next.allowed
     (next.follows x fits) (let within = r.bounded in let fewer = next.fewer in omega arith)
     (ap (λ h. after_answer sample a (bytes_out part) x h) agree.1
     ∙ (ap (λ o. after_answer o a (bytes_out part) x (held_in s log)) agree.2
     ∙ sym (along-more s.geometry (is_attached log.before) (holds_after s.geometry log.before) (exchange a (bytes_out part) x) log.exchanges agree.3)))
+    ((λ i. hand_answered s.geometry (agree.6 i) a (bytes_out part) x (agree.5 i))
+    ∙ sym (told-more s.geometry (is_attached log.before) (holds_after s.geometry log.before) (hand_after s.geometry log.before) (exchange a (bytes_out part) x) log.exchanges agree.3))
+
+-- where the first reading of a command leads
+abbrev first_at : Setting → CommandLog → Known → Command → (reading : ℕ) → (ℕ → Hold) → List ℕ → Type 0
+first_at s log known command reading holds hand =
+    AgreeAt s (goes_to s.geometry known command holds hand (Some reading) None (command_part s known holds (hand_held s.geometry holds hand) reading command))
+    (following (clock reading) (reply_of (command_part s known holds (hand_held s.geometry holds hand) reading command)) (Within log))
 
 -- the first reading of a command
-first : (s : Setting) → BeginsRight s → (log : CommandLog) (known : Known) (command : Command) (holds : ℕ → Hold) (sample : Option ℕ) (reading : ℕ) →
-    Begun s known command log → holds ≡ holds_after s.geometry log.before → reading < 2 ^ 48 →
-    AgreeAt s (goes_to known command (after_first s.geometry known reading holds) (Some reading) (command_part s known (after_first s.geometry known reading holds) reading command))
-    (following (clock reading) (reply_of (command_part s known (after_first s.geometry known reading holds) reading command)) (Within log))
-first s right log known command holds sample reading b same small =
+right-at-first : (s : Setting) → BeginsRight s → (log : CommandLog) (known : Known) (command : Command) (holds : ℕ → Hold) (hand : List ℕ) (reading : ℕ) →
+    Begun s known command log → holds ≡ holds_after s.geometry log.before → hand ≡ hand_after s.geometry log.before → reading < 2 ^ 48 →
+    first_at s log known command reading (after_first s.geometry known reading holds) hand
+right-at-first s right log known command holds hand reading b same in_hand small =
     let H = holds_after s.geometry log.before in
     let here : after_first s.geometry known reading holds ≡ start s log.before reading =
     ap (after_first s.geometry known reading) same ∙ first-is s log.before known reading b.rests H in
-    let P : (ℕ → Hold) → Type 0 = λ h. AgreeAt s (goes_to known command h (Some reading) (command_part s known h reading command))
-    (following (clock reading) (reply_of (command_part s known h reading command)) (Within log)) in
-    let next = right log.before known command reading b.formed b.built b.rests small in
+    let next = right log.before known command reading b.formed b.built b.older b.rests small in
     let Q : List Exchange → Type 0 = λ done. AllAllowed s log.before log.command done in
-    let R : Command → List Exchange → Type 0 = λ c done. Right s log.before c (clock reading ∷ done) (command_part s known (start s log.before reading) reading command) next.0 in
+    let part = command_part s known (start s log.before reading) (hand_start s log.before reading) reading command in
+    let R : Command → List Exchange → Type 0 = λ c done. Right s log.before c (clock reading ∷ done) part next.0 in
     let moved : R log.command log.exchanges = subst (λ c. R c log.exchanges) (sym b.is) (subst (λ done. R command done) (sym b.none_yet) next.2) in
     let size : length log.exchanges ≡ 0 = ap (λ (d : List Exchange). length d) b.none_yet in
     let limit : bound s log.before log.command ≡ bound s log.before command = ap (bound s log.before) b.is in
-    subst P (sym here)
-    (along s log (clock reading) known command (start s log.before reading) (command_part s known (start s log.before reading) reading command) next.0 b.older b.rests
+    subst (λ (h : ℕ → Hold). first_at s log known command reading h hand) (sym here)
+    (subst (λ (k : List ℕ). first_at s log known command reading (start s log.before reading) k) (sym in_hand)
+    (along s log (clock reading) known command (start s log.before reading) (hand_after s.geometry log.before) part next.0 b.older b.rests
     (subst Q (sym b.none_yet) tt) (subst (λ done. WentOn done × Unit {0}) (sym b.none_yet) (tt, tt)) moved (let n = next.1 in omega arith)
-    (ap (λ done. holds_along s.geometry (is_attached log.before) H (clock reading ∷ done)) (sym b.none_yet)))
+    (ap (λ done. holds_along s.geometry (is_attached log.before) H (clock reading ∷ done)) (sym b.none_yet))
+    (ap (λ done. hand_told s.geometry (is_attached log.before) H (hand_after s.geometry log.before) (clock reading ∷ done)) (sym b.none_yet))))
 
 -- a happening of a run keeps where the boot stands and its commands in step
-goes-on : (s : Setting) → BeginsRight s → (p : Position) (holds : ℕ → Hold) (sample : Option ℕ) (place : Place) → p.holds ≡ holds → p.sample ≡ sample → (so_far : Commands) (a : Ask) (bytes : List ℕ) (x : Answer) →
-    Agree s holds sample place so_far → asks place ≡ Some a → writes_out place ≡ bytes → Fits a x →
+goes-on : (s : Setting) → BeginsRight s → (p : Position) (place : Place) (so_far : Commands) (a : Ask) (bytes : List ℕ) (x : Answer) →
+    Agree s p.holds p.hand p.sample p.found place so_far → asks place ≡ Some a → writes_out place ≡ bytes → Fits a x →
     AgreeAt s (went_on s a bytes x p place) (following (exchange a bytes x) (replies_at s x p place) so_far)
-goes-on s right p holds sample (Idle known) hs ss so_far a bytes x agree stands writes fits = absurd (let P : ⊥ = cc in P)
-goes-on s right p holds sample (Begins known command) hs ss (Between before) a bytes x agree stands writes fits = absurd agree
-goes-on s right p holds sample (Begins known command) hs ss (Within log) a bytes x agree stands writes fits =
+goes-on s right p (Idle known) so_far a bytes x agree stands writes fits = absurd (let P : ⊥ = cc in P)
+goes-on s right p (Begins known command) (Between before) a bytes x agree stands writes fits = absurd agree
+goes-on s right p (Begins known command) (Within log) a bytes x agree stands writes fits =
     let is : ask.Clock ≡ a = cc in
     let P : Ask → Type 0 = λ b. (Fits b x → AgreeAt s (went_on s b bytes x p (Begins known command)) (following (exchange b bytes x) (replies_at s x p (Begins known command)) (Within log))) in
     subst P is (by-bytes bytes writes) fits
   where
     by-answer : (y : Answer) → Fits ask.Clock y →
         AgreeAt s (went_on s ask.Clock [] y p (Begins known command)) (following (exchange ask.Clock [] y) (replies_at s y p (Begins known command)) (Within log))
-    by-answer (answer.Reading reading) small = first s right log known command p.holds sample reading agree.0 (hs ∙ agree.1) small
+    by-answer (answer.Reading reading) small = right-at-first s right log known command p.holds p.hand reading agree.0 agree.1 agree.2 small
     by-answer y small = absurd small
 
     by-bytes : (out : List ℕ) → writes_out (Begins known command) ≡ out → Fits ask.Clock x →
@@ -191,42 +211,42 @@ goes-on s right p holds sample (Begins known command) hs ss (Within log) a bytes
     by-bytes out e small =
         subst (λ (o : List ℕ). AgreeAt s (went_on s ask.Clock o x p (Begins known command)) (following (exchange ask.Clock o x) (replies_at s x p (Begins known command)) (Within log))) e
         (by-answer x small)
-goes-on s right p holds sample (In known command part) hs ss (Between before) a bytes x agree stands writes fits = absurd agree
-goes-on s right p holds sample (In known command part) hs ss (Within log) a bytes x agree stands writes fits =
+goes-on s right p (In known command part) (Between before) a bytes x agree stands writes fits = absurd agree
+goes-on s right p (In known command part) (Within log) a bytes x agree stands writes fits =
     let P : List ℕ → Type 0 = λ out. AgreeAt s (went_on s a out x p (In known command part)) (following (exchange a out x) (reply_of (answered part x)) (Within log)) in
-    subst P writes (follows s log known command p.holds p.sample part a x (agree.0, hs ∙ agree.1, ss ∙ agree.2, agree.3, agree.4) stands fits)
+    subst P writes (follows s log known command p.holds p.hand p.sample p.found part a x agree stands fits)
 
-begins : (s : Setting) (holds : ℕ → Hold) (sample : Option ℕ) (known : Known) (so_far : Commands) (command : Command) → IsWellFormed command → IsBuilt command →
-    Agree s holds sample (Idle known) so_far → Agree s holds None (Begins known command) (starting command so_far)
-begins s holds sample known (Between before) command formed built agree =
-    (record { older = agree.0; rests = agree.1; is = refl; none_yet = refl; formed = formed; built = built }, agree.2)
-begins s holds sample known (Within log) command formed built agree = absurd agree
+begins : (s : Setting) (holds : ℕ → Hold) (hand : List ℕ) (sample : Option ℕ) (found : Option (ℕ × List ℕ)) (known : Known) (so_far : Commands) (command : Command) → IsWellFormed command → IsBuilt command →
+    Agree s holds hand sample found (Idle known) so_far → Agree s holds hand None None (Begins known command) (starting command so_far)
+begins s holds hand sample found known (Between before) command formed built agree =
+    (record { older = agree.0; rests = agree.1; is = refl; none_yet = refl; formed = formed; built = built }, agree.2, agree.3)
+begins s holds hand sample found known (Within log) command formed built agree = absurd agree
 
 agrees : (s : Setting) → BeginsRight s → (log : List Happening) → IsRun s log → AgreeAt s (position s log) (commands s log)
-agrees s right log boot.empty = (tt, record { sessions = λ image. refl; claims = refl }, refl)
+agrees s right log boot.empty = (tt, record { sessions = λ image. refl; claims = refl }, refl, refl)
 agrees s right log (boot.begins {log = older} {command = command} known run idle formed built) =
     let p = position s older in
-    let P : Place → Type 0 = λ here. Agree s p.holds p.sample here (commands s older) in
-    let Q : Place → Type 0 = λ here. Agree s p.holds None (begun command here) (starting command (commands s older)) in
-    subst Q (sym idle) (begins s p.holds p.sample known (commands s older) command formed built (subst P idle (agrees s right older run)))
+    let P : Place → Type 0 = λ here. Agree s p.holds p.hand p.sample p.found here (commands s older) in
+    let Q : Place → Type 0 = λ here. Agree s p.holds p.hand None None (place_after_begin command here) (starting command (commands s older)) in
+    subst Q (sym idle) (begins s p.holds p.hand p.sample p.found known (commands s older) command formed built (subst P idle (agrees s right older run)))
 agrees s right log (boot.goes_on {log = older} {ask = a} {bytes = bytes} {answer = x} run stands writes fits) =
     let p = position s older in
-    goes-on s right p p.holds p.sample p.place refl refl (commands s older) a bytes x (agrees s right older run) stands writes fits
+    goes-on s right p p.place (commands s older) a bytes x (agrees s right older run) stands writes fits
 
-kept : (s : Setting) (holds : ℕ → Hold) (sample : Option ℕ) (here : Place) (so_far : Commands) → ((log : CommandLog) → so_far ≡ Within log → 1 ≤ bound s log.before log.command) →
-    Agree s holds sample here so_far → KeepsRules s so_far (asks here) (writes_out here)
-kept s holds sample (Idle known) (Between before) least agree = agree.0
-kept s holds sample (Idle known) (Within log) least agree = absurd agree
-kept s holds sample (Begins known command) (Between before) least agree = absurd agree
-kept s holds sample (Begins known command) (Within log) least agree =
+kept : (s : Setting) (holds : ℕ → Hold) (hand : List ℕ) (sample : Option ℕ) (found : Option (ℕ × List ℕ)) (here : Place) (so_far : Commands) → ((log : CommandLog) → so_far ≡ Within log → 1 ≤ bound s log.before log.command) →
+    Agree s holds hand sample found here so_far → KeepsRules s so_far (asks here) (writes_out here)
+kept s holds hand sample found (Idle known) (Between before) least agree = agree.0
+kept s holds hand sample found (Idle known) (Within log) least agree = absurd agree
+kept s holds hand sample found (Begins known command) (Between before) least agree = absurd agree
+kept s holds hand sample found (Begins known command) (Within log) least agree =
     let b = agree.0 in record {
       older = b.older;
       allowed = subst (λ done. AllAllowed s log.before log.command done) (sym b.none_yet) tt;
       stands = λ a stands. (let is : ask.Clock ≡ a = cc in subst (λ (c : Ask). MayAsk s log c []) is (subst (λ done. WentOn done × Unit {0}) (sym b.none_yet) (tt, tt)));
       bounded = λ a stands. (let size : length log.exchanges ≡ 0 = ap (λ (d : List Exchange). length d) b.none_yet in let one = least log refl in omega arith);
     }
-kept s holds sample (In known command part) (Between before) least agree = absurd agree
-kept s holds sample (In known command part) (Within log) least agree =
+kept s holds hand sample found (In known command part) (Between before) least agree = absurd agree
+kept s holds hand sample found (In known command part) (Within log) least agree =
     let r = agree.0 in record {
       older = r.older;
       allowed = r.allowed;
@@ -240,7 +260,7 @@ kept s holds sample (In known command part) (Within log) least agree =
 pub runs-keep : ((s : Setting) → IsSetting s → BeginsRight s) → ((s : Setting) (before : List Finished) (command : Command) → 1 ≤ bound s before command) → RunsKeepRules
 runs-keep right least s log setting run =
     let p = position s log in
-    kept s p.holds p.sample p.place (commands s log) (λ l e. least s l.before l.command) (agrees s (right s setting) log run)
+    kept s p.holds p.hand p.sample p.found p.place (commands s log) (λ l e. least s l.before l.command) (agrees s (right s setting) log run)
 
 -- ---- leases and sessions
 
@@ -248,24 +268,27 @@ attached-same : (s : Setting) (before : List Finished) (image : ℕ) (found : Op
 attached-same s before image None fits = sym fits
 attached-same s before image (Some session) fits = sym fits.0
 
-by-commands : (s : Setting) (p : Position) (holds : ℕ → Hold) (sample : Option ℕ) (place : Place) (so_far : Commands) → p.holds ≡ holds → p.place ≡ place → Agree s holds sample place so_far →
+by-commands : (s : Setting) (p : Position) (place : Place) (so_far : Commands) → p.place ≡ place → Agree s p.holds p.hand p.sample p.found place so_far →
     IsByCommands s p so_far
-by-commands s p holds sample (Idle known) (Between before) hs ps agree = record {
-  holds = λ block i. (hs ∙ agree.2) i block;
+by-commands s p (Idle known) (Between before) ps agree = record {
+  holds = λ block i. agree.2 i block;
+  hand = agree.3;
   attached = λ image. ap (λ (here : Place). is_some ((known_at here).sessions image)) ps ∙ attached-same s before image (known.sessions image) (agree.1.sessions image);
   claims = ap (λ (here : Place). (known_at here).claims) ps ∙ agree.1.claims;
 }
-by-commands s p holds sample (Idle known) (Within log) hs ps agree = absurd agree
-by-commands s p holds sample (Begins known command) (Between before) hs ps agree = absurd agree
-by-commands s p holds sample (Begins known command) (Within log) hs ps agree =
+by-commands s p (Idle known) (Within log) ps agree = absurd agree
+by-commands s p (Begins known command) (Between before) ps agree = absurd agree
+by-commands s p (Begins known command) (Within log) ps agree =
     let b = agree.0 in record {
-      holds = λ block i. (hs ∙ (agree.1 ∙ ap (holds_along s.geometry (is_attached log.before) (holds_after s.geometry log.before)) (sym b.none_yet))) i block;
+      holds = λ block i. (agree.1 ∙ ap (holds_along s.geometry (is_attached log.before) (holds_after s.geometry log.before)) (sym b.none_yet)) i block;
+      hand = agree.2 ∙ ap (hand_by_log s log.before) (sym b.none_yet);
       attached = λ image. ap (λ (here : Place). is_some ((known_at here).sessions image)) ps ∙ attached-same s log.before image (known.sessions image) (b.rests.sessions image);
       claims = ap (λ (here : Place). (known_at here).claims) ps ∙ b.rests.claims;
     }
-by-commands s p holds sample (In known command part) (Between before) hs ps agree = absurd agree
-by-commands s p holds sample (In known command part) (Within log) hs ps agree = record {
-  holds = λ block i. (hs ∙ agree.1) i block;
+by-commands s p (In known command part) (Between before) ps agree = absurd agree
+by-commands s p (In known command part) (Within log) ps agree = record {
+  holds = λ block i. agree.1 i block;
+  hand = agree.5;
   attached = λ image. ap (λ (here : Place). is_some ((known_at here).sessions image)) ps ∙ attached-same s log.before image (known.sessions image) (agree.4.sessions image);
   claims = ap (λ (here : Place). (known_at here).claims) ps ∙ agree.4.claims;
 }
@@ -273,4 +296,4 @@ by-commands s p holds sample (In known command part) (Within log) hs ps agree = 
 -- of each run, where each command that begins keeps the rules
 pub positions-agree : ((s : Setting) → IsSetting s → BeginsRight s) → PositionsAgree
 positions-agree right s log setting run =
-    let p = position s log in by-commands s p p.holds p.sample p.place (commands s log) refl refl (agrees s (right s setting) log run)
+    let p = position s log in by-commands s p p.place (commands s log) refl (agrees s (right s setting) log run)

@@ -7,24 +7,24 @@ use Rattle.law_run.specs.CommandLogs.{Exchange}
 use Rattle.law_run.proofs.Meets.{Meets, meets-more}
 
 -- so many answers and then so many
-abbrev pub both : ℕ → ℕ → ℕ
-both zero m = m
-both (suc n) m = suc (both n m)
+abbrev pub both_counts : ℕ → ℕ → ℕ
+both_counts zero m = m
+both_counts (suc n) m = suc (both_counts n m)
 
-pub both-is : (n m : ℕ) → both n m ≡ n + m
+pub both-is : (n m : ℕ) → both_counts n m ≡ n + m
 both-is zero m = omega arith
 both-is (suc n) m = let e = both-is n m in omega arith
 
 -- what is met with so many answers left is met with more
 pub meets-both : {F : Type 0} (May : List Exchange → Ask → List ℕ → Type 0) (Shows : List Exchange → F → Type 0) (part : Part F) (done : List Exchange) (n m : ℕ) →
-    Meets May Shows done part m → Meets May Shows done part (both n m)
+    Meets May Shows done part m → Meets May Shows done part (both_counts n m)
 meets-both May Shows part done zero m meets = meets
-meets-both May Shows part done (suc n) m meets = meets-more May Shows part done (both n m) (meets-both May Shows part done n m meets)
+meets-both May Shows part done (suc n) m meets = meets-more May Shows part done (both_counts n m) (meets-both May Shows part done n m meets)
 
 -- work after work: the first meets the rules, and at each of its ends the second does from the exchanges there on
 module _ {E F : Type 0} (May : List Exchange → Ask → List ℕ → Type 0) (Shows : List Exchange → F → Type 0) (next : E → Part F) (m : ℕ) where
   pub meets-then : (part : Part E) (done : List Exchange) (n : ℕ) → Meets May (λ after end. Meets May Shows after (next end) m) done part n →
-      Meets May Shows done (followed_by part next) (both n m)
+      Meets May Shows done (followed_by part next) (both_counts n m)
   meets-then (Ends end) done n meets = meets-both May Shows (next end) done n m meets
   meets-then (ReadThen block rest fault) done zero meets = absurd meets
   meets-then (ReadThen block rest fault) done (suc n) meets = (meets.0, λ bytes long. meets-then (rest bytes) _ n (meets.1 bytes long), meets-then fault _ n meets.2)

@@ -7,7 +7,7 @@ use Rattle.plx_disk.specs.declared.ask.Answer.{Answer}
 use Rattle.plx_disk.specs.declared.ask.Answer.TheVariants as answer
 use Rattle.plx_rules.specs.Stored.{Given}
 use Rattle.law_run.specs.CommandLogs.{Exchange}
-use Rattle.law_run.specs.KnownBytes.{told_by, told, is_write_of, has_written, unwritten}
+use Rattle.law_run.specs.KnownBytes.{given_after_exchange, given_after_exchanges, is_write_of, has_written, given_before_writes}
 
 -- no ask of these is a read
 abbrev pub IsNoRead : Ask → Type 0
@@ -24,25 +24,25 @@ or-parts : (a b : Bool) → (a || b) ≡ false → (a ≡ false) × (b ≡ false
 or-parts true b e = absurd (let P : ⊥ = cc in P)
 or-parts false b e = (refl, e)
 
-told-elsewhere : (a : Ask) (bytes : List ℕ) (x : Answer) (given : Given) (block : ℕ) → IsNoRead a → is_write_of block a ≡ false → told_by a bytes x given block ≡ given block
+told-elsewhere : (a : Ask) (bytes : List ℕ) (x : Answer) (given : Given) (block : ℕ) → IsNoRead a → is_write_of block a ≡ false → given_after_exchange a bytes x given block ≡ given block
 told-elsewhere (ask.Read b) bytes x given block quiet other = absurd quiet
 told-elsewhere (ask.Write kind b guard) bytes answer.Done given block quiet other = rw other refl
 told-elsewhere (ask.Write kind b guard) bytes x given block quiet other = refl
 told-elsewhere ask.Clock bytes x given block quiet other = refl
 told-elsewhere (ask.Until from) bytes x given block quiet other = refl
 
-told-beside : (exchanges : List Exchange) (given : Given) (block : ℕ) → ReadsNothing exchanges → has_written block exchanges ≡ false → told exchanges given block ≡ given block
+told-beside : (exchanges : List Exchange) (given : Given) (block : ℕ) → ReadsNothing exchanges → has_written block exchanges ≡ false → given_after_exchanges exchanges given block ≡ given block
 told-beside [] given block quiet other = refl
 told-beside (x ∷ older) given block quiet other =
     let both = or-parts (is_write_of block x.ask) (has_written block older) other in
-    told-elsewhere x.ask x.bytes x.answer (told older given) block quiet.0 both.0 ∙ told-beside older given block quiet.1 both.1
+    told-elsewhere x.ask x.bytes x.answer (given_after_exchanges older given) block quiet.0 both.0 ∙ told-beside older given block quiet.1 both.1
 
 by-written : (test : Bool) (was now held : Option (List ℕ)) → (test ≡ true → was ≡ held) → (test ≡ false → now ≡ held) → (if test then was else now) ≡ held
 by-written true was now held first second = first refl
 by-written false was now held first second = second refl
 
-pub unwritten-quiet : (exchanges : List Exchange) (given : Given) (block : ℕ) → ReadsNothing exchanges → unwritten exchanges given block ≡ given block
+pub unwritten-quiet : (exchanges : List Exchange) (given : Given) (block : ℕ) → ReadsNothing exchanges → given_before_writes exchanges given block ≡ given block
 unwritten-quiet [] given block quiet = refl
 unwritten-quiet (x ∷ older) given block quiet =
-    by-written (has_written block (x ∷ older)) (unwritten older given block) (told (x ∷ older) given block) (given block)
+    by-written (has_written block (x ∷ older)) (given_before_writes older given block) (given_after_exchanges (x ∷ older) given block) (given block)
     (λ e. unwritten-quiet older given block quiet.1) (λ e. told-beside (x ∷ older) given block quiet e)

@@ -25,7 +25,7 @@ use Rattle.plx_rules.specs.declared.journaled.Journaled.{Journaled}
 use Rattle.plx_rules.specs.Attaching.{image_use}
 use Rattle.plx_rules.specs.Commands.{next_write, next_descriptor, write_part, journal_part, command_part}
 use Rattle.plx_rules.specs.Ends.{End, ends_in_time, write_then}
-use Rattle.plx_rules.specs.Journal.{journal_slot}
+use Rattle.plx_rules.specs.Journal.{journal_slot, descriptor_of}
 use Rattle.plx_rules.specs.Records.{is_live, generation_of, size_of, applied_of}
 use Rattle.plx_rules.specs.Session.{Session, Known, write_count, latest, with_write, with_session}
 use Rattle.plx_rules.specs.Settings.{Setting}
@@ -33,21 +33,21 @@ use Rattle.plx_rules.specs.Stored.{Given, Content, Holds, record_on, IsCounted, 
 use Rattle.law_run.specs.AllowedAsks.{IsNext, last_known, data_of_write, commit_of_write}
 use Rattle.law_run.specs.Changes.{written_on}
 use Rattle.law_run.specs.CommandLogs.{Exchange, Finished, first_reading}
-use Rattle.law_run.specs.KnownBytes.{with_block, known_after, known_from, known_in, known_before}
+use Rattle.law_run.specs.KnownBytes.{given_with, given_after, known_from, known_in, known_before}
 use Rattle.law_run.specs.Refusals.{NamesBlock, of_read, of_write, of_block, no_image, out_of_range, writes, full}
 use Rattle.law_run.specs.Replies.{refused}
 use Rattle.law_run.proofs.Asking.{IsFine, asks-write, asks-confirm}
 use Rattle.law_run.proofs.Clear.{by-unless, Clear, known-here, clear}
-use Rattle.law_run.proofs.Facts.{image_of, limits, stores-session, next-free, write-count}
-use Rattle.law_run.proofs.Grown.{with-same, fits-data, fits-more}
+use Rattle.law_run.proofs.Facts.{stored_by_session, limits, stores-session, next-free, write-count}
+use Rattle.law_run.proofs.Grown.{with-block-same, fits-data, fits-more}
 use Rattle.law_run.proofs.Holding.{Course, going-first, going-more}
 use Rattle.law_lease.proofs.Latest.{latest-push}
 use Rattle.law_run.proofs.Meets.{exchange}
 use Rattle.law_run.proofs.OnImage.{OnImage, names-own, names-other, still, on-image, Ready}
-use Rattle.law_run.proofs.Passed.{Passed, passed}
+use Rattle.law_run.proofs.Passed.{Passed, passed-at-most}
 use Rattle.law_run.proofs.Rests.{rests-by}
-use Rattle.law_run.proofs.Right.{clock, descriptor_of, Fits, FitsAt, Rests, finish, log_on, Right}
-use Rattle.law_run.proofs.Runs.{start}
+use Rattle.law_run.proofs.Right.{clock, Fits, FitsAt, Rests, finish, log_on, Right}
+use Rattle.law_run.proofs.Runs.{start, hand_start}
 use Rattle.law_run.proofs.Slots.{slot-below}
 use Rattle.law_run.proofs.Unwritten.{unwritten-quiet}
 use Rattle.law_run.proofs.Tests.{eqb-is, eqb-isn't, le-is, le-isn't, opposite-false, opposite-true}
@@ -73,8 +73,8 @@ write-clear slots slot vblock payload session n live below counted room = record
 }
 
 -- the image that a session stores once it has one more write
-stores-written : (g : Geometry) (given : Given) (image : ℕ) (session : Session) (write : Journaled) → Stores g given image (image_of (with_write session write)) →
-    Stores g given image (written_on (image_of session) write.vblock write.block)
+stores-written : (g : Geometry) (given : Given) (image : ℕ) (session : Session) (write : Journaled) → Stores g given image (stored_by_session (with_write session write)) →
+    Stores g given image (written_on (stored_by_session session) write.vblock write.block)
 stores-written g given image session write stores = record {
   kept = stores.kept;
   found = stores.found;
@@ -127,7 +127,7 @@ module _ (s : Setting) (some : 1 ≤ s.geometry.slots) (before : List Finished) 
       let command = Write slot vblock payload in
       let on = on-write slot vblock payload in
       let g = s.geometry in
-      let given = known_after g before slot.0 in
+      let given = given_after g before slot.0 in
       let bytes = bytes_of payload in
       let write = next_write session vblock bytes in
       let d = next_descriptor session vblock in
@@ -147,8 +147,8 @@ module _ (s : Setting) (some : 1 ≤ s.geometry.slots) (before : List Finished) 
       let going0 = going-first s before slot.0 claim until reading ready.now in
       let going1 = going-more s before done0 x1 slot.0 c tt (λ other apart. tt) refl tt going0 in
       let going2 = going-more s before done1 x2 slot.0 c tt (λ other apart. tt) refl tt going1 in
-      let given1 = with_block given block bytes in
-      let given2 = with_block given1 commit (descriptor_bytes d) in
+      let given1 = given_with given block bytes in
+      let given2 = given_with given1 commit (descriptor_bytes d) in
       let known0 : known_in g (log_on before command done0) slot.0 ≡ given = rw (names-own command slot.0 on.named, ready.attached) refl in
       let known1 : known_in g (log_on before command done1) slot.0 ≡ given1 = rw (names-own command slot.0 on.named, ready.attached) refl in
       let parts = live-parts session.image (limits g given slot.0 session ready.fits) live in
@@ -161,7 +161,7 @@ module _ (s : Setting) (some : 1 ≤ s.geometry.slots) (before : List Finished) 
       } in
       let fits1 : Fits g given1 slot.0 session = fits-data g given slot.0 session bytes ready.fits room in
       let fits2 : Fits g given2 slot.0 (with_write session write) =
-      fits-more g given1 slot.0 session write fits1 limit live some room refl (with-same given block bytes) in
+      fits-more g given1 slot.0 session write fits1 limit live some room refl (with-block-same given block bytes) in
       let next = with_session known slot.0 (Some (with_write session write)) in
       let end_part = ends_in_time s known (image_use slot.0 until) (reply.Written (write_count session + 1)) next in
       let commit_part = write_then s known (record { lease = lease; until = until }) kind.JCommit commit (descriptor_bytes d) end_part in
@@ -185,9 +185,9 @@ module _ (s : Setting) (some : 1 ≤ s.geometry.slots) (before : List Finished) 
           payload = payload;
           command = refl;
           confirmed = confirmed;
-          image = image_of session;
-          before = subst (λ (h : Given). Stores g h slot.0 (image_of session)) (sym was) (stores-session g given slot.0 session ready.fits);
-          after = subst (λ (h : Given). Stores g h slot.0 (written_on (image_of session) vblock bytes)) (sym known3)
+          image = stored_by_session session;
+          before = subst (λ (h : Given). Stores g h slot.0 (stored_by_session session)) (sym was) (stores-session g given slot.0 session ready.fits);
+          after = subst (λ (h : Given). Stores g h slot.0 (written_on (stored_by_session session) vblock bytes)) (sym known3)
               (stores-written g given2 slot.0 session write (stores-session g given2 slot.0 (with_write session write) fits2));
           told = refl;
         },
@@ -207,12 +207,12 @@ module _ (s : Setting) (some : 1 ≤ s.geometry.slots) (before : List Finished) 
       let here = known-here s before known command slot reading on rests session claim until ready in
       let found = ap (λ (g : Given). record_on s.geometry g slot.0) (here done) ∙ ready.fits.found in
       let counts = subst (λ (g : Given). IsWriteCount s.geometry g slot.0 session.image (write_count session)) (sym (here done))
-      (write-count s.geometry (known_after s.geometry before slot.0) slot.0 session ready.fits) in
+      (write-count s.geometry (given_after s.geometry before slot.0) slot.0 session ready.fits) in
       let P : Part End → Type 0 = λ part. Right s before command (clock reading ∷ []) part 3 in
       by-unless P (not (is_live session.image)) reply.NoImage known _
       (λ dead. (
         refused 4 (reading, refl) (no_image slot.0 session.image (of_block vblock (of_write slot payload refl refl)) found (opposite-true (is_live session.image) dead))
-            (λ p other refuses. passed s log 4 p other (place 4 (λ lt. absurd (omega arith)) (λ lt. absurd (omega arith)) (λ lt. absurd (omega arith)) (λ lt. absurd (omega arith)) done refl) refuses),
+            (λ p other refuses. passed-at-most s log 4 p other (place 4 (λ lt. absurd (omega arith)) (λ lt. absurd (omega arith)) (λ lt. absurd (omega arith)) (λ lt. absurd (omega arith)) done refl) refuses),
         still s before known command slot reading on rests reply.NoImage (λ other b. refl) (λ h. refl),
       ))
       (λ alive.
@@ -220,7 +220,7 @@ module _ (s : Setting) (some : 1 ≤ s.geometry.slots) (before : List Finished) 
       by-unless P (nat_le (size_of session.image) vblock) (reply.OutOfRange (size_of session.image)) known _
       (λ past. (
         refused 6 (reading, refl) (out_of_range slot.0 vblock session.image (of_write slot payload refl refl) found refl (le-is (size_of session.image) vblock past))
-            (λ p other refuses. passed s log 6 p other (place 6 (λ lt. live) (λ lt. absurd (omega arith)) (λ lt. absurd (omega arith)) (λ lt. absurd (omega arith)) done refl) refuses),
+            (λ p other refuses. passed-at-most s log 6 p other (place 6 (λ lt. live) (λ lt. absurd (omega arith)) (λ lt. absurd (omega arith)) (λ lt. absurd (omega arith)) done refl) refuses),
         still s before known command slot reading on rests (reply.OutOfRange (size_of session.image)) (λ other b. refl) (λ h. refl),
       ))
       (λ within.
@@ -228,7 +228,7 @@ module _ (s : Setting) (some : 1 ≤ s.geometry.slots) (before : List Finished) 
       by-unless P (is_worn last_write (write_count session)) (reply.WornOut last_write) known _
       (λ worn. (
         refused 9 (reading, refl) (writes slot vblock payload session.image (write_count session) refl found counts (le-is last_write (write_count session) worn))
-            (λ p other refuses. passed s log 9 p other (place 9 (λ lt. live) (λ lt. below) (λ lt. absurd (omega arith)) (λ lt. absurd (omega arith)) done refl) refuses),
+            (λ p other refuses. passed-at-most s log 9 p other (place 9 (λ lt. live) (λ lt. below) (λ lt. absurd (omega arith)) (λ lt. absurd (omega arith)) done refl) refuses),
         still s before known command slot reading on rests (reply.WornOut last_write) (λ other b. refl) (λ h. refl),
       ))
       (λ fresh.
@@ -236,14 +236,14 @@ module _ (s : Setting) (some : 1 ≤ s.geometry.slots) (before : List Finished) 
       by-unless P (length session.writes == s.geometry.slots) reply.Full known _
       (λ filled. (
         refused 10 (reading, refl) (full slot vblock payload session.image (write_count session) refl found counts (ap (λ n. applied_of session.image + n) (eqb-is (length session.writes) s.geometry.slots filled)))
-            (λ p other refuses. passed s log 10 p other (place 10 (λ lt. live) (λ lt. below) (λ lt. counted) (λ lt. absurd (omega arith)) done refl) refuses),
+            (λ p other refuses. passed-at-most s log 10 p other (place 10 (λ lt. live) (λ lt. below) (λ lt. counted) (λ lt. absurd (omega arith)) done refl) refuses),
         still s before known command slot reading on rests reply.Full (λ other b. refl) (λ h. refl),
       ))
       (λ some_room. (let apart = eqb-isn't (length session.writes) s.geometry.slots some_room in let most = ready.fits.room in right-journal live below counted (omega (arith, apart)))))))
 
 pub write-begins : (s : Setting) → 1 ≤ s.geometry.slots → (before : List Finished) (known : Known) (slot : SlotNo) (vblock : ℕ) (payload : Payload) (reading : ℕ) → Rests s before known →
     length (bytes_of payload) ≡ 4096 →
-    Right s before (Write slot vblock payload) (clock reading ∷ []) (command_part s known (start s before reading) reading (Write slot vblock payload)) 3
+    Right s before (Write slot vblock payload) (clock reading ∷ []) (command_part s known (start s before reading) (hand_start s before reading) reading (Write slot vblock payload)) 3
 write-begins s some before known slot vblock payload reading rests long =
     on-image s before known (Write slot vblock payload) slot reading (on-write slot vblock payload) rests 3 (write_part s known slot.0 vblock (bytes_of payload))
     (λ session claim until ready. right-write s some before known slot vblock payload reading rests long session claim until ready)

@@ -1,5 +1,5 @@
 -- Which asks a command may make.
-use Rattle.std.specs.Prelude.{◌≡◌, ◌+◌, ◌<◌, ℕ, List, [], ◌∷◌, length, drop, Option, Some, None, true}
+use Rattle.std.specs.Prelude.{◌≡◌, ◌+◌, ◌<◌, ℕ, List, [], ◌∷◌, length, drop, Bool, Option, Some, None, true}
 use Rattle.plx_base.specs.Blocks.{zeros}
 use Rattle.plx_base.specs.Payload.{bytes_of}
 use Rattle.plx_base.specs.declared.label.Label.{Label}
@@ -11,26 +11,29 @@ use Rattle.plx_base.specs.declared.payload.Payload.{Payload}
 use Rattle.plx_base.specs.declared.write_kind.WriteKind.{WriteKind}
 use Rattle.plx_base.specs.declared.write_kind.WriteKind.TheVariants as kind
 use Rattle.plx_commands.specs.declared.command.Command.TheVariants.{Create, Delete, Write}
+use Rattle.plx_commands.specs.Replies.{is_in}
 use Rattle.plx_disk.specs.declared.ask.Ask.{Ask}
 use Rattle.plx_disk.specs.declared.ask.Ask.TheVariants as ask
 use Rattle.plx_disk.specs.declared.ask.Answer.{Answer}
 use Rattle.plx_disk.specs.declared.ask.Answer.TheVariants as answer
+use Rattle.plx_extent.specs.Maps.{map_bytes}
 use Rattle.plx_gate.specs.Descriptors.{descriptor_bytes}
 use Rattle.plx_gate.specs.Images.{image_bytes}
 use Rattle.plx_gate.specs.Leases.{lease_bytes, read_lease}
 use Rattle.plx_gate.specs.declared.descriptor.Descriptor.{Descriptor}
 use Rattle.plx_gate.specs.declared.image.ImageRecord.{ImageRecord}
 use Rattle.plx_gate.specs.declared.image.ImageRecord.TheVariants as image_is
-use Rattle.plx_geom.specs.Geometry.{lease_count, lease_at, record_at, descriptor_at, data_at}
+use Rattle.plx_geom.specs.Geometry.{lease_count, extent_lease, lease_at, record_at, descriptor_at, data_at, map_at}
 use Rattle.plx_rules.specs.Commands.{later_of}
 use Rattle.plx_rules.specs.Holds.{Wrote}
 use Rattle.plx_rules.specs.Journal.{journal_slot}
 use Rattle.plx_rules.specs.Records.{is_live, generation_of, made_record}
 use Rattle.plx_rules.specs.Settings.{Setting}
+use Rattle.plx_rules.specs.Space.{read_map, free_from, with_set, with_clear}
 use Rattle.plx_rules.specs.Stored.{Given, record_on, IsCounted, IsWriteCount}
 use Rattle.plx_rules.specs.Times.{window, wait, term, is_expired}
-use Rattle.law_run.specs.CommandLogs.{Exchange, CommandLog, WasAnswered, first_reading}
-use Rattle.law_run.specs.Holdings.{hold_of, Holds, HoldsImage, claims_in, claims_begun, IsNotHeld}
+use Rattle.law_run.specs.CommandLogs.{Exchange, CommandLog, WasAnswered, LastAnswered, first_reading}
+use Rattle.law_run.specs.Holdings.{hold_by_log, hand_by_log, Holds, HoldsImage, claims_in, claims_begun, IsNotHeld}
 use Rattle.law_run.specs.KnownBytes.{known_in}
 use Rattle.law_run.specs.Sessions.{is_attached}
 
@@ -60,10 +63,15 @@ last_known (Some bytes) = bytes
 abbrev pub IsFirstSector : Given → (block : ℕ) → List ℕ → Type 0
 IsFirstSector given block bytes = drop 512 bytes ≡ drop 512 (last_known (given block))
 
--- a write may be asked for, by its kind, with its block, its bytes and its guard
+-- the last exchange of a command was the read of a block, with these bytes
+abbrev pub HasRead : CommandLog → (block : ℕ) → List ℕ → Type 0
+HasRead log block read = LastAnswered log (ask.Read (record { 0 = block })) [] (answer.Bytes read)
+
+-- a write may be asked for, by its kind, with its block, its bytes and its guard: a take sets clear bits of blocks that aren't in hand, and a give clears
+-- those of blocks that are, in the map that was just read
 pub data MayWrite (s : Setting) (log : CommandLog) : WriteKind → (block : ℕ) → (bytes : List ℕ) → (guard : ℕ) → Type 0 where
   claim_of_lease : {block : ℕ} {bytes : List ℕ} {guard : ℕ} (lease : ℕ) (claim : Claim) (seen : LeaseRecord) (read : List ℕ) (older : List Exchange) →
-      lease < lease_count s.geometry → block ≡ lease_at lease → IsNotHeld (hold_of s log.before log.exchanges lease) →
+      lease < lease_count s.geometry → block ≡ lease_at lease → IsNotHeld (hold_by_log s log.before log.exchanges lease) →
       HasSampled log lease claim.sample read older → read_lease read ≡ Some seen → is_expired seen claim.sample ≡ true →
       claim.boot.0 ≡ s.boot → claim.number ≡ claims_in s.geometry older + claims_begun s.geometry log.before →
       bytes ≡ lease_bytes (lease_is.Claimed claim (claim.sample + term)) → drop 512 bytes ≡ drop 512 read → guard ≡ claim.sample + window →
@@ -94,13 +102,22 @@ pub data MayWrite (s : Setting) (log : CommandLog) : WriteKind → (block : ℕ)
       d.vblock ≡ vblock → d.generation ≡ generation_of next.kept →
       WasAnswered log (ask.Write kind.JData (record { 0 = data_at s.geometry slot.0 (journal_slot s.geometry.slots d.number) }) guard) (bytes_of payload) answer.Done →
       IsFirstSector (known_in s.geometry log slot.0) block bytes → MayWrite s log kind.JCommit block bytes guard
+  take_of_blocks : {block : ℕ} {bytes : List ℕ} {guard : ℕ} (extent : ℕ) (claim : Claim) (read : List ℕ) (bits : List Bool) (blocks : List ℕ) →
+      extent < s.geometry.extents → block ≡ map_at s.geometry extent → Holds s log (extent_lease s.geometry extent) claim guard → HasRead log block read →
+      read_map s.geometry.extent_blocks read ≡ Some bits →
+      ((b : ℕ) → is_in b blocks ≡ true → is_in b (free_from (hand_by_log s log.before log.exchanges) block bits) ≡ true) →
+      bytes ≡ map_bytes (with_set blocks block bits) → MayWrite s log kind.Take block bytes guard
+  give_of_blocks : {block : ℕ} {bytes : List ℕ} {guard : ℕ} (extent : ℕ) (claim : Claim) (read : List ℕ) (bits : List Bool) (blocks : List ℕ) →
+      extent < s.geometry.extents → block ≡ map_at s.geometry extent → Holds s log (extent_lease s.geometry extent) claim guard → HasRead log block read →
+      read_map s.geometry.extent_blocks read ≡ Some bits → ((b : ℕ) → is_in b blocks ≡ true → is_in b (hand_by_log s log.before log.exchanges) ≡ true) →
+      bytes ≡ map_bytes (with_clear blocks block bits) → MayWrite s log kind.Give block bytes guard
 
 -- a wait may be asked for: from 601 ms after the sample of a claim that was written
 pub record MayWait (s : Setting) (log : CommandLog) (from : ℕ) : Type 0 where
   pub lease : ℕ
   pub claim : Claim
   pub until : ℕ
-  pub wrote : hold_of s log.before log.exchanges lease ≡ Wrote claim until
+  pub wrote : hold_by_log s log.before log.exchanges lease ≡ Wrote claim until
   pub after : from ≡ claim.sample + wait
 
 -- what an ask needs: a read and a reading nothing

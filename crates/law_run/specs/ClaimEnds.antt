@@ -15,10 +15,11 @@ use Rattle.plx_rules.specs.Part.{Part, bytes_out}
 use Rattle.plx_rules.specs.Settings.{Setting}
 use Rattle.plx_rules.specs.Times.{window, term}
 use Rattle.law_run.specs.AllowedAsks.{WentOn}
+use Rattle.law_run.specs.Busy.{IsBusy}
 use Rattle.law_run.specs.CommandLogs.{Exchange, CommandLog, WasAnswered, LastAnswered}
-use Rattle.law_run.specs.Holdings.{hold_of, Holds, claims_in, claims_begun}
+use Rattle.law_run.specs.Holdings.{hold_by_log, Holds, claims_in, claims_begun}
 use Rattle.law_run.specs.Machines.{HasCome, IsRightAsk, IsRightEnd, Keeps}
-use Rattle.law_run.specs.Replies.{IsLastReading, IsBusy}
+use Rattle.law_run.specs.Replies.{IsLastReading}
 use Rattle.law_run.specs.Rules.{IsSetting}
 
 -- the leases in use along a claim: those beside it, and its own once it was written
@@ -54,20 +55,20 @@ ShowsClaim s others lease log ClaimReadFault = LastAnswered log (ask.Read (recor
 ShowsClaim s others lease log ClaimWriteFault = (guard : ℕ) × (bytes : List ℕ) × LastAnswered log (ask.Write kind.Claim (record { 0 = lease_at lease }) guard) bytes answer.Fault
 ShowsClaim s others lease log ClaimDamaged = IsClaimDamaged log others lease
 
--- how many asks of a claim are answered at most
-abbrev pub claim_bound : ℕ
-claim_bound = 6
-
 -- a claim may begin: nothing is held of its lease, the command has had its first reading and goes on, and the number is that of claims begun before
 pub record MayBeginClaim (s : Setting) (log : CommandLog) (lease number : ℕ) : Type 0 where
   pub within : lease < lease_count s.geometry
-  pub nothing : hold_of s log.before log.exchanges lease ≡ Nothing
+  pub nothing : hold_by_log s log.before log.exchanges lease ≡ Nothing
   pub first : Exchange
   pub others : List Exchange
   pub begun : log.exchanges ≡ first ∷ others
   pub went : WentOn log.exchanges
   pub counted : number ≡ claims_in s.geometry log.exchanges + claims_begun s.geometry log.before
   pub few : number < 2 ^ 40
+
+-- how many asks of a claim are answered at most
+abbrev pub claim_bound : ℕ
+claim_bound = 6
 
 -- an ask of a claim that has come to this rest keeps the rules, by each log that leads there, within any command in which the claim may begin
 abbrev pub IsClaimAsk : (rest : Part ClaimEnd) → Ask → Type 0

@@ -37,13 +37,13 @@ starting command (Between before) = Within (record { before = before; command = 
 starting command (Within log) = Within log
 
 -- the log with one more exchange
-abbrev pub exchanged : Exchange → CommandLog → CommandLog
-exchanged exchange log = record { before = log.before; command = log.command; exchanges = exchange ∷ log.exchanges }
+abbrev pub with_exchange : Exchange → CommandLog → CommandLog
+with_exchange exchange log = record { before = log.before; command = log.command; exchanges = exchange ∷ log.exchanges }
 
 -- one more exchange of the command that runs, and the reply to which it leads
 abbrev pub following : Exchange → Option Reply → Commands → Commands
 following exchange reply (Between before) = Between before
-following exchange None (Within log) = Within (exchanged exchange log)
+following exchange None (Within log) = Within (with_exchange exchange log)
 following exchange (Some reply) (Within log) =
     Between ((record { command = log.command; exchanges = exchange ∷ log.exchanges; reply = reply }) ∷ log.before)
 
@@ -57,6 +57,10 @@ commands s (Asked ask bytes answer ∷ older) =
 -- the log of a command that has its reply
 abbrev pub log_of : Finished → List Finished → CommandLog
 log_of finished before = record { before = before; command = finished.command; exchanges = finished.exchanges }
+
+-- the log with these exchanges
+abbrev pub with_exchanges : CommandLog → List Exchange → CommandLog
+with_exchanges log done = record { before = log.before; command = log.command; exchanges = done }
 
 -- this exchange is among those
 abbrev pub IsIn : Exchange → List Exchange → Type 0

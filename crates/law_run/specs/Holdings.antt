@@ -1,13 +1,19 @@
--- What a boot holds of each lease, and how many claims it began, by its commands.
-use Rattle.std.specs.Prelude.{◌≡◌, ◌+◌, ◌-◌, ℕ, List, [], ◌∷◌, Bool, true, false, ◌&&◌, nat_le, nat_lt, if◌then◌else◌}
+-- What a boot holds of each lease, what it has in hand, and how many claims it began, by its commands.
+use Rattle.std.specs.Prelude.{◌≡◌, ◌+◌, ◌-◌, ℕ, List, [], ◌∷◌, Bool, true, false, ◌&&◌, nat_le, nat_lt, if◌then◌else◌, ◌==◌, Option, Some, None, is_some}
 use Rattle.plx_base.specs.declared.lease.Claim.{Claim}
+use Rattle.plx_base.specs.declared.lease.LeaseName.TheVariants as lease
+use Rattle.plx_commands.specs.declared.reply.Reply.{Reply}
+use Rattle.plx_commands.specs.declared.reply.Reply.TheVariants as reply
 use Rattle.plx_disk.specs.declared.ask.Ask.{Ask}
 use Rattle.plx_disk.specs.declared.ask.Ask.TheVariants as ask
 use Rattle.plx_disk.specs.declared.ask.Answer.{Answer}
 use Rattle.plx_disk.specs.declared.ask.Answer.TheVariants as answer
-use Rattle.plx_geom.specs.Geometry.{Geometry, lease_count, image_lease, lease_at}
-use Rattle.plx_rules.specs.Holds.{Hold, Nothing, Wrote, Waited, Held, no_holds, after_answer, sample_of, after_reply}
+use Rattle.plx_geom.specs.Geometry.{Geometry, lease_count, image_lease, lease_at, map_at}
+use Rattle.plx_rules.specs.Hands.{found_by, hand_answered, hand_held}
+use Rattle.plx_rules.specs.Holds.{Hold, Nothing, Wrote, Waited, Held, no_holds, after_answer, sample_of, holds_after_reply}
+use Rattle.plx_rules.specs.Rests.{extent_of}
 use Rattle.plx_rules.specs.Settings.{Setting}
+use Rattle.plx_rules.specs.Space.{read_map}
 use Rattle.law_run.specs.CommandLogs.{Exchange, Finished, CommandLog}
 use Rattle.law_run.specs.Sessions.{is_attached}
 
@@ -37,15 +43,15 @@ holds_along g attached start (exchange ∷ last ∷ older) =
 abbrev pub holds_after : Geometry → List Finished → ℕ → Hold
 holds_after g [] = no_holds
 holds_after g (finished ∷ before) =
-    after_reply finished.reply (holds_along g (is_attached before) (holds_after g before) finished.exchanges)
+    holds_after_reply finished.reply (holds_along g (is_attached before) (holds_after g before) finished.exchanges)
 
 -- what is held of a lease after some exchanges of a command with those before it
-abbrev pub hold_of : Setting → List Finished → List Exchange → (lease : ℕ) → Hold
-hold_of s before exchanges lease = holds_along s.geometry (is_attached before) (holds_after s.geometry before) exchanges (lease_at lease)
+abbrev pub hold_by_log : Setting → List Finished → List Exchange → (lease : ℕ) → Hold
+hold_by_log s before exchanges lease = holds_along s.geometry (is_attached before) (holds_after s.geometry before) exchanges (lease_at lease)
 
 -- a lease is held until that moment, by this claim: its own record was read again in time
 abbrev pub Holds : Setting → CommandLog → (lease : ℕ) → Claim → (until : ℕ) → Type 0
-Holds s log lease claim until = hold_of s log.before log.exchanges lease ≡ Held claim until
+Holds s log lease claim until = hold_by_log s log.before log.exchanges lease ≡ Held claim until
 
 -- the lease of an image is held until that moment
 abbrev pub HoldsImage : Setting → CommandLog → (image until : ℕ) → Type 0
@@ -60,6 +66,40 @@ pub data IsUntil (until : ℕ) : Hold → Type 0 where
   wrote : {hold : Hold} (claim : Claim) → hold ≡ Wrote claim until → IsUntil until hold
   waited : {hold : Hold} (claim : Claim) → hold ≡ Waited claim until → IsUntil until hold
   held : {hold : Hold} (claim : Claim) → hold ≡ Held claim until → IsUntil until hold
+
+-- ---- the hand
+
+-- the block that the newest of some exchanges has read, with its bytes, where it is a read
+abbrev pub last_found : List Exchange → Option (ℕ × List ℕ)
+last_found [] = None
+last_found (exchange ∷ older) = found_by exchange.ask exchange.answer
+
+-- what is in hand after some exchanges of a command that began with these holdings and blocks, before the newest one's leases are looked at
+abbrev pub hand_told : Geometry → (attached : ℕ → Bool) → (start : ℕ → Hold) → (hand : List ℕ) → List Exchange → List ℕ
+hand_told g attached start hand [] = hand
+hand_told g attached start hand (exchange ∷ []) = hand
+hand_told g attached start hand (exchange ∷ last ∷ older) =
+    hand_answered g (found_by last.ask last.answer) exchange.ask exchange.bytes exchange.answer
+    (hand_held g (holds_along g attached start (last ∷ older)) (hand_told g attached start hand (last ∷ older)))
+
+-- what is in hand then: of those blocks the ones whose extents are held
+abbrev pub hand_along : Geometry → (attached : ℕ → Bool) → (start : ℕ → Hold) → (hand : List ℕ) → List Exchange → List ℕ
+hand_along g attached start hand [] = hand
+hand_along g attached start hand (exchange ∷ older) =
+    hand_held g (holds_along g attached start (exchange ∷ older)) (hand_told g attached start hand (exchange ∷ older))
+
+-- what is in hand after some commands
+abbrev pub hand_after : Geometry → List Finished → List ℕ
+hand_after g [] = []
+hand_after g (finished ∷ before) =
+    hand_held g (holds_after g (finished ∷ before))
+    (hand_told g (is_attached before) (holds_after g before) (hand_after g before) finished.exchanges)
+
+-- what is in hand after some exchanges of a command with those before it
+abbrev pub hand_by_log : Setting → List Finished → List Exchange → List ℕ
+hand_by_log s before exchanges = hand_along s.geometry (is_attached before) (holds_after s.geometry before) (hand_after s.geometry before) exchanges
+
+-- ---- claims
 
 -- whether an ask is the read of a lease
 abbrev pub is_lease_read : Geometry → Ask → Bool
@@ -82,7 +122,18 @@ claims_in g (exchange ∷ []) = 0
 claims_in g (exchange ∷ last ∷ older) =
     (if is_lease_read g exchange.ask && is_clock last.ask then 1 else 0) + claims_in g (last ∷ older)
 
+-- whether what was found at a block is the map of an extent
+abbrev pub is_map_found : Geometry → Option (ℕ × List ℕ) → Bool
+is_map_found g None = false
+is_map_found g (Some found) = (map_at g (extent_of g found.0) == found.0) && is_some (read_map g.extent_blocks found.1)
+
+-- 1 for a claim that a command began last and that read no lease: once a map was read its clock was asked, and the reading has reached the end of
+-- another extent's lease
+abbrev pub lost_claim : Geometry → Reply → List Exchange → ℕ
+lost_claim g (reply.Lost (lease.Extent extent) until reading) (exchange ∷ older) = if is_clock exchange.ask && is_map_found g (last_found older) then 1 else 0
+lost_claim g reply exchanges = 0
+
 -- how many claims a boot has begun in its commands
 abbrev pub claims_begun : Geometry → List Finished → ℕ
 claims_begun g [] = 0
-claims_begun g (finished ∷ before) = claims_in g finished.exchanges + claims_begun g before
+claims_begun g (finished ∷ before) = claims_in g finished.exchanges + lost_claim g finished.reply finished.exchanges + claims_begun g before

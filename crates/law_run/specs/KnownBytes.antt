@@ -18,19 +18,19 @@ abbrev pub nothing_given : Given
 nothing_given = λ block. None
 
 -- these bytes of a block, and what was given of the others
-abbrev pub with_block : Given → (block : ℕ) → List ℕ → Given
-with_block given block bytes = λ b. if b == block then Some bytes else given b
+abbrev pub given_with : Given → (block : ℕ) → List ℕ → Given
+given_with given block bytes = λ b. if b == block then Some bytes else given b
 
 -- what an exchange tells of a block: the bytes that were read there, or written and Done
-abbrev pub told_by : Ask → List ℕ → Answer → Given → Given
-told_by (ask.Read block) bytes (answer.Bytes read) given = with_block given block.0 read
-told_by (ask.Write kind block guard) bytes answer.Done given = with_block given block.0 bytes
-told_by ask bytes answer given = given
+abbrev pub given_after_exchange : Ask → List ℕ → Answer → Given → Given
+given_after_exchange (ask.Read block) bytes (answer.Bytes read) given = given_with given block.0 read
+given_after_exchange (ask.Write kind block guard) bytes answer.Done given = given_with given block.0 bytes
+given_after_exchange ask bytes answer given = given
 
 -- what some exchanges tell, the newest bytes of each block
-abbrev pub told : List Exchange → Given → Given
-told [] given = given
-told (exchange ∷ older) given = told_by exchange.ask exchange.bytes exchange.answer (told older given)
+abbrev pub given_after_exchanges : List Exchange → Given → Given
+given_after_exchanges [] given = given
+given_after_exchanges (exchange ∷ older) given = given_after_exchange exchange.ask exchange.bytes exchange.answer (given_after_exchanges older given)
 
 -- whether a command makes an image anew
 abbrev pub is_making : Command → Bool
@@ -61,11 +61,11 @@ unless_made g true given = without_journal g given
 unless_made g false given = given
 
 -- what some exchanges of a command tell of an image
-abbrev pub learnt : Geometry → (image : ℕ) → Command → List Exchange → Given → Given
-learnt g image command [] given = given
-learnt g image command (exchange ∷ older) given =
+abbrev pub given_after_command : Geometry → (image : ℕ) → Command → List Exchange → Given → Given
+given_after_command g image command [] given = given
+given_after_command g image command (exchange ∷ older) given =
     unless_made g (is_record_done (record_at g image) exchange.ask exchange.answer && is_making command)
-    (told_by exchange.ask exchange.bytes exchange.answer (learnt g image command older given))
+    (given_after_exchange exchange.ask exchange.bytes exchange.answer (given_after_command g image command older given))
 
 -- what was known of an image, where it is attached
 abbrev pub where_attached : Bool → Given → Given
@@ -73,21 +73,21 @@ where_attached true given = given
 where_attached false given = nothing_given
 
 -- the known bytes of an image after some commands: what those that name it have read, or written and Done, since its attach began
-abbrev pub known_after : Geometry → List Finished → (image : ℕ) → Given
-known_after g [] image = nothing_given
-known_after g (finished ∷ older) image =
+abbrev pub given_after : Geometry → List Finished → (image : ℕ) → Given
+given_after g [] image = nothing_given
+given_after g (finished ∷ older) image =
     if names finished.command image
-    then learnt g image finished.command finished.exchanges (where_attached (is_attached older image) (known_after g older image))
-    else known_after g older image
+    then given_after_command g image finished.command finished.exchanges (where_attached (is_attached older image) (given_after g older image))
+    else given_after g older image
 
 -- those with which a command begins: none where the image isn't attached
 abbrev pub known_from : Geometry → CommandLog → (image : ℕ) → Given
-known_from g log image = where_attached (is_attached log.before image) (known_after g log.before image)
+known_from g log image = where_attached (is_attached log.before image) (given_after g log.before image)
 
 -- and those that are known by now
 abbrev pub known_in : Geometry → CommandLog → (image : ℕ) → Given
 known_in g log image =
-    if names log.command image then learnt g image log.command log.exchanges (known_from g log image) else known_after g log.before image
+    if names log.command image then given_after_command g image log.command log.exchanges (known_from g log image) else given_after g log.before image
 
 -- whether an ask is a write of this block
 abbrev pub is_write_of : (block : ℕ) → Ask → Bool
@@ -102,14 +102,14 @@ has_written block [] = false
 has_written block (exchange ∷ older) = is_write_of block exchange.ask || has_written block older
 
 -- what is told, with each block that was written as it was known before the first write of it
-abbrev pub unwritten : List Exchange → Given → Given
-unwritten [] given = given
-unwritten (exchange ∷ older) given =
-    λ block. if has_written block (exchange ∷ older) then unwritten older given block else told (exchange ∷ older) given block
+abbrev pub given_before_writes : List Exchange → Given → Given
+given_before_writes [] given = given
+given_before_writes (exchange ∷ older) given =
+    λ block. if has_written block (exchange ∷ older) then given_before_writes older given block else given_after_exchanges (exchange ∷ older) given block
 
 -- the bytes that are known by now, but as they were before the command's own writes
 abbrev pub known_before : Geometry → CommandLog → (image : ℕ) → Given
-known_before g log image = unwritten log.exchanges (known_from g log image)
+known_before g log image = given_before_writes log.exchanges (known_from g log image)
 
 -- the record of an image, as it is known when a command begins
 abbrev pub record_known : Geometry → CommandLog → (image : ℕ) → Option ImageRecord

@@ -7,6 +7,8 @@ pub mod AllowedAsks
 pub mod Bounds
 pub mod Outside
 pub mod Refusals
+pub mod Busy
+pub mod Space
 pub mod Replies
 pub mod Completeness
 pub mod OneImage

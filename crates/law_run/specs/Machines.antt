@@ -7,7 +7,7 @@ use Rattle.plx_rules.specs.Part.{Part, Ends, answered, standing, bytes_out}
 use Rattle.plx_rules.specs.Boot.{Fits}
 use Rattle.plx_rules.specs.Settings.{Setting}
 use Rattle.law_run.specs.AllowedAsks.{MayAsk}
-use Rattle.law_run.specs.CommandLogs.{Exchange, CommandLog}
+use Rattle.law_run.specs.CommandLogs.{Exchange, CommandLog, with_exchanges}
 use Rattle.law_run.specs.Rules.{AllAllowed}
 
 -- some work that began as `start` has come, by exchanges of its own, the newest first, to this rest of it
@@ -21,10 +21,6 @@ abbrev pub MovesOn : {E : Type 0} → (old : Part E) → Answer → (new : Part 
 MovesOn old answer new =
     (start : Part _) (own : List Exchange) (ask : Ask) → HasCome start own old → standing old ≡ Some ask → Fits ask answer →
     HasCome start ((record { ask = ask; bytes = bytes_out old; answer = answer }) ∷ own) new
-
--- the log with these exchanges
-abbrev pub with_exchanges : CommandLog → List Exchange → CommandLog
-with_exchanges log done = record { before = log.before; command = log.command; exchanges = done }
 
 -- the log of a command with those of some work within it
 abbrev pub with_work : CommandLog → (own : List Exchange) → CommandLog

@@ -15,7 +15,7 @@ use Rattle.plx_rules.specs.Part.{Part, Ends, WriteThen, bytes_out}
 use Rattle.plx_rules.specs.Settings.{Setting}
 use Rattle.law_run.specs.AllowedAsks.{WentOn}
 use Rattle.law_run.specs.CommandLogs.{Exchange, CommandLog, LastAnswered}
-use Rattle.law_run.specs.Holdings.{Holds, hold_of}
+use Rattle.law_run.specs.Holdings.{Holds, hold_by_log}
 use Rattle.law_run.specs.Machines.{HasCome, IsRightAsk, IsRightEnd, Keeps}
 
 -- how a release ends: the lease is free; its write was missed; or its write failed
@@ -46,7 +46,7 @@ ReleaseAnswered log lease until answer = (bytes : List ℕ) × LastAnswered log 
 
 -- why a release ends so: one line an end
 abbrev pub ShowsRelease : Setting → (lease until : ℕ) → CommandLog → ReleaseEnd → Type 0
-ShowsRelease s lease until log Released = ReleaseAnswered log lease until answer.Done × (hold_of s log.before log.exchanges lease ≡ Nothing)
+ShowsRelease s lease until log Released = ReleaseAnswered log lease until answer.Done × (hold_by_log s log.before log.exchanges lease ≡ Nothing)
 ShowsRelease s lease until log (ReleaseLost due past) = ReleaseAnswered log lease until (answer.Missed past) × (due ≡ record { lease = lease; until = until })
 ShowsRelease s lease until log ReleaseWriteFault = ReleaseAnswered log lease until answer.Fault
 

@@ -1,5 +1,5 @@
 -- What the log of a command shows where its reply comes.
-use Rattle.std.specs.Prelude.{◌≡◌, ◌≢◌, ◌≤◌, ◌<◌, ◌+◌, ℕ, List, [], ◌∷◌, true, false, Some, None}
+use Rattle.std.specs.Prelude.{◌≡◌, ◌≤◌, ◌<◌, ◌+◌, ℕ, List, [], ◌∷◌, true, false, Some, None}
 use Rattle.plx_base.specs.Payload.{bytes_of}
 use Rattle.plx_base.specs.declared.label.Label.{Label}
 use Rattle.plx_base.specs.declared.lease.Claim.{Claim}
@@ -8,6 +8,7 @@ use Rattle.plx_base.specs.declared.lease.LeaseName.TheVariants as lease
 use Rattle.plx_base.specs.declared.lease.LeaseRecord.{LeaseRecord}
 use Rattle.plx_base.specs.declared.lease.LeaseRecord.TheVariants as lease_is
 use Rattle.plx_base.specs.declared.numbers.BlockNo.{BlockNo}
+use Rattle.plx_base.specs.declared.numbers.ExtentNo.{ExtentNo}
 use Rattle.plx_base.specs.declared.numbers.SlotNo.{SlotNo}
 use Rattle.plx_base.specs.declared.payload.Payload.{Payload}
 use Rattle.plx_base.specs.declared.write_kind.WriteKind.{WriteKind}
@@ -25,16 +26,16 @@ use Rattle.plx_rules.specs.Holds.{Nothing, Waited}
 use Rattle.plx_rules.specs.Owners.{Needs}
 use Rattle.plx_rules.specs.Settings.{Setting}
 use Rattle.plx_rules.specs.Stored.{Holds, StoredImage, record_on, IsContent, Stores}
-use Rattle.plx_rules.specs.Times.{is_expired}
-use Rattle.law_run.specs.AllowedAsks.{HasSampled}
+use Rattle.law_run.specs.Busy.{IsBusy}
 use Rattle.law_run.specs.Changes.{written_on, created_on, deleted_on, report_on}
 use Rattle.law_run.specs.CommandLogs.{Exchange, CommandLog, WasAnswered, NewestIs, LastAnswered}
 use Rattle.law_run.specs.Holdings as holdings
-use Rattle.law_run.specs.Holdings.{hold_of, HoldsImage, IsUntil}
+use Rattle.law_run.specs.Holdings.{hold_by_log, HoldsImage, IsUntil}
 use Rattle.law_run.specs.KnownBytes.{known_in, known_before}
 use Rattle.law_run.specs.Outside.{IsOutside}
 use Rattle.law_run.specs.Refusals.{Refuses, IsNamedFirst}
 use Rattle.law_run.specs.Sessions.{names}
+use Rattle.law_run.specs.Space.{IsExtentInUse, WasBusyForSpace, IsFull, IsWornOut, IsMapDamaged, IsLeaseDamaged, ShowsReserve, ShowsRetire}
 
 -- ---- leases
 
@@ -54,12 +55,12 @@ pub data RestsOn (g : Geometry) : WriteKind → (block : ℕ) → LeaseName → 
 -- a lease is in use until that moment: it is that of an image which the command names, and it is held, or its claim was written and goes on;
 -- or the claim has waited, and its reread showed bytes that are no lease, after which the clock was asked
 pub data IsInUse (s : Setting) (log : CommandLog) (image until : ℕ) : Type 0 where
-  going : names log.command image ≡ true → IsUntil until (hold_of s log.before log.exchanges (image_lease image)) → IsInUse s log image until
+  going : names log.command image ≡ true → IsUntil until (hold_by_log s log.before log.exchanges (image_lease image)) → IsInUse s log image until
   unread : (claim : Claim) (bytes : List ℕ) (reading : ℕ) (older : List Exchange) → names log.command image ≡ true →
       log.exchanges ≡ (record { ask = ask.Clock; bytes = []; answer = answer.Reading reading })
       ∷ (record { ask = ask.Read (record { 0 = lease_at (image_lease image) }); bytes = []; answer = answer.Bytes bytes }) ∷ older →
-      hold_of s log.before older (image_lease image) ≡ Waited claim until → read_lease bytes ≡ None →
-      hold_of s log.before log.exchanges (image_lease image) ≡ Nothing → IsInUse s log image until
+      hold_by_log s log.before older (image_lease image) ≡ Waited claim until → read_lease bytes ≡ None →
+      hold_by_log s log.before log.exchanges (image_lease image) ≡ Nothing → IsInUse s log image until
 
 -- the last answer of a command was this reading
 pub data IsLastReading (log : CommandLog) (reading : ℕ) : Type 0 where
@@ -67,26 +68,21 @@ pub data IsLastReading (log : CommandLog) (reading : ℕ) : Type 0 where
   of_wait : (from : ℕ) → LastAnswered log (ask.Until from) [] (answer.Reading reading) → IsLastReading log reading
 
 -- a lease is lost: a write that rests on it came too late for its guard; or a reading has reached its end while it was in use,
--- and of several such leases it is the one to be named
+-- and of several such leases it is the one to be named; a command uses the leases of images or those of extents
 pub data WasLost (s : Setting) (log : CommandLog) : LeaseName → (until reading : ℕ) → Type 0 where
   missed : {name : LeaseName} {until reading : ℕ} (kind : WriteKind) (block : BlockNo) (bytes : List ℕ) →
       LastAnswered log (ask.Write kind block until) bytes (answer.Missed reading) → RestsOn s.geometry kind block.0 name → WasLost s log name until reading
   reached : {until reading : ℕ} (slot : SlotNo) → IsLastReading log reading → IsInUse s log slot.0 until → until ≤ reading →
       ((other other_until : ℕ) → IsInUse s log other other_until → other_until ≤ reading → IsNamedFirst slot.0 until other other_until) →
       WasLost s log (lease.Image slot) until reading
+  reached_extent : {until reading : ℕ} (extent : ExtentNo) → IsLastReading log reading → IsExtentInUse s log extent.0 until → until ≤ reading →
+      ((other other_until : ℕ) → IsExtentInUse s log other other_until → other_until ≤ reading → IsNamedFirst extent.0 until other other_until) →
+      WasLost s log (lease.Extent extent) until reading
 
--- a lease is busy: a claim of this command read its record, which isn't expired for the claim's sample;
--- or its reread, after the wait, showed a record that isn't the claim's own
-pub data IsBusy (s : Setting) (log : CommandLog) (lease : ℕ) (seen : LeaseRecord) : Type 0 where
-  unexpired : (sample : ℕ) (bytes : List ℕ) (older : List Exchange) → HasSampled log lease sample bytes older → read_lease bytes ≡ Some seen →
-      is_expired seen sample ≡ false → IsBusy s log lease seen
-  taken : (claim : Claim) (until : ℕ) (bytes : List ℕ) (older : List Exchange) →
-      NewestIs log.exchanges (ask.Read (record { 0 = lease_at lease })) [] (answer.Bytes bytes) older → hold_of s log.before older lease ≡ Waited claim until →
-      read_lease bytes ≡ Some seen → seen ≢ lease_is.Claimed claim until → IsBusy s log lease seen
-
--- the same of a lease by its name
-abbrev pub WasBusy : Setting → CommandLog → LeaseName → LeaseRecord → Type 0
-WasBusy s log name seen = IsBusy s log (lease_number s.geometry name) seen
+-- a claim of this command ended Busy with this record: that of the lease of an image which the command names; or that of an extent's lease, for space
+pub data WasBusy (s : Setting) (log : CommandLog) : LeaseName → LeaseRecord → Type 0 where
+  of_image : {seen : LeaseRecord} (slot : SlotNo) → names log.command slot.0 ≡ true → IsBusy s log (image_lease slot.0) seen → WasBusy s log (lease.Image slot) seen
+  for_space : {seen : LeaseRecord} (extent : ExtentNo) → WasBusyForSpace s log extent.0 seen → WasBusy s log (lease.Extent extent) seen
 
 -- ---- bytes outside the format
 
@@ -97,8 +93,9 @@ pub data ReadRestsOn (g : Geometry) (block image : ℕ) : Type 0 where
   of_descriptor : (slot : ℕ) → slot < g.slots → block ≡ descriptor_at g image slot → ReadRestsOn g block image
   of_data : (slot : ℕ) → slot < g.slots → block ≡ data_at g image slot → ReadRestsOn g block image
 
--- the bytes read at a block are outside the format, and a later reading, the last ask, is below the end of each lease on which the read rested
-pub record WasDamaged (s : Setting) (log : CommandLog) (block : BlockNo) : Type 0 where
+-- the bytes read at a block by a command of an image are outside the format, and a later reading, the last ask, is below the end of each lease
+-- on which the read rested
+pub record IsImageDamaged (s : Setting) (log : CommandLog) (block : BlockNo) : Type 0 where
   pub image : ℕ
   pub named : names log.command image ≡ true
   pub bytes : List ℕ
@@ -107,6 +104,12 @@ pub record WasDamaged (s : Setting) (log : CommandLog) (block : BlockNo) : Type 
   pub outside : IsOutside s.geometry (known_in s.geometry log image) image block.0 bytes
   pub last : LastAnswered log ask.Clock [] (answer.Reading reading)
   pub below : (other : ℕ) → other < s.geometry.images → ReadRestsOn s.geometry block.0 other → (until : ℕ) × HoldsImage s log other until × (reading < until)
+
+-- bytes outside the format were read at a block: of an image that the command names; of a map; or of an extent's lease
+pub data WasDamaged (s : Setting) (log : CommandLog) (block : BlockNo) : Type 0 where
+  in_image : IsImageDamaged s log block → WasDamaged s log block
+  in_map : IsMapDamaged s log block → WasDamaged s log block
+  in_lease : IsLeaseDamaged s log block → WasDamaged s log block
 
 -- ---- the Ok of each command
 
@@ -190,9 +193,9 @@ Comes s log reply.Deleted = ShowsDelete s log
 Comes s log (reply.Data payload) = ShowsContent s log payload
 Comes s log (reply.Written number) = ShowsWrite s log number
 Comes s log (reply.Flushed applied blocks) = ⊥
-Comes s log reply.Reserved = ⊥
+Comes s log reply.Reserved = ShowsReserve s log
 Comes s log reply.Renewed = ShowsRenewals s log
-Comes s log reply.Retired = ⊥
+Comes s log reply.Retired = ShowsRetire s log
 Comes s log (reply.Reclaimed covered freed reads) = ⊥
 Comes s log reply.NotAttached = ⊥
 Comes s log reply.AlreadyAttached = ⊥
@@ -203,9 +206,9 @@ Comes s log (reply.Busy lease seen) = WasBusy s log lease seen
 Comes s log (reply.Lost lease until reading) = WasLost s log lease until reading
 Comes s log (reply.ReadFault block) = LastAnswered log (ask.Read block) [] answer.Fault
 Comes s log (reply.WriteFault block) = (kind : WriteKind) × (guard : ℕ) × (bytes : List ℕ) × LastAnswered log (ask.Write kind block guard) bytes answer.Fault
-Comes s log reply.Full = ⊥
+Comes s log reply.Full = IsFull s log
 Comes s log (reply.Damaged block) = WasDamaged s log block
-Comes s log (reply.WornOut count) = ⊥
+Comes s log (reply.WornOut count) = IsWornOut s log count
 
 -- a command was asked for its first reading alone
 abbrev pub IsAtFirst : CommandLog → Type 0

@@ -1,7 +1,7 @@
 -- The sessions of a boot, by the replies of its commands.
 use Rattle.std.specs.Prelude.{ℕ, List, [], ◌∷◌, Bool, true, false, if◌then◌else◌}
 use Rattle.plx_commands.specs.Replies.{is_in}
-use Rattle.plx_commands.specs.Slots.{named}
+use Rattle.plx_commands.specs.Slots.{named_slots}
 use Rattle.plx_commands.specs.declared.command.Command.{Command}
 use Rattle.plx_commands.specs.declared.command.Command.TheVariants.{Attach, Detach, Create, Delete, Read, Write, Flush, Reserve, Renew, Retire, Reclaim}
 use Rattle.plx_commands.specs.declared.reply.Reply.{Reply}
@@ -10,7 +10,7 @@ use Rattle.law_run.specs.CommandLogs.{Finished}
 
 -- whether a command names an image
 abbrev pub names : Command → (image : ℕ) → Bool
-names command image = is_in image (named command)
+names command image = is_in image (named_slots command)
 
 -- whether a command uses the lease of an image at its first reading: it names the image, or it is a renewal, which uses those of all
 abbrev pub uses : Command → (image : ℕ) → Bool

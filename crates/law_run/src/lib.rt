@@ -29,8 +29,8 @@ pub fn stores_one_image()
     ensures { StoresOneImage }
 {}
 
-/// What a boot holds, which images have a session, and how many claims were begun, is the same by a log's commands
-/// and by where the log leads.
+/// What a boot holds and has in hand, which images have a session, and how many claims were begun, is the same by a
+/// log's commands and by where the log leads.
 pub fn positions_agree()
     ensures { PositionsAgree }
 {}

@@ -1,6 +1,5 @@
 -- The first reading of a command.
-use Rattle.std.proofs.Common.{◌≡◌, ℕ, ◌+◌, ◌<◌, Option, Some, None, Bool, true, false, refl, ap, ◌∙◌, arith}
-use Rattle.std.proofs.lemmas.Bool.Decides.{nat_tests}
+use Rattle.std.proofs.Common.{◌≡◌, ℕ, ◌+◌, ◌<◌, List, Option, Some, None, Bool, true, false, refl, ap, ◌∙◌, arith}
 use Rattle.std.specs.Prelude.{◌-◌, nat_lt, nat_le, if◌then◌else◌, ◌&&◌}
 use Rattle.plx_geom.specs.Geometry.{Geometry, image_lease, lease_at, lease_count}
 use Rattle.plx_rules.specs.Part.{Part, Ends, ReadThen, WriteThen, ClockThen, UntilThen}
@@ -13,12 +12,14 @@ use Rattle.plx_rules.specs.Machines.{Asks}
 use Rattle.plx_rules.specs.Session.{Known, Session}
 use Rattle.plx_rules.specs.Settings.{Setting}
 use Rattle.plx_commands.specs.declared.command.Command.{Command}
-use Rattle.plx_appliance.specs.Begins.{begun_part}
-use Rattle.plx_appliance.specs.Holding.{HoldsAs, first_leases, settled}
-use Rattle.plx_appliance.specs.Tokens.{held_at}
+use Rattle.plx_appliance.specs.Begins.{waiting_part}
+use Rattle.plx_appliance.specs.Holding.{HoldsAs, first_extents, first_leases, hold_without_claim}
+use Rattle.plx_appliance.specs.Tokens.{lease_holds_at}
 use Rattle.plx_appliance.specs.declared.begun.Begun.{Begun}
 use Rattle.plx_appliance.specs.declared.begun.Begun.TheVariants as begun
 use Rattle.plx_appliance.proofs.RenewBegins.{renew-agrees}
+use Rattle.plx_appliance.proofs.SpaceBegins.{reserve-agrees, retire-agrees, same-extents}
+use Rattle.plx_base.proofs.Tests.{nat_lt-tells}
 
 -- what asks stays in its command
 pub place-asks : (known : Known) (command : Command) (part : Part End) → Asks part → place_of known command part ≡ In known command part
@@ -36,7 +37,7 @@ holds-asks (ClockThen rest) holds asks = refl
 holds-asks (UntilThen from rest) holds asks = refl
 
 -- a hold at the first reading, by what is left of it
-first-settled : (session : Option Session) (reading : ℕ) (hold : Hold) → first_hold session reading hold ≡ first_hold session reading (settled hold)
+first-settled : (session : Option Session) (reading : ℕ) (hold : Hold) → first_hold session reading hold ≡ first_hold session reading (hold_without_claim hold)
 first-settled None reading Nothing = refl
 first-settled None reading (Seen sample) = refl
 first-settled None reading (Wrote claim until) = refl
@@ -53,19 +54,21 @@ first-nothing None reading = refl
 first-nothing (Some session) reading = refl
 
 -- the first reading, block by block
-first-block : (b : Bool) (session : Option Session) (reading : ℕ) (hold : Hold) →
-    first_hold (if b then session else None) reading (if b then hold else Nothing) ≡ (if b then first_hold session reading hold else Nothing)
-first-block true session reading hold = refl
-first-block false session reading hold = refl
+first-hold-by-block : (b c : Bool) (session : Option Session) (reading : ℕ) (hold other : Hold) →
+    first_hold (if b then session else None) reading (if b then hold else if c then other else Nothing)
+    ≡ (if b then first_hold session reading hold else if c then first_hold None reading other else Nothing)
+first-hold-by-block true c session reading hold other = refl
+first-hold-by-block false true session reading hold other = refl
+first-hold-by-block false false session reading hold other = refl
 
-pub first-agrees : (g : Geometry) (known : Known) (reading : ℕ) (leases : ℕ → Hold) (holds : ℕ → Hold) → HoldsAs g leases holds →
-    (lease : ℕ) → lease < lease_count g → after_first g known reading holds (lease_at lease) ≡ held_at g (first_leases known reading leases) (lease_at lease)
-first-agrees g known reading leases holds h lease within =
+pub first-agrees : (g : Geometry) (known : Known) (reading : ℕ) (leases extents : ℕ → Hold) (holds : ℕ → Hold) → HoldsAs g leases extents holds →
+    (lease : ℕ) → lease < lease_count g → after_first g known reading holds (lease_at lease) ≡ lease_holds_at g (first_leases known reading leases) (first_extents reading extents) (lease_at lease)
+first-agrees g known reading leases extents holds h lease within =
     let block = lease_at lease in
     let b = nat_le 2 block && nat_lt block (2 + g.images) in
     first-settled (session_at g known block) reading (holds block)
     ∙ ap (first_hold (session_at g known block) reading) (h lease within)
-    ∙ first-block b (known.sessions (block - 2)) reading (leases (block - 2))
+    ∙ first-hold-by-block b (nat_le (2 + g.images) block) (known.sessions (block - 2)) reading (leases (block - 2)) (extents (block - (2 + g.images)))
 
 -- a part that goes by one hold, where it is looked at
 attach-agrees : (s : Setting) (known : Known) (image : ℕ) (session : Option Session) (within : Bool) (hold other : Hold) → (within ≡ true → hold ≡ other) →
@@ -80,29 +83,29 @@ attached-agrees s known image None within hold other reading rest e = refl
 attached-agrees s known image (Some session) true hold other reading rest e = ap (λ h. attached_part s known image (Some session) true h reading rest) (e refl)
 attached-agrees s known image (Some session) false hold other reading rest e = refl
 
-true-lt : (a b : ℕ) → nat_lt a b ≡ true → a < b
-true-lt a b h = grind (arith, nat_tests)
-
 at-image : (g : Geometry) (holds others : ℕ → Hold) (image : ℕ) → ((lease : ℕ) → lease < lease_count g → holds (lease_at lease) ≡ others (lease_at lease)) →
     nat_lt image g.images ≡ true → holds (lease_at (image_lease image)) ≡ others (lease_at (image_lease image))
 at-image g holds others image h within =
-    let below : image < g.images = true-lt image g.images within in
+    let below : image < g.images = nat_lt-tells image g.images within in
     h (image_lease image) (omega (arith, below))
 
 -- a command that has begun goes by the leases alone
-pub begun-agrees : (s : Setting) (known : Known) (holds others : ℕ → Hold) (reading : ℕ) (b : Begun) →
+pub begun-agrees : (s : Setting) (known : Known) (holds others : ℕ → Hold) (hand : List ℕ) (reading : ℕ) (b : Begun) →
     ((lease : ℕ) → lease < lease_count s.geometry → holds (lease_at lease) ≡ others (lease_at lease)) →
-    begun_part s known holds reading b ≡ begun_part s known others reading b
-begun-agrees s known holds others reading (begun.Attach slot room) h =
+    waiting_part s known holds hand reading b ≡ waiting_part s known others hand reading b
+begun-agrees s known holds others hand reading (begun.Attach slot room) h =
     attach-agrees s known slot.0 (known.sessions slot.0) (nat_lt slot.0 s.geometry.images) _ _ (at-image s.geometry holds others slot.0 h)
-begun-agrees s known holds others reading (begun.Detach slot lease) h =
+begun-agrees s known holds others hand reading (begun.Detach slot lease) h =
     attached-agrees s known slot.0 (known.sessions slot.0) (nat_lt slot.0 s.geometry.images) _ _ reading _ (at-image s.geometry holds others slot.0 h)
-begun-agrees s known holds others reading (begun.Create slot size label record') h =
+begun-agrees s known holds others hand reading (begun.Create slot size label record') h =
     attached-agrees s known slot.0 (known.sessions slot.0) (nat_lt slot.0 s.geometry.images) _ _ reading _ (at-image s.geometry holds others slot.0 h)
-begun-agrees s known holds others reading (begun.Delete slot record') h =
+begun-agrees s known holds others hand reading (begun.Delete slot record') h =
     attached-agrees s known slot.0 (known.sessions slot.0) (nat_lt slot.0 s.geometry.images) _ _ reading _ (at-image s.geometry holds others slot.0 h)
-begun-agrees s known holds others reading (begun.Read slot vblock block) h =
+begun-agrees s known holds others hand reading (begun.Read slot vblock block) h =
     attached-agrees s known slot.0 (known.sessions slot.0) (nat_lt slot.0 s.geometry.images) _ _ reading _ (at-image s.geometry holds others slot.0 h)
-begun-agrees s known holds others reading (begun.Write slot vblock block descriptor) h =
+begun-agrees s known holds others hand reading (begun.Write slot vblock block descriptor) h =
     attached-agrees s known slot.0 (known.sessions slot.0) (nat_lt slot.0 s.geometry.images) _ _ reading _ (at-image s.geometry holds others slot.0 h)
-begun-agrees s known holds others reading (begun.Renew renewals) h = renew-agrees s known holds others reading h
+begun-agrees s known holds others hand reading (begun.Renew renewals) h = renew-agrees s known holds others reading h
+begun-agrees s known holds others hand reading (begun.Reserve need) h =
+    reserve-agrees s known holds others hand need.count (same-extents s.geometry holds others h)
+begun-agrees s known holds others hand reading (begun.Retire lease) h = retire-agrees s known holds others hand h

@@ -1,32 +1,41 @@
 -- A command that goes on, or ends, after an answer.
 use Rattle.std.proofs.Common.{◌≡◌, ℕ, ◌+◌, ◌<◌, List, [], ◌∷◌, ◌++◌, Option, Some, None, refl, sym, ap, ◌∙◌, subst, arith}
-use Rattle.std.specs.Prelude.{◌-◌, Bool, true, false, slice_index_or, nat_le, nat_lt, ◌&&◌, if◌then◌else◌}
+use Rattle.std.specs.Prelude.{Bool, true, false, nat_le, if◌then◌else◌}
+use Rattle.plx_alloc.specs.Moving.{ReadsFirst, tells_at}
+use Rattle.plx_alloc.specs.declared.reserve.Reserve.{Reserve as Take}
+use Rattle.plx_alloc.specs.declared.reserve.ReserveAt.{ReserveAt}
+use Rattle.plx_alloc.specs.declared.reserve.ReserveAt.TheVariants as at
 use Rattle.plx_commands.specs.declared.reply.Reply.{Reply}
 use Rattle.plx_commands.specs.declared.reply.Reply.TheVariants as reply
 use Rattle.plx_disk.specs.declared.ask.Ask.TheVariants as ask
 use Rattle.plx_disk.specs.declared.ask.Answer.TheVariants as answer
-use Rattle.plx_geom.specs.Geometry.{Geometry, image_lease, lease_at, lease_count}
+use Rattle.plx_geom.specs.Geometry.{Geometry, extent_lease, image_lease, lease_at, lease_count}
 use Rattle.plx_rules.specs.Part.{Part, Ends, ReadThen, WriteThen, ClockThen, UntilThen}
 use Rattle.plx_token.specs.declared.held.Held.{Held as Token}
 use Rattle.plx_token.specs.declared.kind.Image.{Image}
+use Rattle.plx_rules.specs.Boot.{first_part as first_asks}
 use Rattle.plx_rules.specs.Boot.{Position, Idle, In, Happening, Asked, after_part, goes_to, place_of, position, replies, replies_at, reply_of, went_on}
 use Rattle.plx_rules.specs.Commands.{command_part}
 use Rattle.plx_rules.specs.Ends.{End, ends}
-use Rattle.plx_rules.specs.Holds.{Hold, Nothing, after_first, after_reply}
+use Rattle.plx_rules.specs.Hands.{hand_held}
+use Rattle.plx_rules.specs.Holds.{Hold, Nothing, Seen, Wrote, Waited, Held, after_first, holds_after_reply, first_hold, session_at}
 use Rattle.plx_rules.specs.Machines.{Asks}
 use Rattle.plx_rules.proofs.Nested.{asks-followed}
-use Rattle.plx_rules.specs.Session.{Known}
+use Rattle.plx_rules.specs.Session.{Known, Session}
 use Rattle.plx_rules.specs.Settings.{Setting}
 use Rattle.plx_lease.specs.Claiming.{claim_rest}
 use Rattle.plx_appliance.specs.Appliance.{HasBegun, IsIn}
 use Rattle.plx_appliance.specs.Attaches.{attach_at}
-use Rattle.plx_appliance.specs.Begins.{begun_part}
-use Rattle.plx_appliance.specs.Ending.{known_after, leases_after}
-use Rattle.plx_appliance.specs.Holding.{HoldsAs, first_leases, settled}
+use Rattle.plx_appliance.specs.Begins.{waiting_part}
+use Rattle.plx_appliance.specs.Ending.{hand_after_reply, known_after, leases_after}
+use Rattle.plx_appliance.specs.Holding.{HoldsAs, first_extents, first_leases, hold_without_claim}
+use Rattle.plx_appliance.specs.Lent.{Lent}
 use Rattle.plx_appliance.specs.Loads.{load_at}
+use Rattle.plx_appliance.specs.Reserves.{HaveNoClaims, claiming_at, outer_of}
 use Rattle.plx_appliance.specs.Rests.{record_stage, write_at}
+use Rattle.plx_appliance.specs.Space.{AreWithin, held_hand}
 use Rattle.plx_appliance.specs.Stands.{Inside, StartsInside, inside_at, starts_at}
-use Rattle.plx_appliance.specs.Tokens.{held_at, hold_of, leases_of}
+use Rattle.plx_appliance.specs.Tokens.{lease_holds_at, image_leases}
 use Rattle.plx_appliance.specs.Works.{work_rest, work_setting}
 use Rattle.plx_appliance.specs.declared.attach.Attach.{Attach}
 use Rattle.plx_appliance.specs.declared.attach.AttachAt.{AttachAt}
@@ -47,7 +56,10 @@ use Rattle.plx_lease.proofs.Asking.{claim-asks}
 use Rattle.plx_appliance.proofs.Entered.{held-image}
 use Rattle.plx_appliance.proofs.First.{begun-agrees, first-agrees, holds-asks, place-asks}
 use Rattle.plx_appliance.proofs.Held.{nothing-at}
+use Rattle.plx_appliance.proofs.InHand.{hand-as, reply-hand}
 use Rattle.plx_appliance.proofs.Renewed.{held-same}
+use Rattle.plx_appliance.proofs.Reserved.{take-asks}
+use Rattle.plx_appliance.proofs.RetireAnswered.{retire-asks}
 
 -- each place of each command's machine asks
 write-asks : (a : WriteAt) (known : Known) (w : Write) → Asks (write_at a known w)
@@ -70,62 +82,89 @@ attach-asks : (at : AttachAt) (known : Known) (a : Attach) → Asks (attach_at a
 attach-asks attach.Claim known a = asks-followed (claim_rest a.claim) _ (claim-asks a.claim)
 attach-asks attach.Load known a = load-asks a.load.at known a.load
 
-pub work-asks : (known : Known) (w : Work) → Asks (work_rest known w)
-work-asks known (work.Attach a) = attach-asks a.at known a
-work-asks known (work.Detach d) = tt
-work-asks known (work.Record r) = record-asks r.at known r
-work-asks known (work.Read r) = tt
-work-asks known (work.Write w) = write-asks w.at known w
-work-asks known (work.Renew r) = tt
-
--- a token is held, or there is none
-settled-token : (o : Option (Token Image)) → settled (hold_of o) ≡ hold_of o
-settled-token None = refl
-settled-token (Some held) = refl
+pub work-asks : (lent : Lent) (w : Work) → Asks (work_rest lent w)
+work-asks lent (work.Attach a) = attach-asks a.at lent.known a
+work-asks lent (work.Detach d) = tt
+work-asks lent (work.Record r) = record-asks r.at lent.known r
+work-asks lent (work.Read r) = tt
+work-asks lent (work.Write w) = write-asks w.at lent.known w
+work-asks lent (work.Renew r) = tt
+work-asks lent (work.Reserve r) = take-asks (outer_of r.setting lent.known.sessions) lent.space r.work.at r.work
+work-asks lent (work.Retire r) = retire-asks lent r.stage r
 
 -- after a reply
-pub reply-holds : (g : Geometry) (leases : ℕ → Hold) (holds : ℕ → Hold) (r : Reply) → HoldsAs g leases holds → HoldsAs g (leases_after r leases) (after_reply r holds)
-reply-holds g leases holds (reply.Attached report) h = h
-reply-holds g leases holds reply.Detached h = h
-reply-holds g leases holds reply.Created h = h
-reply-holds g leases holds reply.Deleted h = h
-reply-holds g leases holds (reply.Data payload) h = h
-reply-holds g leases holds (reply.Written number) h = h
-reply-holds g leases holds (reply.Flushed applied blocks) h = h
-reply-holds g leases holds reply.Reserved h = h
-reply-holds g leases holds reply.Renewed h = h
-reply-holds g leases holds reply.Retired h = h
-reply-holds g leases holds (reply.Reclaimed covered freed reads) h = h
-reply-holds g leases holds reply.NotAttached h = h
-reply-holds g leases holds reply.AlreadyAttached h = h
-reply-holds g leases holds reply.NoImage h = h
-reply-holds g leases holds reply.Exists h = h
-reply-holds g leases holds (reply.OutOfRange size) h = h
-reply-holds g leases holds (reply.Busy lease seen) h = h
-reply-holds g leases holds (reply.Lost lease until reading) h = λ lease within. nothing-at g (lease_at lease)
-reply-holds g leases holds (reply.ReadFault block) h = h
-reply-holds g leases holds (reply.WriteFault block) h = h
-reply-holds g leases holds reply.Full h = h
-reply-holds g leases holds (reply.Damaged block) h = h
-reply-holds g leases holds (reply.WornOut count) h = h
+pub reply-holds : (g : Geometry) (leases extents : ℕ → Hold) (holds : ℕ → Hold) (r : Reply) → HoldsAs g leases extents holds →
+    HoldsAs g (leases_after r leases) (leases_after r extents) (holds_after_reply r holds)
+reply-holds g leases extents holds (reply.Attached report) h = h
+reply-holds g leases extents holds reply.Detached h = h
+reply-holds g leases extents holds reply.Created h = h
+reply-holds g leases extents holds reply.Deleted h = h
+reply-holds g leases extents holds (reply.Data payload) h = h
+reply-holds g leases extents holds (reply.Written number) h = h
+reply-holds g leases extents holds (reply.Flushed applied blocks) h = h
+reply-holds g leases extents holds reply.Reserved h = h
+reply-holds g leases extents holds reply.Renewed h = h
+reply-holds g leases extents holds reply.Retired h = h
+reply-holds g leases extents holds (reply.Reclaimed covered freed reads) h = h
+reply-holds g leases extents holds reply.NotAttached h = h
+reply-holds g leases extents holds reply.AlreadyAttached h = h
+reply-holds g leases extents holds reply.NoImage h = h
+reply-holds g leases extents holds reply.Exists h = h
+reply-holds g leases extents holds (reply.OutOfRange size) h = h
+reply-holds g leases extents holds (reply.Busy lease seen) h = h
+reply-holds g leases extents holds (reply.Lost lease until reading) h = λ lease within. nothing-at g (lease_at lease)
+reply-holds g leases extents holds (reply.ReadFault block) h = h
+reply-holds g leases extents holds (reply.WriteFault block) h = h
+reply-holds g leases extents holds reply.Full h = h
+reply-holds g leases extents holds (reply.Damaged block) h = h
+reply-holds g leases extents holds (reply.WornOut count) h = h
 
 -- the position after the first reading of a command
 abbrev first_moves : (s : Setting) (known : Known) (b : Begun) (log : List Happening) (reading : ℕ) → HasBegun s known b (position s log) → Position
 first_moves s known b log reading h =
-    goes_to known h.command (after_first s.geometry known reading (position s log).holds) (Some reading)
-    (command_part s known (after_first s.geometry known reading (position s log).holds) reading h.command)
+    goes_to s.geometry known h.command (after_first s.geometry known reading (position s log).holds) (position s log).hand (Some reading) None
+    (first_asks s known reading h.command (position s log))
 
 first-moved : (s : Setting) (known : Known) (b : Begun) (log : List Happening) (reading : ℕ) (h : HasBegun s known b (position s log)) →
     position s (Asked ask.Clock [] (answer.Reading reading) ∷ log) ≡ first_moves s known b log reading h
 first-moved s known b log reading h = ap (λ place. went_on s ask.Clock [] (answer.Reading reading) (position s log) place) h.place_is
 
+-- a first reading leaves leases that are held
+first-is-settled : (session : Option Session) (reading : ℕ) (hold : Hold) → hold_without_claim (first_hold session reading hold) ≡ first_hold session reading hold
+first-is-settled None reading Nothing = refl
+first-is-settled None reading (Seen sample) = refl
+first-is-settled None reading (Wrote claim until) = refl
+first-is-settled None reading (Waited claim until) = refl
+first-is-settled None reading (Held claim until) = by_test (nat_le until reading)
+  where
+    by_test : (b : Bool) → hold_without_claim (if b then Nothing else Held claim until) ≡ (if b then Nothing else Held claim until)
+    by_test true = refl
+    by_test false = refl
+first-is-settled (Some session) reading Nothing = refl
+first-is-settled (Some session) reading (Seen sample) = refl
+first-is-settled (Some session) reading (Wrote claim until) = refl
+first-is-settled (Some session) reading (Waited claim until) = refl
+first-is-settled (Some session) reading (Held claim until) = refl
+
+-- what is in hand after it, by the leases that are kept
+first-hand : (g : Geometry) (known : Known) (reading : ℕ) (leases extents holds : ℕ → Hold) (hand : List ℕ) → HoldsAs g leases extents holds → AreWithin g hand →
+    hand_held g (after_first g known reading holds) hand ≡ held_hand g (first_extents reading extents) hand
+first-hand g known reading leases extents holds hand held within =
+    hand-as g (first_leases known reading leases) (first_extents reading extents) (after_first g known reading holds) hand
+    (λ lease low. first-is-settled (session_at g known (lease_at lease)) reading (holds (lease_at lease)) ∙ first-agrees g known reading leases extents holds held lease low) within
+
 -- what it asks then
-first-part : (s : Setting) (known : Known) (b : Begun) (p : Position) (reading : ℕ) (leases : ℕ → Hold) (h : HasBegun s known b p) → HoldsAs s.geometry leases p.holds →
-    command_part s known (after_first s.geometry known reading p.holds) reading h.command ≡ begun_part s known (held_at s.geometry (first_leases known reading leases)) reading b
-first-part s known b p reading leases h held =
-    sym (h.part_is (after_first s.geometry known reading p.holds) reading)
-    ∙ begun-agrees s known (after_first s.geometry known reading p.holds) (held_at s.geometry (first_leases known reading leases)) reading b
-    (first-agrees s.geometry known reading leases p.holds held)
+first-part : (s : Setting) (known : Known) (b : Begun) (p : Position) (reading : ℕ) (leases extents : ℕ → Hold) (hand : List ℕ) (h : HasBegun s known b p) →
+    HoldsAs s.geometry leases extents p.holds → p.hand ≡ hand → AreWithin s.geometry hand →
+    first_asks s known reading h.command p
+    ≡ waiting_part s known (lease_holds_at s.geometry (first_leases known reading leases) (first_extents reading extents)) (held_hand s.geometry (first_extents reading extents) hand) reading b
+first-part s known b p reading leases extents hand h held is within =
+    let holds = after_first s.geometry known reading p.holds in
+    ap (λ (l : List ℕ). command_part s known holds (hand_held s.geometry holds l) reading h.command) is
+    ∙ ap (λ (l : List ℕ). command_part s known holds l reading h.command) (first-hand s.geometry known reading leases extents p.holds hand held within)
+    ∙ sym (h.part_is holds (held_hand s.geometry (first_extents reading extents) hand) reading)
+    ∙ begun-agrees s known holds (lease_holds_at s.geometry (first_leases known reading leases) (first_extents reading extents)) (held_hand s.geometry (first_extents reading extents) hand) reading b
+    (first-agrees s.geometry known reading leases extents p.holds held)
 
 pub reply-asks : (part : Part End) → Asks part → None ≡ reply_of part
 reply-asks (Ends end) asks = absurd asks
@@ -136,101 +175,135 @@ reply-asks (UntilThen from rest) asks = refl
 
 -- the reply to which it leads
 first-replies : (s : Setting) (known : Known) (b : Begun) (p : Position) (reading : ℕ) (h : HasBegun s known b p) →
-    replies s (answer.Reading reading) p ≡ reply_of (command_part s known (after_first s.geometry known reading p.holds) reading h.command)
+    replies s (answer.Reading reading) p ≡ reply_of (first_asks s known reading h.command p)
 first-replies s known b p reading h = ap (λ place. replies_at s (answer.Reading reading) p place) h.place_is
 
 -- the claim of an attach that begins
-starts-at : (g : Geometry) (leases : ℕ → Hold) (at : AttachAt) (a : Attach) (holds : ℕ → Hold) (sample : Option ℕ) →
+starts-at : (g : Geometry) (leases extents : ℕ → Hold) (at : AttachAt) (a : Attach) (holds : ℕ → Hold) (sample : Option ℕ) →
     a.load.image.setting.geometry ≡ g → starts_at leases at a →
-    ((lease : ℕ) → lease < lease_count g → holds (lease_at lease) ≡ held_at g leases (lease_at lease)) → inside_at at a holds sample
-starts-at g leases attach.Claim a holds sample same starts agrees =
+    ((lease : ℕ) → lease < lease_count g → holds (lease_at lease) ≡ lease_holds_at g leases extents (lease_at lease)) → inside_at at a holds sample
+starts-at g leases extents attach.Claim a holds sample same starts agrees =
     let slot = a.load.image.slot.0 in
     let within : slot < g.images = subst (λ (q : Geometry). slot < q.images) same a.load.image.inside in
     let hold : holds (lease_at (image_lease slot)) ≡ Nothing =
-    agrees (image_lease slot) (omega (arith, within)) ∙ held-image g leases slot within ∙ starts.none in
+    agrees (image_lease slot) (omega (arith, within)) ∙ held-image g leases extents slot within ∙ starts.none in
     record { number = starts.number; hold = ap (λ (n : ℕ). holds (lease_at n)) starts.number ∙ hold ∙ sym starts.fresh; sampled = starts.sampled sample }
-starts-at g leases attach.Load a holds sample same starts agrees = tt
+starts-at g leases extents attach.Load a holds sample same starts agrees = tt
 
-starts-inside : (g : Geometry) (leases : ℕ → Hold) (w : Work) (holds : ℕ → Hold) (sample : Option ℕ) → (work_setting w).geometry ≡ g → StartsInside leases w →
-    ((lease : ℕ) → lease < lease_count g → holds (lease_at lease) ≡ held_at g leases (lease_at lease)) → Inside w holds sample
-starts-inside g leases (work.Attach a) holds sample same starts agrees = starts-at g leases a.at a holds sample same starts agrees
-starts-inside g leases (work.Detach d) holds sample same starts agrees = tt
-starts-inside g leases (work.Record r) holds sample same starts agrees = tt
-starts-inside g leases (work.Read r) holds sample same starts agrees = tt
-starts-inside g leases (work.Write w) holds sample same starts agrees = tt
-starts-inside g leases (work.Renew r) holds sample same starts agrees =
-    held-same 0 r.setting.geometry.images leases (λ image. holds (lease_at (image_lease image))) (r.left.items ++ r.renewal ∷ []) starts (λ image below.
-    let within : image < g.images = subst (λ (q : Geometry). image < q.images) same below in
-    agrees (image_lease image) (omega (arith, within)) ∙ held-image g leases image within)
+-- a take that begins reads a map, and no claim is under way
+starts-taking : (g : Geometry) (place : ReserveAt) (m : Take) (holds : ℕ → Hold) (sample : Option ℕ) → ReadsFirst place → HaveNoClaims g holds →
+    claiming_at place g m holds sample × tells_at place g m None
+starts-taking g at.Map m holds sample reads clean = (clean, tt)
+starts-taking g at.Look m holds sample reads clean = (clean, tt)
+starts-taking g at.Write m holds sample reads clean = absurd reads
+starts-taking g at.Claim m holds sample reads clean = absurd reads
+starts-taking g at.Damaged m holds sample reads clean = absurd reads
 
-settled-by : (b : Bool) (hold : Hold) → settled hold ≡ hold → settled (if b then hold else Nothing) ≡ (if b then hold else Nothing)
-settled-by true hold h = h
-settled-by false hold h = refl
-
-settled-at : (g : Geometry) (tokens : List (Option (Token Image))) (block : ℕ) → settled (held_at g (leases_of tokens) block) ≡ held_at g (leases_of tokens) block
-settled-at g tokens block =
-    settled-by (nat_le 2 block && nat_lt block (2 + g.images)) (leases_of tokens (block - 2)) (settled-token (slice_index_or tokens (block - 2) None))
+starts-inside : (g : Geometry) (leases extents : ℕ → Hold) (w : Work) (holds : ℕ → Hold) (sample : Option ℕ) → (work_setting w).geometry ≡ g → StartsInside leases extents w →
+    ((lease : ℕ) → lease < lease_count g → holds (lease_at lease) ≡ lease_holds_at g leases extents (lease_at lease)) → ((block : ℕ) → holds block ≡ hold_without_claim (holds block)) →
+    Inside w holds sample None
+starts-inside g leases extents (work.Attach a) holds sample same starts agrees clean = starts-at g leases extents a.at a holds sample same starts agrees
+starts-inside g leases extents (work.Detach d) holds sample same starts agrees clean = tt
+starts-inside g leases extents (work.Record r) holds sample same starts agrees clean = tt
+starts-inside g leases extents (work.Read r) holds sample same starts agrees clean = tt
+starts-inside g leases extents (work.Write w) holds sample same starts agrees clean = tt
+starts-inside g leases extents (work.Renew r) holds sample same starts agrees clean =
+    held-same 0 (lease_count r.setting.geometry) (λ lease. lease_holds_at r.setting.geometry leases extents (lease_at lease)) (λ lease. holds (lease_at lease))
+    (r.left.items ++ r.renewal ∷ []) starts (λ lease below.
+    agrees lease (subst (λ (k : Geometry). lease < lease_count k) same below) ∙ ap (λ (k : Geometry). lease_holds_at k leases extents (lease_at lease)) (sym same))
+starts-inside g leases extents (work.Reserve r) holds sample same starts agrees clean =
+    let begins = starts-taking r.setting.geometry r.work.at r.work holds sample starts (λ extent within. clean (lease_at (extent_lease r.setting.geometry extent))) in
+    record { claim = begins.0; tells = begins.1 }
+starts-inside g leases extents (work.Retire r) holds sample same starts agrees clean = starts None
 
 -- a command goes on after its first reading
-pub record FirstIn (s : Setting) (known : Known) (w : Work) (tokens : List (Option (Token Image))) (log : List Happening) (reading : ℕ) : Type 0 where
-  pub in_it : IsIn known w (position s (Asked ask.Clock [] (answer.Reading reading) ∷ log))
-  pub held : HoldsAs s.geometry (leases_of tokens) (position s (Asked ask.Clock [] (answer.Reading reading) ∷ log)).holds
+pub record FirstIn (s : Setting) (lent : Lent) (w : Work) (tokens : List (Option (Token Image))) (extents : ℕ → Hold) (hand : List ℕ) (log : List Happening) (reading : ℕ) : Type 0 where
+  pub in_it : IsIn lent w (position s (Asked ask.Clock [] (answer.Reading reading) ∷ log))
+  pub held : HoldsAs s.geometry (image_leases tokens) extents (position s (Asked ask.Clock [] (answer.Reading reading) ∷ log)).holds
+  pub in_hand : (position s (Asked ask.Clock [] (answer.Reading reading) ∷ log)).hand ≡ hand
   pub no_reply : None ≡ replies s (answer.Reading reading) (position s log)
 
-pub first-in : (s : Setting) (known after : Known) (b : Begun) (w : Work) (log : List Happening) (reading : ℕ) (leases : ℕ → Hold) (tokens : List (Option (Token Image))) →
-    HasBegun s known b (position s log) → HoldsAs s.geometry leases (position s log).holds →
-    work_rest after w ≡ begun_part s known (held_at s.geometry (first_leases known reading leases)) reading b →
-    leases_of tokens ≡ first_leases known reading leases → StartsInside (leases_of tokens) w → (work_setting w).geometry ≡ s.geometry →
-    FirstIn s after w tokens log reading
-first-in s known after b w log reading leases tokens h held is same starts tied =
+-- a command that has begun stands for its log, with these leases and this hand
+pub record Waits (s : Setting) (known : Known) (b : Begun) (log : List Happening) (leases extents : ℕ → Hold) (hand : List ℕ) : Type 0 where
+  pub begun : HasBegun s known b (position s log)
+  pub held : HoldsAs s.geometry leases extents (position s log).holds
+  pub hand_is : (position s log).hand ≡ hand
+  pub within : AreWithin s.geometry hand
+
+pub first-in : (s : Setting) (known : Known) (after : Lent) (b : Begun) (w : Work) (log : List Happening) (reading : ℕ) (leases extents : ℕ → Hold) (hand : List ℕ) (tokens : List (Option (Token Image))) →
+    Waits s known b log leases extents hand →
+    work_rest after w ≡ waiting_part s known (lease_holds_at s.geometry (first_leases known reading leases) (first_extents reading extents)) (held_hand s.geometry (first_extents reading extents) hand) reading b →
+    image_leases tokens ≡ first_leases known reading leases → StartsInside (image_leases tokens) (first_extents reading extents) w → (work_setting w).geometry ≡ s.geometry →
+    FirstIn s after w tokens (first_extents reading extents) (held_hand s.geometry (first_extents reading extents) hand) log reading
+first-in s known after b w log reading leases extents hand tokens waits is same starts tied =
     let p = position s log in
+    let h = waits.begun in
     let holds = after_first s.geometry known reading p.holds in
-    let part = command_part s known holds reading h.command in
-    let part-is : part ≡ work_rest after w = first-part s known b p reading leases h held ∙ sym is in
+    let exts = first_extents reading extents in
+    let part = first_asks s known reading h.command p in
+    let part-is : part ≡ work_rest after w = first-part s known b p reading leases extents hand h waits.held waits.hand_is waits.within ∙ sym is in
+    let next = position s (Asked ask.Clock [] (answer.Reading reading) ∷ log) in
     let moved = first-moved s known b log reading h in
     let asks = work-asks after w in
-    let place : (position s (Asked ask.Clock [] (answer.Reading reading) ∷ log)).place ≡ In known h.command (work_rest after w) =
+    let place : next.place ≡ In known h.command (work_rest after w) =
     ap (λ (q : Position). q.place) moved ∙ ap (place_of known h.command) part-is ∙ place-asks known h.command (work_rest after w) asks in
-    let holding : (position s (Asked ask.Clock [] (answer.Reading reading) ∷ log)).holds ≡ holds =
-    ap (λ (q : Position). q.holds) moved ∙ ap (λ (q : Part End). after_part q holds) part-is ∙ holds-asks (work_rest after w) holds asks in
-    let agrees : (lease : ℕ) → lease < lease_count s.geometry → (position s (Asked ask.Clock [] (answer.Reading reading) ∷ log)).holds (lease_at lease) ≡ held_at s.geometry (leases_of tokens) (lease_at lease) =
-    λ lease within. ap (λ (q : ℕ → Hold). q (lease_at lease)) holding ∙ first-agrees s.geometry known reading leases p.holds held lease within
-    ∙ ap (λ (q : ℕ → Hold). held_at s.geometry q (lease_at lease)) (sym same) in
+    let stays : after_part part holds ≡ holds = ap (λ (q : Part End). after_part q holds) part-is ∙ holds-asks (work_rest after w) holds asks in
+    let holding : next.holds ≡ holds = ap (λ (q : Position). q.holds) moved ∙ stays in
+    let agrees : (lease : ℕ) → lease < lease_count s.geometry → next.holds (lease_at lease) ≡ lease_holds_at s.geometry (image_leases tokens) exts (lease_at lease) =
+    λ lease within. ap (λ (q : ℕ → Hold). q (lease_at lease)) holding ∙ first-agrees s.geometry known reading leases extents p.holds waits.held lease within
+    ∙ ap (λ (q : ℕ → Hold). lease_holds_at s.geometry q exts (lease_at lease)) (sym same) in
+    let clean : (block : ℕ) → next.holds block ≡ hold_without_claim (next.holds block) =
+    λ block. subst (λ (t : ℕ → Hold). t block ≡ hold_without_claim (t block)) (sym holding) (sym (first-is-settled (session_at s.geometry known block) reading (p.holds block))) in
     record {
       in_it = record {
         before = known;
         command = h.command;
         place_is = place;
-        inside = starts-inside s.geometry (leases_of tokens) w _ _ tied starts agrees;
+        inside = subst (λ (o : Option (ℕ × List ℕ)). Inside w next.holds next.sample o) (sym (ap (λ (q : Position). q.found) moved))
+            (starts-inside s.geometry (image_leases tokens) exts w next.holds next.sample tied starts agrees clean);
       };
-      held = λ lease within. ap settled (agrees lease within) ∙ settled-at s.geometry tokens (lease_at lease);
+      held = λ lease within. ap (λ (q : ℕ → Hold). hold_without_claim (q (lease_at lease))) holding
+          ∙ first-is-settled (session_at s.geometry known (lease_at lease)) reading (p.holds (lease_at lease))
+          ∙ first-agrees s.geometry known reading leases extents p.holds waits.held lease within
+          ∙ ap (λ (q : ℕ → Hold). lease_holds_at s.geometry q exts (lease_at lease)) (sym same);
+      in_hand = ap (λ (q : Position). q.hand) moved ∙ ap (λ (q : ℕ → Hold). hand_held s.geometry q p.hand) stays ∙ ap (hand_held s.geometry holds) waits.hand_is
+          ∙ first-hand s.geometry known reading leases extents p.holds hand waits.held waits.within;
       no_reply = reply-asks (work_rest after w) asks ∙ ap reply_of (sym part-is) ∙ sym (first-replies s known b p reading h);
     }
 
 -- a command ends at its first reading
-pub record FirstEnds (s : Setting) (known : Known) (r : Reply) (leases : ℕ → Hold) (log : List Happening) (reading : ℕ) : Type 0 where
+pub record FirstEnds (s : Setting) (known : Known) (r : Reply) (leases extents : ℕ → Hold) (hand : List ℕ) (log : List Happening) (reading : ℕ) : Type 0 where
   pub idle : (position s (Asked ask.Clock [] (answer.Reading reading) ∷ log)).place ≡ Idle (known_after r known)
-  pub held : HoldsAs s.geometry (leases_after r leases) (position s (Asked ask.Clock [] (answer.Reading reading) ∷ log)).holds
+  pub held : HoldsAs s.geometry (leases_after r leases) (leases_after r extents) (position s (Asked ask.Clock [] (answer.Reading reading) ∷ log)).holds
+  pub in_hand : (position s (Asked ask.Clock [] (answer.Reading reading) ∷ log)).hand ≡ hand_after_reply r hand
   pub replied : Some r ≡ replies s (answer.Reading reading) (position s log)
 
-pub first-ends : (s : Setting) (known after : Known) (b : Begun) (r : Reply) (log : List Happening) (reading : ℕ) (leases : ℕ → Hold) (tokens : List (Option (Token Image))) →
-    HasBegun s known b (position s log) → HoldsAs s.geometry leases (position s log).holds →
-    ends r (known_after r after) ≡ begun_part s known (held_at s.geometry (first_leases known reading leases)) reading b →
-    leases_of tokens ≡ first_leases known reading leases →
-    FirstEnds s after r (leases_of tokens) log reading
-first-ends s known after b r log reading leases tokens h held is same =
+pub first-ends : (s : Setting) (known after : Known) (b : Begun) (r : Reply) (log : List Happening) (reading : ℕ) (leases extents : ℕ → Hold) (hand : List ℕ) (tokens : List (Option (Token Image))) →
+    Waits s known b log leases extents hand →
+    ends r (known_after r after) ≡ waiting_part s known (lease_holds_at s.geometry (first_leases known reading leases) (first_extents reading extents)) (held_hand s.geometry (first_extents reading extents) hand) reading b →
+    image_leases tokens ≡ first_leases known reading leases →
+    FirstEnds s after r (image_leases tokens) (first_extents reading extents) (held_hand s.geometry (first_extents reading extents) hand) log reading
+first-ends s known after b r log reading leases extents hand tokens waits is same =
     let p = position s log in
-    let holds = after_first s.geometry known reading p.holds in
-    let part = command_part s known holds reading h.command in
-    let part-is : part ≡ ends r (known_after r after) = first-part s known b p reading leases h held ∙ sym is in
+    let g = s.geometry in
+    let h = waits.begun in
+    let exts = first_extents reading extents in
+    let holds = after_first g known reading p.holds in
+    let part = first_asks s known reading h.command p in
+    let part-is : part ≡ ends r (known_after r after) = first-part s known b p reading leases extents hand h waits.held waits.hand_is waits.within ∙ sym is in
+    let next = position s (Asked ask.Clock [] (answer.Reading reading) ∷ log) in
     let moved = first-moved s known b log reading h in
-    let holding : (position s (Asked ask.Clock [] (answer.Reading reading) ∷ log)).holds ≡ after_reply r holds =
-    ap (λ (q : Position). q.holds) moved ∙ ap (λ (q : Part End). after_part q holds) part-is in
-    let kept : HoldsAs s.geometry (leases_of tokens) holds = λ lease within.
-    ap settled (first-agrees s.geometry known reading leases p.holds held lease within ∙ ap (λ (q : ℕ → Hold). held_at s.geometry q (lease_at lease)) (sym same))
-    ∙ settled-at s.geometry tokens (lease_at lease) in
+    let stays : after_part part holds ≡ holds_after_reply r holds = ap (λ (q : Part End). after_part q holds) part-is in
+    let holding : next.holds ≡ holds_after_reply r holds = ap (λ (q : Position). q.holds) moved ∙ stays in
+    let kept : HoldsAs g (image_leases tokens) exts holds = λ lease within.
+    first-is-settled (session_at g known (lease_at lease)) reading (p.holds (lease_at lease))
+    ∙ first-agrees g known reading leases extents p.holds waits.held lease within ∙ ap (λ (q : ℕ → Hold). lease_holds_at g q exts (lease_at lease)) (sym same) in
+    let now = reply-holds g (image_leases tokens) exts holds r kept in
     record {
       idle = ap (λ (q : Position). q.place) moved ∙ ap (place_of known h.command) part-is;
-      held = subst (λ (q : ℕ → Hold). HoldsAs s.geometry (leases_after r (leases_of tokens)) q) (sym holding) (reply-holds s.geometry (leases_of tokens) holds r kept);
+      held = subst (λ (q : ℕ → Hold). HoldsAs g (leases_after r (image_leases tokens)) (leases_after r exts) q) (sym holding) now;
+      in_hand = ap (λ (q : Position). q.hand) moved ∙ ap (λ (q : ℕ → Hold). hand_held g q p.hand) stays ∙ ap (hand_held g (holds_after_reply r holds)) waits.hand_is
+          ∙ hand-as g (leases_after r (image_leases tokens)) (leases_after r exts) (holds_after_reply r holds) hand now waits.within
+          ∙ reply-hand g exts r (held_hand g exts hand) hand refl;
       replied = ap reply_of (sym part-is) ∙ sym (first-replies s known b p reading h);
     }

@@ -2,9 +2,13 @@ pub mod Answered
 pub mod Contents
 pub mod Dropping
 pub mod Entered
+pub mod ExtentClaimed
+pub mod Failing
 pub mod First
 pub mod Goes
 pub mod Held
+pub mod InHand
+pub mod Lending
 pub mod Lengthened
 pub mod Moved
 pub mod Numbers
@@ -12,7 +16,11 @@ pub mod Places
 pub mod Queued
 pub mod Reached
 pub mod Renewed
+pub mod Reserved
+pub mod Retired
+pub mod RetireAnswered
 pub mod RenewBegins
+pub mod SpaceBegins
 pub mod Stood
 pub mod Tables
 pub mod Went

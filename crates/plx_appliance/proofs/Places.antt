@@ -1,6 +1,6 @@
 -- Each place is a block of the device.
 use Rattle.std.proofs.Common.{◌≡◌, ◌<◌, ℕ, sym, subst, arith}
-use Rattle.plx_geom.specs.Geometry.{Geometry, IsGeometry, block_count, root_lease, image_lease, extent_lease, lease_at}
+use Rattle.plx_geom.specs.Geometry.{Geometry, IsGeometry, block_count, root_lease, image_lease, extent_lease, lease_at, lease_count}
 use Rattle.plx_geom.specs.Places.{IsPlace, block_of}
 use Rattle.plx_geom.specs.declared.place.Place.{Place}
 use Rattle.plx_geom.specs.declared.place.Place.TheVariants.{Super, RootLease, ImageLease, ExtentLease, Record, Log, JDesc, JData, Map, Pool}
@@ -9,7 +9,8 @@ use Rattle.plx_disk.specs.declared.ask.Ask.{Ask}
 use Rattle.plx_disk.specs.declared.ask.Ask.TheVariants as ask
 use Rattle.plx_rules.specs.Holds.{Hold}
 use Rattle.plx_rules.specs.Machines.{AsksOnly}
-use Rattle.plx_appliance.specs.Asking.{IsOnDevice}
+use Rattle.plx_alloc.specs.Asking.{IsOnDevice}
+use Rattle.plx_alloc.proofs.Asking.{asks-within}
 use Rattle.plx_appliance.specs.Renews.{IsRenewing}
 use Rattle.plx_appliance.specs.declared.attach.Attach.{Attach}
 use Rattle.plx_appliance.specs.declared.renew.Renew.{Renew}
@@ -27,14 +28,7 @@ place-within g (JData image slot) limits is = data-within g image.0 slot is.0 is
 place-within g (Map extent) limits is = map-within g extent.0 (omega (arith, limits.blocks_low)) is
 place-within g (Pool extent bit) limits is = pool-within g extent.0 bit is.0 is.2
 
--- what asks of a block of the device alone is on the device
-asks-within : (g : Geometry) (block : ℕ) (q : Ask) → block < block_count g → AsksOnly block q → IsOnDevice g q
-asks-within g block (ask.Read read) within own = subst (λ (b : ℕ). b < block_count g) (sym own) within
-asks-within g block (ask.Write k to guard) within own = (subst (λ (b : ℕ). b < block_count g) (sym own.0) within, own.1)
-asks-within g block ask.Clock within own = tt
-asks-within g block (ask.Until from) within own = tt
-
--- so is what a claim of an attach asks
+-- what a claim of an attach asks is on the device
 pub claim-within : (a : Attach) (q : Ask) → AsksOnly (lease_at a.claim.number) q → a.claim.number ≡ image_lease a.load.image.slot.0 → IsOnDevice a.load.image.setting.geometry q
 claim-within a q own number =
     let g = a.load.image.setting.geometry in
@@ -43,9 +37,7 @@ claim-within a q own number =
     (subst (λ (n : ℕ). AsksOnly (lease_at n) q) number own)
 
 -- and what a renewal of a renew asks
-pub renewal-within : (r : Renew) (leases : ℕ → Hold) (q : Ask) → AsksOnly (lease_at r.renewal.work.number) q → IsRenewing r leases → IsOnDevice r.setting.geometry q
+pub renewal-within : (r : Renew) (leases : ℕ → Hold) (q : Ask) → AsksOnly (lease_at r.renewal.number) q → IsRenewing r leases → IsOnDevice r.setting.geometry q
 renewal-within r leases q own h =
     let g = r.setting.geometry in
-    let inside = (last-held 0 g.images leases r.left.items r.renewal h).0 in
-    asks-within g (lease_at (image_lease r.renewal.slot.0)) q (lease-within g (image_lease r.renewal.slot.0) (omega (arith, inside)))
-    (subst (λ (n : ℕ). AsksOnly (lease_at n) q) r.renewal.number own)
+    asks-within g (lease_at r.renewal.number) q (lease-within g r.renewal.number (last-held 0 (lease_count g) leases r.left.items r.renewal h).0) own

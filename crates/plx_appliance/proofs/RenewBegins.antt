@@ -1,61 +1,50 @@
--- A renew at its first reading: the leases of attached images, and the renewals of those that are held.
+-- A renew at its first reading: the renewal of a lease, and the leases of attached images.
 use Rattle.std.proofs.Common.{◌≡◌, ℕ, zero, suc, ◌+◌, ◌-◌, ◌<◌, ◌≤◌, List, refl, sym, ap, ◌∙◌, arith}
-use Rattle.std.specs.Prelude.{Bool, true, false, ◌&&◌, nat_le, if◌then◌else◌, Option}
-use Rattle.plx_commands.specs.declared.reply.Reply.TheVariants as reply
+use Rattle.std.specs.Prelude.{Option}
 use Rattle.plx_geom.specs.Geometry.{Geometry, image_lease, lease_at, lease_count}
-use Rattle.plx_rules.specs.Commands.{attached_uses, renew_part, renewal, session_use}
-use Rattle.plx_rules.specs.Ends.{ends, in_time}
-use Rattle.plx_rules.specs.Holds.{Hold, Nothing}
+use Rattle.plx_rules.specs.Part.{Part}
+use Rattle.plx_rules.specs.Parts.{followed_by}
+use Rattle.plx_rules.specs.Commands.{attached_uses, later_of, renew_part, renewal, session_use}
+use Rattle.plx_rules.specs.Ends.{End, in_time}
+use Rattle.plx_rules.specs.Holds.{Hold}
 use Rattle.plx_rules.specs.InUse.{InUse, first_reached}
 use Rattle.plx_rules.specs.Session.{Known}
 use Rattle.plx_rules.specs.Settings.{Setting}
-use Rattle.plx_appliance.specs.Tokens.{held_at}
+use Rattle.plx_rules.specs.Times.{term}
+use Rattle.law_run.specs.Renewals.{renewal_part}
+use Rattle.plx_lease.specs.Following.{after_renewal}
+use Rattle.plx_lease.specs.Renewing.{renewal_hold}
+use Rattle.plx_lease.specs.declared.renewal.LeaseRenewal.{LeaseRenewal}
+use Rattle.plx_appliance.specs.Renews.{renewal_then}
+use Rattle.plx_appliance.specs.Tokens.{lease_holds_at}
 use Rattle.plx_appliance.proofs.Entered.{held-image}
-use Rattle.plx_appliance.proofs.Numbers.{lt-false}
 
--- no lease past those of images is held
-none-held : (g : Geometry) (leases : ℕ → Hold) (lease : ℕ) → 1 + g.images ≤ lease → held_at g leases (lease_at lease) ≡ Nothing
-none-held g leases lease past =
-    ap (λ (b : Bool). if nat_le 2 (lease_at lease) && b then leases (lease_at lease - 2) else Nothing) (lt-false (lease_at lease) (2 + g.images) (omega (arith, past)))
-    ∙ past_all (nat_le 2 (lease_at lease)) (leases (lease_at lease - 2))
-  where
-    past_all : (b : Bool) (hold : Hold) → (if b && false then hold else Nothing) ≡ Nothing
-    past_all true hold = refl
-    past_all false hold = refl
-
--- so none is renewed
-pub none-renewed : (s : Setting) (known : Known) (g : Geometry) (leases : ℕ → Hold) (reading left lease : ℕ) → 1 + g.images ≤ lease →
-    renew_part s known (held_at g leases) reading left lease ≡ ends reply.Renewed known
-none-renewed s known g leases reading zero lease past = refl
-none-renewed s known g leases reading (suc left) lease past =
-    ap (λ (hold : Hold). renewal s known reading lease hold (renew_part s known (held_at g leases) reading left (lease + 1))) (none-held g leases lease past)
-    ∙ none-renewed s known g leases reading left (lease + 1) (omega (arith, past))
-
--- the renewal of an image's lease, and those after it
-pub renewed-next : (s : Setting) (known : Known) (g : Geometry) (leases : ℕ → Hold) (reading left image : ℕ) → image < g.images →
-    renew_part s known (held_at g leases) reading (suc left) (image_lease image)
-    ≡ renewal s known reading (image_lease image) (leases image) (renew_part s known (held_at g leases) reading left (image_lease image + 1))
-renewed-next s known g leases reading left image within =
-    ap (λ (hold : Hold). renewal s known reading (image_lease image) hold (renew_part s known (held_at g leases) reading left (image_lease image + 1))) (held-image g leases image within)
+-- the renewal of a lease that is held
+pub renewal-some : (s : Setting) (known : Known) (reading lease : ℕ) (hold : Hold) (rest : Part End) (r : LeaseRenewal) → hold ≡ renewal_hold r → r.number ≡ lease →
+    r.later ≡ later_of r.until (reading + term) → renewal_then s known r rest ≡ renewal s known reading lease hold rest
+renewal-some s known reading lease hold rest r is number later =
+    ap (λ (n : ℕ). followed_by (renewal_part n r.claim r.until r.later) (after_renewal s known n rest)) number
+    ∙ ap (λ (end : ℕ). followed_by (renewal_part lease r.claim r.until end) (after_renewal s known lease rest)) later
+    ∙ sym (ap (λ (t : Hold). renewal s known reading lease t rest) is)
 
 -- the lease of an image, and those in use after it
-pub used-next : (known : Known) (g : Geometry) (leases : ℕ → Hold) (left image : ℕ) → image < g.images →
-    attached_uses known (held_at g leases) (suc left) image ≡ session_use (known.sessions image) (leases image) image (attached_uses known (held_at g leases) left (image + 1))
-used-next known g leases left image within =
-    ap (λ (hold : Hold). session_use (known.sessions image) hold image (attached_uses known (held_at g leases) left (image + 1))) (held-image g leases image within)
+pub used-next : (known : Known) (g : Geometry) (leases extents : ℕ → Hold) (left image : ℕ) → image < g.images →
+    attached_uses known (lease_holds_at g leases extents) (suc left) image ≡ session_use (known.sessions image) (leases image) image (attached_uses known (lease_holds_at g leases extents) left (image + 1))
+used-next known g leases extents left image within =
+    ap (λ (hold : Hold). session_use (known.sessions image) hold image (attached_uses known (lease_holds_at g leases extents) left (image + 1))) (held-image g leases extents image within)
 
 -- of them the one that a reading has reached, once one image more was looked at
-pub reached-next : (known : Known) (g : Geometry) (leases : ℕ → Hold) (reading count slot : ℕ) (found new : Option InUse) → slot + (count + 1) ≡ g.images →
-    found ≡ first_reached (attached_uses known (held_at g leases) count (g.images - count)) reading →
+pub reached-next : (known : Known) (g : Geometry) (leases extents : ℕ → Hold) (reading count slot : ℕ) (found new : Option InUse) → slot + (count + 1) ≡ g.images →
+    found ≡ first_reached (attached_uses known (lease_holds_at g leases extents) count (g.images - count)) reading →
     ((uses : List InUse) → found ≡ first_reached uses reading → new ≡ first_reached (session_use (known.sessions slot) (leases slot) slot uses) reading) →
-    new ≡ first_reached (attached_uses known (held_at g leases) (count + 1) (g.images - (count + 1))) reading
-reached-next known g leases reading count slot found new is before goes =
-    let holds = held_at g leases in
+    new ≡ first_reached (attached_uses known (lease_holds_at g leases extents) (count + 1) (g.images - (count + 1))) reading
+reached-next known g leases extents reading count slot found new is before goes =
+    let holds = lease_holds_at g leases extents in
     let here : g.images - count ≡ slot + 1 = omega (arith, is) in
     let next : g.images - (count + 1) ≡ slot = omega (arith, is) in
     let more : suc count ≡ count + 1 = omega arith in
     goes (attached_uses known holds count (slot + 1)) (before ∙ ap (λ (image : ℕ). first_reached (attached_uses known holds count image) reading) here)
-    ∙ ap (λ (uses : List InUse). first_reached uses reading) (sym (used-next known g leases count slot (omega (arith, is)))
+    ∙ ap (λ (uses : List InUse). first_reached uses reading) (sym (used-next known g leases extents count slot (omega (arith, is)))
     ∙ ap (λ (left : ℕ). attached_uses known holds left slot) more ∙ ap (attached_uses known holds (count + 1)) (sym next))
 
 -- ---- a renew goes by the leases alone

@@ -10,55 +10,54 @@ use Rattle.plx_rules.specs.Settings.{Setting}
 use Rattle.law_run.specs.Renewals.{Renewed}
 use Rattle.plx_lease.specs.Renewing.{renewal_hold, renewal_rest}
 use Rattle.plx_lease.specs.declared.renewal.LeaseRenewal.{LeaseRenewal}
-use Rattle.plx_appliance.specs.Renews.{AreHeld, renew_goes, renewal_then, renewals_then, renewed_leases}
-use Rattle.plx_appliance.specs.declared.image_renewal.ImageRenewal.{ImageRenewal}
+use Rattle.plx_appliance.specs.Renews.{AreHeld, renew_goes, renewal_then, renewals_then, renewed_if}
 use Rattle.plx_appliance.specs.declared.renew.Renew.{Renew}
 
 -- the last one is asked first
-pub renewals-last : (s : Setting) (known : Known) (others : List ImageRenewal) (r : ImageRenewal) (rest : Part End) →
+pub renewals-last : (s : Setting) (known : Known) (others : List LeaseRenewal) (r : LeaseRenewal) (rest : Part End) →
     renewals_then s known (others ++ r ∷ []) rest ≡ renewal_then s known r (renewals_then s known others rest)
 renewals-last s known [] r rest = refl
 renewals-last s known (x ∷ others) r rest = renewals-last s known others r (renewal_then s known x rest)
 
--- its lease is held, and its image is below the bound
-pub last-held : (low bound : ℕ) (leases : ℕ → Hold) (others : List ImageRenewal) (r : ImageRenewal) → AreHeld low bound leases (others ++ r ∷ []) →
-    (r.slot.0 < bound) × (leases r.slot.0 ≡ renewal_hold r.work)
+-- its lease is held, and its number is below the bound
+pub last-held : (low bound : ℕ) (leases : ℕ → Hold) (others : List LeaseRenewal) (r : LeaseRenewal) → AreHeld low bound leases (others ++ r ∷ []) →
+    (r.number < bound) × (leases r.number ≡ renewal_hold r)
 last-held low bound leases [] r h = (h.0, h.1)
 last-held low bound leases (x ∷ others) r h =
-    let last = last-held low x.slot.0 leases others r h.2 in
+    let last = last-held low x.number leases others r h.2 in
     let below = last.0 in
     let here = h.0 in
     (omega (arith, below, here), last.1)
 
--- the others are of other images
-pub others-held : (low bound : ℕ) (leases new : ℕ → Hold) (others : List ImageRenewal) (r : ImageRenewal) → AreHeld low bound leases (others ++ r ∷ []) →
-    ((image : ℕ) → image ≢ r.slot.0 → new image ≡ leases image) → AreHeld low bound new others
+-- the others are of other leases
+pub others-held : (low bound : ℕ) (leases new : ℕ → Hold) (others : List LeaseRenewal) (r : LeaseRenewal) → AreHeld low bound leases (others ++ r ∷ []) →
+    ((lease : ℕ) → lease ≢ r.number → new lease ≡ leases lease) → AreHeld low bound new others
 others-held low bound leases new [] r h same =
     let below = h.0 in
     let after = h.2 in
     omega (arith, below, after)
 others-held low bound leases new (x ∷ others) r h same =
-    let below = (last-held low x.slot.0 leases others r h.2).0 in
-    (h.0, same x.slot.0 (λ e. absurd (omega (arith, e, below))) ∙ h.1, others-held low x.slot.0 leases new others r h.2 same)
+    let below = (last-held low x.number leases others r h.2).0 in
+    (h.0, same x.number (λ e. absurd (omega (arith, e, below))) ∙ h.1, others-held low x.number leases new others r h.2 same)
 
--- they go by what is held of images below the bound
-pub held-same : (low bound : ℕ) (leases new : ℕ → Hold) (all : List ImageRenewal) → AreHeld low bound leases all →
-    ((image : ℕ) → image < bound → new image ≡ leases image) → AreHeld low bound new all
+-- they go by what is held of leases below the bound
+pub held-same : (low bound : ℕ) (leases new : ℕ → Hold) (all : List LeaseRenewal) → AreHeld low bound leases all →
+    ((lease : ℕ) → lease < bound → new lease ≡ leases lease) → AreHeld low bound new all
 held-same low bound leases new [] h same = h
 held-same low bound leases new (x ∷ others) h same =
     let here = h.0 in
-    (h.0, same x.slot.0 h.0 ∙ h.1, held-same low x.slot.0 leases new others h.2 (λ image below. same image (omega (arith, below, here))))
+    (h.0, same x.number h.0 ∙ h.1, held-same low x.number leases new others h.2 (λ lease below. same lease (omega (arith, below, here))))
 
--- one more, of the image below
-pub held-more : (low bound : ℕ) (leases : ℕ → Hold) (others : List ImageRenewal) (r : ImageRenewal) → AreHeld (low + 1) bound leases others →
-    r.slot.0 ≡ low → leases r.slot.0 ≡ renewal_hold r.work → AreHeld low bound leases (others ++ r ∷ [])
+-- one more, of the lease below
+pub held-more : (low bound : ℕ) (leases : ℕ → Hold) (others : List LeaseRenewal) (r : LeaseRenewal) → AreHeld (low + 1) bound leases others →
+    r.number ≡ low → leases r.number ≡ renewal_hold r → AreHeld low bound leases (others ++ r ∷ [])
 held-more low bound leases [] r h is hold = (omega (arith, h, is), hold, omega (arith, is))
-held-more low bound leases (x ∷ others) r h is hold = (h.0, h.1, held-more low x.slot.0 leases others r h.2 is hold)
+held-more low bound leases (x ∷ others) r h is hold = (h.0, h.1, held-more low x.number leases others r h.2 is hold)
 
--- none of the image below
-pub held-less : (low bound : ℕ) (leases : ℕ → Hold) (others : List ImageRenewal) → AreHeld (low + 1) bound leases others → AreHeld low bound leases others
+-- none of the lease below
+pub held-less : (low bound : ℕ) (leases : ℕ → Hold) (others : List LeaseRenewal) → AreHeld (low + 1) bound leases others → AreHeld low bound leases others
 held-less low bound leases [] h = omega (arith, h)
-held-less low bound leases (x ∷ others) h = (h.0, h.1, held-less low x.slot.0 leases others h.2)
+held-less low bound leases (x ∷ others) h = (h.0, h.1, held-less low x.number leases others h.2)
 
 -- ---- the answer by how the renewal goes on
 
@@ -71,16 +70,16 @@ renewal-done r (answer.Missed reading) e = absurd cc
 renewal-done r answer.Fault e = absurd cc
 
 -- else what is held stays
-pub renewal-not-done : (r : LeaseRenewal) (a : Answer) (image later : ℕ) (leases : ℕ → Hold) → (Ends Renewed ≢ answered (renewal_rest r) a) →
-    leases ≡ renewed_leases a image later leases
-renewal-not-done r (answer.Bytes bytes) image later leases ne = refl
-renewal-not-done r answer.Done image later leases ne = absurd (ne refl)
-renewal-not-done r (answer.Reading reading) image later leases ne = refl
-renewal-not-done r (answer.Missed reading) image later leases ne = refl
-renewal-not-done r answer.Fault image later leases ne = refl
+pub renewal-not-done : (r : LeaseRenewal) (a : Answer) (longer leases : ℕ → Hold) → (Ends Renewed ≢ answered (renewal_rest r) a) →
+    leases ≡ renewed_if a longer leases
+renewal-not-done r (answer.Bytes bytes) longer leases ne = refl
+renewal-not-done r answer.Done longer leases ne = absurd (ne refl)
+renewal-not-done r (answer.Reading reading) longer leases ne = refl
+renewal-not-done r (answer.Missed reading) longer leases ne = refl
+renewal-not-done r answer.Fault longer leases ne = refl
 
 -- a renewal that goes on had no answer that fits
-pub renewal-waits : (old new : Renew) (a : Answer) → renewal_rest old.renewal.work ≡ answered (renewal_rest old.renewal.work) a → renew_goes a old new
+pub renewal-waits : (old new : Renew) (a : Answer) → renewal_rest old.renewal ≡ answered (renewal_rest old.renewal) a → renew_goes a old new
 renewal-waits old new (answer.Bytes bytes) e = tt
 renewal-waits old new answer.Done e = absurd cc
 renewal-waits old new (answer.Reading reading) e = tt

@@ -1,15 +1,16 @@
 -- Tables of lists whose items are mostly the same.
-use Rattle.std.proofs.Common.{◌≡◌, ◌<◌, ◌≤◌, ◌+◌, ℕ, zero, suc, List, [], ◌∷◌, ◌++◌, length, refl, ap, ◌∙◌, arith, get_or, ◌⊎◌, inl, inr}
+use Rattle.std.proofs.Common.{◌≡◌, ◌<◌, ◌≤◌, ◌+◌, ℕ, zero, suc, List, [], ◌∷◌, ◌++◌, length, refl, ap, ◌∙◌, arith, get_or, inl, inr}
 use Rattle.std.specs.Prelude.{slice_set}
 use Rattle.std.proofs.Math.Path.{fun_ext}
 use Rattle.std.proofs.lemmas.List.{get_or-set_other, get_or_past}
 use Rattle.std.proofs.lemmas.Grind.{get_or-set_at}
 use Rattle.std.proofs.lemmas.Bool.Decides.{eqb_tells}
 use Rattle.plx_commands.specs.Places.{at}
+use Rattle.plx_base.proofs.Tests.{below-next, below-or-past}
 
 -- what is made of each item, with the same past the list
-abbrev pub made : {X Y : Type 0} → (X → Y) → List X → X → ℕ → Y
-made f xs d = λ k. f (get_or xs k d)
+abbrev pub table_through : {X Y : Type 0} → (X → Y) → List X → X → ℕ → Y
+table_through f xs d = λ k. f (get_or xs k d)
 
 abbrev pub always : {Y : Type 0} → Y → ℕ → Y
 always y = λ k. y
@@ -21,11 +22,8 @@ push-default [] d (suc k) = refl
 push-default (x ∷ xs) d zero = refl
 push-default (x ∷ xs) d (suc k) = push-default xs d k
 
-pub table-push : {X Y : Type 0} (f : X → Y) (xs : List X) (d : X) → made f (xs ++ d ∷ []) d ≡ made f xs d
+pub table-push : {X Y : Type 0} (f : X → Y) (xs : List X) (d : X) → table_through f (xs ++ d ∷ []) d ≡ table_through f xs d
 table-push f xs d = fun_ext (λ k. ap f (push-default xs d k))
-
-below-next : (k i : ℕ) → k < i + 1 → (k ≡ i) ⊎ (k < i)
-below-next k i h = grind arith
 
 -- one more item is the same from the start on
 pub set-default : {X : Type 0} (xs : List X) (i : ℕ) (d : X) → ((k : ℕ) → k < i → get_or xs k d ≡ d) → i < length xs →
@@ -35,17 +33,10 @@ set-default xs i d before within k below = elim (below-next k i below) [
   | inr less ↦ get_or-set_other xs i k d d (λ e. absurd (omega (arith, e, less))) ∙ before k less
 ]
 
-below-or-past : (k n : ℕ) → (k < n) ⊎ (n ≤ k)
-below-or-past k n = grind arith
-
 -- all items are the same
 pub table-default : {X Y : Type 0} (f : X → Y) (xs : List X) (n : ℕ) (d : X) → length xs ≤ n → ((k : ℕ) → k < n → get_or xs k d ≡ d) →
-    made f xs d ≡ always (f d)
+    table_through f xs d ≡ always (f d)
 table-default {X} {Y} f xs n d all each = fun_ext (λ k. elim (below-or-past k n) [
   | inl below ↦ ap f (each k below)
   | inr past ↦ ap f (get_or_past xs k d (omega (arith, past, all)))
 ])
-
--- of two changes of one place the later one counts
-pub at-twice : {X : Type 0} (table : ℕ → X) (place : ℕ) (one other : X) → at (at table place one) place other ≡ at table place other
-at-twice table place one other = fun_ext (λ k. elim (eqb_tells k place) [ inl same ↦ rw same.0 refl | inr apart ↦ rw apart.0 refl ])

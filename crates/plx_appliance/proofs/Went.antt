@@ -5,18 +5,22 @@ use Rattle.plx_disk.specs.declared.ask.Ask.{Ask}
 use Rattle.plx_disk.specs.declared.ask.Ask.TheVariants as ask
 use Rattle.plx_disk.specs.declared.ask.Answer.{Answer}
 use Rattle.plx_rules.specs.Part.{Part, answered, bytes_out, standing}
-use Rattle.plx_rules.specs.Boot.{Asked, Fits, Happening, Idle, Place, Position, after_part, asks, goes_to, place_of, position, replies, replies_at, reply_of, went_on, writes_out}
+use Rattle.plx_rules.specs.Boot.{Asked, Fits, Happening, Idle, In, Place, Position, after_part, asks, goes_to, place_of, position, replies, replies_at, reply_of, went_on, writes_out}
 use Rattle.plx_rules.specs.Ends.{End, ends}
-use Rattle.plx_rules.specs.Holds.{Hold, after_answer, after_reply, sample_of}
+use Rattle.plx_rules.specs.Hands.{found_by, hand_answered, hand_held}
+use Rattle.plx_rules.specs.Holds.{Hold, after_answer, holds_after_reply, sample_of}
+use Rattle.plx_geom.specs.Geometry.{Geometry}
 use Rattle.plx_rules.specs.Session.{Known}
 use Rattle.plx_rules.specs.Settings.{Setting}
-use Rattle.plx_appliance.specs.Appliance.{HasBegun, IsIn, IsStanding, StandsAt, StandsFor, has_begun, runs, setting_of}
-use Rattle.plx_appliance.specs.Ending.{known_after, leases_after}
-use Rattle.plx_appliance.specs.Holding.{HoldsAs, dropped}
-use Rattle.plx_appliance.specs.Giving.{given}
+use Rattle.plx_appliance.specs.Appliance.{HasBegun, IsIn, IsStanding, StandsAt, StandsFor, has_begun, runs, appliance_setting}
+use Rattle.plx_appliance.specs.Ending.{hand_after_reply, known_after, leases_after}
+use Rattle.plx_appliance.specs.Holding.{HoldsAs, IsKept, image_leases_after_write, dropped_hand}
+use Rattle.plx_appliance.specs.Space.{AreWithin, IsHand, extents_in, hand_in, held_hand}
+use Rattle.plx_appliance.specs.Giving.{rules_setting}
 use Rattle.plx_appliance.specs.Kept.{known_of}
-use Rattle.plx_appliance.specs.Ties.{stage_setting}
-use Rattle.plx_appliance.specs.Tokens.{leases_of}
+use Rattle.plx_appliance.specs.Lent.{Lent, lent_of}
+use Rattle.plx_appliance.specs.Ties.{stage_setting, stage_suits}
+use Rattle.plx_appliance.specs.Tokens.{image_leases}
 use Rattle.plx_appliance.specs.declared.appliance.Appliance.{Appliance}
 use Rattle.plx_appliance.specs.declared.appliance.Stage.{Stage}
 use Rattle.plx_appliance.specs.declared.appliance.Stage.TheVariants as stage
@@ -25,141 +29,216 @@ use Rattle.plx_appliance.specs.declared.holdings.Holdings.{Holdings}
 use Rattle.plx_appliance.specs.declared.setting.Setting.{Setting as Given}
 use Rattle.plx_appliance.specs.Moving.{Moves}
 use Rattle.plx_appliance.specs.Stands.{Inside}
-use Rattle.plx_appliance.specs.Works.{Spares, work_rest, work_setting}
+use Rattle.plx_appliance.specs.Works.{Spares, work_rest, work_setting, work_suits}
 use Rattle.plx_appliance.specs.declared.work.Work.{Work}
-use Rattle.plx_appliance.proofs.Answered.{same-ask, work-holds, work-inside}
+use Rattle.plx_appliance.proofs.Answered.{work-hand, work-holds, work-inside}
+use Rattle.plx_appliance.proofs.Failing.{kept-leases, same-ask}
 use Rattle.plx_appliance.proofs.First.{holds-asks, place-asks}
 use Rattle.plx_appliance.proofs.Goes.{reply-asks, reply-holds, work-asks}
+use Rattle.plx_appliance.proofs.InHand.{hand-within, dropped-hand, hand-as, kept-hand, reply-hand}
 
--- the ask of the command that runs stands, it is answered, and the answer moves its leases
-pub record IsAnswered (s : Setting) (known : Known) (w new : Work) (log : List Happening) (q : Ask) (bytes : List ℕ) (a : Answer) (before after : ℕ → Hold) (result : Option Reply) : Type 0 where
-  pub at : IsIn known w (position s log)
-  pub held : HoldsAs s.geometry before (position s log).holds
-  pub tied : (work_setting w).geometry ≡ s.geometry
-  pub stands : Some q ≡ standing (work_rest known w)
-  pub writes : bytes_out (work_rest known w) ≡ bytes
-  pub spare : Spares w q
-  pub fits : Fits q a
-  pub moves : Moves w new a before after result
+-- what an appliance keeps of leases, and its hand
+pub record Keeps : Type 0 where
+  pub leases : ℕ → Hold
+  pub extents : ℕ → Hold
+  pub hand : List ℕ
+
+-- the ask of the command that runs stands, it is answered, and the appliance keeps what the log holds then
+pub record IsAnswered (s : Setting) (lent later : Lent) (w new : Work) (log : List Happening) (q : Ask) (bytes : List ℕ) (a : Answer) (before after : Keeps) (result : Option Reply) : Type 0 where
+  pub at : IsIn lent w (position s log)
+  pub hand : (position s log).hand ≡ before.hand
+  pub held : HoldsAs s.geometry (image_leases_after_write q a after.leases) (image_leases_after_write q a after.extents) (after_answer (position s log).sample q bytes a (position s log).holds)
+  pub inside : result ≡ None → Inside new (after_answer (position s log).sample q bytes a (position s log).holds) (sample_of a) (found_by q a)
+  pub within : AreWithin s.geometry (hand_answered s.geometry (position s log).found q bytes a before.hand)
+  pub hand_moves : held_hand s.geometry after.extents (hand_answered s.geometry (position s log).found q bytes a before.hand) ≡ after.hand
 
 -- the position after it
-went : (s : Setting) (known : Known) (w : Work) (log : List Happening) (q : Ask) (bytes : List ℕ) (a : Answer) → (i : IsIn known w (position s log)) →
+went : (s : Setting) (lent : Lent) (w : Work) (log : List Happening) (q : Ask) (bytes : List ℕ) (a : Answer) → (i : IsIn lent w (position s log)) →
     position s (Asked q bytes a ∷ log)
-    ≡ goes_to i.before i.command (after_answer (position s log).sample q bytes a (position s log).holds) (sample_of a) (answered (work_rest known w) a)
-went s known w log q bytes a i = ap (λ (place : Place). went_on s q bytes a (position s log) place) i.place_is
+    ≡ goes_to s.geometry i.before i.command (after_answer (position s log).sample q bytes a (position s log).holds)
+    (hand_answered s.geometry (position s log).found q bytes a (position s log).hand) (sample_of a) (found_by q a) (answered (work_rest lent w) a)
+went s lent w log q bytes a i = ap (λ (place : Place). went_on s q bytes a (position s log) place) i.place_is
 
-replied : (s : Setting) (known : Known) (w : Work) (log : List Happening) (a : Answer) → IsIn known w (position s log) →
-    replies s a (position s log) ≡ reply_of (answered (work_rest known w) a)
-replied s known w log a i = ap (λ (place : Place). replies_at s a (position s log) place) i.place_is
-
-answered-holds : (s : Setting) (known : Known) (w new : Work) (log : List Happening) (q : Ask) (bytes : List ℕ) (a : Answer) (before after : ℕ → Hold) (result : Option Reply) →
-    IsAnswered s known w new log q bytes a before after result →
-    HoldsAs s.geometry (dropped q a after) (after_answer (position s log).sample q bytes a (position s log).holds)
-answered-holds s known w new log q bytes a before after result h =
-    subst (λ (bs : List ℕ). HoldsAs s.geometry (dropped q a after) (after_answer (position s log).sample q bs a (position s log).holds)) h.writes
-    (work-holds s.geometry known w new q a before after (position s log).holds (position s log).sample result h.tied h.stands h.spare h.fits h.held h.at.inside h.moves)
+replies-in-work : (s : Setting) (lent : Lent) (w : Work) (log : List Happening) (a : Answer) → IsIn lent w (position s log) →
+    replies s a (position s log) ≡ reply_of (answered (work_rest lent w) a)
+replies-in-work s lent w log a i = ap (λ (place : Place). replies_at s a (position s log) place) i.place_is
 
 -- a command goes on
-pub record WentIn (s : Setting) (known : Known) (new : Work) (log : List Happening) (q : Ask) (bytes : List ℕ) (a : Answer) (leases : ℕ → Hold) : Type 0 where
-  pub in_it : IsIn known new (position s (Asked q bytes a ∷ log))
-  pub held : HoldsAs s.geometry leases (position s (Asked q bytes a ∷ log)).holds
+pub record WentIn (s : Setting) (later : Lent) (new : Work) (log : List Happening) (q : Ask) (bytes : List ℕ) (a : Answer) (after : Keeps) : Type 0 where
+  pub in_it : IsIn later new (position s (Asked q bytes a ∷ log))
+  pub held : HoldsAs s.geometry (image_leases_after_write q a after.leases) (image_leases_after_write q a after.extents) (position s (Asked q bytes a ∷ log)).holds
+  pub in_hand : (position s (Asked q bytes a ∷ log)).hand ≡ dropped_hand q a after.hand
   pub no_reply : None ≡ replies s a (position s log)
 
-pub went-in : (s : Setting) (known later : Known) (w new : Work) (log : List Happening) (q : Ask) (bytes : List ℕ) (a : Answer) (before after : ℕ → Hold) →
-    IsAnswered s known w new log q bytes a before after None → work_rest later new ≡ answered (work_rest known w) a →
-    WentIn s later new log q bytes a (dropped q a after)
-went-in s known later w new log q bytes a before after h is =
+pub went-in : (s : Setting) (lent later : Lent) (w new : Work) (log : List Happening) (q : Ask) (bytes : List ℕ) (a : Answer) (before after : Keeps) →
+    IsAnswered s lent later w new log q bytes a before after None → work_rest later new ≡ answered (work_rest lent w) a →
+    WentIn s later new log q bytes a after
+went-in s lent later w new log q bytes a before after h is =
     let p = position s log in
+    let g = s.geometry in
     let next = position s (Asked q bytes a ∷ log) in
     let now = after_answer p.sample q bytes a p.holds in
-    let moved = went s known w log q bytes a h.at in
+    let all = hand_answered g p.found q bytes a before.hand in
+    let moved = went s lent w log q bytes a h.at in
     let asks = work-asks later new in
-    let holding : next.holds ≡ now =
-    ap (λ (r : Position). r.holds) moved ∙ ap (λ (part : Part End). after_part part now) (sym is) ∙ holds-asks (work_rest later new) now asks in
-    let inside : Inside new now (sample_of a) =
-    subst (λ (bs : List ℕ). Inside new (after_answer p.sample q bs a p.holds) (sample_of a)) h.writes
-    (work-inside known w new q a before after p.holds p.sample None h.stands h.fits h.at.inside h.moves refl) in
+    let stays : after_part (answered (work_rest lent w) a) now ≡ now = ap (λ (part : Part End). after_part part now) (sym is) ∙ holds-asks (work_rest later new) now asks in
+    let holding : next.holds ≡ now = ap (λ (r : Position). r.holds) moved ∙ stays in
     record {
       in_it = record {
         before = h.at.before;
         command = h.at.command;
         place_is = ap (λ (r : Position). r.place) moved ∙ ap (place_of h.at.before h.at.command) (sym is) ∙ place-asks h.at.before h.at.command (work_rest later new) asks;
-        inside = subst (λ (o : Option ℕ). Inside new next.holds o) (sym (ap (λ (r : Position). r.sample) moved)) (subst (λ (t : ℕ → Hold). Inside new t (sample_of a)) (sym holding) inside);
+        inside = subst (λ (o : Option (ℕ × List ℕ)). Inside new next.holds next.sample o) (sym (ap (λ (r : Position). r.found) moved))
+            (subst (λ (o : Option ℕ). Inside new next.holds o (found_by q a)) (sym (ap (λ (r : Position). r.sample) moved))
+            (subst (λ (t : ℕ → Hold). Inside new t (sample_of a) (found_by q a)) (sym holding) (h.inside refl)));
       };
-      held = subst (λ (t : ℕ → Hold). HoldsAs s.geometry (dropped q a after) t) (sym holding) (answered-holds s known w new log q bytes a before after None h);
-      no_reply = reply-asks (work_rest later new) asks ∙ ap reply_of is ∙ sym (replied s known w log a h.at);
+      held = subst (λ (t : ℕ → Hold). HoldsAs g (image_leases_after_write q a after.leases) (image_leases_after_write q a after.extents) t) (sym holding) h.held;
+      in_hand = ap (λ (r : Position). r.hand) moved ∙ ap (λ (t : ℕ → Hold). hand_held g t (hand_answered g p.found q bytes a p.hand)) stays
+          ∙ ap (λ (l : List ℕ). hand_held g now (hand_answered g p.found q bytes a l)) h.hand
+          ∙ hand-as g (image_leases_after_write q a after.leases) (image_leases_after_write q a after.extents) now all h.held h.within
+          ∙ dropped-hand g after.extents q a after.hand all h.hand_moves;
+      no_reply = reply-asks (work_rest later new) asks ∙ ap reply_of is ∙ sym (replies-in-work s lent w log a h.at);
     }
 
 -- a command ends
-pub record WentOut (s : Setting) (known : Known) (r : Reply) (log : List Happening) (q : Ask) (bytes : List ℕ) (a : Answer) (leases : ℕ → Hold) : Type 0 where
+pub record WentOut (s : Setting) (known : Known) (r : Reply) (log : List Happening) (q : Ask) (bytes : List ℕ) (a : Answer) (after : Keeps) : Type 0 where
   pub idle : (position s (Asked q bytes a ∷ log)).place ≡ Idle (known_after r known)
-  pub held : HoldsAs s.geometry (leases_after r leases) (position s (Asked q bytes a ∷ log)).holds
+  pub held : HoldsAs s.geometry (leases_after r (image_leases_after_write q a after.leases)) (leases_after r (image_leases_after_write q a after.extents)) (position s (Asked q bytes a ∷ log)).holds
+  pub in_hand : (position s (Asked q bytes a ∷ log)).hand ≡ hand_after_reply r (dropped_hand q a after.hand)
   pub replied : Some r ≡ replies s a (position s log)
 
-pub went-out : (s : Setting) (known later : Known) (w new : Work) (r : Reply) (log : List Happening) (q : Ask) (bytes : List ℕ) (a : Answer) (before after : ℕ → Hold) →
-    IsAnswered s known w new log q bytes a before after (Some r) → ends r (known_after r later) ≡ answered (work_rest known w) a →
-    WentOut s later r log q bytes a (dropped q a after)
-went-out s known later w new r log q bytes a before after h is =
+pub went-out : (s : Setting) (lent later : Lent) (w new : Work) (r : Reply) (log : List Happening) (q : Ask) (bytes : List ℕ) (a : Answer) (before after : Keeps) →
+    IsAnswered s lent later w new log q bytes a before after (Some r) → ends r (known_after r later.known) ≡ answered (work_rest lent w) a →
+    WentOut s later.known r log q bytes a after
+went-out s lent later w new r log q bytes a before after h is =
     let p = position s log in
+    let g = s.geometry in
     let now = after_answer p.sample q bytes a p.holds in
-    let moved = went s known w log q bytes a h.at in
-    let holding : (position s (Asked q bytes a ∷ log)).holds ≡ after_reply r now =
-    ap (λ (x : Position). x.holds) moved ∙ ap (λ (part : Part End). after_part part now) (sym is) in
+    let all = hand_answered g p.found q bytes a before.hand in
+    let moved = went s lent w log q bytes a h.at in
+    let stays : after_part (answered (work_rest lent w) a) now ≡ holds_after_reply r now = ap (λ (part : Part End). after_part part now) (sym is) in
+    let holding : (position s (Asked q bytes a ∷ log)).holds ≡ holds_after_reply r now = ap (λ (x : Position). x.holds) moved ∙ stays in
+    let leases = image_leases_after_write q a after.leases in
+    let extents = image_leases_after_write q a after.extents in
+    let kept = reply-holds g leases extents now r h.held in
     record {
       idle = ap (λ (x : Position). x.place) moved ∙ ap (place_of h.at.before h.at.command) (sym is);
-      held = subst (λ (t : ℕ → Hold). HoldsAs s.geometry (leases_after r (dropped q a after)) t) (sym holding)
-          (reply-holds s.geometry (dropped q a after) now r (answered-holds s known w new log q bytes a before after (Some r) h));
-      replied = ap reply_of is ∙ sym (replied s known w log a h.at);
+      held = subst (λ (t : ℕ → Hold). HoldsAs g (leases_after r leases) (leases_after r extents) t) (sym holding) kept;
+      in_hand = ap (λ (x : Position). x.hand) moved ∙ ap (λ (t : ℕ → Hold). hand_held g t (hand_answered g p.found q bytes a p.hand)) stays
+          ∙ ap (λ (l : List ℕ). hand_held g (holds_after_reply r now) (hand_answered g p.found q bytes a l)) h.hand
+          ∙ hand-as g (leases_after r leases) (leases_after r extents) (holds_after_reply r now) all kept h.within
+          ∙ reply-hand g extents r (dropped_hand q a after.hand) all (dropped-hand g after.extents q a after.hand all h.hand_moves);
+      replied = ap reply_of is ∙ sym (replies-in-work s lent w log a h.at);
     }
+
+-- what is kept
+abbrev pub keeps_of : Holdings → Keeps
+keeps_of h = record { leases = image_leases h.leases.leases.items; extents = extents_in h; hand = hand_in h }
+
+-- the hand is one of extents whose leases are held
+pub hand-of : (h : Holdings) → IsHand h.setting.geometry (extents_in h) (hand_in h)
+hand-of h = record {
+  held = subst (λ (g : Geometry). held_hand g (extents_in h) (hand_in h) ≡ hand_in h) h.geometry h.handed;
+  within = subst (λ (g : Geometry). AreWithin g (hand_in h)) h.geometry (hand-within h.space.geometry h.space.hand.items h.space.limits h.space.pool);
+}
+
+-- what is kept of space is for the same geometry
+pub space-of : (h : Holdings) (g : Geometry) → h.setting.geometry ≡ g → (h.space.geometry ≡ g) × IsHand g (extents_in h) (hand_in h)
+space-of h g same = (h.geometry ∙ same, subst (λ (k : Geometry). IsHand k (extents_in h) (hand_in h)) same (hand-of h))
 
 -- so the command of an appliance is answered
 pub answered-by : (a : Appliance) (w new : Work) (log : List Happening) (q r : Ask) (bytes : List ℕ) (found : Answer) (h : Holdings) (result : Option Reply) →
-    a.stage ≡ stage.In w → StandsFor a log → IsStanding a log r bytes → Fits r found → ((known : Known) → Some q ≡ standing (work_rest known w)) → Spares w q →
-    Moves w new found (leases_of a.holdings.leases.leases.items) (leases_of h.leases.leases.items) result →
-    (q ≡ r) × IsAnswered (setting_of a) (known_of a.holdings) w new log r bytes found (leases_of a.holdings.leases.leases.items) (leases_of h.leases.leases.items) result
-answered-by a w new log q r bytes found h result runs stands standing' fits is spare moves =
-    let known = known_of a.holdings in
-    let i : IsIn known w (position (setting_of a) log) = subst (λ (st : Stage). StandsAt (setting_of a) known st (position (setting_of a) log)) runs stands.at in
-    let place : asks (position (setting_of a) log).place ≡ standing (work_rest known w) = ap asks i.place_is in
-    let e : q ≡ r = same-ask q r (is known ∙ sym place ∙ standing'.ask_is) in
-    let tied : work_setting w ≡ a.holdings.setting = subst (λ (st : Stage). stage_setting a.holdings.setting st ≡ a.holdings.setting) runs a.same in (
+    a.stage ≡ stage.In w → StandsFor a log → IsStanding a log r bytes → Fits r found → ((lent : Lent) → Some q ≡ standing (work_rest lent w)) → Spares w q →
+    Moves w new found (lent_of a.holdings) (lent_of h) result → h.setting ≡ a.holdings.setting → (result ≡ None → work_setting new ≡ work_setting w) → (result ≡ None → work_suits h.space new) →
+    (q ≡ r) × IsAnswered (appliance_setting a) (lent_of a.holdings) (lent_of h) w new log r bytes found (keeps_of a.holdings) (keeps_of h) result
+answered-by a w new log q r bytes found h result runs stands standing' fits is spare moves kept goes suits =
+    let lent = lent_of a.holdings in
+    let later = lent_of h in
+    let s = appliance_setting a in
+    let g = s.geometry in
+    let p = position s log in
+    let i : IsIn lent w p = subst (λ (st : Stage). StandsAt s lent st p) runs stands.at in
+    let place : asks p.place ≡ standing (work_rest lent w) = ap asks i.place_is in
+    let e : q ≡ r = same-ask q r (is lent ∙ sym place ∙ standing'.ask_is) in
+    let tied : work_setting w ≡ a.holdings.setting = subst (λ (st : Stage). stage_setting a.holdings.setting st ≡ a.holdings.setting) runs a.same in
+    let same : (work_setting w).geometry ≡ g = ap (λ (st : Given). st.geometry) tied in
+    let own = space-of a.holdings g refl in
+    let left = space-of h g (ap (λ (st : Given). st.geometry) kept) in
+    let suit : work_suits a.holdings.space w = subst (λ (st : Stage). stage_suits a.holdings.space st) runs a.suits in
+    let stands' : Some r ≡ standing (work_rest lent w) = sym standing'.ask_is ∙ place in
+    let spares : Spares w r = subst (λ (x : Ask). Spares w x) e spare in
+    let writes : bytes_out (work_rest lent w) ≡ bytes = sym (ap writes_out i.place_is) ∙ standing'.bytes_are in
+    let now = λ (bs : List ℕ). after_answer p.sample r bs found p.holds in
+    let held : HoldsAs g (image_leases_after_write r found later.leases) (image_leases_after_write r found (extents_in h)) (now (bytes_out (work_rest lent w))) =
+    work-holds g lent later w new r found p.holds p.sample p.found result same own.0 suit stands' spares fits stands.held i.inside moves in
+    let hand = work-hand g lent later w new r found p.holds p.sample p.found result same own.0 left.0 stands' spares i.inside own.1 left.1 moves in (
       e,
       record {
         at = i;
-        held = stands.held;
-        tied = ap (λ (st : Given). st.geometry) tied;
-        stands = sym standing'.ask_is ∙ place;
-        writes = sym (ap writes_out i.place_is) ∙ standing'.bytes_are;
-        spare = subst (λ (x : Ask). Spares w x) e spare;
-        fits = fits;
-        moves = moves;
+        hand = stands.hand;
+        held = subst (λ (bs : List ℕ). HoldsAs g (image_leases_after_write r found later.leases) (image_leases_after_write r found (extents_in h)) (now bs)) writes held;
+        inside = λ none. subst (λ (bs : List ℕ). Inside new (now bs) (sample_of found) (found_by r found)) writes
+            (work-inside g lent later w new r found p.holds p.sample p.found result same own.0 suit stands' spares fits held i.inside moves none
+            (record { setting = ap (λ (st : Given). st.geometry) (goes none) ∙ same; space = left.0; suits = suits none }));
+        within = subst (λ (bs : List ℕ). AreWithin g (hand_answered g p.found r bs found (hand_in a.holdings))) writes hand.within;
+        hand_moves = subst (λ (bs : List ℕ). held_hand g (extents_in h) (hand_answered g p.found r bs found (hand_in a.holdings)) ≡ hand_in h) writes hand.held;
       },
     )
 
+-- what is kept once its command ended
+pub record IsSettled (a : Appliance) (h kept : Holdings) (r : Reply) (q : Ask) (found : Answer) : Type 0 where
+  pub setting : kept.setting ≡ a.holdings.setting
+  pub known : known_of kept ≡ known_after r (known_of h)
+  pub leases : image_leases kept.leases.leases.items ≡ leases_after r (image_leases_after_write q found (image_leases h.leases.leases.items))
+  pub extents : extents_in kept ≡ leases_after r (image_leases_after_write q found (extents_in h))
+  pub hand : hand_in kept ≡ hand_after_reply r (dropped_hand q found (hand_in h))
+
+-- what an appliance stands for, by what it keeps
+pub record Stood (kept : Holdings) (p : Position) (At : Lent → Type 0) : Type 0 where
+  pub at : At (lent_of kept)
+  pub held : HoldsAs kept.setting.geometry (image_leases kept.leases.leases.items) (extents_in kept) p.holds
+  pub hand : p.hand ≡ hand_in kept
+
+-- the same by what is kept in its place
+pub stood-as : (kept : Holdings) (p : Position) (At : Lent → Type 0) (g : Geometry) (k : Keeps) → kept.setting.geometry ≡ g →
+    keeps_of kept ≡ k → At (lent_of kept) → HoldsAs g k.leases k.extents p.holds → p.hand ≡ k.hand → Stood kept p At
+stood-as kept p At g k same keeps at held hand = record {
+  at = at;
+  held = subst (λ (x : Geometry). HoldsAs x (image_leases kept.leases.leases.items) (extents_in kept) p.holds) (sym same)
+      (subst (λ (x : Keeps). HoldsAs g x.leases x.extents p.holds) (sym keeps) held);
+  hand = hand ∙ ap (λ (x : Keeps). x.hand) (sym keeps);
+}
+
+abbrev pub kept_state : (leases extents : ℕ → Hold) → (hand : List ℕ) → Keeps
+kept_state leases extents hand = record { leases = leases; extents = extents; hand = hand }
+
+pub keeps-by : (leases leases2 extents extents2 : ℕ → Hold) (hand hand2 : List ℕ) → leases ≡ leases2 → extents ≡ extents2 → hand ≡ hand2 →
+    kept_state leases extents hand ≡ kept_state leases2 extents2 hand2
+keeps-by leases leases2 extents extents2 hand hand2 l e h =
+    ap (λ (x : ℕ → Hold). kept_state x extents hand) l ∙ ap (λ (x : ℕ → Hold). kept_state leases2 x hand) e ∙ ap (λ (x : List ℕ). kept_state leases2 extents2 x) h
+
 -- an appliance whose command goes on stands for the longer log
-pub stands-in : (a : Appliance) (h kept : Holdings) (new : Work) (log : List Happening) (q : Ask) (bytes : List ℕ) (found : Answer) (leases : ℕ → Hold) →
-    kept.setting ≡ a.holdings.setting → known_of kept ≡ known_of h → leases_of kept.leases.leases.items ≡ leases →
-    WentIn (setting_of a) (known_of h) new log q bytes found leases →
-    IsIn (known_of kept) new (position (given kept.setting) (Asked q bytes found ∷ log))
-    × HoldsAs kept.setting.geometry (leases_of kept.leases.leases.items) (position (given kept.setting) (Asked q bytes found ∷ log)).holds
-stands-in a h kept new log q bytes found leases same known is went = (
-  subst (λ (st : Given). IsIn (known_of kept) new (position (given st) (Asked q bytes found ∷ log))) (sym same)
-      (subst (λ (k : Known). IsIn k new (position (setting_of a) (Asked q bytes found ∷ log))) (sym known) went.in_it),
-  subst (λ (st : Given). HoldsAs st.geometry (leases_of kept.leases.leases.items) (position (given st) (Asked q bytes found ∷ log)).holds) (sym same)
-      (subst (λ (ls : ℕ → Hold). HoldsAs a.holdings.setting.geometry ls (position (setting_of a) (Asked q bytes found ∷ log)).holds) (sym is) went.held),
-)
+pub stands-in : (a : Appliance) (h : Holdings) (new : Work) (log : List Happening) (q : Ask) (bytes : List ℕ) (found : Answer) →
+    h.setting ≡ a.holdings.setting → IsKept q found → WentIn (appliance_setting a) (lent_of h) new log q bytes found (keeps_of h) →
+    Stood h (position (rules_setting h.setting) (Asked q bytes found ∷ log)) (λ lent. IsIn lent new (position (rules_setting h.setting) (Asked q bytes found ∷ log)))
+stands-in a h new log q bytes found same kept went =
+    subst (λ (st : Given). Stood h (position (rules_setting st) (Asked q bytes found ∷ log)) (λ lent. IsIn lent new (position (rules_setting st) (Asked q bytes found ∷ log)))) (sym same)
+    (stood-as h (position (appliance_setting a) (Asked q bytes found ∷ log)) (λ lent. IsIn lent new (position (appliance_setting a) (Asked q bytes found ∷ log))) a.holdings.setting.geometry
+    (record { leases = image_leases_after_write q found (image_leases h.leases.leases.items); extents = image_leases_after_write q found (extents_in h); hand = dropped_hand q found (hand_in h) })
+    (ap (λ (st : Given). st.geometry) same)
+    (keeps-by _ _ _ _ _ _ (sym (kept-leases q found (image_leases h.leases.leases.items) kept)) (sym (kept-leases q found (extents_in h) kept)) (sym (kept-hand q found (hand_in h) kept)))
+    went.in_it went.held went.in_hand)
 
 -- and so does one whose command ends
-pub stands-out : (a : Appliance) (h kept : Holdings) (r : Reply) (log : List Happening) (q : Ask) (bytes : List ℕ) (found : Answer) (leases : ℕ → Hold) →
-    kept.setting ≡ a.holdings.setting → known_of kept ≡ known_after r (known_of h) → leases_of kept.leases.leases.items ≡ leases_after r leases →
-    WentOut (setting_of a) (known_of h) r log q bytes found leases →
-    ((position (given kept.setting) (Asked q bytes found ∷ log)).place ≡ Idle (known_of kept))
-    × HoldsAs kept.setting.geometry (leases_of kept.leases.leases.items) (position (given kept.setting) (Asked q bytes found ∷ log)).holds
-stands-out a h kept r log q bytes found leases same known is went = (
-  subst (λ (st : Given). (position (given st) (Asked q bytes found ∷ log)).place ≡ Idle (known_of kept)) (sym same) (went.idle ∙ ap Idle (sym known)),
-  subst (λ (st : Given). HoldsAs st.geometry (leases_of kept.leases.leases.items) (position (given st) (Asked q bytes found ∷ log)).holds) (sym same)
-      (subst (λ (ls : ℕ → Hold). HoldsAs a.holdings.setting.geometry ls (position (setting_of a) (Asked q bytes found ∷ log)).holds) (sym is) went.held),
-)
+pub stands-out : (a : Appliance) (h kept : Holdings) (r : Reply) (log : List Happening) (q : Ask) (bytes : List ℕ) (found : Answer) →
+    IsSettled a h kept r q found → WentOut (appliance_setting a) (known_of h) r log q bytes found (keeps_of h) →
+    Stood kept (position (rules_setting kept.setting) (Asked q bytes found ∷ log)) (λ lent. (position (rules_setting kept.setting) (Asked q bytes found ∷ log)).place ≡ Idle lent.known)
+stands-out a h kept r log q bytes found d went =
+    subst (λ (st : Given). Stood kept (position (rules_setting st) (Asked q bytes found ∷ log)) (λ lent. (position (rules_setting st) (Asked q bytes found ∷ log)).place ≡ Idle lent.known)) (sym d.setting)
+    (stood-as kept (position (appliance_setting a) (Asked q bytes found ∷ log)) (λ lent. (position (appliance_setting a) (Asked q bytes found ∷ log)).place ≡ Idle lent.known) a.holdings.setting.geometry
+    (record { leases = leases_after r (image_leases_after_write q found (image_leases h.leases.leases.items)); extents = leases_after r (image_leases_after_write q found (extents_in h)); hand = hand_after_reply r (dropped_hand q found (hand_in h)) })
+    (ap (λ (st : Given). st.geometry) d.setting) (keeps-by _ _ _ _ _ _ d.leases d.extents d.hand)
+    (subst (λ (known : Known). (position (appliance_setting a) (Asked q bytes found ∷ log)).place ≡ Idle known) (sym d.known) went.idle) went.held went.in_hand)
 
 -- a command that runs waits for its first reading, or is after it
 pub by-begun : {P : Type 0} (st : Stage) → true ≡ has_begun st → ((b : Begun) → st ≡ stage.Begun b → P) → P
@@ -176,6 +255,6 @@ by-running (stage.In w) h running goes = goes w refl
 pub begun-stands : (a : Appliance) (b : Begun) (log : List Happening) (q : Ask) (bytes : List ℕ) → a.stage ≡ stage.Begun b → StandsFor a log → IsStanding a log q bytes →
     (ask.Clock ≡ q) × ([] ≡ bytes)
 begun-stands a b log q bytes is stands standing' =
-    let h : HasBegun (setting_of a) (known_of a.holdings) b (position (setting_of a) log) =
-    subst (λ (st : Stage). StandsAt (setting_of a) (known_of a.holdings) st (position (setting_of a) log)) is stands.at in
+    let h : HasBegun (appliance_setting a) (known_of a.holdings) b (position (appliance_setting a) log) =
+    subst (λ (st : Stage). StandsAt (appliance_setting a) (lent_of a.holdings) st (position (appliance_setting a) log)) is stands.at in
     (same-ask ask.Clock q (sym (ap asks h.place_is) ∙ standing'.ask_is), sym (ap writes_out h.place_is) ∙ standing'.bytes_are)

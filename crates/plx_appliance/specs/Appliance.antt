@@ -7,12 +7,14 @@ use Rattle.plx_rules.specs.Commands.{command_part}
 use Rattle.plx_rules.specs.Holds.{Hold}
 use Rattle.plx_rules.specs.Session.{Known}
 use Rattle.plx_rules.specs.Settings.{Setting}
-use Rattle.plx_appliance.specs.Begins.{begun_part}
-use Rattle.plx_appliance.specs.Giving.{given}
+use Rattle.plx_appliance.specs.Begins.{waiting_part}
+use Rattle.plx_appliance.specs.Giving.{rules_setting}
 use Rattle.plx_appliance.specs.Holding.{HoldsAs}
 use Rattle.plx_appliance.specs.Kept.{known_of}
+use Rattle.plx_appliance.specs.Lent.{Lent, lent_of}
+use Rattle.plx_appliance.specs.Space.{extents_in, hand_in}
 use Rattle.plx_appliance.specs.Stands.{Inside}
-use Rattle.plx_appliance.specs.Tokens.{leases_of}
+use Rattle.plx_appliance.specs.Tokens.{image_leases}
 use Rattle.plx_appliance.specs.Works.{work_rest}
 use Rattle.plx_appliance.specs.declared.appliance.Appliance.{Appliance}
 use Rattle.plx_appliance.specs.declared.appliance.Stage.{Stage}
@@ -21,36 +23,37 @@ use Rattle.plx_appliance.specs.declared.begun.Begun.{Begun}
 use Rattle.plx_appliance.specs.declared.work.Work.{Work}
 
 -- what the boot is given
-abbrev pub setting_of : Appliance → Setting
-setting_of a = given a.holdings.setting
+abbrev pub appliance_setting : Appliance → Setting
+appliance_setting a = rules_setting a.holdings.setting
 
 -- a command has begun, and asks what its machine will ask
 pub record HasBegun (s : Setting) (known : Known) (begun : Begun) (p : Position) : Type 0 where
   pub command : Command
   pub place_is : p.place ≡ Begins known command
-  pub part_is : (holds : ℕ → Hold) (reading : ℕ) → begun_part s known holds reading begun ≡ command_part s known holds reading command
+  pub part_is : (holds : ℕ → Hold) (hand : List ℕ) (reading : ℕ) → waiting_part s known holds hand reading begun ≡ command_part s known holds hand reading command
 
 -- a command has had its first reading, and its machine stands where its log does
-pub record IsIn (known : Known) (w : Work) (p : Position) : Type 0 where
+pub record IsIn (lent : Lent) (w : Work) (p : Position) : Type 0 where
   pub before : Known
   pub command : Command
-  pub place_is : p.place ≡ In before command (work_rest known w)
-  pub inside : Inside w p.holds p.sample
+  pub place_is : p.place ≡ In before command (work_rest lent w)
+  pub inside : Inside w p.holds p.sample p.found
 
-abbrev pub StandsAt : Setting → Known → Stage → Position → Type 0
-StandsAt s known stage.Idle p = p.place ≡ Idle known
-StandsAt s known (stage.Begun begun) p = HasBegun s known begun p
-StandsAt s known (stage.In w) p = IsIn known w p
+abbrev pub StandsAt : Setting → Lent → Stage → Position → Type 0
+StandsAt s lent stage.Idle p = p.place ≡ Idle lent.known
+StandsAt s lent (stage.Begun begun) p = HasBegun s lent.known begun p
+StandsAt s lent (stage.In w) p = IsIn lent w p
 
--- an appliance stands for a log that leads to where it stands, and its tokens are what the log holds
+-- an appliance stands for a log that leads to where it stands, its tokens are what the log holds, and its hand is the one of the log
 pub record StandsFor (a : Appliance) (log : List Happening) : Type 0 where
-  pub at : StandsAt (setting_of a) (known_of a.holdings) a.stage (position (setting_of a) log)
-  pub held : HoldsAs a.holdings.setting.geometry (leases_of a.holdings.leases.leases.items) (position (setting_of a) log).holds
+  pub at : StandsAt (appliance_setting a) (lent_of a.holdings) a.stage (position (appliance_setting a) log)
+  pub held : HoldsAs a.holdings.setting.geometry (image_leases a.holdings.leases.leases.items) (extents_in a.holdings) (position (appliance_setting a) log).holds
+  pub hand : (position (appliance_setting a) log).hand ≡ hand_in a.holdings
 
 -- this ask stands where the log leads, and these bytes are to be written
 pub record IsStanding (a : Appliance) (log : List Happening) (ask : Ask) (bytes : List ℕ) : Type 0 where
-  pub ask_is : asks (position (setting_of a) log).place ≡ Some ask
-  pub bytes_are : writes_out (position (setting_of a) log).place ≡ bytes
+  pub ask_is : asks (position (appliance_setting a) log).place ≡ Some ask
+  pub bytes_are : writes_out (position (appliance_setting a) log).place ≡ bytes
 
 -- an appliance is in no command, or in one
 abbrev pub runs : Stage → Bool

@@ -9,14 +9,14 @@ use Rattle.plx_rules.specs.Session.{Known}
 use Rattle.plx_lease.specs.Claiming.{claim_rest}
 use Rattle.plx_disk.specs.declared.ask.Ask.{Ask}
 use Rattle.plx_appliance.specs.Asking.{IsSpare}
-use Rattle.plx_appliance.specs.Giving.{given}
+use Rattle.plx_appliance.specs.Giving.{rules_setting}
 use Rattle.plx_appliance.specs.Loads.{load_rest}
 use Rattle.plx_appliance.specs.declared.attach.Attach.{Attach}
 use Rattle.plx_appliance.specs.declared.attach.AttachAt.{AttachAt}
 use Rattle.plx_appliance.specs.declared.attach.AttachAt.TheVariants as attach
 
 abbrev pub attach_at : AttachAt → Known → Attach → Part End
-attach_at attach.Claim known a = followed_by (claim_rest a.claim) (after_claim (given a.load.image.setting) known a.load.image.slot.0)
+attach_at attach.Claim known a = followed_by (claim_rest a.claim) (after_claim (rules_setting a.load.image.setting) known a.load.image.slot.0)
 attach_at attach.Load known a = load_rest known a.load
 
 -- in the claim what is known counts it already

@@ -1,5 +1,5 @@
 -- A command that has begun: what it asks after its first reading.
-use Rattle.std.specs.Prelude.{ℕ, nat_lt}
+use Rattle.std.specs.Prelude.{ℕ, List, nat_lt}
 use Rattle.plx_geom.specs.Geometry.{image_lease, lease_at}
 use Rattle.plx_rules.specs.Part.{Part}
 use Rattle.plx_rules.specs.Attaching.{attach_part}
@@ -8,27 +8,30 @@ use Rattle.plx_rules.specs.Ends.{End}
 use Rattle.plx_rules.specs.Holds.{Hold}
 use Rattle.plx_rules.specs.Session.{Known}
 use Rattle.plx_rules.specs.Settings.{Setting}
+use Rattle.plx_rules.specs.Space.{reserve_part, retire_part}
 use Rattle.plx_appliance.specs.RenewStarts.{renew_command}
 use Rattle.plx_appliance.specs.declared.begun.Begun.{Begun}
 use Rattle.plx_appliance.specs.declared.begun.Begun.TheVariants as begun
 
 -- what it asks after its first reading
-abbrev pub begun_part : Setting → Known → (holds : ℕ → Hold) → (reading : ℕ) → Begun → Part End
-begun_part s known holds reading (begun.Attach slot room) =
+abbrev pub waiting_part : Setting → Known → (holds : ℕ → Hold) → (hand : List ℕ) → (reading : ℕ) → Begun → Part End
+waiting_part s known holds hand reading (begun.Attach slot room) =
     attach_part s known slot.0 (known.sessions slot.0) (nat_lt slot.0 s.geometry.images) (holds (lease_at (image_lease slot.0)))
-begun_part s known holds reading (begun.Detach slot lease) = of_attached s known holds reading slot.0 (detach_part s known slot.0)
-begun_part s known holds reading (begun.Create slot size label record') = of_attached s known holds reading slot.0 (create_part s known slot.0 size label)
-begun_part s known holds reading (begun.Delete slot record') = of_attached s known holds reading slot.0 (delete_part s known slot.0)
-begun_part s known holds reading (begun.Read slot vblock block) = of_attached s known holds reading slot.0 (read_part s known slot.0 vblock)
-begun_part s known holds reading (begun.Write slot vblock block descriptor) = of_attached s known holds reading slot.0 (write_part s known slot.0 vblock block)
-begun_part s known holds reading (begun.Renew renewals) = renew_command s known holds reading
+waiting_part s known holds hand reading (begun.Detach slot lease) = of_attached s known holds reading slot.0 (detach_part s known slot.0)
+waiting_part s known holds hand reading (begun.Create slot size label record') = of_attached s known holds reading slot.0 (create_part s known slot.0 size label)
+waiting_part s known holds hand reading (begun.Delete slot record') = of_attached s known holds reading slot.0 (delete_part s known slot.0)
+waiting_part s known holds hand reading (begun.Read slot vblock block) = of_attached s known holds reading slot.0 (read_part s known slot.0 vblock)
+waiting_part s known holds hand reading (begun.Write slot vblock block descriptor) = of_attached s known holds reading slot.0 (write_part s known slot.0 vblock block)
+waiting_part s known holds hand reading (begun.Renew renewals) = renew_command s known holds reading
+waiting_part s known holds hand reading (begun.Reserve need) = reserve_part s known holds hand need.count
+waiting_part s known holds hand reading (begun.Retire lease) = retire_part s known holds hand
 
 -- for how many journal slots it has memory, where it needs any
 abbrev pub begun_slots : ℕ → Begun → ℕ
 begun_slots slots (begun.Attach slot room) = room.slots
 begun_slots slots other = slots
 
--- for how many images it has memory, where it needs any
-abbrev pub begun_images : ℕ → Begun → ℕ
-begun_images images (begun.Renew renewals) = renewals.images
-begun_images images other = images
+-- for how many leases it has memory, where it needs any
+abbrev pub begun_leases : ℕ → Begun → ℕ
+begun_leases leases (begun.Renew renewals) = renewals.leases
+begun_leases leases other = leases

@@ -4,7 +4,7 @@ use Rattle.plx_appliance.specs.declared.finding.Finding.{Finding as Found}
 use Rattle.plx_appliance.specs.declared.finding.Finding.TheVariants as found
 
 -- what is found
-abbrev pub finding_of : Found → Finding
-finding_of found.Outside = Outside
-finding_of found.Unused = Unused
-finding_of (found.Counts descriptor) = Counts descriptor
+abbrev pub finding_shown : Found → Finding
+finding_shown found.Outside = Outside
+finding_shown found.Unused = Unused
+finding_shown (found.Counts descriptor) = Counts descriptor

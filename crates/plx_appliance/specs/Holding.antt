@@ -1,5 +1,5 @@
 -- The leases that an appliance keeps are those that its log holds.
-use Rattle.std.specs.Prelude.{◌≡◌, ◌<◌, ℕ}
+use Rattle.std.specs.Prelude.{◌≡◌, ◌<◌, ℕ, List, [], None}
 use Rattle.plx_disk.specs.declared.ask.Ask.{Ask}
 use Rattle.plx_disk.specs.declared.ask.Ask.TheVariants as ask
 use Rattle.plx_disk.specs.declared.ask.Answer.{Answer}
@@ -7,23 +7,39 @@ use Rattle.plx_disk.specs.declared.ask.Answer.TheVariants as answer
 use Rattle.plx_geom.specs.Geometry.{Geometry, lease_at, lease_count}
 use Rattle.plx_rules.specs.Holds.{Hold, Nothing, Held, first_hold}
 use Rattle.plx_rules.specs.Session.{Known}
-use Rattle.plx_appliance.specs.Tokens.{held_at}
+use Rattle.plx_appliance.specs.Tokens.{lease_holds_at}
 
 -- what is left of a hold but how far a claim has come
-abbrev pub settled : Hold → Hold
-settled (Held claim until) = Held claim until
-settled other = Nothing
+abbrev pub hold_without_claim : Hold → Hold
+hold_without_claim (Held claim until) = Held claim until
+hold_without_claim other = Nothing
 
 -- of each lease the appliance keeps what its log holds
-abbrev pub HoldsAs : Geometry → (leases : ℕ → Hold) → (holds : ℕ → Hold) → Type 0
-HoldsAs g leases holds = (lease : ℕ) → lease < lease_count g → settled (holds (lease_at lease)) ≡ held_at g leases (lease_at lease)
+abbrev pub HoldsAs : Geometry → (leases extents : ℕ → Hold) → (holds : ℕ → Hold) → Type 0
+HoldsAs g leases extents holds = (lease : ℕ) → lease < lease_count g → hold_without_claim (holds (lease_at lease)) ≡ lease_holds_at g leases extents (lease_at lease)
+
+-- an answer after which what is held stays: no write failed or was missed
+abbrev pub IsKept : Ask → Answer → Type 0
+IsKept (ask.Write kind block guard) answer.Fault = ⊥
+IsKept (ask.Write kind block guard) (answer.Missed reading) = ⊥
+IsKept ask found = Unit {0}
 
 -- a write that failed or was missed
-abbrev pub dropped : Ask → Answer → (ℕ → Hold) → ℕ → Hold
-dropped (ask.Write kind block guard) answer.Fault leases = λ image. Nothing
-dropped (ask.Write kind block guard) (answer.Missed reading) leases = λ image. Nothing
-dropped other found leases = leases
+abbrev pub image_leases_after_write : Ask → Answer → (ℕ → Hold) → ℕ → Hold
+image_leases_after_write (ask.Write kind block guard) answer.Fault leases = λ image. Nothing
+image_leases_after_write (ask.Write kind block guard) (answer.Missed reading) leases = λ image. Nothing
+image_leases_after_write other found leases = leases
+
+-- the same of the hand
+abbrev pub dropped_hand : Ask → Answer → List ℕ → List ℕ
+dropped_hand (ask.Write kind block guard) answer.Fault hand = []
+dropped_hand (ask.Write kind block guard) (answer.Missed reading) hand = []
+dropped_hand other found hand = hand
 
 -- the first reading of a command drops each lease without a session that it has reached
 abbrev pub first_leases : Known → (reading : ℕ) → (leases : ℕ → Hold) → ℕ → Hold
 first_leases known reading leases = λ image. first_hold (known.sessions image) reading (leases image)
+
+-- and each lease of an extent
+abbrev pub first_extents : (reading : ℕ) → (extents : ℕ → Hold) → ℕ → Hold
+first_extents reading extents = λ extent. first_hold None reading (extents extent)

@@ -4,9 +4,9 @@ use Rattle.plx_appliance.specs.declared.load.LoadAt.{LoadAt}
 use Rattle.plx_appliance.specs.declared.load.LoadAt.TheVariants.{Record, Slot, Data, Damaged, Last}
 
 -- how many slots are read, with the one that is being read
-abbrev pub reached : LoadAt → ℕ → ℕ
-reached Record next = next
-reached Slot next = next + 1
-reached (Data descriptor) next = next + 1
-reached (Damaged block) next = next
-reached Last next = next
+abbrev pub slots_reached : LoadAt → ℕ → ℕ
+slots_reached Record next = next
+slots_reached Slot next = next + 1
+slots_reached (Data descriptor) next = next + 1
+slots_reached (Damaged block) next = next
+slots_reached Last next = next

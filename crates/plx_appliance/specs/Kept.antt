@@ -23,4 +23,4 @@ abbrev pub known_by : Sessions → ℕ → Known
 known_by sessions claims = record { sessions = sessions_of sessions.images.items; claims = claims }
 
 abbrev pub known_of : Holdings → Known
-known_of h = known_by h.sessions h.claims
+known_of h = known_by h.sessions h.space.claims

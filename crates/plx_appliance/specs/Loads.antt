@@ -4,20 +4,20 @@ use Rattle.plx_geom.specs.Geometry.{descriptor_at, data_at}
 use Rattle.plx_rules.specs.Part.{Part}
 use Rattle.plx_rules.specs.declared.journaled.Journaled.{Journaled}
 use Rattle.plx_rules.specs.Attaching.{after_load, attach_ends, image_use, load_image}
-use Rattle.plx_rules.specs.Ends.{End, damaged}
+use Rattle.plx_rules.specs.Ends.{End, damaged_part}
 use Rattle.plx_rules.specs.Journal.{finding}
 use Rattle.plx_rules.specs.Loading.{LoadEnd, load_found, load_part, load_read}
 use Rattle.plx_rules.specs.Parts.{followed_by}
-use Rattle.plx_rules.specs.Session.{Known, inserted}
-use Rattle.plx_appliance.specs.Giving.{given}
+use Rattle.plx_rules.specs.Session.{Known, with_write_by_number}
+use Rattle.plx_appliance.specs.Giving.{rules_setting}
 use Rattle.plx_appliance.specs.Kept.{session_of}
 use Rattle.plx_appliance.specs.declared.load.Load.{Load}
 use Rattle.plx_appliance.specs.declared.load.LoadAt.{LoadAt}
 use Rattle.plx_appliance.specs.declared.load.LoadAt.TheVariants as load
 
 -- a write that the journal holds
-abbrev pub journaled : (number vblock : ℕ) → List ℕ → Journaled
-journaled number vblock bytes = record { number = number; vblock = vblock; block = bytes }
+abbrev pub loaded_write : (number vblock : ℕ) → List ℕ → Journaled
+loaded_write number vblock bytes = record { number = number; vblock = vblock; block = bytes }
 
 -- the journal from a slot on
 abbrev pub slots_part : Load → (next : ℕ) → List Journaled → Part LoadEnd
@@ -27,7 +27,7 @@ slots_part l next writes = load_part l.image.setting.geometry l.image.slot.0 l.s
 abbrev pub data_part : Load → (number vblock : ℕ) → Part LoadEnd
 data_part l number vblock =
     load_read (data_at l.image.setting.geometry l.image.slot.0 l.next) (λ data'.
-    slots_part l (l.next + 1) (inserted (journaled number vblock data') l.session.writes.items))
+    slots_part l (l.next + 1) (with_write_by_number (loaded_write number vblock data') l.session.writes.items))
 
 -- what is asked once the descriptor of a slot was read
 abbrev pub found_part : Load → List ℕ → Part LoadEnd
@@ -41,7 +41,7 @@ slot_part l = load_read (descriptor_at l.image.setting.geometry l.image.slot.0 l
 
 -- the end of the load
 abbrev pub and_ends : Known → Load → Part LoadEnd → Part End
-and_ends known l part = followed_by part (after_load (given l.image.setting) known l.image.slot.0 l.image.until l.session.image)
+and_ends known l part = followed_by part (after_load (rules_setting l.image.setting) known l.image.slot.0 l.image.until l.session.image)
 
 abbrev pub loaded_rest : Known → Load → (next : ℕ) → List Journaled → Part End
 loaded_rest known l next writes = and_ends known l (slots_part l next writes)
@@ -51,14 +51,14 @@ found_rest known l bytes = and_ends known l (found_part l bytes)
 
 -- bytes outside the format were read at a block
 abbrev pub damaged_rest : Known → Load → (block : ℕ) → Part End
-damaged_rest known l block = damaged (given l.image.setting) known (image_use l.image.slot.0 l.image.until) block
+damaged_rest known l block = damaged_part (rules_setting l.image.setting) known (image_use l.image.slot.0 l.image.until) block
 
 abbrev pub load_at : LoadAt → Known → Load → Part End
-load_at load.Record known l = load_image (given l.image.setting) known l.image.slot.0 l.image.until
+load_at load.Record known l = load_image (rules_setting l.image.setting) known l.image.slot.0 l.image.until
 load_at load.Slot known l = and_ends known l (slot_part l)
 load_at (load.Data d) known l = and_ends known l (data_part l d.number d.vblock)
 load_at (load.Damaged block) known l = damaged_rest known l block.0
-load_at load.Last known l = attach_ends (given l.image.setting) known l.image.slot.0 l.image.until (session_of l.session)
+load_at load.Last known l = attach_ends (rules_setting l.image.setting) known l.image.slot.0 l.image.until (session_of l.session)
 
 abbrev pub load_rest : Known → Load → Part End
 load_rest known l = load_at l.at known l

@@ -6,6 +6,6 @@ use Rattle.plx_disk.specs.declared.ask.Answer.TheVariants as answer
 use Rattle.plx_rules.specs.Holds.{Hold, Nothing}
 
 -- the lease of an image isn't held any more once its release is done
-abbrev pub released : Answer → (image : ℕ) → (ℕ → Hold) → ℕ → Hold
-released answer.Done image leases = at leases image Nothing
-released other image leases = leases
+abbrev pub image_leases_after_release : Answer → (image : ℕ) → (ℕ → Hold) → ℕ → Hold
+image_leases_after_release answer.Done image leases = at leases image Nothing
+image_leases_after_release other image leases = leases

@@ -10,8 +10,8 @@ use Rattle.plx_rules.specs.Attaching.{image_use}
 use Rattle.plx_rules.specs.Ends.{End, ends, write_then, ends_in_time}
 use Rattle.plx_rules.specs.InUse.{InUse}
 use Rattle.plx_rules.specs.Session.{Known, with_session}
-use Rattle.plx_appliance.specs.Giving.{given}
-use Rattle.plx_appliance.specs.Pushing.{begun, one_more}
+use Rattle.plx_appliance.specs.Giving.{rules_setting}
+use Rattle.plx_appliance.specs.Pushing.{new_session_if, with_one_more}
 use Rattle.plx_appliance.specs.declared.detach.Detach.{Detach}
 use Rattle.plx_appliance.specs.declared.leased.Leased.{Leased}
 use Rattle.plx_appliance.specs.declared.read.Read.{Read}
@@ -25,32 +25,32 @@ use Rattle.plx_appliance.specs.declared.write.WriteAt.{WriteAt}
 use Rattle.plx_appliance.specs.declared.write.WriteAt.TheVariants as write
 
 -- the lease that is in use
-abbrev pub use_of : Leased → InUse
-use_of l = record { lease = image_lease l.slot.0; until = l.until }
+abbrev pub leased_use : Leased → InUse
+leased_use l = record { lease = image_lease l.slot.0; until = l.until }
 
 -- a read
 abbrev pub read_rest : Known → Read → Part End
-read_rest known r = ends_in_time (given r.image.setting) known (image_use r.image.slot.0 r.image.until) (reply.Data r.payload) known
+read_rest known r = ends_in_time (rules_setting r.image.setting) known (image_use r.image.slot.0 r.image.until) (reply.Data r.payload) known
 
 -- a write: its last clock reading, its commit, its data
-abbrev pub journaled : Write → Journaled
-journaled w = record { number = w.number; vblock = w.vblock; block = w.block }
+abbrev pub journal_write : Write → Journaled
+journal_write w = record { number = w.number; vblock = w.vblock; block = w.block }
 
-abbrev pub pushed : Known → (slots image : ℕ) → Journaled → Known
-pushed known slots image write = with_session known image (one_more slots (known.sessions image) write)
+abbrev pub known_with_write : Known → (slots image : ℕ) → Journaled → Known
+known_with_write known slots image write = with_session known image (with_one_more slots (known.sessions image) write)
 
 abbrev pub write_last : Known → Write → Part End
 write_last known w =
-    ends_in_time (given w.image.setting) known (image_use w.image.slot.0 w.image.until) (reply.Written w.number)
-    (pushed known w.image.setting.geometry.slots w.image.slot.0 (journaled w))
+    ends_in_time (rules_setting w.image.setting) known (image_use w.image.slot.0 w.image.until) (reply.Written w.number)
+    (known_with_write known w.image.setting.geometry.slots w.image.slot.0 (journal_write w))
 
 abbrev pub write_commit : Known → Write → Part End
 write_commit known w =
-    write_then (given w.image.setting) known (use_of w.image) kind.JCommit (descriptor_at w.image.setting.geometry w.image.slot.0 w.index) w.spelled (write_last known w)
+    write_then (rules_setting w.image.setting) known (leased_use w.image) kind.JCommit (descriptor_at w.image.setting.geometry w.image.slot.0 w.index) w.spelled (write_last known w)
 
 abbrev pub write_data : Known → Write → Part End
 write_data known w =
-    write_then (given w.image.setting) known (use_of w.image) kind.JData (data_at w.image.setting.geometry w.image.slot.0 w.index) w.block (write_commit known w)
+    write_then (rules_setting w.image.setting) known (leased_use w.image) kind.JData (data_at w.image.setting.geometry w.image.slot.0 w.index) w.block (write_commit known w)
 
 abbrev pub write_at : WriteAt → Known → Write → Part End
 write_at write.Data known w = write_data known w
@@ -67,12 +67,12 @@ done_reply done.Deleted = reply.Deleted
 
 abbrev pub record_last : Known → Record → Part End
 record_last known r =
-    ends_in_time (given r.image.setting) known (image_use r.image.slot.0 r.image.until) (done_reply r.done)
-    (with_session known r.image.slot.0 (begun (known.sessions r.image.slot.0) r.made))
+    ends_in_time (rules_setting r.image.setting) known (image_use r.image.slot.0 r.image.until) (done_reply r.done)
+    (with_session known r.image.slot.0 (new_session_if (known.sessions r.image.slot.0) r.made))
 
 abbrev pub record_first : Known → Record → Part End
 record_first known r =
-    write_then (given r.image.setting) known (use_of r.image) kind.Record (record_at r.image.setting.geometry r.image.slot.0) r.spelled (record_last known r)
+    write_then (rules_setting r.image.setting) known (leased_use r.image) kind.Record (record_at r.image.setting.geometry r.image.slot.0) r.spelled (record_last known r)
 
 abbrev pub record_stage : RecordAt → Known → Record → Part End
 record_stage record_at'.First known r = record_first known r
@@ -84,5 +84,5 @@ record_rest known r = record_stage r.at known r
 -- a detach
 abbrev pub detach_rest : Known → Detach → Part End
 detach_rest known d =
-    write_then (given d.image.setting) known (use_of d.image) kind.Release (lease_at (image_lease d.image.slot.0)) d.spelled
+    write_then (rules_setting d.image.setting) known (leased_use d.image) kind.Release (lease_at (image_lease d.image.slot.0)) d.spelled
     (ends reply.Detached (with_session known d.image.slot.0 None))

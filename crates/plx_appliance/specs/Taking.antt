@@ -8,6 +8,6 @@ use Rattle.plx_appliance.specs.Ending.{known_after}
 use Rattle.plx_appliance.specs.declared.leased.Leased.{Leased}
 
 -- what is asked by the end of the lease, or the end with the refusal
-abbrev pub taken : (ℕ → Part End) → Known → Result Leased Reply → Part End
-taken rest known (Ok image) = rest image.until
-taken rest known (Err reply) = ends reply (known_after reply known)
+abbrev pub leased_part : (ℕ → Part End) → Known → Result Leased Reply → Part End
+leased_part rest known (Ok image) = rest image.until
+leased_part rest known (Err reply) = ends reply (known_after reply known)

@@ -3,10 +3,10 @@ use Rattle.std.specs.Prelude.{◌≡◌, ℕ, List, Option, Some, None, slice_in
 use Rattle.plx_appliance.specs.declared.session.Session.{Session}
 
 -- of how many slots the journal of a session is, if there is one
-abbrev pub slots_in : ℕ → Option Session → ℕ
-slots_in slots None = slots
-slots_in slots (Some session) = session.slots
+abbrev pub slots_with_session : ℕ → Option Session → ℕ
+slots_with_session slots None = slots
+slots_with_session slots (Some session) = session.slots
 
 -- all sessions are of journals of so many slots
 abbrev pub AreOf : ℕ → List (Option Session) → Type 0
-AreOf slots images = (image : ℕ) → slots_in slots (slice_index_or images image None) ≡ slots
+AreOf slots images = (image : ℕ) → slots_with_session slots (slice_index_or images image None) ≡ slots

@@ -1,7 +1,8 @@
--- Of which setting the command is that runs.
+-- Of which setting the command is that runs, and what of space suits it.
 use Rattle.std.specs.Prelude.{ℕ}
-use Rattle.plx_appliance.specs.Begins.{begun_images, begun_slots}
-use Rattle.plx_appliance.specs.Works.{work_setting, work_slots}
+use Rattle.plx_alloc.specs.declared.allocator.Allocator.{Allocator}
+use Rattle.plx_appliance.specs.Begins.{begun_leases, begun_slots}
+use Rattle.plx_appliance.specs.Works.{work_setting, work_slots, work_suits}
 use Rattle.plx_appliance.specs.declared.appliance.Stage.{Stage}
 use Rattle.plx_appliance.specs.declared.appliance.Stage.TheVariants as stage
 use Rattle.plx_appliance.specs.declared.setting.Setting.{Setting}
@@ -18,7 +19,13 @@ stage_slots slots stage.Idle = slots
 stage_slots slots (stage.Begun begun) = begun_slots slots begun
 stage_slots slots (stage.In w) = work_slots w
 
--- for how many images it has memory
-abbrev pub stage_images : ℕ → Stage → ℕ
-stage_images images (stage.Begun begun) = begun_images images begun
-stage_images images other = images
+-- for how many leases it has memory
+abbrev pub stage_leases : ℕ → Stage → ℕ
+stage_leases leases (stage.Begun begun) = begun_leases leases begun
+stage_leases leases other = leases
+
+-- it suits what is kept of space
+abbrev pub stage_suits : Allocator → Stage → Type 0
+stage_suits space stage.Idle = Unit {0}
+stage_suits space (stage.Begun begun) = Unit {0}
+stage_suits space (stage.In w) = work_suits space w

@@ -7,14 +7,15 @@ use Rattle.plx_rules.specs.Holds.{Hold, Nothing}
 use Rattle.plx_rules.specs.Holds.{Held as HeldBy}
 
 -- a lease that is held, or isn't
-abbrev pub hold_of : Option (Held Image) → Hold
-hold_of None = Nothing
-hold_of (Some held) = HeldBy held.claim held.until
+abbrev pub image_hold : Option (Held Image) → Hold
+image_hold None = Nothing
+image_hold (Some held) = HeldBy held.claim held.until
 
 -- the leases by image
-abbrev pub leases_of : List (Option (Held Image)) → ℕ → Hold
-leases_of leases = λ image. hold_of (slice_index_or leases image None)
+abbrev pub image_leases : List (Option (Held Image)) → ℕ → Hold
+image_leases leases = λ image. image_hold (slice_index_or leases image None)
 
--- what is held, by the block of each lease: of the leases of images alone
-abbrev pub held_at : Geometry → (ℕ → Hold) → ℕ → Hold
-held_at g leases = λ block. if nat_le 2 block && nat_lt block (2 + g.images) then leases (block - 2) else Nothing
+-- what is held, by the block of each lease: of the leases of images and of extents, and never of the root's
+abbrev pub lease_holds_at : Geometry → (leases extents : ℕ → Hold) → ℕ → Hold
+lease_holds_at g leases extents = λ block.
+    if nat_le 2 block && nat_lt block (2 + g.images) then leases (block - 2) else if nat_le (2 + g.images) block then extents (block - (2 + g.images)) else Nothing

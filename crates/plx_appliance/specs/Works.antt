@@ -1,27 +1,34 @@
 -- The command that runs: what it still asks, and what it is given.
 use Rattle.std.specs.Prelude.{ℕ, Result, Ok, Err}
+use Rattle.plx_alloc.specs.Asking.{reserve_spares}
+use Rattle.plx_alloc.specs.Suiting.{SuitsReserve}
+use Rattle.plx_alloc.specs.declared.allocator.Allocator.{Allocator}
 use Rattle.plx_commands.specs.declared.reply.Reply.{Reply}
 use Rattle.plx_disk.specs.declared.ask.Ask.{Ask}
 use Rattle.plx_rules.specs.Part.{Part}
 use Rattle.plx_rules.specs.Ends.{End, ends}
-use Rattle.plx_rules.specs.Session.{Known}
 use Rattle.plx_appliance.specs.Asking.{IsSpare}
 use Rattle.plx_appliance.specs.Attaches.{attach_rest, attach_spares}
 use Rattle.plx_appliance.specs.Ending.{known_after}
+use Rattle.plx_appliance.specs.Lent.{Lent}
 use Rattle.plx_appliance.specs.Renews.{renew_rest}
+use Rattle.plx_appliance.specs.Reserves.{reserve_work_rest}
 use Rattle.plx_appliance.specs.Rests.{detach_rest, read_rest, record_rest, write_rest}
+use Rattle.plx_appliance.specs.Retires.{retire_images_rest, retire_suits}
 use Rattle.plx_appliance.specs.declared.setting.Setting.{Setting}
 use Rattle.plx_appliance.specs.declared.work.Work.{Work}
 use Rattle.plx_appliance.specs.declared.work.Work.TheVariants as work
 
 -- what the command that runs still asks
-abbrev pub work_rest : Known → Work → Part End
-work_rest known (work.Attach a) = attach_rest known a
-work_rest known (work.Detach d) = detach_rest known d
-work_rest known (work.Record r) = record_rest known r
-work_rest known (work.Read r) = read_rest known r
-work_rest known (work.Write w) = write_rest known w
-work_rest known (work.Renew r) = renew_rest known r
+abbrev pub work_rest : Lent → Work → Part End
+work_rest lent (work.Attach a) = attach_rest lent.known a
+work_rest lent (work.Detach d) = detach_rest lent.known d
+work_rest lent (work.Record r) = record_rest lent.known r
+work_rest lent (work.Read r) = read_rest lent.known r
+work_rest lent (work.Write w) = write_rest lent.known w
+work_rest lent (work.Renew r) = renew_rest lent.known r
+work_rest lent (work.Reserve r) = reserve_work_rest lent r
+work_rest lent (work.Retire r) = retire_images_rest lent r
 
 -- what it is given
 abbrev pub work_setting : Work → Setting
@@ -31,6 +38,8 @@ work_setting (work.Record r) = r.image.setting
 work_setting (work.Read r) = r.image.setting
 work_setting (work.Write w) = w.image.setting
 work_setting (work.Renew r) = r.setting
+work_setting (work.Reserve r) = r.setting
+work_setting (work.Retire r) = r.setting
 
 -- for how many journal slots it has memory
 abbrev pub work_slots : Work → ℕ
@@ -40,11 +49,13 @@ work_slots (work.Record r) = r.image.setting.geometry.slots
 work_slots (work.Read r) = r.image.setting.geometry.slots
 work_slots (work.Write w) = w.image.setting.geometry.slots
 work_slots (work.Renew r) = r.setting.geometry.slots
+work_slots (work.Reserve r) = r.setting.geometry.slots
+work_slots (work.Retire r) = r.setting.geometry.slots
 
 -- what is left once a command had its first reading: its machine's rest, or its end with this refusal
-abbrev pub work_entered : Known → Result Work Reply → Part End
-work_entered known (Ok w) = work_rest known w
-work_entered known (Err reply) = ends reply (known_after reply known)
+abbrev pub work_entered : Lent → Result Work Reply → Part End
+work_entered lent (Ok w) = work_rest lent w
+work_entered lent (Err reply) = ends reply (known_after reply lent.known)
 
 -- what a claim, a renewal and a release ask concerns their lease alone; every other ask no lease
 abbrev pub Spares : Work → Ask → Type 0
@@ -54,3 +65,11 @@ Spares (work.Record r) ask = IsSpare r.image.setting.geometry ask
 Spares (work.Read r) ask = IsSpare r.image.setting.geometry ask
 Spares (work.Write w) ask = IsSpare w.image.setting.geometry ask
 Spares (work.Renew r) ask = Unit {0}
+Spares (work.Reserve r) ask = (space : Allocator) → SuitsReserve space r.work → reserve_spares r.work.at space.geometry r.work ask
+Spares (work.Retire r) ask = Unit {0}
+
+-- it suits what is kept of space
+abbrev pub work_suits : Allocator → Work → Type 0
+work_suits space (work.Reserve r) = SuitsReserve space r.work
+work_suits space (work.Retire r) = retire_suits space r.setting r.stage
+work_suits space other = Unit {0}

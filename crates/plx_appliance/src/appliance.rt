@@ -1,6 +1,8 @@
 //! One boot of an appliance.
 ghost use Rattle.std.specs.Prelude.{◌≡◌, ◌<◌, ◌^◌};
-ghost use Rattle.plx_appliance.specs.Ties.{stage_images, stage_setting, stage_slots};
+ghost use Rattle.plx_geom.specs.Geometry.{lease_count};
+ghost use Rattle.plx_appliance.specs.Suits.{suits-prop};
+ghost use Rattle.plx_appliance.specs.Ties.{stage_leases, stage_setting, stage_slots, stage_suits};
 
 use crate::begun::Begun;
 use crate::entering::enter;
@@ -28,8 +30,11 @@ pub struct Appliance {
     holdings: Holdings,
     stage: Stage,
     ghost same: { stage_setting holdings.setting stage ≡ holdings.setting },
-    ghost room: { stage_slots holdings.setting.geometry.slots stage ≡ holdings.setting.geometry.slots },
-    ghost renewals: { stage_images holdings.setting.geometry.images stage ≡ holdings.setting.geometry.images },
+    ghost room: { stage_slots holdings.setting.geometry.slots stage
+        ≡ holdings.setting.geometry.slots },
+    ghost suits: { stage_suits holdings.space stage } by { suits-prop holdings.space stage },
+    ghost renewals: { stage_leases (lease_count holdings.setting.geometry) stage
+        ≡ lease_count holdings.setting.geometry },
 }
 
 impl Appliance {
@@ -38,9 +43,9 @@ impl Appliance {
     ghost use Rattle.plx_rules.specs.Boot.{Began, Asked, Fits, Happening, asks, position, replies, writes_out};
     ghost use Rattle.plx_rules.specs.Commands.{IsBuilt, IsWellFormed};
     ghost use Rattle.plx_rules.specs.Machines.{AreWhole, IsTimely};
-    ghost use Rattle.plx_appliance.specs.Appliance.{IsIdle, IsRunning, IsStanding, StandsFor, has_begun, has_session, setting_of};
+    ghost use Rattle.plx_appliance.specs.Appliance.{IsIdle, IsRunning, IsStanding, StandsFor, has_begun, has_session, appliance_setting};
     ghost use Rattle.plx_appliance.specs.declared.work.Work.{Work as Running};
-    ghost use Rattle.plx_appliance.specs.Asking.{IsOnDevice};
+    ghost use Rattle.plx_alloc.specs.Asking.{IsOnDevice};
     ghost use Rattle.plx_appliance.specs.declared.begun.Begun.{Begun as Started};
 
     /// An appliance that was asked nothing yet.
@@ -79,9 +84,11 @@ impl Appliance {
         requires idle { IsIdle self.old }
         requires built { IsBuilt command }
         requires limits { IsWellFormed command }
-        ensures ok { OnOk result ((log : List Happening) → StandsFor self.old log → StandsFor self.new (Began command ∷ log)) }
+        ensures ok { OnOk result ((log : List Happening) → StandsFor self.old log →
+            StandsFor self.new (Began command ∷ log)) }
         ensures running { OnOk result (IsRunning self.new) }
-        ensures err { OnErr result ((log : List Happening) → StandsFor self.old log → StandsFor self.new log) }
+        ensures err { OnErr result ((log : List Happening) → StandsFor self.old log →
+            StandsFor self.new log) }
         ensures idle { OnErr result (IsIdle self.new) }
         ensures setting { self.new.holdings.setting ≡ self.old.holdings.setting }
     {
@@ -93,8 +100,10 @@ impl Appliance {
     /// The ask that stands.
     pub fn ask(&self) -> Ask
         requires { IsRunning self.now }
-        ensures ask { (log : List Happening) → StandsFor self.now log → Some result ≡ asks (position (setting_of self.now) log).place }
-        ensures within { (log : List Happening) → StandsFor self.now log → IsOnDevice self.now.holdings.setting.geometry result }
+        ensures ask { (log : List Happening) → StandsFor self.now log →
+            Some result ≡ asks (position (appliance_setting self.now) log).place }
+        ensures within { (log : List Happening) → StandsFor self.now log →
+            IsOnDevice self.now.holdings.setting.geometry result }
     {
         match &self.stage {
             Stage::Idle => Ask::Clock,
@@ -106,8 +115,10 @@ impl Appliance {
     /// The bytes of the write that is asked for.
     pub fn out(&self) -> &[u8]
         requires { IsRunning self.now }
-        ensures bytes { (log : List Happening) → StandsFor self.now log → result.now ≡ writes_out (position (setting_of self.now) log).place }
-        ensures whole { (log : List Happening) → StandsFor self.now log → AreWhole (asks (position (setting_of self.now) log).place) result.now }
+        ensures bytes { (log : List Happening) → StandsFor self.now log →
+            result.now ≡ writes_out (position (appliance_setting self.now) log).place }
+        ensures whole { (log : List Happening) → StandsFor self.now log →
+            AreWhole (asks (position (appliance_setting self.now) log).place) result.now }
     {
         match &self.stage {
             Stage::Idle => &[],
@@ -121,9 +132,16 @@ impl Appliance {
     pub fn answer(&mut self, answer: &Answer) -> Option<Reply>
         requires { IsRunning self.old }
         ensures stage { MatchOption result (IsRunning self.new) (λ reply. IsIdle self.new) }
-        ensures log { (log : List Happening) (ask : Ask) (bytes : List ℕ) → StandsFor self.old log → IsStanding self.old log ask bytes → Fits ask answer.now → StandsFor self.new (Asked ask bytes answer.now ∷ log) }
-        ensures reply { (log : List Happening) (ask : Ask) (bytes : List ℕ) → StandsFor self.old log → IsStanding self.old log ask bytes → Fits ask answer.now → result ≡ replies (setting_of self.old) answer.now (position (setting_of self.old) log) }
-        ensures unfit { (log : List Happening) (ask : Ask) (bytes : List ℕ) → StandsFor self.old log → IsStanding self.old log ask bytes → ¬ (Fits ask answer.now) → (self.new ≡ self.old) × (result ≡ None) }
+        ensures log { (log : List Happening) (ask : Ask) (bytes : List ℕ) → StandsFor self.old log →
+            IsStanding self.old log ask bytes → Fits ask answer.now →
+            StandsFor self.new (Asked ask bytes answer.now ∷ log) }
+        ensures reply { (log : List Happening) (ask : Ask) (bytes : List ℕ) →
+            StandsFor self.old log → IsStanding self.old log ask bytes → Fits ask answer.now →
+            result ≡ replies (appliance_setting self.old) answer.now
+            (position (appliance_setting self.old) log) }
+        ensures unfit { (log : List Happening) (ask : Ask) (bytes : List ℕ) →
+            StandsFor self.old log → IsStanding self.old log ask bytes → ¬ (Fits ask answer.now) →
+            (self.new ≡ self.old) × (result ≡ None) }
         ensures setting { self.new.holdings.setting ≡ self.old.holdings.setting }
     {
         let ask = self.ask();
@@ -150,9 +168,15 @@ impl Appliance {
     // The command that has begun has its first reading.
     fn first(&mut self, reading: u64) -> Option<Reply>
         requires { reading < 2 ^ 48 }
-        ensures stage { IsRunning self.old → MatchOption result (IsRunning self.new) (λ reply. IsIdle self.new) }
-        ensures log { (log : List Happening) (begun : Started) → self.old.stage ≡ Stage.Begun begun → StandsFor self.old log → StandsFor self.new (Asked Ask.Clock [] (Answer.Reading reading) ∷ log) }
-        ensures reply { (log : List Happening) (begun : Started) → self.old.stage ≡ Stage.Begun begun → StandsFor self.old log → result ≡ replies (setting_of self.old) (Answer.Reading reading) (position (setting_of self.old) log) }
+        ensures stage { IsRunning self.old → MatchOption result (IsRunning self.new)
+            (λ reply. IsIdle self.new) }
+        ensures log { (log : List Happening) (begun : Started) →
+            self.old.stage ≡ Stage.Begun begun → StandsFor self.old log →
+            StandsFor self.new (Asked Ask.Clock [] (Answer.Reading reading) ∷ log) }
+        ensures reply { (log : List Happening) (begun : Started) →
+            self.old.stage ≡ Stage.Begun begun → StandsFor self.old log →
+            result ≡ replies (appliance_setting self.old) (Answer.Reading reading)
+            (position (appliance_setting self.old) log) }
         ensures setting { self.new.holdings.setting ≡ self.old.holdings.setting }
     {
         match mem::replace(&mut self.stage, Stage::Idle) {
@@ -179,9 +203,17 @@ impl Appliance {
     // The command that runs is answered.
     fn next(&mut self, answer: &Answer) -> Option<Reply>
         requires { IsTimely answer.now }
-        ensures stage { IsRunning self.old → MatchOption result (IsRunning self.new) (λ reply. IsIdle self.new) }
-        ensures log { (log : List Happening) (ask : Ask) (bytes : List ℕ) (work : Running) → self.old.stage ≡ Stage.In work → StandsFor self.old log → IsStanding self.old log ask bytes → Fits ask answer.now → StandsFor self.new (Asked ask bytes answer.now ∷ log) }
-        ensures reply { (log : List Happening) (ask : Ask) (bytes : List ℕ) (work : Running) → self.old.stage ≡ Stage.In work → StandsFor self.old log → IsStanding self.old log ask bytes → Fits ask answer.now → result ≡ replies (setting_of self.old) answer.now (position (setting_of self.old) log) }
+        ensures stage { IsRunning self.old → MatchOption result (IsRunning self.new)
+            (λ reply. IsIdle self.new) }
+        ensures log { (log : List Happening) (ask : Ask) (bytes : List ℕ) (work : Running) →
+            self.old.stage ≡ Stage.In work → StandsFor self.old log →
+            IsStanding self.old log ask bytes → Fits ask answer.now →
+            StandsFor self.new (Asked ask bytes answer.now ∷ log) }
+        ensures reply { (log : List Happening) (ask : Ask) (bytes : List ℕ) (work : Running) →
+            self.old.stage ≡ Stage.In work → StandsFor self.old log →
+            IsStanding self.old log ask bytes → Fits ask answer.now →
+            result ≡ replies (appliance_setting self.old) answer.now
+            (position (appliance_setting self.old) log) }
         ensures setting { self.new.holdings.setting ≡ self.old.holdings.setting }
     {
         match mem::replace(&mut self.stage, Stage::Idle) {

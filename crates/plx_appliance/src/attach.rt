@@ -44,14 +44,14 @@ impl Attach {
     ghost use Rattle.plx_lease.specs.ClaimEnds.{claim_end};
     ghost use Rattle.plx_lease.specs.Holding.{IsSampled, claim_hold};
     ghost use Rattle.plx_rules.specs.Holds.{Hold, Nothing};
-    ghost use Rattle.plx_appliance.specs.Asking.{IsOnDevice};
+    ghost use Rattle.plx_alloc.specs.Asking.{IsOnDevice};
     ghost use Rattle.plx_appliance.specs.Stands.{inside_at};
     ghost use Rattle.plx_appliance.specs.Attaches.{attach_rest, attach_spares};
-    ghost use Rattle.plx_appliance.specs.Ending.{after_reply};
-    ghost use Rattle.plx_appliance.specs.Giving.{given};
+    ghost use Rattle.plx_appliance.specs.Ending.{part_after};
+    ghost use Rattle.plx_appliance.specs.Giving.{rules_setting};
     ghost use Rattle.plx_appliance.specs.Kept.{known_by};
-    ghost use Rattle.plx_appliance.specs.Moving.{attach_moves, claimed};
-    ghost use Rattle.plx_appliance.specs.Tokens.{leases_of};
+    ghost use Rattle.plx_appliance.specs.Moving.{attach_moves, image_leases_after_claim};
+    ghost use Rattle.plx_appliance.specs.Tokens.{image_leases};
 
     /// The lease is to be claimed, by a boot that began so many claims before.
     pub fn claim(
@@ -65,7 +65,9 @@ impl Attach {
         requires number { number < last_claim }
         requires slots { session.slots ≡ setting.geometry.slots }
         requires empty { vec_len session.writes ≡ 0 }
-        ensures rest { (known : Known) → attach_rest known result ≡ followed_by (claim_part (given setting).boot [] (image_lease slot.0) number) (after_claim (given setting) known slot.0) }
+        ensures rest { (known : Known) → attach_rest known result ≡ followed_by
+            (claim_part (rules_setting setting).boot [] (image_lease slot.0) number)
+            (after_claim (rules_setting setting) known slot.0) }
         ensures number { result.claim.number ≡ image_lease result.load.image.slot.0 }
         ensures fresh { claim_hold result.claim ≡ Nothing }
         ensures sampled { (sample : Option ℕ) → IsSampled result.claim sample }
@@ -94,7 +96,8 @@ impl Attach {
     pub fn load(alloc: Global, image: Leased, session: Session) -> Attach
         requires slots { session.slots ≡ image.setting.geometry.slots }
         requires empty { vec_len session.writes ≡ 0 }
-        ensures rest { (known : Known) → attach_rest known result ≡ load_image (given image.setting) known image.slot.0 image.until }
+        ensures rest { (known : Known) → attach_rest known result ≡ load_image
+            (rules_setting image.setting) known image.slot.0 image.until }
         ensures at { result.at ≡ AttachAt.Load }
         ensures setting { result.load.image.setting ≡ image.setting }
         ensures slots { result.load.slots ≡ image.setting.geometry.slots }
@@ -112,7 +115,9 @@ impl Attach {
         requires { self.now.load.slots ≡ self.now.load.image.setting.geometry.slots }
         ensures ask { (known : Known) → Some result ≡ standing (attach_rest known self.now) }
         ensures spare { attach_spares self.now.at self.now result }
-        ensures within { (holds : ℕ → Hold) (sample : Option ℕ) → inside_at self.now.at self.now holds sample → IsOnDevice self.now.load.image.setting.geometry result }
+        ensures within { (holds : ℕ → Hold) (sample : Option ℕ) →
+            inside_at self.now.at self.now holds sample →
+            IsOnDevice self.now.load.image.setting.geometry result }
     {
         match self.at {
             AttachAt::Claim => self.claim.ask(),
@@ -123,7 +128,8 @@ impl Attach {
     /// The bytes of the write that is asked for.
     pub fn out(&self) -> &[u8]
         ensures bytes { (known : Known) → result.now ≡ bytes_out (attach_rest known self.now) }
-        ensures whole { (known : Known) → AreWhole (standing (attach_rest known self.now)) result.now }
+        ensures whole { (known : Known) →
+            AreWhole (standing (attach_rest known self.now)) result.now }
     {
         match self.at {
             AttachAt::Claim => self.claim.out(),
@@ -143,32 +149,41 @@ impl Attach {
         requires slots { sessions.old.slots ≡ self.old.load.image.setting.geometry.slots }
         requires leased { leases.old.count ≡ self.old.load.image.setting.geometry.images }
         requires timely { IsTimely answer.now }
-        ensures rest { (claims : ℕ) → after_reply (attach_rest (known_by sessions.new claims) self.new) (known_by sessions.new claims) result ≡ answered (attach_rest (known_by sessions.old claims) self.old) answer.now }
+        ensures rest { (claims : ℕ) → part_after
+            (attach_rest (known_by sessions.new claims) self.new)
+            (known_by sessions.new claims) result
+            ≡ answered (attach_rest (known_by sessions.old claims) self.old) answer.now }
         ensures setting { self.new.load.image.setting ≡ self.old.load.image.setting }
         ensures own { result ≡ None → self.new.load.slots ≡ self.old.load.slots }
         ensures count { sessions.new.count ≡ sessions.old.count }
         ensures slots { sessions.new.slots ≡ sessions.old.slots }
         ensures leased { leases.new.count ≡ leases.old.count }
-        ensures moves { attach_moves self.old.at self.old self.new answer.now (leases_of leases.old.leases.items) (leases_of leases.new.leases.items) result }
+        ensures moves { attach_moves self.old.at self.old self.new answer.now
+            (image_leases leases.old.leases.items) (image_leases leases.new.leases.items) result }
     {
         match self.at {
             AttachAt::Claim => match self.claim.answer(answer) {
                 None => None,
-                Some(end) => self.claimed(leases, end),
+                Some(end) => self.after_claim(leases, end),
             },
             AttachAt::Load => self.load.answer(sessions, answer),
         }
     }
 
     // The claim has ended.
-    fn claimed(&mut self, leases: &mut Leases, end: ClaimEnd<Image>) -> Option<Reply>
+    fn after_claim(&mut self, leases: &mut Leases, end: ClaimEnd<Image>) -> Option<Reply>
         requires own { self.old.load.slots ≡ self.old.load.image.setting.geometry.slots }
         requires leased { leases.old.count ≡ self.old.load.image.setting.geometry.images }
-        ensures rest { (known : Known) → after_reply (attach_rest known self.new) known result ≡ after_claim (given self.old.load.image.setting) known self.old.load.image.slot.0 (claim_end end) }
+        ensures rest { (known : Known) → part_after (attach_rest known self.new) known result
+            ≡ after_claim
+            (rules_setting self.old.load.image.setting) known self.old.load.image.slot.0
+            (claim_end end) }
         ensures setting { self.new.load.image.setting ≡ self.old.load.image.setting }
         ensures own { self.new.load.slots ≡ self.old.load.slots }
         ensures leased { leases.new.count ≡ leases.old.count }
-        ensures leases { leases_of leases.new.leases.items ≡ claimed (claim_end end) self.old.load.image.slot.0 (leases_of leases.old.leases.items) }
+        ensures leases { image_leases leases.new.leases.items
+            ≡ image_leases_after_claim (claim_end end) self.old.load.image.slot.0
+            (image_leases leases.old.leases.items) }
         ensures claim { self.new.claim ≡ self.old.claim }
         ensures slot { self.new.load.image.slot ≡ self.old.load.image.slot }
         ensures held { result ≡ None → self.new.at ≡ AttachAt.Load }

@@ -1,8 +1,8 @@
 //! A command that has begun, before its first reading of the clock.
-ghost use Rattle.std.specs.Prelude.{◌≡◌};
+ghost use Rattle.std.specs.Prelude.{◌≡◌, ◌≤◌};
 ghost use Rattle.std.specs.Vec.{vec_len};
 
-use crate::image_renewal::Renewals;
+use crate::renewals::Renewals;
 use crate::session::Session;
 use crate::setting::Setting;
 use plx_base::{Block, Label, NoMemory, SlotNo};
@@ -17,6 +17,13 @@ pub struct Room {
     pub alloc: Global,
     ghost same: { session.slots ≡ slots },
     ghost empty: { vec_len session.writes ≡ 0 },
+}
+
+/// How many blocks a reserve is to have in hand, at most 256.
+#[derive(Clone, Copy)]
+pub struct Need {
+    pub count: u16,
+    ghost most: { count ≤ 256 },
 }
 
 /// A command that has begun, with all the memory that it can need.
@@ -54,22 +61,34 @@ pub enum Begun {
     Renew {
         renewals: Renewals,
     },
+    Reserve {
+        need: Need,
+    },
+    Retire {
+        lease: Block,
+    },
 }
 
 impl Begun {
-    ghost use Rattle.std.specs.Prelude.{ℕ, IfOk};
-    ghost use Rattle.plx_rules.specs.Commands.{IsBuilt, command_part};
+    ghost use Rattle.std.specs.Prelude.{ℕ, List, IfOk};
+    ghost use Rattle.plx_geom.specs.Geometry.{lease_count};
+    ghost use Rattle.plx_rules.specs.Commands.{IsBuilt, IsWellFormed, command_part};
     ghost use Rattle.plx_rules.specs.Holds.{Hold};
     ghost use Rattle.plx_rules.specs.Session.{Known};
     ghost use Rattle.plx_rules.specs.Settings.{Setting as Given};
-    ghost use Rattle.plx_appliance.specs.Begins.{begun_images, begun_part, begun_slots};
+    ghost use Rattle.plx_appliance.specs.Begins.{begun_leases, waiting_part, begun_slots};
 
     /// A command begins, with all the memory that it can need.
     pub fn begin(alloc: Global, setting: &Setting, command: Command) -> Result<Begun, NoMemory>
-        requires { IsBuilt command }
-        ensures part { IfOk result (λ b. (s : Given) (known : Known) (holds : ℕ → Hold) (reading : ℕ) → begun_part s known holds reading b ≡ command_part s known holds reading command) }
-        ensures slots { IfOk result (λ b. begun_slots setting.now.geometry.slots b ≡ setting.now.geometry.slots) }
-        ensures images { IfOk result (λ b. begun_images setting.now.geometry.images b ≡ setting.now.geometry.images) }
+        requires built { IsBuilt command }
+        requires limits { IsWellFormed command }
+        ensures part { IfOk result (λ b. (s : Given) (known : Known) (holds : ℕ → Hold)
+            (hand : List ℕ) (reading : ℕ) → waiting_part s known holds hand reading b
+            ≡ command_part s known holds hand reading command) }
+        ensures slots { IfOk result (λ b. begun_slots setting.now.geometry.slots b
+            ≡ setting.now.geometry.slots) }
+        ensures leases { IfOk result (λ b. begun_leases (lease_count setting.now.geometry) b
+            ≡ lease_count setting.now.geometry) }
     {
         match command {
             Command::Attach { slot } => {
@@ -124,11 +143,17 @@ impl Begun {
                 })
             }
             Command::Renew => {
-                let renewals = Renewals::new(alloc, setting.geometry.images)?;
+                let renewals = Renewals::new(alloc, setting.lease_count())?;
                 Ok(Begun::Renew { renewals })
             }
-            Command::Flush { .. } | Command::Reserve { .. } | Command::Retire | Command::Reclaim =>
-                unreachable!(),
+            Command::Retire => {
+                let lease = Block::zeros(alloc)?;
+                Ok(Begun::Retire { lease })
+            }
+            Command::Reserve { count } => Ok(Begun::Reserve {
+                need: Need { count },
+            }),
+            Command::Flush { .. } | Command::Reclaim => unreachable!(),
         }
     }
 }

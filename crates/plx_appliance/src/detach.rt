@@ -29,18 +29,20 @@ impl Detach {
     ghost use Rattle.plx_rules.specs.Holds.{Nothing};
     ghost use Rattle.plx_rules.specs.Session.{Known};
     ghost use Rattle.plx_rules.specs.Session.{Session as KnownSession};
-    ghost use Rattle.plx_appliance.specs.Asking.{IsOnDevice};
+    ghost use Rattle.plx_alloc.specs.Asking.{IsOnDevice};
     ghost use Rattle.plx_rules.specs.Machines.{AreWhole};
-    ghost use Rattle.plx_appliance.specs.Ending.{after_reply};
-    ghost use Rattle.plx_appliance.specs.Giving.{given};
+    ghost use Rattle.plx_appliance.specs.Ending.{part_after};
+    ghost use Rattle.plx_appliance.specs.Giving.{rules_setting};
     ghost use Rattle.plx_appliance.specs.Kept.{known_by};
-    ghost use Rattle.plx_appliance.specs.Tokens.{leases_of};
+    ghost use Rattle.plx_appliance.specs.Tokens.{image_leases};
     ghost use Rattle.plx_appliance.specs.Rests.{detach_rest};
-    ghost use Rattle.plx_appliance.specs.Releasing.{released};
+    ghost use Rattle.plx_appliance.specs.Releasing.{image_leases_after_release};
 
     /// The detach begins, with a block for the lease.
     pub fn enter(image: Leased, spelled: Block) -> Detach
-        ensures part { (known : Known) (session : KnownSession) → detach_rest known result ≡ detach_part (given image.setting) known image.slot.0 session image.until }
+        ensures part { (known : Known) (session : KnownSession) →
+            detach_rest known result ≡ detach_part
+            (rules_setting image.setting) known image.slot.0 session image.until }
         ensures image { result.image ≡ image }
     {
         let mut spelled = spelled;
@@ -63,7 +65,8 @@ impl Detach {
     /// The bytes of the write that is asked for.
     pub fn out(&self) -> &[u8]
         ensures bytes { (known : Known) → result.now ≡ bytes_out (detach_rest known self.now) }
-        ensures whole { (known : Known) → AreWhole (standing (detach_rest known self.now)) result.now }
+        ensures whole { (known : Known) →
+            AreWhole (standing (detach_rest known self.now)) result.now }
     {
         self.spelled.as_slice()
     }
@@ -77,8 +80,13 @@ impl Detach {
     ) -> Option<Reply>
         requires count { sessions.old.count ≡ self.old.image.setting.geometry.images }
         requires leased { leases.old.count ≡ self.old.image.setting.geometry.images }
-        ensures rest { (claims : ℕ) → after_reply (detach_rest (known_by sessions.new claims) self.new) (known_by sessions.new claims) result ≡ answered (detach_rest (known_by sessions.old claims) self.old) answer.now }
-        ensures leases { leases_of leases.new.leases.items ≡ released answer.now self.old.image.slot.0 (leases_of leases.old.leases.items) }
+        ensures rest { (claims : ℕ) → part_after
+            (detach_rest (known_by sessions.new claims) self.new)
+            (known_by sessions.new claims) result
+            ≡ answered (detach_rest (known_by sessions.old claims) self.old) answer.now }
+        ensures leases { image_leases leases.new.leases.items
+            ≡ image_leases_after_release answer.now self.old.image.slot.0
+            (image_leases leases.old.leases.items) }
         ensures image { self.new.image ≡ self.old.image }
         ensures count { sessions.new.count ≡ sessions.old.count }
         ensures slots { sessions.new.slots ≡ sessions.old.slots }

@@ -1,30 +1,36 @@
 //! What a command becomes at its first reading of the clock: a machine that goes on, or a refusal.
 ghost use Rattle.std.specs.Prelude.{◌≡◌, ◌<◌, ◌^◌, None, IfOk, nat_lt};
-ghost use Rattle.plx_geom.specs.Geometry.{image_lease, lease_at};
+ghost use Rattle.plx_geom.specs.Geometry.{image_lease, lease_at, lease_count};
 ghost use Rattle.plx_rules.specs.Attaching.{attach_part, claim_image};
 ghost use Rattle.plx_rules.specs.Commands.{create_part, delete_part, detach_part, of_attached, read_part, write_part};
 ghost use Rattle.plx_commands.specs.Limits.{last_claim};
+ghost use Rattle.plx_rules.specs.Space.{reserve_part, retire_part};
 ghost use Rattle.plx_rules.specs.Holds.{Nothing};
-ghost use Rattle.plx_appliance.specs.Begins.{begun_images, begun_part, begun_slots};
-ghost use Rattle.plx_appliance.specs.Giving.{given};
+ghost use Rattle.plx_appliance.specs.Begins.{begun_leases, waiting_part, begun_slots};
+ghost use Rattle.plx_appliance.specs.Giving.{rules_setting};
 ghost use Rattle.plx_appliance.specs.Kept.{known_of};
+ghost use Rattle.plx_appliance.specs.Lent.{lent_of};
 ghost use Rattle.plx_appliance.specs.RenewStarts.{all_renewals, holds_in, leases_in, renew_command};
 ghost use Rattle.plx_appliance.specs.Stands.{IsTied, StartsInside};
-ghost use Rattle.plx_appliance.specs.Tokens.{held_at, leases_of};
-ghost use Rattle.plx_appliance.specs.Works.{work_entered, work_setting, work_slots};
+ghost use Rattle.plx_appliance.specs.Space.{extents_in, hand_in};
+ghost use Rattle.plx_appliance.specs.Tokens.{image_leases};
+ghost use Rattle.plx_appliance.specs.Works.{work_entered, work_setting, work_slots, work_suits};
 
 use crate::attach::Attach;
-use crate::begun::{Begun, Room};
+use crate::begun::{Begun, Need, Room};
 use crate::detach::Detach;
 use crate::holdings::Holdings;
-use crate::image_renewal::Renewals;
 use crate::leased::Leased;
 use crate::read::Read;
 use crate::record::Record;
 use crate::renew::Renew;
+use crate::renewals::Renewals;
 use crate::renewing::{reached_lease, renewals};
+use crate::reserve::Reserve;
+use crate::retire::Retire;
 use crate::work::Work;
 use crate::write::Write;
+use plx_alloc::{Reserve as Take, SpaceEnd};
 use plx_base::{Block, Label, SlotNo};
 use plx_commands::Reply;
 
@@ -33,14 +39,23 @@ const LAST_CLAIM: u64 = (1 << 40) - 1;
 
 /// A command has its first reading, below 2^48.
 pub fn enter(begun: Begun, holdings: &mut Holdings, reading: u64) -> Result<Work, Reply>
-    requires slots { begun_slots holdings.old.setting.geometry.slots begun ≡ holdings.old.setting.geometry.slots }
-    requires images { begun_images holdings.old.setting.geometry.images begun ≡ holdings.old.setting.geometry.images }
+    requires slots { begun_slots holdings.old.setting.geometry.slots begun
+        ≡ holdings.old.setting.geometry.slots }
+    requires leases { begun_leases (lease_count holdings.old.setting.geometry) begun
+        ≡ lease_count holdings.old.setting.geometry }
     requires reading { reading < 2 ^ 48 }
-    ensures part { work_entered (known_of holdings.new) result ≡ begun_part (given holdings.old.setting) (known_of holdings.old) (held_at holdings.old.setting.geometry (leases_of holdings.old.leases.leases.items)) reading begun }
-    ensures leases { leases_of holdings.new.leases.leases.items ≡ leases_of holdings.old.leases.leases.items }
+    ensures part { work_entered (lent_of holdings.new) result
+        ≡ waiting_part (rules_setting holdings.old.setting) (known_of holdings.old)
+        (holds_in holdings.old) (hand_in holdings.old) reading begun }
+    ensures leases { image_leases holdings.new.leases.leases.items
+        ≡ image_leases holdings.old.leases.leases.items }
+    ensures extents { extents_in holdings.new ≡ extents_in holdings.old }
+    ensures hand { hand_in holdings.new ≡ hand_in holdings.old }
     ensures setting { holdings.new.setting ≡ holdings.old.setting }
     ensures tied { IfOk result (IsTied holdings.old.setting) }
-    ensures inside { IfOk result (StartsInside (leases_of holdings.old.leases.leases.items)) }
+    ensures inside { IfOk result (StartsInside (image_leases holdings.old.leases.leases.items)
+        (extents_in holdings.old)) }
+    ensures suits { IfOk result (work_suits holdings.new.space) }
 {
     match begun {
         Begun::Attach { slot, room } => enter_attach(holdings, slot, room),
@@ -64,17 +79,28 @@ pub fn enter(begun: Begun, holdings: &mut Holdings, reading: u64) -> Result<Work
             descriptor,
         } => enter_write(holdings, slot, vblock, block, descriptor, reading),
         Begun::Renew { renewals } => enter_renew(holdings, renewals, reading),
+        Begun::Reserve { need } => enter_reserve(holdings, need),
+        Begun::Retire { lease } => enter_retire(holdings, lease),
     }
 }
 
 // An attach has its first reading.
 fn enter_attach(holdings: &mut Holdings, slot: SlotNo, room: Room) -> Result<Work, Reply>
     requires { room.slots ≡ holdings.old.setting.geometry.slots }
-    ensures part { work_entered (known_of holdings.new) result ≡ attach_part (given holdings.old.setting) (known_of holdings.old) slot.0 ((known_of holdings.old).sessions slot.0) (nat_lt slot.0 holdings.old.setting.geometry.images) (held_at holdings.old.setting.geometry (leases_of holdings.old.leases.leases.items) (lease_at (image_lease slot.0))) }
-    ensures leases { leases_of holdings.new.leases.leases.items ≡ leases_of holdings.old.leases.leases.items }
+    ensures part { work_entered (lent_of holdings.new) result
+        ≡ attach_part (rules_setting holdings.old.setting) (known_of holdings.old) slot.0
+        ((known_of holdings.old).sessions slot.0)
+        (nat_lt slot.0 holdings.old.setting.geometry.images)
+        (holds_in holdings.old (lease_at (image_lease slot.0))) }
+    ensures leases { image_leases holdings.new.leases.leases.items
+        ≡ image_leases holdings.old.leases.leases.items }
+    ensures extents { extents_in holdings.new ≡ extents_in holdings.old }
+    ensures hand { hand_in holdings.new ≡ hand_in holdings.old }
     ensures setting { holdings.new.setting ≡ holdings.old.setting }
     ensures tied { IfOk result (IsTied holdings.old.setting) }
-    ensures inside { IfOk result (StartsInside (leases_of holdings.old.leases.leases.items)) }
+    ensures inside { IfOk result (StartsInside (image_leases holdings.old.leases.leases.items)
+        (extents_in holdings.old)) }
+    ensures suits { IfOk result (work_suits holdings.new.space) }
 {
     match holdings.sessions.get(slot) {
         Some(_) => Err(Reply::AlreadyAttached),
@@ -85,11 +111,19 @@ fn enter_attach(holdings: &mut Holdings, slot: SlotNo, room: Room) -> Result<Wor
 // An attach of an image without a session.
 fn enter_free(holdings: &mut Holdings, slot: SlotNo, room: Room) -> Result<Work, Reply>
     requires { room.slots ≡ holdings.old.setting.geometry.slots }
-    ensures part { work_entered (known_of holdings.new) result ≡ attach_part (given holdings.old.setting) (known_of holdings.old) slot.0 None (nat_lt slot.0 holdings.old.setting.geometry.images) (held_at holdings.old.setting.geometry (leases_of holdings.old.leases.leases.items) (lease_at (image_lease slot.0))) }
-    ensures leases { leases_of holdings.new.leases.leases.items ≡ leases_of holdings.old.leases.leases.items }
+    ensures part { work_entered (lent_of holdings.new) result
+        ≡ attach_part (rules_setting holdings.old.setting) (known_of holdings.old) slot.0 None
+        (nat_lt slot.0 holdings.old.setting.geometry.images)
+        (holds_in holdings.old (lease_at (image_lease slot.0))) }
+    ensures leases { image_leases holdings.new.leases.leases.items
+        ≡ image_leases holdings.old.leases.leases.items }
+    ensures extents { extents_in holdings.new ≡ extents_in holdings.old }
+    ensures hand { hand_in holdings.new ≡ hand_in holdings.old }
     ensures setting { holdings.new.setting ≡ holdings.old.setting }
     ensures tied { IfOk result (IsTied holdings.old.setting) }
-    ensures inside { IfOk result (StartsInside (leases_of holdings.old.leases.leases.items)) }
+    ensures inside { IfOk result (StartsInside (image_leases holdings.old.leases.leases.items)
+        (extents_in holdings.old)) }
+    ensures suits { IfOk result (work_suits holdings.new.space) }
 {
     let setting = holdings.setting;
     if slot.0 >= setting.geometry.images {
@@ -112,19 +146,24 @@ fn enter_free(holdings: &mut Holdings, slot: SlotNo, room: Room) -> Result<Work,
 fn enter_claim(holdings: &mut Holdings, slot: SlotNo, room: Room) -> Result<Work, Reply>
     requires room { room.slots ≡ holdings.old.setting.geometry.slots }
     requires within { slot.0 < holdings.old.setting.geometry.images }
-    requires free { leases_of holdings.old.leases.leases.items slot.0 ≡ Nothing }
-    ensures part { work_entered (known_of holdings.new) result ≡ claim_image (nat_lt holdings.old.claims last_claim) (given holdings.old.setting) (known_of holdings.old) slot.0 }
-    ensures leases { leases_of holdings.new.leases.leases.items ≡ leases_of holdings.old.leases.leases.items }
+    requires free { image_leases holdings.old.leases.leases.items slot.0 ≡ Nothing }
+    ensures part { work_entered (lent_of holdings.new) result
+        ≡ claim_image (nat_lt holdings.old.space.claims last_claim)
+        (rules_setting holdings.old.setting) (known_of holdings.old) slot.0 }
+    ensures leases { image_leases holdings.new.leases.leases.items
+        ≡ image_leases holdings.old.leases.leases.items }
+    ensures extents { extents_in holdings.new ≡ extents_in holdings.old }
+    ensures hand { hand_in holdings.new ≡ hand_in holdings.old }
     ensures setting { holdings.new.setting ≡ holdings.old.setting }
     ensures tied { IfOk result (IsTied holdings.old.setting) }
-    ensures inside { IfOk result (StartsInside (leases_of holdings.old.leases.leases.items)) }
+    ensures inside { IfOk result (StartsInside (image_leases holdings.old.leases.leases.items)
+        (extents_in holdings.old)) }
+    ensures suits { IfOk result (work_suits holdings.new.space) }
 {
     let setting = holdings.setting;
-    let number = holdings.claims;
-    if number >= LAST_CLAIM {
+    let Some(number) = holdings.space.next_claim() else {
         return Err(Reply::WornOut { count: LAST_CLAIM });
-    }
-    holdings.claims = number + 1;
+    };
     Ok(Work::Attach(Attach::claim(room.alloc, setting, slot, number, room.session)))
 }
 
@@ -135,9 +174,14 @@ fn enter_detach(
     lease: Block,
     reading: u64,
 ) -> Result<Work, Reply>
-    ensures part { work_entered (known_of holdings.now) result ≡ of_attached (given holdings.now.setting) (known_of holdings.now) (held_at holdings.now.setting.geometry (leases_of holdings.now.leases.leases.items)) reading slot.0 (detach_part (given holdings.now.setting) (known_of holdings.now) slot.0) }
+    ensures part { work_entered (lent_of holdings.now) result
+        ≡ of_attached (rules_setting holdings.now.setting) (known_of holdings.now)
+        (holds_in holdings.now) reading slot.0
+        (detach_part (rules_setting holdings.now.setting) (known_of holdings.now) slot.0) }
     ensures tied { IfOk result (IsTied holdings.now.setting) }
-    ensures inside { IfOk result (StartsInside (leases_of holdings.now.leases.leases.items)) }
+    ensures inside { IfOk result (StartsInside (image_leases holdings.now.leases.leases.items)
+        (extents_in holdings.now)) }
+    ensures suits { IfOk result (work_suits holdings.now.space) }
 {
     let Some(_session) = holdings.sessions.get(slot) else {
         return Err(Reply::NotAttached);
@@ -157,9 +201,15 @@ fn enter_create(
     record: Block,
     reading: u64,
 ) -> Result<Work, Reply>
-    ensures part { work_entered (known_of holdings.now) result ≡ of_attached (given holdings.now.setting) (known_of holdings.now) (held_at holdings.now.setting.geometry (leases_of holdings.now.leases.leases.items)) reading slot.0 (create_part (given holdings.now.setting) (known_of holdings.now) slot.0 size label) }
+    ensures part { work_entered (lent_of holdings.now) result
+        ≡ of_attached (rules_setting holdings.now.setting) (known_of holdings.now)
+        (holds_in holdings.now) reading slot.0
+        (create_part (rules_setting holdings.now.setting)
+        (known_of holdings.now) slot.0 size label) }
     ensures tied { IfOk result (IsTied holdings.now.setting) }
-    ensures inside { IfOk result (StartsInside (leases_of holdings.now.leases.leases.items)) }
+    ensures inside { IfOk result (StartsInside (image_leases holdings.now.leases.leases.items)
+        (extents_in holdings.now)) }
+    ensures suits { IfOk result (work_suits holdings.now.space) }
 {
     let Some(session) = holdings.sessions.get(slot) else {
         return Err(Reply::NotAttached);
@@ -180,9 +230,14 @@ fn enter_delete(
     record: Block,
     reading: u64,
 ) -> Result<Work, Reply>
-    ensures part { work_entered (known_of holdings.now) result ≡ of_attached (given holdings.now.setting) (known_of holdings.now) (held_at holdings.now.setting.geometry (leases_of holdings.now.leases.leases.items)) reading slot.0 (delete_part (given holdings.now.setting) (known_of holdings.now) slot.0) }
+    ensures part { work_entered (lent_of holdings.now) result
+        ≡ of_attached (rules_setting holdings.now.setting) (known_of holdings.now)
+        (holds_in holdings.now) reading slot.0
+        (delete_part (rules_setting holdings.now.setting) (known_of holdings.now) slot.0) }
     ensures tied { IfOk result (IsTied holdings.now.setting) }
-    ensures inside { IfOk result (StartsInside (leases_of holdings.now.leases.leases.items)) }
+    ensures inside { IfOk result (StartsInside (image_leases holdings.now.leases.leases.items)
+        (extents_in holdings.now)) }
+    ensures suits { IfOk result (work_suits holdings.now.space) }
 {
     let Some(session) = holdings.sessions.get(slot) else {
         return Err(Reply::NotAttached);
@@ -204,9 +259,14 @@ fn enter_read(
     block: Block,
     reading: u64,
 ) -> Result<Work, Reply>
-    ensures part { work_entered (known_of holdings.now) result ≡ of_attached (given holdings.now.setting) (known_of holdings.now) (held_at holdings.now.setting.geometry (leases_of holdings.now.leases.leases.items)) reading slot.0 (read_part (given holdings.now.setting) (known_of holdings.now) slot.0 vblock) }
+    ensures part { work_entered (lent_of holdings.now) result
+        ≡ of_attached (rules_setting holdings.now.setting) (known_of holdings.now)
+        (holds_in holdings.now) reading slot.0
+        (read_part (rules_setting holdings.now.setting) (known_of holdings.now) slot.0 vblock) }
     ensures tied { IfOk result (IsTied holdings.now.setting) }
-    ensures inside { IfOk result (StartsInside (leases_of holdings.now.leases.leases.items)) }
+    ensures inside { IfOk result (StartsInside (image_leases holdings.now.leases.leases.items)
+        (extents_in holdings.now)) }
+    ensures suits { IfOk result (work_suits holdings.now.space) }
 {
     let Some(session) = holdings.sessions.get(slot) else {
         return Err(Reply::NotAttached);
@@ -229,9 +289,15 @@ fn enter_write(
     descriptor: Block,
     reading: u64,
 ) -> Result<Work, Reply>
-    ensures part { work_entered (known_of holdings.now) result ≡ of_attached (given holdings.now.setting) (known_of holdings.now) (held_at holdings.now.setting.geometry (leases_of holdings.now.leases.leases.items)) reading slot.0 (write_part (given holdings.now.setting) (known_of holdings.now) slot.0 vblock block) }
+    ensures part { work_entered (lent_of holdings.now) result
+        ≡ of_attached (rules_setting holdings.now.setting) (known_of holdings.now)
+        (holds_in holdings.now) reading slot.0
+        (write_part (rules_setting holdings.now.setting)
+        (known_of holdings.now) slot.0 vblock block) }
     ensures tied { IfOk result (IsTied holdings.now.setting) }
-    ensures inside { IfOk result (StartsInside (leases_of holdings.now.leases.leases.items)) }
+    ensures inside { IfOk result (StartsInside (image_leases holdings.now.leases.leases.items)
+        (extents_in holdings.now)) }
+    ensures suits { IfOk result (work_suits holdings.now.space) }
 {
     let Some(session) = holdings.sessions.get(slot) else {
         return Err(Reply::NotAttached);
@@ -247,11 +313,14 @@ fn enter_write(
 
 // A renew has its first reading.
 fn enter_renew(holdings: &Holdings, room: Renewals, reading: u64) -> Result<Work, Reply>
-    requires room { room.images ≡ holdings.now.setting.geometry.images }
+    requires room { room.leases ≡ lease_count holdings.now.setting.geometry }
     requires reading { reading < 2 ^ 48 }
-    ensures part { work_entered (known_of holdings.now) result ≡ renew_command (given holdings.now.setting) (known_of holdings.now) (holds_in holdings.now) reading }
+    ensures part { work_entered (lent_of holdings.now) result
+        ≡ renew_command (rules_setting holdings.now.setting) (known_of holdings.now)
+        (holds_in holdings.now) reading }
     ensures tied { IfOk result (IsTied holdings.now.setting) }
-    ensures inside { IfOk result (StartsInside (leases_in holdings.now)) }
+    ensures inside { IfOk result (StartsInside (leases_in holdings.now) (extents_in holdings.now)) }
+    ensures suits { IfOk result (work_suits holdings.now.space) }
 {
     match reached_lease(holdings, reading) {
         Some(due) => Err(Reply::Lost {
@@ -265,11 +334,14 @@ fn enter_renew(holdings: &Holdings, room: Renewals, reading: u64) -> Result<Work
 
 // A renew whose reading has reached no lease in use.
 fn enter_renewals(holdings: &Holdings, room: Renewals, reading: u64) -> Result<Work, Reply>
-    requires room { room.images ≡ holdings.now.setting.geometry.images }
+    requires room { room.leases ≡ lease_count holdings.now.setting.geometry }
     requires reading { reading < 2 ^ 48 }
-    ensures part { work_entered (known_of holdings.now) result ≡ all_renewals (given holdings.now.setting) (known_of holdings.now) (holds_in holdings.now) reading }
+    ensures part { work_entered (lent_of holdings.now) result
+        ≡ all_renewals (rules_setting holdings.now.setting) (known_of holdings.now)
+        (holds_in holdings.now) reading }
     ensures tied { IfOk result (IsTied holdings.now.setting) }
-    ensures inside { IfOk result (StartsInside (leases_in holdings.now)) }
+    ensures inside { IfOk result (StartsInside (leases_in holdings.now) (extents_in holdings.now)) }
+    ensures suits { IfOk result (work_suits holdings.now.space) }
 {
     let mut left = renewals(holdings, room, reading);
     let Some(renewal) = left.pop() else {
@@ -280,4 +352,38 @@ fn enter_renewals(holdings: &Holdings, room: Renewals, reading: u64) -> Result<W
         renewal,
         left,
     }))
+}
+
+// A reserve has its first reading.
+fn enter_reserve(holdings: &Holdings, need: Need) -> Result<Work, Reply>
+    ensures part { work_entered (lent_of holdings.now) result
+        ≡ reserve_part (rules_setting holdings.now.setting) (known_of holdings.now)
+        (holds_in holdings.now) (hand_in holdings.now) need.count }
+    ensures tied { IfOk result (IsTied holdings.now.setting) }
+    ensures inside { IfOk result (StartsInside (leases_in holdings.now) (extents_in holdings.now)) }
+    ensures suits { IfOk result (work_suits holdings.now.space) }
+{
+    match Take::begin(need.count, &holdings.space) {
+        Ok(work) => Ok(Work::Reserve(Reserve {
+            setting: holdings.setting,
+            work,
+        })),
+        Err(SpaceEnd::Done) => Err(Reply::Reserved),
+        Err(SpaceEnd::Refused(reply)) => Err(reply),
+    }
+}
+
+// A retire has its first reading.
+fn enter_retire(holdings: &Holdings, lease: Block) -> Result<Work, Reply>
+    ensures part { work_entered (lent_of holdings.now) result
+        ≡ retire_part (rules_setting holdings.now.setting) (known_of holdings.now)
+        (holds_in holdings.now) (hand_in holdings.now) }
+    ensures tied { IfOk result (IsTied holdings.now.setting) }
+    ensures inside { IfOk result (StartsInside (leases_in holdings.now) (extents_in holdings.now)) }
+    ensures suits { IfOk result (work_suits holdings.now.space) }
+{
+    match Retire::enter(holdings, lease) {
+        Err(reply) => Err(reply),
+        Ok(retire) => Ok(Work::Retire(retire)),
+    }
 }

@@ -3,7 +3,7 @@ ghost use Rattle.std.specs.Prelude.{◌≡◌, ◌<◌};
 ghost use Rattle.plx_rules.specs.Journal.{finding as finding_in};
 ghost use Rattle.plx_rules.specs.Journal.{is_placed as is_in_place, is_unapplied as is_not_applied};
 ghost use Rattle.plx_rules.specs.Records.{is_plain as is_plain_record};
-ghost use Rattle.plx_appliance.specs.Finds.{finding_of};
+ghost use Rattle.plx_appliance.specs.Finds.{finding_shown};
 
 use crate::session::Session;
 use plx_base::Block;
@@ -20,7 +20,7 @@ pub enum Finding {
 /// What stands in a slot of the journal of a session's image, of the bytes of its descriptor.
 pub fn find(session: &Session, slot: u32, bytes: &Block) -> Finding
     requires { slot < session.now.slots }
-    ensures { finding_of result ≡ finding_in session.now.image session.now.slots slot bytes.now }
+    ensures { finding_shown result ≡ finding_in session.now.image session.now.slots slot bytes.now }
 {
     let Some(read) = read_descriptor(bytes.as_slice()) else {
         return Finding::Outside;

@@ -1,76 +1,90 @@
 //! What a boot keeps between commands, and lends to the one that runs.
-ghost use Rattle.std.specs.Prelude.{◌≡◌, ◌≤◌};
-ghost use Rattle.plx_commands.specs.Limits.{last_claim};
+ghost use Rattle.std.specs.Prelude.{◌≡◌};
+ghost use Rattle.plx_alloc.specs.Tables.{HoldsHand};
 
 use crate::lease::Leases;
 use crate::leased::Leased;
 use crate::sessions::Sessions;
 use crate::setting::Setting;
-use plx_base::{NoMemory, SlotNo};
+use plx_alloc::Allocator;
+use plx_base::{LeaseName, NoMemory, SlotNo};
 use plx_commands::Reply;
 use plx_disk::{Answer, Ask};
 use std::alloc::Global;
 
-/// What a boot is given, its sessions, how many claims it began, and the leases that it holds.
+/// What a boot is given, its sessions, the leases of images that it holds, and what it keeps of space, with how many claims it began.
 #[derive(Drop)]
 pub struct Holdings {
     pub setting: Setting,
     pub sessions: Sessions,
-    pub claims: u64,
     pub leases: Leases,
+    pub space: Allocator,
     ghost images: { sessions.count ≡ setting.geometry.images },
     ghost slots: { sessions.slots ≡ setting.geometry.slots },
     ghost leased: { leases.count ≡ setting.geometry.images },
-    ghost begun: { claims ≤ last_claim },
+    ghost geometry: { space.geometry ≡ setting.geometry },
+    ghost boot: { space.boot ≡ setting.boot },
+    ghost handed: { HoldsHand space },
 }
 
 impl Holdings {
-    ghost use Rattle.std.specs.Prelude.{ℕ, Ok, Err, IfOk, ◌<◌};
+    ghost use Rattle.std.specs.Prelude.{ℕ, [], Ok, Err, IfOk, ◌<◌, ◌^◌};
     ghost use Rattle.plx_rules.specs.Part.{Part};
     ghost use Rattle.plx_rules.specs.Commands.{held_part};
     ghost use Rattle.plx_rules.specs.Ends.{End};
     ghost use Rattle.plx_rules.specs.Session.{Known};
-    ghost use Rattle.plx_appliance.specs.Ending.{known_after, leases_after};
-    ghost use Rattle.plx_appliance.specs.Giving.{given};
-    ghost use Rattle.plx_appliance.specs.Taking.{taken};
+    ghost use Rattle.plx_appliance.specs.Ending.{hand_after_reply, known_after, leases_after};
+    ghost use Rattle.plx_appliance.specs.Giving.{rules_setting};
+    ghost use Rattle.plx_appliance.specs.Taking.{leased_part};
     ghost use Rattle.plx_commands.specs.Places.{at};
     ghost use Rattle.plx_rules.specs.Holds.{Nothing, first_hold};
-    ghost use Rattle.plx_appliance.specs.Holding.{dropped, first_leases};
+    ghost use Rattle.plx_appliance.specs.Holding.{IsKept, image_leases_after_write, dropped_hand, first_extents, first_leases};
+    ghost use Rattle.plx_appliance.specs.Renews.{longer_extents, longer_images};
+    ghost use Rattle.plx_appliance.specs.Space.{extents_in, hand_in, held_hand};
     ghost use Rattle.plx_rules.specs.Session.{nothing_known};
     ghost use Rattle.plx_appliance.specs.Kept.{known_of};
-    ghost use Rattle.plx_appliance.specs.Tokens.{leases_of};
+    ghost use Rattle.plx_appliance.specs.Tokens.{image_leases};
 
     /// A boot that has asked nothing.
     pub fn new(alloc: Global, setting: Setting) -> Result<Holdings, NoMemory>
         ensures setting { IfOk result (λ h. h.setting ≡ setting) }
         ensures known { IfOk result (λ h. known_of h ≡ nothing_known 0) }
-        ensures leases { IfOk result (λ h. leases_of h.leases.leases.items ≡ (λ image. Nothing)) }
+        ensures leases { IfOk result (λ h. image_leases h.leases.leases.items
+            ≡ (λ image. Nothing)) }
+        ensures extents { IfOk result (λ h. extents_in h ≡ (λ extent. Nothing)) }
+        ensures hand { IfOk result (λ h. hand_in h ≡ []) }
     {
         let geometry = setting.geometry;
         let sessions = Sessions::new(alloc, geometry.images, geometry.slots)?;
         let leases = Leases::new(alloc, geometry.images)?;
+        let space = Allocator::new(alloc, &geometry, setting.boot)?;
         Ok(Holdings {
             setting,
             sessions,
-            claims: 0,
             leases,
+            space,
         })
     }
 
     /// Nothing is known any more, and no lease is held.
     pub fn forget(&mut self)
         ensures setting { self.new.setting ≡ self.old.setting }
-        ensures known { known_of self.new ≡ nothing_known self.old.claims }
-        ensures leases { leases_of self.new.leases.leases.items ≡ (λ image. Nothing) }
+        ensures known { known_of self.new ≡ nothing_known self.old.space.claims }
+        ensures leases { image_leases self.new.leases.leases.items ≡ (λ image. Nothing) }
+        ensures extents { extents_in self.new ≡ (λ extent. Nothing) }
+        ensures hand { hand_in self.new ≡ [] }
     {
         self.sessions.forget();
         self.leases.forget();
+        self.space.drop_all();
     }
 
     /// The image's lease is held, and the reading hasn't reached its end; or the refusal.
     pub fn leased(&self, slot: SlotNo, reading: u64) -> Result<Leased, Reply>
         requires { slot.0 < self.now.setting.geometry.images }
-        ensures part { (known : Known) (rest : ℕ → Part End) → taken rest known result ≡ held_part (given self.now.setting) known slot.0 (leases_of self.now.leases.leases.items slot.0) reading rest }
+        ensures part { (known : Known) (rest : ℕ → Part End) →
+            leased_part rest known result ≡ held_part (rules_setting self.now.setting) known slot.0
+            (image_leases self.now.leases.leases.items slot.0) reading rest }
         ensures slot { (image : Leased) → result ≡ Ok image → image.slot ≡ slot }
         ensures setting { (image : Leased) → result ≡ Ok image → image.setting ≡ self.now.setting }
     {
@@ -92,7 +106,10 @@ impl Holdings {
     pub fn settle(&mut self, reply: &Reply)
         ensures setting { self.new.setting ≡ self.old.setting }
         ensures known { known_of self.new ≡ known_after reply.now (known_of self.old) }
-        ensures leases { leases_of self.new.leases.leases.items ≡ leases_after reply.now (leases_of self.old.leases.leases.items) }
+        ensures leases { image_leases self.new.leases.leases.items
+            ≡ leases_after reply.now (image_leases self.old.leases.leases.items) }
+        ensures extents { extents_in self.new ≡ leases_after reply.now (extents_in self.old) }
+        ensures hand { hand_in self.new ≡ hand_after_reply reply.now (hand_in self.old) }
     {
         match reply {
             Reply::Lost { .. } => self.forget(),
@@ -105,11 +122,38 @@ impl Holdings {
     pub fn drop_failed(&mut self, ask: &Ask, answer: &Answer)
         ensures setting { self.new.setting ≡ self.old.setting }
         ensures known { known_of self.new ≡ known_of self.old }
-        ensures leases { leases_of self.new.leases.leases.items ≡ dropped ask.now answer.now (leases_of self.old.leases.leases.items) }
+        ensures leases { image_leases self.new.leases.leases.items
+            ≡ image_leases_after_write ask.now answer.now
+            (image_leases self.old.leases.leases.items) }
+        ensures extents { extents_in self.new ≡ image_leases_after_write ask.now answer.now
+            (extents_in self.old) }
+        ensures hand { hand_in self.new ≡ dropped_hand ask.now answer.now (hand_in self.old) }
+        ensures kept { IsKept ask.now answer.now → self.new ≡ self.old }
     {
         match (ask, answer) {
-            (Ask::Write { .. }, Answer::Fault | Answer::Missed(_)) => self.leases.forget(),
+            (Ask::Write { .. }, Answer::Fault | Answer::Missed(_)) => {
+                self.leases.forget();
+                self.space.drop_all();
+            }
             _ => {}
+        }
+    }
+
+    /// This lease is held up to this moment, in milliseconds, where it is held up to an earlier
+    /// one; the root's never is.
+    pub fn lengthen(&mut self, lease: LeaseName, end: u64)
+        requires { end < 2 ^ 49 }
+        ensures setting { self.new.setting ≡ self.old.setting }
+        ensures known { known_of self.new ≡ known_of self.old }
+        ensures leases { image_leases self.new.leases.leases.items
+            ≡ longer_images lease end (image_leases self.old.leases.leases.items) }
+        ensures extents { extents_in self.new ≡ longer_extents lease end (extents_in self.old) }
+        ensures hand { hand_in self.new ≡ hand_in self.old }
+    {
+        match lease {
+            LeaseName::Root => {}
+            LeaseName::Image(slot) => self.leases.lengthen(slot, end),
+            LeaseName::Extent(extent) => self.space.lengthen(extent, end),
         }
     }
 
@@ -117,11 +161,39 @@ impl Holdings {
     pub fn drop_expired(&mut self, reading: u64)
         ensures setting { self.new.setting ≡ self.old.setting }
         ensures known { known_of self.new ≡ known_of self.old }
-        ensures leases { leases_of self.new.leases.leases.items ≡ first_leases (known_of self.old) reading (leases_of self.old.leases.leases.items) }
+        ensures leases { image_leases self.new.leases.leases.items
+            ≡ first_leases (known_of self.old) reading (image_leases self.old.leases.leases.items) }
+        ensures extents { extents_in self.new ≡ first_extents reading (extents_in self.old) }
+        ensures hand { hand_in self.new ≡ held_hand self.old.setting.geometry (extents_in self.new)
+            (hand_in self.old) }
+    {
+        self.drop_images(reading);
+        self.drop_extents(reading);
+    }
+
+    // Drops each lease of an image without a session that the reading has reached.
+    fn drop_images(&mut self, reading: u64)
+        ensures setting { self.new.setting ≡ self.old.setting }
+        ensures known { known_of self.new ≡ known_of self.old }
+        ensures leases { image_leases self.new.leases.leases.items
+            ≡ first_leases (known_of self.old) reading (image_leases self.old.leases.leases.items) }
+        ensures space { self.new.space ≡ self.old.space }
     {
         for index in 0..self.leases.count {
             self.drop_lease(SlotNo(index), reading);
         }
+    }
+
+    // Drops each lease of an extent that the reading has reached, with the blocks in hand of its extent.
+    fn drop_extents(&mut self, reading: u64)
+        ensures setting { self.new.setting ≡ self.old.setting }
+        ensures known { known_of self.new ≡ known_of self.old }
+        ensures leases { self.new.leases ≡ self.old.leases }
+        ensures extents { extents_in self.new ≡ first_extents reading (extents_in self.old) }
+        ensures hand { hand_in self.new ≡ held_hand self.old.setting.geometry (extents_in self.new)
+            (hand_in self.old) }
+    {
+        self.space.drop_expired(reading);
     }
 
     // Drops the lease of an image without a session, where the reading has reached it.
@@ -129,7 +201,11 @@ impl Holdings {
         requires { slot.0 < self.old.setting.geometry.images }
         ensures setting { self.new.setting ≡ self.old.setting }
         ensures known { known_of self.new ≡ known_of self.old }
-        ensures leases { leases_of self.new.leases.leases.items ≡ at (leases_of self.old.leases.leases.items) slot.0 (first_hold ((known_of self.old).sessions slot.0) reading (leases_of self.old.leases.leases.items slot.0)) }
+        ensures space { self.new.space ≡ self.old.space }
+        ensures leases { image_leases self.new.leases.leases.items
+            ≡ at (image_leases self.old.leases.leases.items) slot.0
+            (first_hold ((known_of self.old).sessions slot.0) reading
+            (image_leases self.old.leases.leases.items slot.0)) }
     {
         match self.sessions.get(slot) {
             Some(_) => {}

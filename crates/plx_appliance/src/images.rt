@@ -2,8 +2,8 @@
 ghost use Rattle.std.specs.Prelude.{◌≡◌, true};
 ghost use Rattle.plx_gate.specs.Images.{is_image};
 ghost use Rattle.plx_appliance.specs.Kept.{known_session};
-ghost use Rattle.plx_appliance.specs.Pushing.{begun, one_more};
-ghost use Rattle.plx_appliance.specs.Tied.{slots_in};
+ghost use Rattle.plx_appliance.specs.Pushing.{new_session_if, with_one_more};
+ghost use Rattle.plx_appliance.specs.Tied.{slots_with_session};
 
 use crate::session::Session;
 use plx_base::Block;
@@ -11,9 +11,10 @@ use plx_gate::ImageRecord;
 
 /// A session has one more write, if there is one whose journal has a slot for it.
 pub fn push(image: &mut Option<Session>, slots: u32, number: u64, vblock: u32, bytes: &Block)
-    requires { slots_in slots image.old ≡ slots }
-    ensures known { known_session image.new ≡ one_more slots (known_session image.old) (record { number = number; vblock = vblock; block = bytes.now }) }
-    ensures same { slots_in slots image.new ≡ slots }
+    requires { slots_with_session slots image.old ≡ slots }
+    ensures known { known_session image.new ≡ with_one_more slots (known_session image.old)
+        (record { number = number; vblock = vblock; block = bytes.now }) }
+    ensures same { slots_with_session slots image.new ≡ slots }
 {
     match image {
         Some(session) => {
@@ -27,10 +28,10 @@ pub fn push(image: &mut Option<Session>, slots: u32, number: u64, vblock: u32, b
 
 /// A session, if there is one, is that of an image that was just made or deleted.
 pub fn start(image: &mut Option<Session>, slots: u32, made: ImageRecord)
-    requires same { slots_in slots image.old ≡ slots }
+    requires same { slots_with_session slots image.old ≡ slots }
     requires limits { is_image made ≡ true }
-    ensures known { known_session image.new ≡ begun (known_session image.old) made }
-    ensures same { slots_in slots image.new ≡ slots }
+    ensures known { known_session image.new ≡ new_session_if (known_session image.old) made }
+    ensures same { slots_with_session slots image.new ≡ slots }
 {
     match image {
         Some(session) => session.start(made),

@@ -19,13 +19,13 @@ pub struct Leases {
 impl Leases {
     ghost use Rattle.std.specs.Prelude.{◌<◌, ◌^◌, None, Some, IfOk, MatchOption};
     ghost use Rattle.plx_commands.specs.Places.{at};
+    ghost use Rattle.plx_lease.specs.Renewing.{longer_hold};
     ghost use Rattle.plx_rules.specs.Holds.{Hold, Nothing};
-    ghost use Rattle.plx_appliance.specs.Renews.{lengthened};
-    ghost use Rattle.plx_appliance.specs.Tokens.{hold_of, leases_of};
+    ghost use Rattle.plx_appliance.specs.Tokens.{image_hold, image_leases};
 
     /// No lease of so many images is held.
     pub fn new(alloc: Global, count: u32) -> Result<Leases, NoMemory>
-        ensures none { IfOk result (λ l. leases_of l.leases.items ≡ (λ image. Nothing)) }
+        ensures none { IfOk result (λ l. image_leases l.leases.items ≡ (λ image. Nothing)) }
         ensures count { IfOk result (λ l. l.count ≡ count) }
     {
         let mut leases = Vec::with_capacity(alloc, count as usize)?;
@@ -37,7 +37,8 @@ impl Leases {
 
     /// The lease of an image, where it is held.
     pub fn get(&self, slot: SlotNo) -> Option<&Held<Image>>
-        ensures { MatchOption result (leases_of self.now.leases.items slot.0 ≡ Nothing) (λ held. leases_of self.now.leases.items slot.0 ≡ hold_of (Some held.now)) }
+        ensures { MatchOption result (image_leases self.now.leases.items slot.0 ≡ Nothing)
+            (λ held. image_leases self.now.leases.items slot.0 ≡ image_hold (Some held.now)) }
     {
         let index = slot.0 as usize;
         if index >= self.leases.len() {
@@ -52,8 +53,9 @@ impl Leases {
     /// The lease of an image isn't kept any more, where it was held.
     pub fn take(&mut self, slot: SlotNo) -> Option<Held<Image>>
         requires { slot.0 < self.old.count }
-        ensures taken { hold_of result ≡ leases_of self.old.leases.items slot.0 }
-        ensures held { leases_of self.new.leases.items ≡ at (leases_of self.old.leases.items) slot.0 Nothing }
+        ensures taken { image_hold result ≡ image_leases self.old.leases.items slot.0 }
+        ensures held { image_leases self.new.leases.items
+            ≡ at (image_leases self.old.leases.items) slot.0 Nothing }
         ensures count { self.new.count ≡ self.old.count }
     {
         mem::replace(&mut self.leases[slot.0 as usize], None)
@@ -62,7 +64,8 @@ impl Leases {
     /// The lease of an image is held.
     pub fn put(&mut self, slot: SlotNo, held: Held<Image>)
         requires { slot.0 < self.old.count }
-        ensures held { leases_of self.new.leases.items ≡ at (leases_of self.old.leases.items) slot.0 (hold_of (Some held)) }
+        ensures held { image_leases self.new.leases.items
+            ≡ at (image_leases self.old.leases.items) slot.0 (image_hold (Some held)) }
         ensures count { self.new.count ≡ self.old.count }
     {
         self.leases[slot.0 as usize] = Some(held);
@@ -71,7 +74,9 @@ impl Leases {
     /// The lease of an image is held up to this moment, where it is held up to an earlier one.
     pub fn lengthen(&mut self, slot: SlotNo, end: u64)
         requires { end < 2 ^ 49 }
-        ensures held { leases_of self.new.leases.items ≡ at (leases_of self.old.leases.items) slot.0 (lengthened end (leases_of self.old.leases.items slot.0)) }
+        ensures held { image_leases self.new.leases.items
+            ≡ at (image_leases self.old.leases.items) slot.0
+            (longer_hold end (image_leases self.old.leases.items slot.0)) }
         ensures count { self.new.count ≡ self.old.count }
     {
         if slot.0 >= self.count {
@@ -85,7 +90,7 @@ impl Leases {
 
     /// No lease is held any more.
     pub fn forget(&mut self)
-        ensures none { leases_of self.new.leases.items ≡ (λ image. Nothing) }
+        ensures none { image_leases self.new.leases.items ≡ (λ image. Nothing) }
         ensures count { self.new.count ≡ self.old.count }
     {
         for index in 0..self.leases.len() {

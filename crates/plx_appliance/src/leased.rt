@@ -2,8 +2,9 @@
 ghost use Rattle.std.specs.Prelude.{◌≡◌, ◌<◌, ◌^◌};
 
 use crate::setting::Setting;
-use plx_base::{LeaseName, SlotNo};
+use plx_base::{BlockNo, LeaseName, SlotNo};
 use plx_commands::Reply;
+use plx_geom::Place;
 
 /// An attached image, whose lease is held up to the moment `until`, in milliseconds.
 #[derive(Clone, Copy)]
@@ -16,18 +17,21 @@ pub struct Leased {
 }
 
 impl Leased {
+    ghost use Rattle.plx_geom.specs.Geometry.{block_count, image_lease, lease_at};
     ghost use Rattle.plx_rules.specs.Part.{Part};
     ghost use Rattle.plx_rules.specs.Attaching.{image_use};
     ghost use Rattle.plx_rules.specs.Ends.{End, ends, in_time};
     ghost use Rattle.plx_rules.specs.Ends.{lost as ends_lost};
     ghost use Rattle.plx_rules.specs.Session.{Known};
-    ghost use Rattle.plx_appliance.specs.Ending.{after_reply, known_after};
-    ghost use Rattle.plx_appliance.specs.Giving.{given};
-    ghost use Rattle.plx_appliance.specs.Rests.{use_of};
+    ghost use Rattle.plx_appliance.specs.Ending.{part_after, known_after};
+    ghost use Rattle.plx_appliance.specs.Giving.{rules_setting};
+    ghost use Rattle.plx_appliance.specs.Rests.{leased_use};
 
     /// The refusal, where a reading has reached the end of the lease.
     pub fn reached(&self, reading: u64) -> Option<Reply>
-        ensures { (known : Known) (part : Part End) → after_reply part known result ≡ in_time (given self.now.setting) known (image_use self.now.slot.0 self.now.until) reading part }
+        ensures { (known : Known) (part : Part End) → part_after part known result ≡ in_time
+            (rules_setting self.now.setting) known
+            (image_use self.now.slot.0 self.now.until) reading part }
     {
         if self.until <= reading {
             return Some(self.lost(reading));
@@ -37,12 +41,21 @@ impl Leased {
 
     /// The refusal that the lease is lost.
     pub fn lost(&self, reading: u64) -> Reply
-        ensures { (known : Known) → ends result (known_after result known) ≡ ends_lost (given self.now.setting) known (use_of self.now) reading }
+        ensures { (known : Known) → ends result (known_after result known)
+            ≡ ends_lost (rules_setting self.now.setting) known (leased_use self.now) reading }
     {
         Reply::Lost {
             lease: LeaseName::Image(self.slot),
             until: self.until,
             reading,
         }
+    }
+
+    /// The block of the lease.
+    pub fn lease_block(&self) -> BlockNo
+        ensures block { result.0 ≡ lease_at (image_lease self.now.slot.0) }
+        ensures within { result.0 < block_count self.now.setting.geometry }
+    {
+        self.setting.block(Place::ImageLease(self.slot))
     }
 }

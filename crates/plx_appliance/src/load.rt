@@ -1,7 +1,7 @@
 //! The image under a lease that is held is loaded: its record, and its journal.
 ghost use Rattle.std.specs.Prelude.{◌≡◌, ◌≤◌, ◌<◌, ◌+◌, Some, None};
 ghost use Rattle.std.specs.Vec.{vec_len};
-ghost use Rattle.plx_appliance.specs.Inside.{reached};
+ghost use Rattle.plx_appliance.specs.Inside.{slots_reached};
 
 use crate::finding::{Finding, find, is_plain};
 use crate::leased::Leased;
@@ -37,7 +37,7 @@ pub struct Load {
     pub alloc: Global,
     ghost room: { vec_len session.writes ≤ next },
     ghost same: { session.slots ≡ slots },
-    ghost inside: { reached at next ≤ slots },
+    ghost inside: { slots_reached at next ≤ slots },
 }
 
 impl Load {
@@ -48,18 +48,20 @@ impl Load {
     ghost use Rattle.plx_rules.specs.Records.{attached_record, is_live};
     ghost use Rattle.plx_gate.specs.Images.{is_image};
     ghost use Rattle.plx_rules.specs.Machines.{AreWhole};
-    ghost use Rattle.plx_rules.specs.Session.{Known, inserted};
-    ghost use Rattle.plx_appliance.specs.Asking.{IsOnDevice, IsSpare};
-    ghost use Rattle.plx_appliance.specs.Ending.{after_reply};
-    ghost use Rattle.plx_appliance.specs.Giving.{given};
+    ghost use Rattle.plx_rules.specs.Session.{Known, with_write_by_number};
+    ghost use Rattle.plx_alloc.specs.Asking.{IsOnDevice};
+    ghost use Rattle.plx_appliance.specs.Asking.{IsSpare};
+    ghost use Rattle.plx_appliance.specs.Ending.{part_after};
+    ghost use Rattle.plx_appliance.specs.Giving.{rules_setting};
     ghost use Rattle.plx_appliance.specs.Kept.{known_by};
-    ghost use Rattle.plx_appliance.specs.Loads.{damaged_rest, found_rest, journaled, load_rest, loaded_rest};
+    ghost use Rattle.plx_appliance.specs.Loads.{damaged_rest, found_rest, loaded_write, load_rest, loaded_rest};
 
     /// The load of an image under its lease, with the memory of a session.
     pub fn begin(alloc: Global, image: Leased, session: Session) -> Load
         requires slots { session.slots ≡ image.setting.geometry.slots }
         requires empty { vec_len session.writes ≡ 0 }
-        ensures rest { (known : Known) → load_rest known result ≡ load_image (given image.setting) known image.slot.0 image.until }
+        ensures rest { (known : Known) → load_rest known result ≡ load_image
+            (rules_setting image.setting) known image.slot.0 image.until }
         ensures slots { result.slots ≡ image.setting.geometry.slots }
         ensures image { result.image ≡ image }
     {
@@ -77,7 +79,8 @@ impl Load {
     /// The lease is held up to this moment, and the load begins.
     pub fn enter(&mut self, image: Leased)
         requires { self.old.slots ≡ image.setting.geometry.slots }
-        ensures rest { (known : Known) → load_rest known self.new ≡ load_image (given image.setting) known image.slot.0 image.until }
+        ensures rest { (known : Known) → load_rest known self.new ≡ load_image
+            (rules_setting image.setting) known image.slot.0 image.until }
         ensures image { self.new.image ≡ image }
         ensures slots { self.new.slots ≡ self.old.slots }
     {
@@ -109,7 +112,8 @@ impl Load {
     /// It writes nothing.
     pub fn out(&self) -> &[u8]
         ensures bytes { (known : Known) → result.now ≡ bytes_out (load_rest known self.now) }
-        ensures whole { (known : Known) → AreWhole (standing (load_rest known self.now)) result.now }
+        ensures whole { (known : Known) →
+            AreWhole (standing (load_rest known self.now)) result.now }
     {
         match self.at {
             LoadAt::Record | LoadAt::Slot | LoadAt::Data(_) | LoadAt::Damaged(_) | LoadAt::Last =>
@@ -122,7 +126,9 @@ impl Load {
         requires own { self.old.slots ≡ self.old.image.setting.geometry.slots }
         requires count { sessions.old.count ≡ self.old.image.setting.geometry.images }
         requires slots { sessions.old.slots ≡ self.old.image.setting.geometry.slots }
-        ensures rest { (claims : ℕ) → after_reply (load_rest (known_by sessions.new claims) self.new) (known_by sessions.new claims) result ≡ answered (load_rest (known_by sessions.old claims) self.old) answer.now }
+        ensures rest { (claims : ℕ) → part_after (load_rest (known_by sessions.new claims) self.new)
+            (known_by sessions.new claims) result
+            ≡ answered (load_rest (known_by sessions.old claims) self.old) answer.now }
         ensures image { self.new.image ≡ self.old.image }
         ensures own { result ≡ None → self.new.slots ≡ self.old.slots }
         ensures count { sessions.new.count ≡ sessions.old.count }
@@ -159,7 +165,9 @@ impl Load {
     // The record was read.
     fn read_record(&mut self, bytes: &Block)
         requires { self.old.slots ≡ self.old.image.setting.geometry.slots }
-        ensures rest { (known : Known) → load_rest known self.new ≡ after_record (given self.old.image.setting) known self.old.image.slot.0 self.old.image.until (attached_record bytes.now) }
+        ensures rest { (known : Known) → load_rest known self.new ≡ after_record
+            (rules_setting self.old.image.setting) known self.old.image.slot.0 self.old.image.until
+            (attached_record bytes.now) }
         ensures image { self.new.image ≡ self.old.image }
         ensures slots { self.new.slots ≡ self.old.slots }
     {
@@ -179,7 +187,9 @@ impl Load {
     fn start(&mut self, found: ImageRecord)
         requires own { self.old.slots ≡ self.old.image.setting.geometry.slots }
         requires limits { is_image found ≡ true }
-        ensures rest { (known : Known) → load_rest known self.new ≡ load_journal (given self.old.image.setting) known self.old.image.slot.0 self.old.image.until found (is_live found) }
+        ensures rest { (known : Known) → load_rest known self.new ≡ load_journal
+            (rules_setting self.old.image.setting) known self.old.image.slot.0 self.old.image.until
+            found (is_live found) }
         ensures image { self.new.image ≡ self.old.image }
         ensures slots { self.new.slots ≡ self.old.slots }
     {
@@ -197,7 +207,8 @@ impl Load {
     #[tactic(auto, using(crate::proofs::Reached::next_reached))]
     fn stand(&mut self)
         requires own { self.old.slots ≡ self.old.image.setting.geometry.slots }
-        ensures rest { (known : Known) → load_rest known self.new ≡ loaded_rest known self.old self.old.next self.old.session.writes.items }
+        ensures rest { (known : Known) → load_rest known self.new
+            ≡ loaded_rest known self.old self.old.next self.old.session.writes.items }
         ensures image { self.new.image ≡ self.old.image }
         ensures slots { self.new.slots ≡ self.old.slots }
     {
@@ -219,7 +230,8 @@ impl Load {
     fn read_slot(&mut self, bytes: &Block)
         requires own { self.old.slots ≡ self.old.image.setting.geometry.slots }
         requires more { self.old.next < self.old.slots }
-        ensures rest { (known : Known) → load_rest known self.new ≡ found_rest known self.old bytes.now }
+        ensures rest { (known : Known) → load_rest known self.new
+            ≡ found_rest known self.old bytes.now }
         ensures image { self.new.image ≡ self.old.image }
         ensures slots { self.new.slots ≡ self.old.slots }
     {
@@ -238,7 +250,10 @@ impl Load {
     fn insert(&mut self, descriptor: &Descriptor, bytes: &Block)
         requires own { self.old.slots ≡ self.old.image.setting.geometry.slots }
         requires more { self.old.next < self.old.slots }
-        ensures rest { (known : Known) → load_rest known self.new ≡ loaded_rest known self.old (self.old.next + 1) (inserted (journaled descriptor.now.number descriptor.now.vblock bytes.now) self.old.session.writes.items) }
+        ensures rest { (known : Known) → load_rest known self.new ≡ loaded_rest known self.old
+            (self.old.next + 1) (with_write_by_number
+            (loaded_write descriptor.now.number descriptor.now.vblock bytes.now)
+            self.old.session.writes.items) }
         ensures image { self.new.image ≡ self.old.image }
         ensures slots { self.new.slots ≡ self.old.slots }
     {
@@ -251,7 +266,8 @@ impl Load {
 
     // Bytes outside the format were read at a block.
     fn damaged(&self, block: BlockNo, reading: u64) -> Option<Reply>
-        ensures { (known : Known) → after_reply (damaged_rest known self.now block.0) known result ≡ answered (damaged_rest known self.now block.0) (Answer.Reading reading) }
+        ensures { (known : Known) → part_after (damaged_rest known self.now block.0) known result
+            ≡ answered (damaged_rest known self.now block.0) (Answer.Reading reading) }
     {
         if let Some(reply) = self.image.reached(reading) {
             return Some(reply);
@@ -265,7 +281,10 @@ impl Load {
         requires own { self.old.slots ≡ self.old.image.setting.geometry.slots }
         requires count { sessions.old.count ≡ self.old.image.setting.geometry.images }
         requires slots { sessions.old.slots ≡ self.old.image.setting.geometry.slots }
-        ensures rest { (claims : ℕ) → after_reply (load_rest (known_by sessions.new claims) self.new) (known_by sessions.new claims) result ≡ answered (load_rest (known_by sessions.old claims) self.old) (Answer.Reading reading) }
+        ensures rest { (claims : ℕ) → part_after (load_rest (known_by sessions.new claims) self.new)
+            (known_by sessions.new claims) result
+            ≡ answered (load_rest (known_by sessions.old claims) self.old)
+            (Answer.Reading reading) }
         ensures image { self.new.image ≡ self.old.image }
         ensures own { result ≡ None → self.new.slots ≡ self.old.slots }
         ensures count { sessions.new.count ≡ sessions.old.count }
@@ -294,7 +313,8 @@ impl Load {
     // The block of the next slot's descriptor.
     fn descriptor_block(&self) -> BlockNo
         requires { self.now.next < self.now.image.setting.geometry.slots }
-        ensures block { result.0 ≡ descriptor_at self.now.image.setting.geometry self.now.image.slot.0 self.now.next }
+        ensures block { result.0
+            ≡ descriptor_at self.now.image.setting.geometry self.now.image.slot.0 self.now.next }
         ensures within { result.0 < block_count self.now.image.setting.geometry }
     {
         self.image
@@ -305,7 +325,8 @@ impl Load {
     // The block of the next slot's data.
     fn data_block(&self) -> BlockNo
         requires { self.now.next < self.now.image.setting.geometry.slots }
-        ensures block { result.0 ≡ data_at self.now.image.setting.geometry self.now.image.slot.0 self.now.next }
+        ensures block { result.0
+            ≡ data_at self.now.image.setting.geometry self.now.image.slot.0 self.now.next }
         ensures within { result.0 < block_count self.now.image.setting.geometry }
     {
         self.image

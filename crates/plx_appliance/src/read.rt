@@ -20,14 +20,16 @@ impl Read {
     ghost use Rattle.plx_rules.specs.Part.{answered, standing, bytes_out};
     ghost use Rattle.plx_rules.specs.Commands.{read_part};
     ghost use Rattle.plx_rules.specs.Session.{Known};
-    ghost use Rattle.plx_appliance.specs.Ending.{after_reply, entered};
-    ghost use Rattle.plx_appliance.specs.Giving.{given};
+    ghost use Rattle.plx_appliance.specs.Ending.{part_after, enter_part};
+    ghost use Rattle.plx_appliance.specs.Giving.{rules_setting};
     ghost use Rattle.plx_appliance.specs.Kept.{session_of};
     ghost use Rattle.plx_appliance.specs.Rests.{read_rest};
 
     /// The read begins, with a block for what it gives, or is refused.
     pub fn enter(image: Leased, session: &Session, vblock: u32, block: Block) -> Result<Read, Reply>
-        ensures part { (known : Known) → entered read_rest known result ≡ read_part (given image.setting) known image.slot.0 vblock (session_of session.now) image.until }
+        ensures part { (known : Known) → enter_part read_rest known result ≡ read_part
+            (rules_setting image.setting) known image.slot.0 vblock
+            (session_of session.now) image.until }
         ensures image { (r : Read) → result ≡ Ok r → r.image ≡ image }
     {
         if !session.is_live() {
@@ -55,7 +57,8 @@ impl Read {
 
     /// The ask is answered.
     pub fn answer(&mut self, answer: &Answer) -> Option<Reply>
-        ensures rest { (known : Known) → after_reply (read_rest known self.new) known result ≡ answered (read_rest known self.old) answer.now }
+        ensures rest { (known : Known) → part_after (read_rest known self.new) known result
+            ≡ answered (read_rest known self.old) answer.now }
         ensures image { self.new.image ≡ self.old.image }
     {
         match answer {
@@ -66,7 +69,8 @@ impl Read {
 
     // The read ends at this reading.
     fn end(&mut self, reading: u64) -> Option<Reply>
-        ensures rest { (known : Known) → after_reply (read_rest known self.new) known result ≡ answered (read_rest known self.old) (Answer.Reading reading) }
+        ensures rest { (known : Known) → part_after (read_rest known self.new) known result
+            ≡ answered (read_rest known self.old) (Answer.Reading reading) }
         ensures image { self.new.image ≡ self.old.image }
     {
         if let Some(reply) = self.image.reached(reading) {

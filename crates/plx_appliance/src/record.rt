@@ -53,10 +53,11 @@ impl Record {
     ghost use Rattle.plx_rules.specs.Commands.{create_part, delete_part, record_part};
     ghost use Rattle.plx_rules.specs.Session.{Known};
     ghost use Rattle.plx_rules.specs.Session.{Session as KnownSession};
-    ghost use Rattle.plx_appliance.specs.Asking.{IsOnDevice, IsSpare};
+    ghost use Rattle.plx_alloc.specs.Asking.{IsOnDevice};
+    ghost use Rattle.plx_appliance.specs.Asking.{IsSpare};
     ghost use Rattle.plx_rules.specs.Machines.{AreWhole};
-    ghost use Rattle.plx_appliance.specs.Ending.{after_reply, entered};
-    ghost use Rattle.plx_appliance.specs.Giving.{given};
+    ghost use Rattle.plx_appliance.specs.Ending.{part_after, enter_part};
+    ghost use Rattle.plx_appliance.specs.Giving.{rules_setting};
     ghost use Rattle.plx_appliance.specs.Kept.{known_by, session_of};
     ghost use Rattle.plx_appliance.specs.Rests.{done_reply, record_rest};
 
@@ -68,7 +69,10 @@ impl Record {
         label: Label,
         spelled: Block,
     ) -> Result<Record, Reply>
-        ensures part { (known : Known) → known.sessions image.slot.0 ≡ Some (session_of session.now) → entered record_rest known result ≡ create_part (given image.setting) known image.slot.0 size label (session_of session.now) image.until }
+        ensures part { (known : Known) → known.sessions image.slot.0
+            ≡ Some (session_of session.now) → enter_part record_rest known result ≡ create_part
+            (rules_setting image.setting) known image.slot.0 size label
+            (session_of session.now) image.until }
         ensures image { (r : Record) → result ≡ Ok r → r.image ≡ image }
     {
         if session.is_live() {
@@ -99,7 +103,9 @@ impl Record {
 
     /// A delete begins, with a block for its record, or is refused.
     pub fn delete(image: Leased, session: &Session, spelled: Block) -> Result<Record, Reply>
-        ensures part { (known : Known) → known.sessions image.slot.0 ≡ Some (session_of session.now) → entered record_rest known result ≡ delete_part (given image.setting) known image.slot.0 (session_of session.now) image.until }
+        ensures part { (known : Known) → known.sessions image.slot.0
+            ≡ Some (session_of session.now) → enter_part record_rest known result ≡ delete_part
+            (rules_setting image.setting) known image.slot.0 (session_of session.now) image.until }
         ensures image { (r : Record) → result ≡ Ok r → r.image ≡ image }
     {
         if !session.is_live() {
@@ -114,7 +120,9 @@ impl Record {
     // The write of a record of an attached image.
     fn begin(image: Leased, made: ImageRecord, done: Done, spelled: Block) -> Record
         requires { IsImage made }
-        ensures part { (known : Known) (session : KnownSession) → known.sessions image.slot.0 ≡ Some session → record_rest known result ≡ record_part (given image.setting) known image.slot.0 image.until made (done_reply done) }
+        ensures part { (known : Known) (session : KnownSession) →
+            known.sessions image.slot.0 ≡ Some session → record_rest known result ≡ record_part
+            (rules_setting image.setting) known image.slot.0 image.until made (done_reply done) }
         ensures image { result.image ≡ image }
     {
         let mut spelled = spelled;
@@ -147,7 +155,8 @@ impl Record {
     /// The bytes of the write that is asked for.
     pub fn out(&self) -> &[u8]
         ensures bytes { (known : Known) → result.now ≡ bytes_out (record_rest known self.now) }
-        ensures whole { (known : Known) → AreWhole (standing (record_rest known self.now)) result.now }
+        ensures whole { (known : Known) →
+            AreWhole (standing (record_rest known self.now)) result.now }
     {
         match self.at {
             RecordAt::First => self.spelled.as_slice(),
@@ -158,7 +167,10 @@ impl Record {
     /// The ask is answered.
     pub fn answer(&mut self, sessions: &mut Sessions, answer: &Answer) -> Option<Reply>
         requires { sessions.old.count ≡ self.old.image.setting.geometry.images }
-        ensures rest { (claims : ℕ) → after_reply (record_rest (known_by sessions.new claims) self.new) (known_by sessions.new claims) result ≡ answered (record_rest (known_by sessions.old claims) self.old) answer.now }
+        ensures rest { (claims : ℕ) → part_after
+            (record_rest (known_by sessions.new claims) self.new)
+            (known_by sessions.new claims) result
+            ≡ answered (record_rest (known_by sessions.old claims) self.old) answer.now }
         ensures image { self.new.image ≡ self.old.image }
         ensures count { sessions.new.count ≡ sessions.old.count }
         ensures slots { sessions.new.slots ≡ sessions.old.slots }
@@ -181,7 +193,11 @@ impl Record {
     fn end(&mut self, sessions: &mut Sessions, reading: u64) -> Option<Reply>
         requires at { self.old.at ≡ RecordAt.Last }
         requires count { sessions.old.count ≡ self.old.image.setting.geometry.images }
-        ensures rest { (claims : ℕ) → after_reply (record_rest (known_by sessions.new claims) self.new) (known_by sessions.new claims) result ≡ answered (record_rest (known_by sessions.old claims) self.old) (Answer.Reading reading) }
+        ensures rest { (claims : ℕ) → part_after
+            (record_rest (known_by sessions.new claims) self.new)
+            (known_by sessions.new claims) result
+            ≡ answered (record_rest (known_by sessions.old claims) self.old)
+            (Answer.Reading reading) }
         ensures image { self.new.image ≡ self.old.image }
         ensures count { sessions.new.count ≡ sessions.old.count }
         ensures slots { sessions.new.slots ≡ sessions.old.slots }

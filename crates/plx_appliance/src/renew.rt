@@ -1,19 +1,18 @@
 //! A renew writes each lease that is held again, up to a later moment.
 ghost use Rattle.std.specs.Prelude.{◌≡◌, Some, None};
 
-use crate::image_renewal::ImageRenewal;
-use crate::lease::Leases;
+use crate::holdings::Holdings;
 use crate::setting::Setting;
 use plx_commands::Reply;
 use plx_disk::{Answer, Ask};
-use plx_lease::RenewalEnd;
+use plx_lease::{LeaseRenewal, RenewalEnd};
 
 /// A renew with the renewal that asks, and those that are left, of which the last one is next.
 #[derive(Drop)]
 pub struct Renew {
     pub setting: Setting,
-    pub renewal: ImageRenewal,
-    pub left: Vec<ImageRenewal>,
+    pub renewal: LeaseRenewal,
+    pub left: Vec<LeaseRenewal>,
 }
 
 impl Renew {
@@ -24,39 +23,46 @@ impl Renew {
     ghost use Rattle.plx_rules.specs.Machines.{AreWhole};
     ghost use Rattle.plx_rules.specs.Part.{answered, bytes_out, standing};
     ghost use Rattle.plx_rules.specs.Session.{Known};
-    ghost use Rattle.plx_appliance.specs.Asking.{IsOnDevice};
-    ghost use Rattle.plx_appliance.specs.Ending.{after_reply};
-    ghost use Rattle.plx_appliance.specs.Giving.{given};
+    ghost use Rattle.plx_alloc.specs.Asking.{IsOnDevice};
+    ghost use Rattle.plx_appliance.specs.Ending.{part_after};
+    ghost use Rattle.plx_appliance.specs.Giving.{rules_setting};
+    ghost use Rattle.plx_appliance.specs.Kept.{known_of};
+    ghost use Rattle.plx_appliance.specs.Lent.{lent_of};
     ghost use Rattle.plx_appliance.specs.Renews.{IsRenewing, RenewMoves, renew_rest, renewals_then};
-    ghost use Rattle.plx_appliance.specs.Tokens.{leases_of};
 
     /// The ask that stands.
     pub fn ask(&self) -> Ask
         ensures ask { (known : Known) → Some result ≡ standing (renew_rest known self.now) }
-        ensures within { (leases : ℕ → Hold) → IsRenewing self.now leases → IsOnDevice self.now.setting.geometry result }
+        ensures within { (leases : ℕ → Hold) → IsRenewing self.now leases →
+            IsOnDevice self.now.setting.geometry result }
     {
-        self.renewal.work.ask()
+        self.renewal.ask()
     }
 
     /// The bytes of the write that is asked for.
     pub fn out(&self) -> &[u8]
         ensures bytes { (known : Known) → result.now ≡ bytes_out (renew_rest known self.now) }
-        ensures whole { (known : Known) → AreWhole (standing (renew_rest known self.now)) result.now }
+        ensures whole { (known : Known) →
+            AreWhole (standing (renew_rest known self.now)) result.now }
     {
-        self.renewal.work.out()
+        self.renewal.out()
     }
 
     /// The ask is answered.
-    pub fn answer(&mut self, leases: &mut Leases, answer: &Answer) -> Option<Reply>
-        ensures rest { (known : Known) → after_reply (renew_rest known self.new) known result ≡ answered (renew_rest known self.old) answer.now }
+    pub fn answer(&mut self, holdings: &mut Holdings, answer: &Answer) -> Option<Reply>
+        ensures rest { part_after (renew_rest (known_of holdings.new) self.new)
+            (known_of holdings.new) result
+            ≡ answered (renew_rest (known_of holdings.old) self.old) answer.now }
         ensures setting { self.new.setting ≡ self.old.setting }
-        ensures leased { leases.new.count ≡ leases.old.count }
-        ensures moves { RenewMoves self.old self.new answer.now (leases_of leases.old.leases.items) (leases_of leases.new.leases.items) result }
+        ensures kept { holdings.new.setting ≡ holdings.old.setting }
+        ensures moves { RenewMoves self.old self.new answer.now (lent_of holdings.old)
+            (lent_of holdings.new) result }
     {
-        match self.renewal.work.answer(answer) {
+        match self.renewal.answer(answer) {
             None => None,
             Some(RenewalEnd::Renewed) => {
-                leases.lengthen(self.renewal.slot, self.renewal.work.later());
+                let lease = self.setting.lease_name(self.renewal.number());
+                holdings.lengthen(lease, self.renewal.later());
                 self.go_on()
             }
             Some(RenewalEnd::Lost { due, reading }) => Some(Reply::Lost {
@@ -65,16 +71,19 @@ impl Renew {
                 reading,
             }),
             Some(RenewalEnd::WriteFault) => Some(Reply::WriteFault {
-                block: self.renewal.work.block(),
+                block: self.renewal.block(),
             }),
         }
     }
 
     // To the next renewal, if one is left.
     fn go_on(&mut self) -> Option<Reply>
-        ensures rest { (known : Known) → after_reply (renew_rest known self.new) known result ≡ renewals_then (given self.old.setting) known self.old.left.items (ends Reply.Renewed known) }
+        ensures rest { (known : Known) → part_after (renew_rest known self.new) known result
+            ≡ renewals_then (rules_setting self.old.setting) known self.old.left.items
+            (ends Reply.Renewed known) }
         ensures setting { self.new.setting ≡ self.old.setting }
-        ensures next { result ≡ None → self.old.left.items ≡ self.new.left.items ++ self.new.renewal ∷ [] }
+        ensures next { result ≡ None → self.old.left.items ≡ self.new.left.items ++
+            self.new.renewal ∷ [] }
     {
         let Some(next) = self.left.pop() else {
             return Some(Reply::Renewed);

@@ -1,21 +1,21 @@
 //! What a renew finds of the leases that are held.
 ghost use Rattle.std.specs.Prelude.{◌≡◌, ◌<◌, ◌≤◌, ◌+◌, ◌^◌, IfSome};
 ghost use Rattle.std.specs.Vec.{vec_capacity, vec_len};
+ghost use Rattle.plx_geom.specs.Geometry.{lease_at, lease_count};
 ghost use Rattle.plx_rules.specs.InUse.{first_reached};
 ghost use Rattle.plx_lease.specs.Renewing.{renewal_hold};
-ghost use Rattle.plx_lease.specs.Uses.{named};
-ghost use Rattle.plx_appliance.specs.RenewStarts.{AreRenewals, IsReached, IsRenewal, leases_in, uses_in};
+ghost use Rattle.plx_lease.specs.Uses.{use_if};
+ghost use Rattle.plx_appliance.specs.RenewStarts.{AreRenewals, IsReached, IsRenewal, holds_in, uses_in};
 ghost use Rattle.plx_appliance.specs.Renews.{AreHeld, with_next};
 
 use crate::holdings::Holdings;
-use crate::image_renewal::{ImageRenewal, Renewals};
-use plx_base::SlotNo;
-use plx_geom::Place;
+use crate::renewals::Renewals;
+use plx_base::{BlockNo, LeaseName, SlotNo};
 use plx_lease::{InUse, LeaseRenewal};
 
 /// Of the leases of attached images that a reading has reached, the one to be named.
 pub fn reached_lease(holdings: &Holdings, reading: u64) -> Option<InUse>
-    ensures { named result ≡ first_reached (uses_in holdings.now) reading }
+    ensures { use_if result ≡ first_reached (uses_in holdings.now) reading }
 {
     let images = holdings.leases.count;
     let mut found = None;
@@ -48,24 +48,25 @@ fn reached_beside(
     own.reached(others, reading)
 }
 
-/// The renewals of the leases that are held, that of the first image last.
-pub fn renewals(holdings: &Holdings, room: Renewals, reading: u64) -> Vec<ImageRenewal>
-    requires room { room.images ≡ holdings.now.setting.geometry.images }
+/// The renewals of the leases that are held, that of the first lease last.
+pub fn renewals(holdings: &Holdings, room: Renewals, reading: u64) -> Vec<LeaseRenewal>
+    requires room { room.leases ≡ lease_count holdings.now.setting.geometry }
     requires reading { reading < 2 ^ 48 }
     ensures part { AreRenewals holdings.now reading result.items }
-    ensures held { AreHeld 0 holdings.now.setting.geometry.images (leases_in holdings.now) result.items }
+    ensures held { AreHeld 0 (lease_count holdings.now.setting.geometry)
+        (λ lease. holds_in holdings.now (lease_at lease)) result.items }
 {
-    let images = holdings.leases.count;
+    let leases = room.leases;
     let mut list = room.list;
-    for count in 0..images {
-        let next = renewal(holdings, SlotNo(images - 1 - count), reading);
+    for count in 0..leases {
+        let next = renewal(holdings, leases - 1 - count, reading);
         push(&mut list, next);
     }
     list
 }
 
 // The list has one renewal more, where there is one.
-fn push(list: &mut Vec<ImageRenewal>, next: Option<ImageRenewal>)
+fn push(list: &mut Vec<LeaseRenewal>, next: Option<LeaseRenewal>)
     requires { vec_len list.old < vec_capacity list.old }
     ensures items { list.new.items ≡ with_next list.old.items next }
     ensures len { vec_len list.new ≤ vec_len list.old + 1 }
@@ -78,18 +79,23 @@ fn push(list: &mut Vec<ImageRenewal>, next: Option<ImageRenewal>)
     }
 }
 
-// The renewal of an image's lease, where it is held.
-fn renewal(holdings: &Holdings, slot: SlotNo, reading: u64) -> Option<ImageRenewal>
-    requires within { slot.0 < holdings.now.setting.geometry.images }
-    requires reading { reading < 2 ^ 48 }
-    ensures part { IsRenewal holdings.now reading slot.0 result }
-    ensures slot { IfSome result (λ r. r.slot.0 ≡ slot.0) }
-    ensures held { IfSome result (λ r. leases_in holdings.now slot.0 ≡ renewal_hold r.work) }
+// The renewal of the lease of this number, where it is held; the root's never is.
+fn renewal(holdings: &Holdings, lease: u32, reading: u64) -> Option<LeaseRenewal>
+    requires { reading < 2 ^ 48 }
+    ensures part { IsRenewal holdings.now reading lease result }
+    ensures number { IfSome result (λ r. r.number ≡ lease) }
+    ensures held { IfSome result (λ r. holds_in holdings.now (lease_at lease) ≡ renewal_hold r) }
 {
-    let held = holdings.leases.get(slot)?;
-    let block = holdings.setting.block(Place::ImageLease(slot));
-    Some(ImageRenewal {
-        slot,
-        work: LeaseRenewal::begin(held, block, reading),
-    })
+    let block = BlockNo(1 + u64::from(lease));
+    match holdings.setting.lease_name(lease) {
+        LeaseName::Root => None,
+        LeaseName::Image(slot) => {
+            let held = holdings.leases.get(slot)?;
+            Some(LeaseRenewal::begin(held, block, reading))
+        }
+        LeaseName::Extent(extent) => {
+            let held = holdings.space.held(extent)?;
+            Some(LeaseRenewal::begin(held, block, reading))
+        }
+    }
 }

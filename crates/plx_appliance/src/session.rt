@@ -25,7 +25,7 @@ pub struct Session {
 
 impl Session {
     ghost use Rattle.plx_rules.specs.Records.{applied_of, generation_of, is_live, size_of, taken_of};
-    ghost use Rattle.plx_rules.specs.Session.{content, first_gap, inserted, new_session, session_report, write_count, with_write};
+    ghost use Rattle.plx_rules.specs.Session.{content, first_gap, with_write_by_number, new_session, session_report, write_count, with_write};
     ghost use Rattle.std.specs.List.{insert as insert_at};
     ghost use Rattle.plx_rules.specs.declared.journaled.Journaled.{Journaled as Written};
     ghost use Rattle.plx_appliance.specs.Kept.{session_of};
@@ -136,7 +136,8 @@ impl Session {
     pub fn push(&mut self, number: u64, vblock: u32, bytes: &Block)
         requires { vec_len self.old.writes < self.old.slots }
         ensures slots { self.new.slots ≡ self.old.slots }
-        ensures session { session_of self.new ≡ with_write (session_of self.old) (record { number = number; vblock = vblock; block = bytes.now }) }
+        ensures session { session_of self.new ≡ with_write (session_of self.old)
+            (record { number = number; vblock = vblock; block = bytes.now }) }
     {
         let Some(mut block) = self.spare.pop() else {
             return
@@ -156,7 +157,12 @@ impl Session {
         requires { vec_len self.old.writes < self.old.slots }
         ensures slots { self.new.slots ≡ self.old.slots }
         ensures image { self.new.image ≡ self.old.image }
-        ensures writes { self.new.writes.items ≡ inserted (record { number = number; vblock = vblock; block = bytes.now }) self.old.writes.items }
+        ensures writes { self.new.writes.items
+            ≡ with_write_by_number (record {
+              number = number;
+              vblock = vblock;
+              block = bytes.now;
+            }) self.old.writes.items }
         ensures len { vec_len self.new.writes ≡ vec_len self.old.writes + 1 }
     {
         let place = self.place(number);
@@ -179,7 +185,9 @@ impl Session {
     // Where a write of this number has its place.
     fn place(&self, number: u64) -> usize
         ensures within { result ≤ vec_len self.now.writes }
-        ensures place { (w : Written) → w.number ≡ number → inserted w self.now.writes.items ≡ insert_at self.now.writes.items result w }
+        ensures place { (w : Written) → w.number ≡ number →
+            with_write_by_number w self.now.writes.items
+            ≡ insert_at self.now.writes.items result w }
     {
         for index in 0..self.writes.len() {
             if number < self.writes[index].number {

@@ -25,7 +25,7 @@ impl Sessions {
     ghost use Rattle.plx_gate.specs.Images.{is_image};
     ghost use Rattle.plx_rules.specs.Session.{nothing_known, new_session};
     ghost use Rattle.plx_appliance.specs.Kept.{sessions_of, session_of};
-    ghost use Rattle.plx_appliance.specs.Pushing.{begun, one_more};
+    ghost use Rattle.plx_appliance.specs.Pushing.{new_session_if, with_one_more};
 
     /// No session of so many images, whose journals have so many slots.
     pub fn new(alloc: Global, count: u32, slots: u32) -> Result<Sessions, NoMemory>
@@ -46,7 +46,9 @@ impl Sessions {
 
     /// The session of an image.
     pub fn get(&self, slot: SlotNo) -> Option<&Session>
-        ensures { MatchOption result (sessions_of self.now.images.items slot.0 ≡ None) (λ s. (sessions_of self.now.images.items slot.0 ≡ Some (session_of s.now)) × (slot.0 < self.now.count) × (s.now.slots ≡ self.now.slots)) }
+        ensures { MatchOption result (sessions_of self.now.images.items slot.0 ≡ None)
+            (λ s. (sessions_of self.now.images.items slot.0 ≡ Some (session_of s.now))
+            × (slot.0 < self.now.count) × (s.now.slots ≡ self.now.slots)) }
     {
         let index = slot.0 as usize;
         if index >= self.images.len() {
@@ -73,7 +75,8 @@ impl Sessions {
     pub fn put(&mut self, slot: SlotNo, session: Session)
         requires within { slot.0 < self.old.count }
         requires same { session.slots ≡ self.old.slots }
-        ensures known { sessions_of self.new.images.items ≡ at (sessions_of self.old.images.items) slot.0 (Some (session_of session)) }
+        ensures known { sessions_of self.new.images.items
+            ≡ at (sessions_of self.old.images.items) slot.0 (Some (session_of session)) }
         ensures count { self.new.count ≡ self.old.count }
         ensures slots { self.new.slots ≡ self.old.slots }
     {
@@ -83,7 +86,8 @@ impl Sessions {
     /// A session ends.
     pub fn end(&mut self, slot: SlotNo)
         requires { slot.0 < self.old.count }
-        ensures known { sessions_of self.new.images.items ≡ at (sessions_of self.old.images.items) slot.0 None }
+        ensures known { sessions_of self.new.images.items
+            ≡ at (sessions_of self.old.images.items) slot.0 None }
         ensures count { self.new.count ≡ self.old.count }
         ensures slots { self.new.slots ≡ self.old.slots }
     {
@@ -93,7 +97,10 @@ impl Sessions {
     /// The session of an image, if there is one, has one more write, if its journal has a slot for it.
     pub fn push(&mut self, slot: SlotNo, number: u64, vblock: u32, bytes: &Block)
         requires { slot.0 < self.old.count }
-        ensures known { sessions_of self.new.images.items ≡ at (sessions_of self.old.images.items) slot.0 (one_more self.old.slots (sessions_of self.old.images.items slot.0) (record { number = number; vblock = vblock; block = bytes.now })) }
+        ensures known { sessions_of self.new.images.items
+            ≡ at (sessions_of self.old.images.items) slot.0
+            (with_one_more self.old.slots (sessions_of self.old.images.items slot.0)
+            (record { number = number; vblock = vblock; block = bytes.now })) }
         ensures count { self.new.count ≡ self.old.count }
         ensures slots { self.new.slots ≡ self.old.slots }
     {
@@ -110,7 +117,9 @@ impl Sessions {
     pub fn start(&mut self, slot: SlotNo, image: ImageRecord)
         requires within { slot.0 < self.old.count }
         requires limits { is_image image ≡ true }
-        ensures known { sessions_of self.new.images.items ≡ at (sessions_of self.old.images.items) slot.0 (begun (sessions_of self.old.images.items slot.0) image) }
+        ensures known { sessions_of self.new.images.items
+            ≡ at (sessions_of self.old.images.items) slot.0
+            (new_session_if (sessions_of self.old.images.items slot.0) image) }
         ensures count { self.new.count ≡ self.old.count }
         ensures slots { self.new.slots ≡ self.old.slots }
     {

@@ -1,7 +1,7 @@
 //! What a boot is given.
 ghost use Rattle.std.specs.Prelude.{◌≡◌, ◌<◌, ◌^◌};
 ghost use Rattle.plx_rules.specs.InUse.{lease_name as name_of_lease};
-ghost use Rattle.plx_geom.specs.Geometry.{IsGeometry, block_count};
+ghost use Rattle.plx_geom.specs.Geometry.{IsGeometry, block_count, lease_count};
 ghost use Rattle.plx_geom.specs.Places.{IsPlace};
 ghost use Rattle.plx_geom.specs.Places.{block_of as place_block};
 
@@ -39,6 +39,13 @@ impl Setting {
         ensures within { result.0 < block_count self.now.geometry }
     {
         self.geometry.number(place)
+    }
+
+    /// How many leases there are: the root's, those of the images, and those of the extents.
+    pub fn lease_count(&self) -> u32
+        ensures { result ≡ lease_count self.now.geometry }
+    {
+        1 + self.geometry.images + self.geometry.extents
     }
 
     /// What the lease of this number is called.

@@ -7,6 +7,8 @@ use crate::holdings::Holdings;
 use crate::read::Read;
 use crate::record::Record;
 use crate::renew::Renew;
+use crate::reserve::Reserve;
+use crate::retire::Retire;
 use crate::write::Write;
 use plx_commands::Reply;
 use plx_disk::{Answer, Ask};
@@ -20,28 +22,33 @@ pub enum Work {
     Read(Read),
     Write(Write),
     Renew(Renew),
+    Reserve(Reserve),
+    Retire(Retire),
 }
 
 impl Work {
-    ghost use Rattle.std.specs.Prelude.{ℕ, Option};
+    ghost use Rattle.std.specs.Prelude.{ℕ, List, Option};
+    ghost use Rattle.plx_alloc.specs.declared.allocator.Allocator.{Allocator};
     ghost use Rattle.plx_rules.specs.Part.{answered, standing, bytes_out};
     ghost use Rattle.plx_rules.specs.Holds.{Hold};
     ghost use Rattle.plx_rules.specs.Machines.{AreWhole, IsTimely};
-    ghost use Rattle.plx_rules.specs.Session.{Known};
-    ghost use Rattle.plx_appliance.specs.Asking.{IsOnDevice};
+    ghost use Rattle.plx_appliance.specs.Lent.{Lent, lent_of};
+    ghost use Rattle.plx_alloc.specs.Asking.{IsOnDevice};
     ghost use Rattle.plx_appliance.specs.Stands.{Inside};
-    ghost use Rattle.plx_appliance.specs.Ending.{after_reply};
+    ghost use Rattle.plx_appliance.specs.Ending.{part_after};
     ghost use Rattle.plx_appliance.specs.Kept.{known_of};
     ghost use Rattle.plx_appliance.specs.Moving.{Moves};
-    ghost use Rattle.plx_appliance.specs.Tokens.{leases_of};
-    ghost use Rattle.plx_appliance.specs.Works.{Spares, work_rest, work_setting, work_slots};
+    ghost use Rattle.plx_appliance.specs.Works.{Spares, work_rest, work_setting, work_slots, work_suits};
 
     /// The ask that stands.
     pub fn ask(&self) -> Ask
         requires { work_slots self.now ≡ (work_setting self.now).geometry.slots }
-        ensures ask { (known : Known) → Some result ≡ standing (work_rest known self.now) }
+        ensures ask { (lent : Lent) → Some result ≡ standing (work_rest lent self.now) }
         ensures spare { Spares self.now result }
-        ensures within { (holds : ℕ → Hold) (sample : Option ℕ) → Inside self.now holds sample → IsOnDevice (work_setting self.now).geometry result }
+        ensures within { (space : Allocator) (holds : ℕ → Hold) (sample : Option ℕ)
+            (found : Option (ℕ × List ℕ)) → work_suits space self.now →
+            space.geometry ≡ (work_setting self.now).geometry → Inside self.now holds sample found →
+            IsOnDevice (work_setting self.now).geometry result }
     {
         match self {
             Work::Attach(attach) => attach.ask(),
@@ -50,13 +57,15 @@ impl Work {
             Work::Read(read) => read.ask(),
             Work::Write(write) => write.ask(),
             Work::Renew(renew) => renew.ask(),
+            Work::Reserve(reserve) => reserve.ask(),
+            Work::Retire(retire) => retire.ask(),
         }
     }
 
     /// The bytes of the write that is asked for.
     pub fn out(&self) -> &[u8]
-        ensures bytes { (known : Known) → result.now ≡ bytes_out (work_rest known self.now) }
-        ensures whole { (known : Known) → AreWhole (standing (work_rest known self.now)) result.now }
+        ensures bytes { (lent : Lent) → result.now ≡ bytes_out (work_rest lent self.now) }
+        ensures whole { (lent : Lent) → AreWhole (standing (work_rest lent self.now)) result.now }
     {
         match self {
             Work::Attach(attach) => attach.out(),
@@ -65,6 +74,8 @@ impl Work {
             Work::Read(_) => &[],
             Work::Write(write) => write.out(),
             Work::Renew(renew) => renew.out(),
+            Work::Reserve(reserve) => reserve.out(),
+            Work::Retire(retire) => retire.out(),
         }
     }
 
@@ -72,12 +83,17 @@ impl Work {
     pub fn answer(&mut self, holdings: &mut Holdings, answer: &Answer) -> Option<Reply>
         requires own { work_slots self.old ≡ (work_setting self.old).geometry.slots }
         requires setting { work_setting self.old ≡ holdings.old.setting }
+        requires suits { work_suits holdings.old.space self.old }
         requires timely { IsTimely answer.now }
-        ensures rest { after_reply (work_rest (known_of holdings.new) self.new) (known_of holdings.new) result ≡ answered (work_rest (known_of holdings.old) self.old) answer.now }
+        ensures rest { part_after (work_rest (lent_of holdings.new) self.new)
+            (known_of holdings.new) result
+            ≡ answered (work_rest (lent_of holdings.old) self.old) answer.now }
         ensures own { result ≡ None → work_slots self.new ≡ work_slots self.old }
         ensures kept { result ≡ None → work_setting self.new ≡ work_setting self.old }
         ensures setting { holdings.new.setting ≡ holdings.old.setting }
-        ensures moves { Moves self.old self.new answer.now (leases_of holdings.old.leases.leases.items) (leases_of holdings.new.leases.leases.items) result }
+        ensures suits { result ≡ None → work_suits holdings.new.space self.new }
+        ensures moves { Moves self.old self.new answer.now (lent_of holdings.old)
+            (lent_of holdings.new) result }
     {
         match self {
             Work::Attach(attach) => attach.answer(
@@ -93,7 +109,9 @@ impl Work {
             Work::Record(record) => record.answer(&mut holdings.sessions, answer),
             Work::Read(read) => read.answer(answer),
             Work::Write(write) => write.answer(&mut holdings.sessions, answer),
-            Work::Renew(renew) => renew.answer(&mut holdings.leases, answer),
+            Work::Renew(renew) => renew.answer(holdings, answer),
+            Work::Reserve(reserve) => reserve.answer(&mut holdings.space, answer),
+            Work::Retire(retire) => retire.answer(holdings, answer),
         }
     }
 }

@@ -41,10 +41,11 @@ impl Write {
     ghost use Rattle.plx_rules.specs.Part.{answered, standing, bytes_out};
     ghost use Rattle.plx_rules.specs.Commands.{write_part};
     ghost use Rattle.plx_rules.specs.Session.{Known};
-    ghost use Rattle.plx_appliance.specs.Asking.{IsOnDevice, IsSpare};
+    ghost use Rattle.plx_alloc.specs.Asking.{IsOnDevice};
+    ghost use Rattle.plx_appliance.specs.Asking.{IsSpare};
     ghost use Rattle.plx_rules.specs.Machines.{AreWhole};
-    ghost use Rattle.plx_appliance.specs.Ending.{after_reply, entered};
-    ghost use Rattle.plx_appliance.specs.Giving.{given};
+    ghost use Rattle.plx_appliance.specs.Ending.{part_after, enter_part};
+    ghost use Rattle.plx_appliance.specs.Giving.{rules_setting};
     ghost use Rattle.plx_appliance.specs.Kept.{known_by, session_of};
     ghost use Rattle.plx_appliance.specs.Rests.{write_rest};
 
@@ -57,7 +58,10 @@ impl Write {
         spelled: Block,
     ) -> Result<Write, Reply>
         requires { session.now.slots ≡ image.setting.geometry.slots }
-        ensures part { (known : Known) → known.sessions image.slot.0 ≡ Some (session_of session.now) → entered write_rest known result ≡ write_part (given image.setting) known image.slot.0 vblock block (session_of session.now) image.until }
+        ensures part { (known : Known) → known.sessions image.slot.0
+            ≡ Some (session_of session.now) → enter_part write_rest known result ≡ write_part
+            (rules_setting image.setting) known image.slot.0 vblock block
+            (session_of session.now) image.until }
         ensures image { (w : Write) → result ≡ Ok w → w.image ≡ image }
     {
         if !session.is_live() {
@@ -120,7 +124,8 @@ impl Write {
     /// The bytes of the write that is asked for.
     pub fn out(&self) -> &[u8]
         ensures bytes { (known : Known) → result.now ≡ bytes_out (write_rest known self.now) }
-        ensures whole { (known : Known) → AreWhole (standing (write_rest known self.now)) result.now }
+        ensures whole { (known : Known) →
+            AreWhole (standing (write_rest known self.now)) result.now }
     {
         match self.at {
             WriteAt::Data => self.block.as_slice(),
@@ -133,7 +138,10 @@ impl Write {
     pub fn answer(&mut self, sessions: &mut Sessions, answer: &Answer) -> Option<Reply>
         requires count { sessions.old.count ≡ self.old.image.setting.geometry.images }
         requires slots { sessions.old.slots ≡ self.old.image.setting.geometry.slots }
-        ensures rest { (claims : ℕ) → after_reply (write_rest (known_by sessions.new claims) self.new) (known_by sessions.new claims) result ≡ answered (write_rest (known_by sessions.old claims) self.old) answer.now }
+        ensures rest { (claims : ℕ) → part_after
+            (write_rest (known_by sessions.new claims) self.new)
+            (known_by sessions.new claims) result
+            ≡ answered (write_rest (known_by sessions.old claims) self.old) answer.now }
         ensures image { self.new.image ≡ self.old.image }
         ensures count { sessions.new.count ≡ sessions.old.count }
         ensures slots { sessions.new.slots ≡ sessions.old.slots }
@@ -166,7 +174,11 @@ impl Write {
         requires at { self.now.at ≡ WriteAt.Last }
         requires count { sessions.old.count ≡ self.now.image.setting.geometry.images }
         requires slots { sessions.old.slots ≡ self.now.image.setting.geometry.slots }
-        ensures rest { (claims : ℕ) → after_reply (write_rest (known_by sessions.new claims) self.now) (known_by sessions.new claims) result ≡ answered (write_rest (known_by sessions.old claims) self.now) (Answer.Reading reading) }
+        ensures rest { (claims : ℕ) → part_after
+            (write_rest (known_by sessions.new claims) self.now)
+            (known_by sessions.new claims) result
+            ≡ answered (write_rest (known_by sessions.old claims) self.now)
+            (Answer.Reading reading) }
         ensures count { sessions.new.count ≡ sessions.old.count }
         ensures slots { sessions.new.slots ≡ sessions.old.slots }
     {
@@ -181,7 +193,8 @@ impl Write {
 
     // The block of the data.
     fn data_block(&self) -> BlockNo
-        ensures block { result.0 ≡ data_at self.now.image.setting.geometry self.now.image.slot.0 self.now.index }
+        ensures block { result.0
+            ≡ data_at self.now.image.setting.geometry self.now.image.slot.0 self.now.index }
         ensures within { result.0 < block_count self.now.image.setting.geometry }
     {
         self.image
@@ -191,7 +204,8 @@ impl Write {
 
     // The block of the descriptor.
     fn descriptor_block(&self) -> BlockNo
-        ensures block { result.0 ≡ descriptor_at self.now.image.setting.geometry self.now.image.slot.0 self.now.index }
+        ensures block { result.0
+            ≡ descriptor_at self.now.image.setting.geometry self.now.image.slot.0 self.now.index }
         ensures within { result.0 < block_count self.now.image.setting.geometry }
     {
         self.image

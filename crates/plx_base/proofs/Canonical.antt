@@ -1,5 +1,5 @@
 -- The one payload of a block.
-use Rattle.std.proofs.Common.{◌≡◌, ◌⊎◌, ◌↔◌, ℕ, List, Bool, true, false, length, refl, sym, ap, ◌∙◌, inl, inr, arith}
+use Rattle.std.proofs.Common.{◌≡◌, ◌↔◌, ℕ, List, length, refl, sym, ap, ◌∙◌, inl, inr, arith}
 use Rattle.std.specs.Prelude.{slice_index}
 use Rattle.std.specs.Str.{bytes_eq}
 use Rattle.std.proofs.lemmas.Slice.Eq.{bytes_eq-Decides}
@@ -9,11 +9,7 @@ use Rattle.plx_base.specs.Canonical.{payload_of}
 use Rattle.plx_base.specs.declared.payload.Payload.{Payload}
 use Rattle.plx_base.specs.declared.payload.Payload.TheVariants.{All, Whole}
 use Rattle.plx_base.proofs.Uniform.{All-filled, length-filled}
-
--- a test is true or false
-either : (b : Bool) → (b ≡ true) ⊎ (b ≡ false)
-either true = inl refl
-either false = inr refl
+use Rattle.plx_base.proofs.Tests.{either}
 
 -- a block of one byte has that byte as its payload
 pub payload_of-filled : (block : List ℕ) → block ≡ filled (slice_index block 0) → payload_of block ≡ All (slice_index block 0)

@@ -6,9 +6,9 @@ use borrow.Rule.Slice.PartMut.{put_mid}
 use Rattle.std.specs.Prelude.{slice_index}
 use Rattle.std.specs.Int.{byte_at, bytes_low_first}
 use Rattle.byteorder.specs.Endian.{little_from}
-use Rattle.plx_base.specs.Blocks.{written}
+use Rattle.plx_base.specs.Blocks.{with_bytes_at}
 use Rattle.plx_base.specs.Fields.{little, number_at}
-use Rattle.plx_base.specs.Sectors.{landed}
+use Rattle.plx_base.specs.Sectors.{with_landed_sector}
 use Rattle.plx_base.proofs.Landed.{landed-inside, landed-before, landed-after}
 use Rattle.plx_base.proofs.Written.{written-before, written-inside, written-after, written-again, written-parts}
 
@@ -83,30 +83,30 @@ little-number_at (suc width) place bytes h within =
 
 -- what was written reads back
 pub number_at-written : (width place number : ℕ) (bytes : List ℕ) → place ≤ length bytes → number < 256 ^ width →
-    number_at width place (written place (little width number) bytes) ≡ number
+    number_at width place (with_bytes_at place (little width number) bytes) ≡ number
 number_at-written width place number bytes h small =
-    number_at-along width place 0 (written place (little width number) bytes) (little width number)
+    number_at-along width place 0 (with_bytes_at place (little width number) bytes) (little width number)
     (λ k below. let a : 0 + k ≡ k = omega arith in
     rw a (written-inside place (little width number) bytes k h (rw (length-little width number) below)))
     ∙ number_at-little width number small
 
 -- writing what was read changes nothing
 pub written-number_at : (width place : ℕ) (bytes : List ℕ) → ((k : ℕ) → slice_index bytes k < 256) → place + width ≤ length bytes →
-    written place (little width (number_at width place bytes)) bytes ≡ bytes
+    with_bytes_at place (little width (number_at width place bytes)) bytes ≡ bytes
 written-number_at width place bytes h within =
     rw (little-number_at width place bytes h within) (written-again place width bytes within)
 
 -- a field before the place of a write stays
 pub number_at-before : (width place at : ℕ) (new bytes : List ℕ) → at ≤ length bytes → place + width ≤ at →
-    number_at width place (written at new bytes) ≡ number_at width place bytes
+    number_at width place (with_bytes_at at new bytes) ≡ number_at width place bytes
 number_at-before width place at new bytes h below =
-    number_at-along width place place (written at new bytes) bytes (λ k less. written-before at new bytes (place + k) h (omega arith))
+    number_at-along width place place (with_bytes_at at new bytes) bytes (λ k less. written-before at new bytes (place + k) h (omega arith))
 
 -- a field after a write stays
 pub number_at-after : (width place at : ℕ) (new bytes : List ℕ) → at ≤ length bytes → at + length new ≤ place →
-    number_at width place (written at new bytes) ≡ number_at width place bytes
+    number_at width place (with_bytes_at at new bytes) ≡ number_at width place bytes
 number_at-after width place at new bytes h above =
-    number_at-along width place place (written at new bytes) bytes (λ k less. written-after at new bytes (place + k) h (omega arith))
+    number_at-along width place place (with_bytes_at at new bytes) bytes (λ k less. written-after at new bytes (place + k) h (omega arith))
 
 -- a byte of a number by its place, as a quotient
 byte_at-is : (i number : ℕ) → byte_at i number ≡ number / 256 ^ i % 256
@@ -143,7 +143,7 @@ number_at-is width place bytes =
 -- the bytes after it wrote a number from that place on
 pub written-little : (width place number : ℕ) (bytes : List ℕ) → place + width ≤ length bytes →
     put_mid place (length bytes - place) bytes (bytes_low_first 0 width number ++ drop width (take (length bytes - place) (drop place bytes)))
-    ≡ written place (little width number) bytes
+    ≡ with_bytes_at place (little width number) bytes
 written-little width place number bytes h =
     let none : drop (length bytes - place) (drop place bytes) ≡ [] = drop_all (length bytes - place) (drop place bytes) (rw (length-drop place bytes) (omega arith)) in
     rw (rest-is place bytes, none, little-is width number, written-parts place (little width number) bytes, length-little width number, drop-drop width place bytes)
@@ -151,21 +151,21 @@ written-little width place number bytes h =
 
 -- a field in the sector that landed is the new one
 pub number_at-landed : (width place sector : ℕ) (new old : List ℕ) → 512 * sector + 512 ≤ length new → 512 * sector ≤ length old →
-    512 * sector ≤ place → place + width ≤ 512 * sector + 512 → number_at width place (landed sector new old) ≡ number_at width place new
+    512 * sector ≤ place → place + width ≤ 512 * sector + 512 → number_at width place (with_landed_sector sector new old) ≡ number_at width place new
 number_at-landed width place sector new old hn ho low high =
-    number_at-along width place place (landed sector new old) new
+    number_at-along width place place (with_landed_sector sector new old) new
     (λ k less. landed-inside sector new old (place + k) hn ho (omega arith) (omega arith))
 
 -- a field before that sector is the old one
 pub number_at-landed_after : (width place sector : ℕ) (new old : List ℕ) → 512 * sector + 512 ≤ length new → 512 * sector ≤ length old →
-    place + width ≤ 512 * sector → number_at width place (landed sector new old) ≡ number_at width place old
+    place + width ≤ 512 * sector → number_at width place (with_landed_sector sector new old) ≡ number_at width place old
 number_at-landed_after width place sector new old hn ho below =
-    number_at-along width place place (landed sector new old) old
+    number_at-along width place place (with_landed_sector sector new old) old
     (λ k less. landed-before sector new old (place + k) hn ho (omega arith))
 
 -- a field after that sector is the old one
 pub number_at-landed_before : (width place sector : ℕ) (new old : List ℕ) → 512 * sector + 512 ≤ length new → 512 * sector ≤ length old →
-    512 * sector + 512 ≤ place → number_at width place (landed sector new old) ≡ number_at width place old
+    512 * sector + 512 ≤ place → number_at width place (with_landed_sector sector new old) ≡ number_at width place old
 number_at-landed_before width place sector new old hn ho above =
-    number_at-along width place place (landed sector new old) old
+    number_at-along width place place (with_landed_sector sector new old) old
     (λ k less. landed-after sector new old (place + k) hn ho (omega arith))

@@ -1,20 +1,21 @@
 -- Records as blocks: each is read back as itself, is spelled in one way, and differs from another in its first sector alone.
-use Rattle.std.proofs.Common.{◌≡◌, ◌≢◌, ◌⊎◌, ℕ, zero, suc, ◌+◌, ◌-◌, ◌*◌, ◌^◌, ◌<◌, ◌≤◌, List, [], ◌∷◌, ◌++◌, length, take, drop, replicate, get_or, refl, ap, sym, ◌∙◌, arith, inl, inr, subst, append_assoc, length-append, Bool, true, false, Option, Some, None}
+use Rattle.std.proofs.Common.{◌≡◌, ◌≢◌, ℕ, zero, suc, ◌+◌, ◌-◌, ◌*◌, ◌^◌, ◌<◌, ◌≤◌, List, [], ◌∷◌, ◌++◌, length, take, drop, replicate, get_or, refl, ap, sym, ◌∙◌, arith, inl, inr, subst, append_assoc, length-append, Bool, true, false, Option, Some, None}
 use Rattle.std.proofs.Math.Seq.{take-add}
 use Rattle.std.proofs.lemmas.List.{drop-drop, drop_at, take_at, drop-replicate, length-replicate, length-drop, length-take-le, take-append-drop, append-nil, drop_all, get_or_append_left, get_or-append_right, replicate-append-replicate}
 use Rattle.std.proofs.lemmas.Slice.Eq.{bytes_eq-Decides}
 use Rattle.std.specs.Prelude.{slice_index, slice_index_or, ◌&&◌, if◌then◌else◌}
 use Rattle.std.specs.List.{All}
 use Rattle.std.specs.Str.{bytes_eq}
-use Rattle.plx_base.specs.Blocks.{zeros, written}
+use Rattle.plx_base.specs.Blocks.{zeros, with_bytes_at}
 use Rattle.plx_base.specs.Fields.{little, number_at}
-use Rattle.plx_base.specs.Sectors.{landed}
+use Rattle.plx_base.specs.Sectors.{with_landed_sector}
 use Rattle.plx_base.specs.declared.stored.Field.{Field}
 use Rattle.plx_base.specs.declared.stored.Field.TheVariants.{U32, U64, U128}
-use Rattle.plx_base.specs.Spelling.{width_of, field_number, with_number, fields_width, fields_bytes, fields_at, head_of, padded, spelled, read_by, IsReading, OnlySector}
+use Rattle.plx_base.specs.Spelling.{width_of, field_number, with_number, fields_width, fields_bytes, fields_at, head_of, padded, block_of_fields, read_by, IsReading, OnlySector}
 use Rattle.plx_base.proofs.Written.{length-written, drop-written, written-past}
 use Rattle.plx_base.proofs.Uniform.{All-replicate, replicate-All}
 use Rattle.plx_base.proofs.Fields.{length-little, number_at-along, number_at-little, little-number_at}
+use Rattle.plx_base.proofs.Tests.{either}
 
 -- each field is a number of its width
 abbrev pub AreFields : List Field → Type 0
@@ -92,8 +93,8 @@ fields-bytes (field ∷ fields) place bytes small within =
 
 -- two writes, the second at the end of the first, are one
 pub written-next : (at : ℕ) (one other old : List ℕ) → at + length one ≤ length old →
-    written (at + length one) other (written at one old) ≡ written at (one ++ other) old
-unfolding written
+    with_bytes_at (at + length one) other (with_bytes_at at one old) ≡ with_bytes_at at (one ++ other) old
+unfolding with_bytes_at
 written-next at one other old within =
     let front = take at old ++ one in
     let long : length front ≡ at + length one = let a = length-append (take at old) one in let b = length-take-le at old (omega (arith, within)) in omega (arith, a, b) in
@@ -108,8 +109,8 @@ written-next at one other old within =
     rw (cut, past, far, append_assoc (take at old) one other) refl
 
 -- a write over a block of zeros, from its begin on
-pub written-zeros : (bytes : List ℕ) → written 0 bytes zeros ≡ padded bytes
-unfolding written padded zeros
+pub written-zeros : (bytes : List ℕ) → with_bytes_at 0 bytes zeros ≡ padded bytes
+unfolding with_bytes_at padded zeros
 written-zeros bytes = ap (λ rest. bytes ++ rest) (let e : 0 + length bytes ≡ length bytes = omega arith in ap (λ n. drop n (replicate 4096 0)) e ∙ drop-replicate (length bytes) 4096 0)
 
 -- a padded list fills a block
@@ -143,8 +144,8 @@ take-padded bytes = take_at bytes (replicate (4096 - length bytes) 0) (length by
 
 -- a record, written out
 pub spelled-eq : (magic : List ℕ) (fields : List Field) (last : List ℕ) →
-    spelled magic fields last ≡ magic ++ (fields_bytes fields ++ (last ++ replicate (4096 - length (magic ++ (fields_bytes fields ++ last))) 0))
-unfolding spelled padded
+    block_of_fields magic fields last ≡ magic ++ (fields_bytes fields ++ (last ++ replicate (4096 - length (magic ++ (fields_bytes fields ++ last))) 0))
+unfolding block_of_fields padded
 spelled-eq magic fields last =
     let rest = replicate (4096 - length (magic ++ (fields_bytes fields ++ last))) 0 in
     append_assoc magic (fields_bytes fields ++ last) rest ∙ ap (λ xs. magic ++ xs) (append_assoc (fields_bytes fields) last rest)
@@ -160,21 +161,21 @@ length-spelled_head magic fields last =
 
 -- a record fills a block
 pub length-spelled : (magic : List ℕ) (fields : List Field) (last : List ℕ) → length magic + (fields_width fields + length last) ≤ 4096 →
-    length (spelled magic fields last) ≡ 4096
-unfolding spelled
+    length (block_of_fields magic fields last) ≡ 4096
+unfolding block_of_fields
 length-spelled magic fields last short =
     let a = length-spelled_head magic fields last in
     length-padded (magic ++ (fields_bytes fields ++ last)) (omega (arith, a, short))
 
 -- the fields of a record are read back
-pub spelled-fields : (magic : List ℕ) (fields : List Field) (last : List ℕ) → AreFields fields → fields_at fields (length magic) (spelled magic fields last) ≡ fields
+pub spelled-fields : (magic : List ℕ) (fields : List Field) (last : List ℕ) → AreFields fields → fields_at fields (length magic) (block_of_fields magic fields last) ≡ fields
 spelled-fields magic fields last small =
     ap (fields_at fields (length magic)) (spelled-eq magic fields last)
     ∙ fields-back fields (length magic) magic (last ++ replicate (4096 - length (magic ++ (fields_bytes fields ++ last))) 0) refl small
 
 -- and so are its last bytes
 pub spelled-last : (magic : List ℕ) (fields : List Field) (last : List ℕ) (place : ℕ) → length magic + fields_width fields ≡ place →
-    take (length last) (drop place (spelled magic fields last)) ≡ last
+    take (length last) (drop place (block_of_fields magic fields last)) ≡ last
 spelled-last magic fields last place here =
     let rest : List ℕ = replicate (4096 - length (magic ++ (fields_bytes fields ++ last))) 0 in
     let a = length-append magic (fields_bytes fields) in
@@ -185,7 +186,7 @@ spelled-last magic fields last place here =
 -- one sector tells all
 
 -- a block that lands on itself stays
-pub landed-same : (sector : ℕ) (bytes : List ℕ) → landed sector bytes bytes ≡ bytes
+pub landed-same : (sector : ℕ) (bytes : List ℕ) → with_landed_sector sector bytes bytes ≡ bytes
 landed-same zero bytes = take-append-drop 512 bytes
 landed-same (suc sector) bytes = ap (λ rest. take 512 bytes ++ rest) (landed-same sector (drop 512 bytes)) ∙ take-append-drop 512 bytes
 
@@ -196,10 +197,10 @@ only-first new old same = record {
   others = past;
 }
   where
-    past : (other : ℕ) → other ≢ 0 → landed other new old ≡ old
+    past : (other : ℕ) → other ≢ 0 → with_landed_sector other new old ≡ old
     past zero not_first = absurd (not_first refl)
     past (suc other) not_first =
-        ap (λ rest. take 512 old ++ landed other rest (drop 512 old)) same
+        ap (λ rest. take 512 old ++ with_landed_sector other rest (drop 512 old)) same
         ∙ (ap (λ rest. take 512 old ++ rest) (landed-same other (drop 512 old)) ∙ take-append-drop 512 old)
 
 -- records within the first sector
@@ -209,8 +210,8 @@ only-padded new old short short_old = only-first (padded new) (padded old) (drop
 -- so two records differ in their first sector alone
 pub only-spelled : (magic : List ℕ) (fields : List Field) (last : List ℕ) (old_magic : List ℕ) (old_fields : List Field) (old_last : List ℕ) →
     length magic + (fields_width fields + length last) ≤ 512 → length old_magic + (fields_width old_fields + length old_last) ≤ 512 →
-    OnlySector 0 (spelled magic fields last) (spelled old_magic old_fields old_last)
-unfolding spelled
+    OnlySector 0 (block_of_fields magic fields last) (block_of_fields old_magic old_fields old_last)
+unfolding block_of_fields
 only-spelled magic fields last old_magic old_fields old_last short short_old =
     let a = length-spelled_head magic fields last in
     let b = length-spelled_head old_magic old_fields old_last in
@@ -231,31 +232,27 @@ only-next front sector new old long h = record {
   others = past;
 }
   where
-    next : (k : ℕ) → landed (suc k) (front ++ new) (front ++ old) ≡ front ++ landed k new old
+    next : (k : ℕ) → with_landed_sector (suc k) (front ++ new) (front ++ old) ≡ front ++ with_landed_sector k new old
     next k = rw (take_at front old 512 long, drop_at front new 512 long, drop_at front old 512 long) refl
 
-    past : (other : ℕ) → other ≢ suc sector → landed other (front ++ new) (front ++ old) ≡ front ++ old
+    past : (other : ℕ) → other ≢ suc sector → with_landed_sector other (front ++ new) (front ++ old) ≡ front ++ old
     past zero not_here = rw (take_at front new 512 long, drop_at front old 512 long) refl
     past (suc other) not_here = next other ∙ ap (λ rest. front ++ rest) (h.others other (λ e. not_here (ap suc e)))
 
 -- a write within one sector
 pub only-written : (sector at : ℕ) (new old : List ℕ) → 512 * sector ≤ at → at + length new ≤ 512 * sector + 512 → 512 * sector + 512 ≤ length old →
-    OnlySector sector (written at new old) old
-only-written zero at new old low high within = only-first (written at new old) old (drop-written at new old 512 (omega (arith, high, within)) (omega (arith, high)))
+    OnlySector sector (with_bytes_at at new old) old
+only-written zero at new old low high within = only-first (with_bytes_at at new old) old (drop-written at new old 512 (omega (arith, high, within)) (omega (arith, high)))
 only-written (suc sector) at new old low high within =
     let e : 512 + (at - 512) ≡ at = omega (arith, low) in
     let rest = drop 512 old in
     let ih = only-written sector (at - 512) new rest (omega (arith, low)) (omega (arith, low, high)) (rw (length-drop 512 old) (omega (arith, within))) in
-    let both = only-next (take 512 old) sector (written (at - 512) new rest) rest (length-take-le 512 old (omega (arith, within))) ih in
-    let new_is : take 512 old ++ written (at - 512) new rest ≡ written at new old =
-    sym (written-past 512 (at - 512) new old (omega (arith, within))) ∙ ap (λ n. written n new old) e in
-    subst (λ x. OnlySector (suc sector) x old) new_is (subst (OnlySector (suc sector) (take 512 old ++ written (at - 512) new rest)) (take-append-drop 512 old) both)
+    let both = only-next (take 512 old) sector (with_bytes_at (at - 512) new rest) rest (length-take-le 512 old (omega (arith, within))) ih in
+    let new_is : take 512 old ++ with_bytes_at (at - 512) new rest ≡ with_bytes_at at new old =
+    sym (written-past 512 (at - 512) new old (omega (arith, within))) ∙ ap (λ n. with_bytes_at n new old) e in
+    subst (λ x. OnlySector (suc sector) x old) new_is (subst (OnlySector (suc sector) (take 512 old ++ with_bytes_at (at - 512) new rest)) (take-append-drop 512 old) both)
 
 -- readings are exact
-
-either : (b : Bool) → (b ≡ true) ⊎ (b ≡ false)
-either true = inl refl
-either false = inr refl
 
 both-left : (a b : Bool) → (a && b) ≡ true → a ≡ true
 both-left true b h = refl
@@ -338,38 +335,38 @@ fields-left (field ∷ fields) (suc index) other below =
 
 -- what is still to be written makes the whole, also after one more field was written
 pub put-next : (fields : List Field) (index place end : ℕ) (other : Field) (bytes new whole : List ℕ) → index < length fields → end ≤ length bytes →
-    place + fields_width (drop index fields) ≡ end → written place (fields_bytes (drop index fields)) bytes ≡ whole →
-    new ≡ written place (little (width_of (slice_index_or fields index other)) (field_number (slice_index_or fields index other))) bytes →
+    place + fields_width (drop index fields) ≡ end → with_bytes_at place (fields_bytes (drop index fields)) bytes ≡ whole →
+    new ≡ with_bytes_at place (little (width_of (slice_index_or fields index other)) (field_number (slice_index_or fields index other))) bytes →
     (length new ≡ length bytes)
     × (place + width_of (slice_index_or fields index other) + fields_width (drop (index + 1) fields) ≡ end)
-    × (written (place + width_of (slice_index_or fields index other)) (fields_bytes (drop (index + 1) fields)) new ≡ whole)
+    × (with_bytes_at (place + width_of (slice_index_or fields index other)) (fields_bytes (drop (index + 1) fields)) new ≡ whole)
 put-next fields index place end other bytes new whole below within width is made =
     go (slice_index_or fields index other) (drop index fields) (drop (index + 1) fields) (fields-left fields index other below) width is made
   where
-    go : (field : Field) (left rest : List Field) → left ≡ field ∷ rest → place + fields_width left ≡ end → written place (fields_bytes left) bytes ≡ whole →
-        new ≡ written place (little (width_of field) (field_number field)) bytes →
-        (length new ≡ length bytes) × (place + width_of field + fields_width rest ≡ end) × (written (place + width_of field) (fields_bytes rest) new ≡ whole)
+    go : (field : Field) (left rest : List Field) → left ≡ field ∷ rest → place + fields_width left ≡ end → with_bytes_at place (fields_bytes left) bytes ≡ whole →
+        new ≡ with_bytes_at place (little (width_of field) (field_number field)) bytes →
+        (length new ≡ length bytes) × (place + width_of field + fields_width rest ≡ end) × (with_bytes_at (place + width_of field) (fields_bytes rest) new ≡ whole)
     go field left rest same width is made =
         let long = length-little (width_of field) (field_number field) in
         let wide : place + (width_of field + fields_width rest) ≡ end = ap (λ xs. place + fields_width xs) (sym same) ∙ width in
         let here : place + length (little (width_of field) (field_number field)) ≤ length bytes = omega (arith, long, wide, within) in (
           ap length made ∙ length-written place (little (width_of field) (field_number field)) bytes here,
           omega (arith, wide),
-          ap (λ n. written (place + n) (fields_bytes rest) new) (sym long)
-              ∙ (ap (written (place + length (little (width_of field) (field_number field))) (fields_bytes rest)) made
+          ap (λ n. with_bytes_at (place + n) (fields_bytes rest) new) (sym long)
+              ∙ (ap (with_bytes_at (place + length (little (width_of field) (field_number field))) (fields_bytes rest)) made
               ∙ (written-next place (little (width_of field) (field_number field)) (fields_bytes rest) bytes here
-              ∙ (ap (λ xs. written place (fields_bytes xs) bytes) (sym same) ∙ is))),
+              ∙ (ap (λ xs. with_bytes_at place (fields_bytes xs) bytes) (sym same) ∙ is))),
         )
 
 -- a write of nothing changes nothing
-pub written-nil : (at : ℕ) (bytes : List ℕ) → written at [] bytes ≡ bytes
-unfolding written
+pub written-nil : (at : ℕ) (bytes : List ℕ) → with_bytes_at at [] bytes ≡ bytes
+unfolding with_bytes_at
 written-nil at bytes = let e : at + 0 ≡ at = omega arith in rw (append-nil (take at bytes), e) (take-append-drop at bytes)
 
 -- where nothing is left, all is written
-pub put-end : (fields : List Field) (index place : ℕ) (bytes whole : List ℕ) → length fields ≤ index → written place (fields_bytes (drop index fields)) bytes ≡ whole → bytes ≡ whole
+pub put-end : (fields : List Field) (index place : ℕ) (bytes whole : List ℕ) → length fields ≤ index → with_bytes_at place (fields_bytes (drop index fields)) bytes ≡ whole → bytes ≡ whole
 put-end fields index place bytes whole past is =
-    sym (written-nil place bytes) ∙ (ap (λ xs. written place (fields_bytes xs) bytes) (sym (drop_all index fields past)) ∙ is)
+    sym (written-nil place bytes) ∙ (ap (λ xs. with_bytes_at place (fields_bytes xs) bytes) (sym (drop_all index fields past)) ∙ is)
 
 -- a block of zeros is full
 pub length-zeros : length zeros ≡ 4096
@@ -384,32 +381,32 @@ zeros-is bytes n full is = is ∙ ap (λ m. replicate m 0) full
 -- the magic, the fields and the last bytes are written, each after the one before
 pub head-written : (magic : List ℕ) (fields : List Field) (last old : List ℕ) (end : ℕ) → length magic + (fields_width fields + length last) ≤ length old →
     length magic + fields_width fields ≡ end →
-    written end last (written (length magic) (fields_bytes fields) (written 0 magic old)) ≡ written 0 (head_of magic fields last) old
+    with_bytes_at end last (with_bytes_at (length magic) (fields_bytes fields) (with_bytes_at 0 magic old)) ≡ with_bytes_at 0 (head_of magic fields last) old
 head-written magic fields last old end short here =
     let long = length-fields fields in
     let both = length-append magic (fields_bytes fields) in
     let a : 0 + length magic ≡ length magic = omega arith in
     let b : 0 + length (magic ++ fields_bytes fields) ≡ end = omega (arith, both, long, here) in
-    let one : written (length magic) (fields_bytes fields) (written 0 magic old) ≡ written 0 (magic ++ fields_bytes fields) old =
-    ap (λ n. written n (fields_bytes fields) (written 0 magic old)) (sym a) ∙ written-next 0 magic (fields_bytes fields) old (omega (arith, short)) in
-    ap (written end last) one
-    ∙ (ap (λ n. written n last (written 0 (magic ++ fields_bytes fields) old)) (sym b)
+    let one : with_bytes_at (length magic) (fields_bytes fields) (with_bytes_at 0 magic old) ≡ with_bytes_at 0 (magic ++ fields_bytes fields) old =
+    ap (λ n. with_bytes_at n (fields_bytes fields) (with_bytes_at 0 magic old)) (sym a) ∙ written-next 0 magic (fields_bytes fields) old (omega (arith, short)) in
+    ap (with_bytes_at end last) one
+    ∙ (ap (λ n. with_bytes_at n last (with_bytes_at 0 (magic ++ fields_bytes fields) old)) (sym b)
     ∙ (written-next 0 (magic ++ fields_bytes fields) last old (omega (arith, short, both, long))
-    ∙ ap (λ xs. written 0 xs old) (append_assoc magic (fields_bytes fields) last)))
+    ∙ ap (λ xs. with_bytes_at 0 xs old) (append_assoc magic (fields_bytes fields) last)))
 
 -- a record is its head, and zeros
-pub spelled-head : (magic : List ℕ) (fields : List Field) (last : List ℕ) → spelled magic fields last ≡ padded (head_of magic fields last)
-unfolding spelled
+pub spelled-head : (magic : List ℕ) (fields : List Field) (last : List ℕ) → block_of_fields magic fields last ≡ padded (head_of magic fields last)
+unfolding block_of_fields
 spelled-head magic fields last = refl
 
 -- over zeros that makes a record
-pub record-written : (magic : List ℕ) (fields : List Field) (last : List ℕ) → written 0 (head_of magic fields last) zeros ≡ spelled magic fields last
-unfolding spelled
+pub record-written : (magic : List ℕ) (fields : List Field) (last : List ℕ) → with_bytes_at 0 (head_of magic fields last) zeros ≡ block_of_fields magic fields last
+unfolding block_of_fields
 record-written magic fields last = written-zeros (head_of magic fields last)
 
 -- a short head over a sector of zeros, and the zeros of all other sectors, are the whole record
-padded-sectors : (head : List ℕ) → length head ≤ 512 → padded head ≡ written 0 head (replicate 512 0) ++ replicate 3584 0
-unfolding padded written
+padded-sectors : (head : List ℕ) → length head ≤ 512 → padded head ≡ with_bytes_at 0 head (replicate 512 0) ++ replicate 3584 0
+unfolding padded with_bytes_at
 padded-sectors head short =
     let n = length head in
     let e : 0 + n ≡ n = omega arith in
@@ -420,14 +417,14 @@ padded-sectors head short =
     ∙ (sym (append_assoc head (replicate (512 - n) 0) (replicate 3584 0)) ∙ ap (λ xs. (head ++ xs) ++ replicate 3584 0) (sym cut))
 
 -- so a block whose first sector is that, and whose others are zeros, is the record
-pub sectors-record : (bytes head sector : List ℕ) → length bytes ≡ 4096 → length head ≤ 512 → sector ≡ written 0 head (replicate 512 0) → take 512 bytes ≡ sector →
+pub sectors-record : (bytes head sector : List ℕ) → length bytes ≡ 4096 → length head ≤ 512 → sector ≡ with_bytes_at 0 head (replicate 512 0) → take 512 bytes ≡ sector →
     All (λ b. b ≡ 0) (drop 512 bytes) → bytes ≡ padded head
 sectors-record bytes head sector long short is first others =
     let rest : drop 512 bytes ≡ replicate 3584 0 = replicate-All 0 3584 (drop 512 bytes) (length-drop 512 bytes ∙ (let x : length bytes - 512 ≡ 3584 = omega (arith, long) in x)) others in
-    sym (take-append-drop 512 bytes) ∙ (ap (λ xs. xs ++ drop 512 bytes) (first ∙ is) ∙ (ap (λ xs. written 0 head (replicate 512 0) ++ xs) rest ∙ sym (padded-sectors head short)))
+    sym (take-append-drop 512 bytes) ∙ (ap (λ xs. xs ++ drop 512 bytes) (first ∙ is) ∙ (ap (λ xs. with_bytes_at 0 head (replicate 512 0) ++ xs) rest ∙ sym (padded-sectors head short)))
 
 -- and the other way round
-pub record-sectors : (bytes head sector : List ℕ) → length head ≤ 512 → sector ≡ written 0 head (replicate 512 0) → bytes ≡ padded head →
+pub record-sectors : (bytes head sector : List ℕ) → length head ≤ 512 → sector ≡ with_bytes_at 0 head (replicate 512 0) → bytes ≡ padded head →
     (take 512 bytes ≡ sector) × All (λ b. b ≡ 0) (drop 512 bytes)
 record-sectors bytes head sector short is same =
     let zeros' : List ℕ = replicate 512 0 in

@@ -1,7 +1,7 @@
 -- What tests on numbers and flags answer.
-use Rattle.std.proofs.Common.{◌≡◌, ◌≢◌, ℕ, suc, ◌≤◌, ◌<◌, Bool, true, false, refl, arith, inl, inr}
-use Rattle.std.specs.Prelude.{◌==◌, ◌&&◌, nat_lt, nat_le}
-use Rattle.std.proofs.lemmas.Bool.Decides.{eqb_tells, leb_tells}
+use Rattle.std.proofs.Common.{◌≡◌, ◌≢◌, ℕ, suc, ◌≤◌, ◌<◌, Bool, true, false, refl, arith, inl, inr, ◌⊎◌, ◌+◌, Some}
+use Rattle.std.specs.Prelude.{◌==◌, ◌&&◌, nat_lt, nat_le, not}
+use Rattle.std.proofs.lemmas.Bool.Decides.{eqb_tells, leb_tells, nat_tests}
 
 -- two numbers are equal
 pub eqb-true : (a b : ℕ) → a ≡ b → (a == b) ≡ true
@@ -37,6 +37,50 @@ pub all_three : (a b c : Bool) → a ≡ true → b ≡ true → c ≡ true → 
 all_three a b c x y z = rw (x, y, z) refl
 
 -- a test that fails beside others
-pub and-false : (a b : Bool) → b ≡ false → (a && b) ≡ false
-and-false true b e = e
-and-false false b e = refl
+pub and-no : (a b : Bool) → b ≡ false → (a && b) ≡ false
+and-no true b e = e
+and-no false b e = refl
+
+-- a flag is set, or it isn't
+pub either : (b : Bool) → (b ≡ true) ⊎ (b ≡ false)
+either true = inl refl
+either false = inr refl
+
+-- a number whose test says so is below the other
+pub nat_lt-tells : (a b : ℕ) → nat_lt a b ≡ true → a < b
+nat_lt-tells a b e = grind (arith, nat_tests)
+
+-- or at most the other
+pub nat_le-tells : (a b : ℕ) → nat_le a b ≡ true → a ≤ b
+nat_le-tells a b e = grind (arith, nat_tests)
+
+-- or past it
+pub nat_le-past : (a b : ℕ) → nat_le a b ≡ false → b < a
+nat_le-past a b e = grind (arith, nat_tests)
+
+-- a flag whose opposite isn't set
+pub not-false : (b : Bool) → not b ≡ false → b ≡ true
+not-false true e = refl
+not-false false e = absurd (let P : ⊥ = cc in P)
+
+-- of two tests that hold the first holds
+pub and-left : (a b : Bool) → (a && b) ≡ true → a ≡ true
+and-left true b h = refl
+and-left false b h = h
+
+-- and the second
+pub and-right : (a b : Bool) → (a && b) ≡ true → b ≡ true
+and-right true b h = h
+and-right false b h = absurd (let P : ⊥ = cc in P)
+
+-- two values are the same where they are there as the same
+pub same-some : {A : Type 0} (one other : A) → Some one ≡ Some other → one ≡ other
+same-some one other same = cc
+
+-- a number below the next one is that number, or below it
+pub below-next : (k i : ℕ) → k < i + 1 → (k ≡ i) ⊎ (k < i)
+below-next k i h = grind arith
+
+-- a number is below another or isn't
+pub below-or-past : (k n : ℕ) → (k < n) ⊎ (n ≤ k)
+below-or-past k n = grind arith

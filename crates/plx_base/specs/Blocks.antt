@@ -10,5 +10,5 @@ unfoldable pub filled : ℕ → List ℕ
 filled byte = replicate 4096 byte
 
 -- old bytes after new ones were written over them from that place on
-unfoldable pub written : ℕ → List ℕ → List ℕ → List ℕ
-written at new old = take at old ++ new ++ drop (at + length new) old
+unfoldable pub with_bytes_at : ℕ → List ℕ → List ℕ → List ℕ
+with_bytes_at at new old = take at old ++ new ++ drop (at + length new) old

@@ -2,7 +2,7 @@
 use Rattle.std.specs.Prelude.{◌≡◌, ◌≢◌, ◌+◌, ◌-◌, ℕ, List, [], ◌∷◌, ◌++◌, length, replicate, Bool, ◌&&◌, Option, Some, None, if◌then◌else◌}
 use Rattle.std.specs.Str.{bytes_eq}
 use Rattle.plx_base.specs.Fields.{little, number_at}
-use Rattle.plx_base.specs.Sectors.{landed}
+use Rattle.plx_base.specs.Sectors.{with_landed_sector}
 use Rattle.plx_base.specs.declared.stored.Field.{Field}
 use Rattle.plx_base.specs.declared.stored.Field.TheVariants.{U32, U64, U128}
 
@@ -48,8 +48,8 @@ abbrev pub head_of : (magic : List ℕ) (fields : List Field) (last : List ℕ) 
 head_of magic fields last = magic ++ (fields_bytes fields ++ last)
 
 -- the block that begins with the magic, and goes on with the fields and the last bytes
-unfoldable pub spelled : (magic : List ℕ) (fields : List Field) (last : List ℕ) → List ℕ
-spelled magic fields last = padded (head_of magic fields last)
+unfoldable pub block_of_fields : (magic : List ℕ) (fields : List Field) (last : List ℕ) → List ℕ
+block_of_fields magic fields last = padded (head_of magic fields last)
 
 -- what bytes say, by what was found at its places: that, where it is within its limits and is spelled by these bytes, else nothing
 abbrev pub read_by : {A : Type 0} → (is_within : A → Bool) → (spelling : A → List ℕ) → (found : A) → List ℕ → Option A
@@ -62,5 +62,5 @@ IsReading Is spelling bytes None = (a : _) → Is a → bytes ≢ spelling a
 
 -- one sector tells all: where it lands the block is the new one, and no other sector changes the old one
 pub record OnlySector (sector : ℕ) (new old : List ℕ) : Type 0 where
-  pub own : landed sector new old ≡ new
-  pub others : (other : ℕ) → other ≢ sector → landed other new old ≡ old
+  pub own : with_landed_sector sector new old ≡ new
+  pub others : (other : ℕ) → other ≢ sector → with_landed_sector other new old ≡ old

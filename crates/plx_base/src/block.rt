@@ -1,8 +1,8 @@
 //! Blocks of 4,096 bytes, which land sector by sector.
 ghost use Rattle.std.specs.Prelude.{◌≡◌, ◌<◌, ◌+◌, ◌*◌, ◌≤◌, ◌↔◌, length, All, IfOk, IsTrue};
-ghost use Rattle.plx_base.specs.Blocks.{filled, written, zeros};
-ghost use Rattle.plx_base.specs.Sectors.{landed};
-ghost use Rattle.plx_base.specs.Spelling.{fields_width, spelled};
+ghost use Rattle.plx_base.specs.Blocks.{filled, with_bytes_at, zeros};
+ghost use Rattle.plx_base.specs.Sectors.{with_landed_sector};
+ghost use Rattle.plx_base.specs.Spelling.{fields_width, block_of_fields};
 
 use crate::stored::{Field, put_record};
 use std::alloc::{AllocError, Global};
@@ -80,7 +80,7 @@ impl Block {
     /// Writes bytes at a place of the block.
     pub fn copy_from(&mut self, at: usize, bytes: &[u8])
         requires { at + length bytes.now ≤ 4096 }
-        ensures { self.new ≡ written at bytes.now self.old }
+        ensures { self.new ≡ with_bytes_at at bytes.now self.old }
     {
         copy_at(&mut self.bytes[..], at, bytes);
     }
@@ -88,7 +88,7 @@ impl Block {
     /// Makes the block a record: the magic, the fields one after another, the last bytes, and zeros.
     pub fn put_record(&mut self, magic: &[u8], fields: &[Field], last: &[u8])
         requires { length magic.now + (fields_width fields.now + length last.now) ≤ 4096 }
-        ensures { self.new ≡ spelled magic.now fields.now last.now }
+        ensures { self.new ≡ block_of_fields magic.now fields.now last.now }
     {
         put_record(&mut self.bytes[..], magic, fields, last);
     }
@@ -96,7 +96,7 @@ impl Block {
     /// One sector of another block lands.
     pub fn land(&mut self, sector: u8, from: &Block)
         requires { sector < 8 }
-        ensures { self.new ≡ landed sector from.now self.old }
+        ensures { self.new ≡ with_landed_sector sector from.now self.old }
     {
         land_sector(&mut self.bytes[..], &from.bytes[..], usize::from(sector));
     }
@@ -116,7 +116,7 @@ pub fn are_all(bytes: &[u8], byte: u8) -> bool
 // Writes bytes over those from a place on.
 pub(crate) fn copy_at(bytes: &mut [u8], at: usize, new: &[u8])
     requires { at + length new.now ≤ length bytes.old }
-    ensures { bytes.new ≡ written at new.now bytes.old }
+    ensures { bytes.new ≡ with_bytes_at at new.now bytes.old }
 {
     bytes[at..at + new.len()].copy_from_slice(new);
 }
@@ -125,7 +125,7 @@ fn land_sector(old: &mut [u8], new: &[u8], sector: usize)
     requires long_old { length old.old ≡ 4096 }
     requires long_new { length new.now ≡ 4096 }
     requires within { sector < 8 }
-    ensures { old.new ≡ landed sector new.now old.old }
+    ensures { old.new ≡ with_landed_sector sector new.now old.old }
 {
     let start = SECTOR_LEN * sector;
     let end = start + SECTOR_LEN;

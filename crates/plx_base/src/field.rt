@@ -1,6 +1,6 @@
 //! Numbers in bytes, the lowest byte first.
 ghost use Rattle.std.specs.Prelude.{◌≡◌, ◌+◌, ◌≤◌, length};
-ghost use Rattle.plx_base.specs.Blocks.{written};
+ghost use Rattle.plx_base.specs.Blocks.{with_bytes_at};
 ghost use Rattle.plx_base.specs.Fields.{little, number_at};
 
 use byteorder::{ByteOrder, LittleEndian};
@@ -32,7 +32,7 @@ pub fn get_u128(bytes: &[u8], at: usize) -> u128
 /// Writes a number into the 4 bytes from `at` on.
 pub fn put_u32(bytes: &mut [u8], at: usize, value: u32)
     requires { at + 4 ≤ length bytes.old }
-    ensures { bytes.new ≡ written at (little 4 value) bytes.old }
+    ensures { bytes.new ≡ with_bytes_at at (little 4 value) bytes.old }
 {
     LittleEndian::write_u32(&mut bytes[at..], value);
 }
@@ -40,7 +40,7 @@ pub fn put_u32(bytes: &mut [u8], at: usize, value: u32)
 /// Writes a number into the 8 bytes from `at` on.
 pub fn put_u64(bytes: &mut [u8], at: usize, value: u64)
     requires { at + 8 ≤ length bytes.old }
-    ensures { bytes.new ≡ written at (little 8 value) bytes.old }
+    ensures { bytes.new ≡ with_bytes_at at (little 8 value) bytes.old }
 {
     LittleEndian::write_u64(&mut bytes[at..], value);
 }
@@ -48,7 +48,7 @@ pub fn put_u64(bytes: &mut [u8], at: usize, value: u64)
 /// Writes a number into the 16 bytes from `at` on.
 pub fn put_u128(bytes: &mut [u8], at: usize, value: u128)
     requires { at + 16 ≤ length bytes.old }
-    ensures { bytes.new ≡ written at (little 16 value) bytes.old }
+    ensures { bytes.new ≡ with_bytes_at at (little 16 value) bytes.old }
 {
     LittleEndian::write_u128(&mut bytes[at..], value);
 }

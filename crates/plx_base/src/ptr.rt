@@ -1,6 +1,6 @@
 //! Pointers of the trees.
 ghost use Rattle.std.specs.Prelude.{◌≡◌, ◌<◌, ◌≤◌, ◌+◌, ◌^◌, ◌↔◌, IsNone, IsSome, IfSome, IsTrue};
-ghost use Rattle.plx_base.specs.Pointers.{IsPointer, IsMarked, unmarked, marked};
+ghost use Rattle.plx_base.specs.Pointers.{IsPointer, IsMarked, without_mark, with_mark};
 
 use crate::numbers::BlockNo;
 use std::marker::Model;
@@ -42,7 +42,7 @@ impl Ptr {
     pub fn writable(block: BlockNo) -> Ptr
         requires low { 1 ≤ block.0 }
         requires high { block.0 < 2 ^ 26 }
-        ensures { result ≡ marked block.0 }
+        ensures { result ≡ with_mark block.0 }
     {
         Ptr {
             value: block.0 + MARK,
@@ -61,7 +61,7 @@ impl Ptr {
     /// The block that it points to, or nothing for a hole.
     pub fn block(self) -> Option<BlockNo>
         ensures hole { IsNone result ↔ (self ≡ 0) }
-        ensures block { IfSome result (λ b. b.0 ≡ unmarked self) }
+        ensures block { IfSome result (λ b. b.0 ≡ without_mark self) }
         ensures range { IfSome result (λ b. (1 ≤ b.0) × (b.0 < 2 ^ 26)) }
     {
         if self.value == 0 {
@@ -79,7 +79,7 @@ impl Ptr {
 
     /// The pointer to the same block without the mark.
     pub fn without_mark(self) -> Ptr
-        ensures { result ≡ unmarked self }
+        ensures { result ≡ without_mark self }
     {
         Ptr {
             value: self.value % MARK,

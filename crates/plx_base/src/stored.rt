@@ -1,8 +1,8 @@
 //! Records as they are stored: what tells the kind, fields one after another, and zeros.
 ghost use Rattle.std.specs.Prelude.{◌≡◌, ◌↔◌, ◌+◌, ◌≤◌, length, IsTrue};
-ghost use Rattle.plx_base.specs.Blocks.{written};
+ghost use Rattle.plx_base.specs.Blocks.{with_bytes_at};
 ghost use Rattle.plx_base.specs.Fields.{little};
-ghost use Rattle.plx_base.specs.Spelling.{fields_bytes, fields_width, head_of, field_number, spelled, width_of};
+ghost use Rattle.plx_base.specs.Spelling.{fields_bytes, fields_width, head_of, field_number, block_of_fields, width_of};
 
 use crate::block::{BLOCK_LEN, SECTOR_LEN, are_all, copy_at};
 use crate::field::{put_u32, put_u64, put_u128};
@@ -18,7 +18,7 @@ pub enum Field {
 /// Writes fields one after another from `at` on, and gives the place after them.
 pub fn put_fields(bytes: &mut [u8], at: usize, fields: &[Field]) -> usize
     requires { at + fields_width fields.now ≤ length bytes.old }
-    ensures same { bytes.new ≡ written at (fields_bytes fields.now) bytes.old }
+    ensures same { bytes.new ≡ with_bytes_at at (fields_bytes fields.now) bytes.old }
     ensures next { result ≡ at + fields_width fields.now }
 {
     let mut place = at;
@@ -31,7 +31,8 @@ pub fn put_fields(bytes: &mut [u8], at: usize, fields: &[Field]) -> usize
 // Writes one field, and gives the place after it.
 fn put_field(bytes: &mut [u8], at: usize, field: Field) -> usize
     requires { at + width_of field ≤ length bytes.old }
-    ensures same { bytes.new ≡ written at (little (width_of field) (field_number field)) bytes.old }
+    ensures same { bytes.new ≡ with_bytes_at at
+        (little (width_of field) (field_number field)) bytes.old }
     ensures next { result ≡ at + width_of field }
 {
     match field {
@@ -55,7 +56,7 @@ fn put_field(bytes: &mut [u8], at: usize, field: Field) -> usize
 pub fn put_record(bytes: &mut [u8], magic: &[u8], fields: &[Field], last: &[u8])
     requires block { length bytes.old ≡ 4096 }
     requires short { length magic.now + (fields_width fields.now + length last.now) ≤ 4096 }
-    ensures { bytes.new ≡ spelled magic.now fields.now last.now }
+    ensures { bytes.new ≡ block_of_fields magic.now fields.now last.now }
 {
     bytes.fill(0);
     put_head(bytes, magic, fields, last);
@@ -64,7 +65,7 @@ pub fn put_record(bytes: &mut [u8], magic: &[u8], fields: &[Field], last: &[u8])
 /// Whether a block is this record, of which all but zeros lies in the first sector.
 pub fn is_record(bytes: &[u8], magic: &[u8], fields: &[Field], last: &[u8]) -> bool
     requires { length magic.now + (fields_width fields.now + length last.now) ≤ 512 }
-    ensures { IsTrue result ↔ (bytes.now ≡ spelled magic.now fields.now last.now) }
+    ensures { IsTrue result ↔ (bytes.now ≡ block_of_fields magic.now fields.now last.now) }
 {
     if bytes.len() != BLOCK_LEN {
         return false;
@@ -78,7 +79,7 @@ pub fn is_record(bytes: &[u8], magic: &[u8], fields: &[Field], last: &[u8]) -> b
 // Writes the magic, the fields and the last bytes one after another, from the first byte on.
 fn put_head(bytes: &mut [u8], magic: &[u8], fields: &[Field], last: &[u8])
     requires { length magic.now + (fields_width fields.now + length last.now) ≤ length bytes.old }
-    ensures { bytes.new ≡ written 0 (head_of magic.now fields.now last.now) bytes.old }
+    ensures { bytes.new ≡ with_bytes_at 0 (head_of magic.now fields.now last.now) bytes.old }
 {
     copy_at(bytes, 0, magic);
     let end = put_fields(bytes, magic.len(), fields);

@@ -6,8 +6,7 @@ use Rattle.plx_commands.specs.declared.entry.Entry.{Entry}
 use Rattle.plx_commands.specs.declared.event.Event.{Event}
 use Rattle.plx_geom.specs.Geometry.{Geometry, IsGeometry}
 use Rattle.plx_rules.specs.Formatted.{IsFormatted}
-use Rattle.plx_rules.specs.Headline.{HeadlineOfAll, NeverDamaged}
-use Rattle.plx_rules.specs.Owners.{Exclusion, Guarding}
+use Rattle.plx_rules.specs.Pools.{allocated_in}
 use Rattle.plx_rules.specs.World as rules
 use Rattle.plx_rules.specs.World.{Reached, first_world}
 use Rattle.plx_text.specs.Once.{TraceOnce}
@@ -18,42 +17,34 @@ use Rattle.plx_world.specs.Standing.{Stands}
 use Rattle.plx_world.specs.declared.world.World.{World}
 use Rattle.plx_cli.specs.Program.{IsTold, ToldOnce}
 
--- the laws hold of each world that is reached
-pub lawful : HeadlineOfAll → NeverDamaged → Exclusion → Guarding → (w : rules.World) → Reached w → IsLawful w
-lawful told undamaged excludes guards w reached = record {
-  reached = reached;
-  headline = told w reached;
-  undamaged = undamaged w reached;
-  exclusion = excludes w reached;
-  guarding = guards w reached;
-}
-
 -- the world that the program has stands for one to which the events lead
 pub world-told : ((w : rules.World) → Reached w → IsLawful w) → (first : Geometry × ℕ) (device : Device) (events : List Event) (text : List ℕ) (entries : List Entry) (reachable allocated : ℕ) (begun last : World) →
     IsGeometry first.0 → 1 ≤ first.1 → first.1 ≤ 8 → IsFormatted first.0 device → Stands begun (first_world first.0 first.1 device) → PlaysAll begun last events → entries ≡ last.trace.items → reachable ≡ 0 →
-    allocated ≡ 0 → text ≡ trace_text first.0 first.1 entries reachable allocated → LinesTell (trace_lines first.0 first.1 entries reachable allocated) → IsTold first events text
-world-told laws first device events text entries reachable allocated begun last limits low high formatted stands plays same none nothing is tells =
+    ((w : rules.World) → Reached w → Stands last w → allocated ≡ allocated_in w) → text ≡ trace_text first.0 first.1 entries reachable allocated → LinesTell (trace_lines first.0 first.1 entries reachable allocated) → IsTold first events text
+world-told laws first device events text entries reachable allocated begun last limits low high formatted stands plays same none counts is tells =
     let start = Reached.first limits low high formatted in
-    let found = plays (first_world first.0 first.1 device) start stands in
+    let found = plays (first_world first.0 first.1 device) stands in
+    let reached = reached-plays found.1 start in
+    let counted = counts found.0 reached found.2 in
     record {
       device = device;
       formatted = formatted;
       world = found.0;
       plays = found.1;
-      lawful = laws found.0 (reached-plays found.1 start);
+      lawful = laws found.0 reached;
       trace =
           is ∙ ap (λ told. trace_text first.0 first.1 told reachable allocated) (same ∙ found.2.trace)
           ∙ ap (λ count. trace_text first.0 first.1 (reverse found.0.trace) count allocated) none
-          ∙ ap (λ count. trace_text first.0 first.1 (reverse found.0.trace) 0 count) nothing;
+          ∙ ap (λ count. trace_text first.0 first.1 (reverse found.0.trace) 0 count) counted;
       tells =
-          let alike : trace_lines first.0 first.1 entries reachable allocated ≡ trace_lines first.0 first.1 (reverse found.0.trace) 0 0 =
+          let alike : trace_lines first.0 first.1 entries reachable allocated ≡ trace_lines first.0 first.1 (reverse found.0.trace) 0 (allocated_in found.0) =
           ap (λ told. trace_lines first.0 first.1 told reachable allocated) (same ∙ found.2.trace)
           ∙ ap (λ count. trace_lines first.0 first.1 (reverse found.0.trace) count allocated) none
-          ∙ ap (λ count. trace_lines first.0 first.1 (reverse found.0.trace) 0 count) nothing in
+          ∙ ap (λ count. trace_lines first.0 first.1 (reverse found.0.trace) 0 count) counted in
           subst (λ lines. LinesTell lines) alike tells;
     }
 
 -- what was written tells of one trace alone
 pub told-once : TraceOnce → ToldOnce
 told-once once first first' events events' text told told' =
-    once first first' (reverse told.world.trace) (reverse told'.world.trace) 0 0 0 0 told.tells told'.tells (sym told.trace ∙ told'.trace)
+    once first first' (reverse told.world.trace) (reverse told'.world.trace) 0 0 (allocated_in told.world) (allocated_in told'.world) told.tells told'.tells (sym told.trace ∙ told'.trace)

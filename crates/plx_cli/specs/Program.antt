@@ -7,6 +7,7 @@ use Rattle.plx_geom.specs.Geometry.{Geometry}
 use Rattle.plx_port.specs.Faults.{Rose}
 use Rattle.plx_port.specs.Streams.{ReadsToEnd}
 use Rattle.plx_rules.specs.Formatted.{IsFormatted}
+use Rattle.plx_rules.specs.Pools.{allocated_in}
 use Rattle.plx_rules.specs.Sequences.{Plays}
 use Rattle.plx_rules.specs.World.{World, first_world}
 use Rattle.plx_world.specs.Playing.{IsLawful}
@@ -36,13 +37,13 @@ pub record IsTold (first : Geometry × ℕ) (events : List Event) (text : List �
   pub world : World
   pub plays : Plays (first_world first.0 first.1 device) events world
   pub lawful : IsLawful world
-  pub trace : text ≡ trace_text first.0 first.1 (reverse world.trace) 0 0
-  pub tells : LinesTell (trace_lines first.0 first.1 (reverse world.trace) 0 0)
+  pub trace : text ≡ trace_text first.0 first.1 (reverse world.trace) 0 (allocated_in world)
+  pub tells : LinesTell (trace_lines first.0 first.1 (reverse world.trace) 0 (allocated_in world))
 
 -- a text that was written tells of one geometry, one number of appliances and one trace alone
 abbrev pub ToldOnce : Type 0
 ToldOnce = (first first' : Geometry × ℕ) (events events' : List Event) (text : List ℕ) (told : IsTold first events text) (told' : IsTold first' events' text)
-    → SameTrace first (reverse told.world.trace) 0 0 first' (reverse told'.world.trace) 0 0
+    → SameTrace first (reverse told.world.trace) 0 (allocated_in told.world) first' (reverse told'.world.trace) 0 (allocated_in told'.world)
 
 -- the bytes are a schedule, and this text tells of the world to which its events lead
 pub record IsTrace (bytes text : List ℕ) : Type 0 where

@@ -9,6 +9,7 @@ ghost use Rattle.plx_port.specs.Streams.{TakesCount};
 ghost use Rattle.plx_geom.specs.Geometry.{Geometry};
 ghost use Rattle.plx_rules.specs.Headline.{HeadlineOfAll, NeverDamaged};
 ghost use Rattle.plx_rules.specs.Owners.{Exclusion, Guarding};
+ghost use Rattle.plx_rules.specs.Pools.{GivesClear, HandsAllocated, HandsApart, TakesSet};
 ghost use Rattle.plx_text.specs.Once.{ScheduleOnce, TraceOnce};
 ghost use Rattle.plx_text.specs.Schedules.{IsSchedule, schedule_grammar};
 ghost use Rattle.plx_words.specs.Files.{IsFirstBad};
@@ -20,6 +21,7 @@ use crate::words::is_replay;
 use law_headline::{crash_leaves_a_fresh_boot, headline, never_damaged};
 use law_lease::{exclusion, guarding};
 use law_run::boots_keep_rules;
+use law_space::{gives_clear, hands_are_allocated, hands_are_apart, takes_set};
 use plx_port::{Failed, ReadError, Sink, Source, read_all, write_all};
 use plx_text::{schedule_once, trace_once};
 use std::alloc::Global;
@@ -44,6 +46,10 @@ pub fn run<S: Source, K: Sink>(
     ensures undamaged { NeverDamaged }
     ensures exclusion { Exclusion }
     ensures guarding { Guarding }
+    ensures allocated { HandsAllocated }
+    ensures apart { HandsApart }
+    ensures takes { TakesSet }
+    ensures gives { GivesClear }
     ensures crash { CrashesLeaveFreshBoots }
     ensures rules { BootsKeepRules }
     ensures once { TraceOnce }
@@ -76,7 +82,8 @@ pub fn run<S: Source, K: Sink>(
         → IsGiven bytes (S.left source.old) (S.faults source.old) (S.faults source.new)
         → IsFirstBad schedule_grammar bytes line
         → (result ≡ Status.BadLine) ⊎ (result ≡ Status.SinkFault) ⊎ (result ≡ Status.NoMemory) }
-    ensures complete { (bytes : List ℕ) (first : Geometry × ℕ) (events : List Event) → IsReplay words.now.items
+    ensures complete { (bytes : List ℕ) (first : Geometry × ℕ) (events : List Event) →
+        IsReplay words.now.items
         → IsGiven bytes (S.left source.old) (S.faults source.old) (S.faults source.new)
         → IsSchedule bytes first events
         → ¬ Rose (K.faults sink.old) (K.faults sink.new) → (result ≡ Status.Done)
@@ -90,6 +97,10 @@ pub fn run<S: Source, K: Sink>(
     never_damaged();
     exclusion();
     guarding();
+    hands_are_allocated();
+    hands_are_apart();
+    takes_set();
+    gives_clear();
     crash_leaves_a_fresh_boot();
     boots_keep_rules();
     trace_once();

@@ -4,11 +4,9 @@ ghost use Rattle.plx_geom.specs.Geometry.{IsGeometry};
 ghost use Rattle.plx_cli.specs.Program.{IsOutcome, IsTold};
 
 use crate::status::Status;
-use law_headline::{headline, never_damaged};
-use law_lease::{exclusion, guarding};
 use plx_base::NoMemory;
 use plx_text::{Schedule, Text, TextError, print_bad_line, print_trace, read_schedule};
-use plx_world::World;
+use plx_world::{World, laws};
 use std::alloc::{AllocError, Global};
 
 /// What is to be written, and the status once it is.
@@ -49,10 +47,7 @@ fn play(alloc: Global, schedule: &Schedule) -> Result<Text, NoMemory>
     ensures { IfOk result (λ text. IsTold (schedule.now.geometry, schedule.now.appliances)
         schedule.now.events.items text) }
 {
-    headline();
-    never_damaged();
-    exclusion();
-    guarding();
+    laws();
     let mut world = World::new(alloc, schedule.geometry, schedule.appliances)?;
     world.play(schedule.events.as_slice())?;
     let reachable = world.reachable()?;

@@ -25,7 +25,7 @@ pub accepts-crash : (m : Model) (a : ApplianceNo) → a.0 < m.appliances → Acc
 accepts-crash m a known = record { known = known; idle = tt; running = tt; listed = tt; owner = tt; value = tt; refusal = tt; unrefused = tt }
 
 -- what holds of the command that an appliance is in
-in_command : (Holds : Model → ℕ → Command → Reply → Type 0) (m : Model) (a : ApplianceNo) (command : Command) (reply : Reply) → m.running a.0 ≡ Some command → Holds m a.0 command reply → InCommand Holds m (entry.Reply a reply)
+pub in_command : (Holds : Model → ℕ → Command → Reply → Type 0) (m : Model) (a : ApplianceNo) (command : Command) (reply : Reply) → m.running a.0 ≡ Some command → Holds m a.0 command reply → InCommand Holds m (entry.Reply a reply)
 in_command Holds m a command reply runs h other also =
     let same : command ≡ other = cc in
     subst (λ (c : Command). Holds m a.0 c reply) same h
@@ -101,3 +101,8 @@ pub among-more : (reply : Reply) (some more : List Reply) → IsAmong reply some
 among-more reply [] more h = absurd h
 among-more reply (other ∷ others) more (inl here) = inl here
 among-more reply (other ∷ others) more (inr later) = inr (among-more reply others more later)
+
+-- a reply among some is among them with more before
+pub among-later : (reply : Reply) (some more : List Reply) → IsAmong reply more → IsAmong reply (some ++ more)
+among-later reply [] more h = h
+among-later reply (other ∷ others) more h = inr (among-later reply others more h)

@@ -6,7 +6,7 @@ use Rattle.plx_base.specs.declared.numbers.SlotNo.{SlotNo}
 use Rattle.plx_base.specs.declared.lease.LeaseName.TheVariants as lease
 use Rattle.plx_base.specs.declared.payload.Payload.TheVariants.{All}
 use Rattle.plx_commands.proofs.Accepted.{accepts-start, accepts-crash, accepts-reply, ok-answers, other-answers, founded-answers}
-use Rattle.plx_commands.specs.Images.{Image, report_of, free_image, new_image, written}
+use Rattle.plx_commands.specs.Images.{Image, report_of, free_image, new_image, image_after_write}
 use Rattle.plx_commands.specs.Judge.{Permitted, IsLeastBroken, Breaks, InCommand, IsByOwner, known, idle, running, listed, owner, value, refusal, unrefused}
 use Rattle.plx_commands.specs.Model.{Model, first_model}
 use Rattle.plx_commands.specs.Moves.{model_of}
@@ -47,7 +47,7 @@ image = new_image 1 8 (97 ∷ [])
 
 -- the image with its first block filled
 abbrev first_block : ℕ → Image
-first_block byte = written image 0 (filled byte)
+first_block byte = image_after_write image 0 (filled byte)
 
 opened-permitted : (appliances : ℕ) → 0 < appliances → Permitted (first_model 1 appliances) opened
 opened-permitted appliances some = (
@@ -125,7 +125,7 @@ not-done-permitted = (
 
 -- the image with its first block filled twice
 abbrev second_block : Image
-second_block = written (first_block 170) 0 (filled 187)
+second_block = image_after_write (first_block 170) 0 (filled 187)
 
 -- after a crash within a write its data is read, as the write may have been done
 abbrev was_done : List Entry
@@ -202,22 +202,22 @@ lost-over-permitted = (
 )
 
 -- an Ok of the appliance that owned the image before breaks rule 5, and no rule before it
-abbrev taken : Model
-taken = model_of (first_model 1 2) taken_over
+abbrev model_taken_over : Model
+model_taken_over = model_of (first_model 1 2) taken_over
 
-stranger : IsLeastBroken taken (entry.Reply appliance_one (Written 2)) 5
+stranger : IsLeastBroken model_taken_over (entry.Reply appliance_one (Written 2)) 5
 stranger = record { broken = owner foreign; least = earlier }
   where
-    foreign : ¬ InCommand IsByOwner taken (entry.Reply appliance_one (Written 2))
+    foreign : ¬ InCommand IsByOwner model_taken_over (entry.Reply appliance_one (Written 2))
     foreign keeps = let e : false ≡ true = keeps (Write only_slot 0 (All 170)) refl refl in let P : ⊥ = cc in P
 
-    by_command : (command : Command) → taken.running 0 ≡ Some command → is_listed command (Written 2) ≡ true
+    by_command : (command : Command) → model_taken_over.running 0 ≡ Some command → is_listed command (Written 2) ≡ true
     by_command command runs =
         let e : Some (Write only_slot 0 (All 170)) ≡ Some command = runs in
         let same : Write only_slot 0 (All 170) ≡ command = cc in
         subst (λ (c : Command). is_listed c (Written 2) ≡ true) same refl
 
-    earlier : (other : ℕ) → other < 5 → ¬ Breaks taken (entry.Reply appliance_one (Written 2)) other
+    earlier : (other : ℕ) → other < 5 → ¬ Breaks model_taken_over (entry.Reply appliance_one (Written 2)) other
     earlier other less (known breaks) = breaks (omega arith)
     earlier other less (idle breaks) = breaks tt
     earlier other less (running breaks) = breaks refl

@@ -4,7 +4,7 @@ use Rattle.plx_commands.specs.Images.{Image}
 use Rattle.plx_commands.specs.Limits.{last_generation, last_write, last_claim, greatest_size}
 use Rattle.plx_commands.specs.Model.{Model, has_all}
 use Rattle.plx_commands.specs.Replies.{may_claim}
-use Rattle.plx_commands.specs.Slots.{named}
+use Rattle.plx_commands.specs.Slots.{named_slots}
 use Rattle.plx_commands.specs.declared.command.Command.{Command}
 use Rattle.plx_commands.specs.declared.command.Command.TheVariants.{Attach, Detach, Create, Delete, Read, Write, Flush, Reserve, Renew, Retire, Reclaim}
 use Rattle.plx_commands.specs.declared.reply.Reply.{Reply}
@@ -50,7 +50,7 @@ of_writes image = where_holds (is_worn last_write image.writes) (WornOut last_wr
 -- the refusals by sessions
 abbrev pub of_sessions : (ℕ → Bool) → Command → List Reply
 of_sessions sessions (Attach slot) = where_holds (sessions slot.0) AlreadyAttached
-of_sessions sessions other = where_holds (not (has_all sessions (named other))) NotAttached
+of_sessions sessions other = where_holds (not (has_all sessions (named_slots other))) NotAttached
 
 -- what is refused of an image, where there is such a slot
 abbrev pub where_is : Bool → List Reply → List Reply

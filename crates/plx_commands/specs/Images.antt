@@ -28,8 +28,8 @@ abbrev pub new_image : (generation size : ℕ) → (label : List ℕ) → Image
 new_image generation size label = record (free_image generation) { live = true; size = size; label = label }
 
 -- the image once one of its blocks is written
-abbrev pub written : Image → ℕ → List ℕ → Image
-written image vblock bytes = record image { writes = image.writes + 1; content = at image.content vblock bytes }
+abbrev pub image_after_write : Image → ℕ → List ℕ → Image
+image_after_write image vblock bytes = record image { writes = image.writes + 1; content = at image.content vblock bytes }
 
 -- how many snapshots are dropped
 abbrev pub count_dropped : List Frozen → ℕ

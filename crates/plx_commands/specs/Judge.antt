@@ -6,7 +6,7 @@ use Rattle.plx_commands.specs.Model.{Model, owns_all}
 use Rattle.plx_commands.specs.Moves.{model_of}
 use Rattle.plx_commands.specs.Replies.{number_of, is_listed, rests_on_fact}
 use Rattle.plx_commands.specs.Reports.{IsReported}
-use Rattle.plx_commands.specs.Slots.{named}
+use Rattle.plx_commands.specs.Slots.{named_slots}
 use Rattle.plx_commands.specs.declared.command.Command.{Command}
 use Rattle.plx_commands.specs.declared.command.Command.TheVariants.{Attach, Detach, Create, Delete, Read, Write, Flush, Reserve, Renew, Retire, Reclaim}
 use Rattle.plx_commands.specs.declared.reply.Reply.{Reply}
@@ -22,7 +22,7 @@ IsListed m appliance command reply = is_listed command reply ≡ true
 abbrev pub of_owner : Command → List ℕ
 of_owner (Attach slot) = []
 of_owner (Detach slot) = []
-of_owner command = named command
+of_owner command = named_slots command
 
 -- an Ok comes from the owner of each of these slots
 abbrev pub IsByOwner : Model → ℕ → Command → Reply → Type 0

@@ -41,8 +41,8 @@ owns None appliance = false
 owns (Some owner) appliance = owner == appliance
 
 -- the owner, unless it is this appliance
-abbrev pub disowned : Option ℕ → ℕ → Option ℕ
-disowned owner appliance = if owns owner appliance then None else owner
+abbrev pub owner_without : Option ℕ → ℕ → Option ℕ
+owner_without owner appliance = if owns owner appliance then None else owner
 
 -- whether the appliance owns each of these slots
 abbrev pub owns_all : Model → ℕ → List ℕ → Bool

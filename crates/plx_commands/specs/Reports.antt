@@ -26,5 +26,5 @@ abbrev pub IsReported : Image → Option Image → Report → Type 0
 IsReported image change report = (report ≡ report_of image) ⊎ ((other : Image) × (change ≡ Some other) × (report ≡ report_of other))
 
 -- the image that a report decides for: itself where the report is its own, else the one that its change makes
-abbrev pub resolved : Image → Option Image → Report → Image
-resolved image change report = if same_report report (report_of image) then image else unwrap_or change image
+abbrev pub reported_image : Image → Option Image → Report → Image
+reported_image image change report = if same_report report (report_of image) then image else unwrap_or change image

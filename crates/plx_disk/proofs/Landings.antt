@@ -1,7 +1,7 @@
 -- A sector of a kept write lands, or none may.
 use Rattle.std.proofs.Common.{◌≡◌, ◌+◌, ◌≤◌, ℕ, List, Some, subst, sym, ◌∙◌}
 use Rattle.std.specs.Prelude.{slice_get, slice_set}
-use Rattle.plx_base.specs.Sectors.{Device, put, landed}
+use Rattle.plx_base.specs.Sectors.{Device, put, with_landed_sector}
 use Rattle.plx_disk.specs.Landing.{MayLandAt}
 use Rattle.plx_disk.specs.Standing.{StandForAll, StandsFor}
 use Rattle.plx_disk.specs.Writes.{Issued, Surface, MayLand, with_sector}
@@ -13,7 +13,7 @@ use Rattle.plx_disk.proofs.Kept.{kept-issued, kept-at, kept-set}
 pub record Lands (s : Surface) (new : Device) (kept : List Write) (number sector : ℕ) : Type 0 where
   pub write : Issued
   pub may : MayLand s number sector write
-  pub device : (b : ℕ) → new b ≡ put s.device write.block (landed sector write.bytes (s.device write.block)) b
+  pub device : (b : ℕ) → new b ≡ put s.device write.block (with_landed_sector sector write.bytes (s.device write.block)) b
   pub writes : StandForAll kept (slice_set s.writes number (with_sector write sector))
 
 -- from what the one write says
@@ -21,7 +21,7 @@ pub lands : (s : Surface) (old new : Device) (kept : List Write) (number sector 
     StandForAll kept s.writes → slice_get kept number ≡ Some k → time ≡ s.time → ((b : ℕ) → old b ≡ s.device b) →
     ((w : Issued) → StandsFor k w → MayLandAt w sector time) →
     ((w : Issued) → StandsFor k w → StandsFor changed (with_sector w sector)) →
-    ((w : Issued) → StandsFor k w → (b : ℕ) → new b ≡ put old w.block (landed sector w.bytes (old w.block)) b) →
+    ((w : Issued) → StandsFor k w → (b : ℕ) → new b ≡ put old w.block (with_landed_sector sector w.bytes (old w.block)) b) →
     Lands s new (slice_set kept number changed) number sector
 lands s old new kept number sector time k changed stand at now same allowed becomes bytes =
     let i = kept-issued kept s.writes number k stand at in
@@ -31,7 +31,7 @@ lands s old new kept number sector time k changed stand at now same allowed beco
     record {
       write = w;
       may = record { found = i.1; open_yet = may.open_yet; missing = may.missing; early = subst P now may.early };
-      device = λ b. bytes w i.2 b ∙ put-along old s.device same w.block (λ before. landed sector w.bytes before) b;
+      device = λ b. bytes w i.2 b ∙ put-along old s.device same w.block (λ before. with_landed_sector sector w.bytes before) b;
       writes = kept-set kept s.writes number changed (with_sector w sector) stand (becomes w i.2);
     }
 

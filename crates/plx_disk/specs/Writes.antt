@@ -1,7 +1,7 @@
 -- A device with issued writes that land sector by sector, and its time.
 use Rattle.std.specs.Prelude.{◌≡◌, ◌+◌, ◌≤◌, ℕ, List, [], ◌∷◌, ◌++◌, slice_get, slice_set, Some, Bool, true, false, zero, suc}
 use Rattle.plx_base.specs.Blocks.{zeros}
-use Rattle.plx_base.specs.Sectors.{Device, put, landed}
+use Rattle.plx_base.specs.Sectors.{Device, put, with_landed_sector}
 use Rattle.plx_base.specs.declared.write_kind.WriteKind.{WriteKind}
 
 -- an issued write: the boot that issued it, its kind, its block, its bytes, its guard, which of its sectors have landed, and whether it was cancelled
@@ -54,8 +54,8 @@ abbrev pub with_cancel : Issued → Issued
 with_cancel write = record write { cancelled = true }
 
 -- the device once a write is issued
-abbrev pub issued : Surface → Issued → Surface
-issued s write = record s { writes = s.writes ++ write ∷ [] }
+abbrev pub with_issued : Surface → Issued → Surface
+with_issued s write = record s { writes = s.writes ++ write ∷ [] }
 
 -- this sector of the write with this number may land: it hasn't, the write wasn't cancelled, and the time is at most 50 ms past its guard
 pub record MayLand (s : Surface) (number sector : ℕ) (write : Issued) : Type 0 where
@@ -67,7 +67,7 @@ pub record MayLand (s : Surface) (number sector : ℕ) (write : Issued) : Type 0
 -- the device once a sector of a write has landed
 abbrev pub after_landing : Surface → ℕ → Issued → ℕ → Surface
 after_landing s number write sector = record s {
-  device = put s.device write.block (landed sector write.bytes (s.device write.block));
+  device = put s.device write.block (with_landed_sector sector write.bytes (s.device write.block));
   writes = slice_set s.writes number (with_sector write sector);
 }
 
@@ -82,9 +82,9 @@ cancelled_at (write ∷ writes) zero = with_cancel write ∷ writes
 cancelled_at (write ∷ writes) (suc number) = write ∷ cancelled_at writes number
 
 -- the device once the write with this number is cancelled
-abbrev pub cancelled : Surface → ℕ → Surface
-cancelled s number = record s { writes = cancelled_at s.writes number }
+abbrev pub with_cancelled : Surface → ℕ → Surface
+with_cancelled s number = record s { writes = cancelled_at s.writes number }
 
 -- the device once time has passed
-abbrev pub passed : Surface → ℕ → Surface
-passed s by = record s { time = s.time + by }
+abbrev pub after_time : Surface → ℕ → Surface
+after_time s by = record s { time = s.time + by }

@@ -1,7 +1,7 @@
 //! The blocks that are stored. A block that isn't is zeros.
 ghost use Rattle.std.specs.Prelude.{◌≡◌, ◌<◌, ℕ, Bool, true, length, IfOk, OnOk, OnErr, IsTrue};
 ghost use Rattle.plx_base.specs.Blocks.{zeros};
-ghost use Rattle.plx_base.specs.Sectors.{landed, put};
+ghost use Rattle.plx_base.specs.Sectors.{with_landed_sector, put};
 ghost use Rattle.plx_disk.specs.Stored.{device_of, is_stored};
 
 use plx_base::{BLOCK_LEN, Block, NoMemory};
@@ -31,7 +31,7 @@ pub fn land_on(blocks: &mut BTreeMap<u64, Block>, block: u64, sector: u8, bytes:
     requires within { sector < 8 }
     requires present { is_stored blocks.old block ≡ true }
     ensures lands { (b : ℕ) → device_of blocks.new b
-        ≡ put (device_of blocks.old) block (landed sector bytes.now
+        ≡ put (device_of blocks.old) block (with_landed_sector sector bytes.now
         (device_of blocks.old block)) b }
     ensures stored { (b : ℕ) → is_stored blocks.new b ≡ is_stored blocks.old b }
 {

@@ -24,11 +24,13 @@ pub struct Disk {
 }
 
 impl Disk {
-    ghost use Rattle.std.specs.Prelude.{◌≡◌, ◌<◌, ◌+◌, ◌^◌, ◌↔◌, None, false, length, slice_get, IfOk, IfSome, IsOkAnd, OnOk, OnErr, IsTrue, MatchOption};
+    ghost use Rattle.std.specs.Prelude.{◌≡◌, ◌<◌, ◌+◌, ◌^◌, ◌↔◌, None, false, length, option_copied, slice_get, IfOk, IfSome, IsOkAnd, OnOk, OnErr, IsTrue, MatchOption};
+    ghost use Rattle.std.specs.Option.{unwrap_or};
+    ghost use Rattle.plx_base.specs.Blocks.{zeros};
     ghost use Rattle.plx_disk.specs.Filled.{with_block};
     ghost use Rattle.plx_disk.specs.Missing.{IsMissing, IsOwner, MissesNone};
     ghost use Rattle.plx_disk.specs.Standing.{Stands, Stays, Turns, device_size, issued_count};
-    ghost use Rattle.plx_disk.specs.Writes.{Issued, Surface, MayLand, HasLanded, after_landing, blank, cancelled, fresh_write, issued, passed};
+    ghost use Rattle.plx_disk.specs.Writes.{Issued, Surface, MayLand, HasLanded, after_landing, blank, with_cancelled, fresh_write, with_issued, after_time};
 
     /// A device of so many blocks, all zeros, at that time in milliseconds.
     pub fn new(alloc: Global, blocks: u64, time: u64) -> Result<Disk, NoMemory>
@@ -91,6 +93,15 @@ impl Disk {
         let _bytes = into.as_slice();
     }
 
+    /// What stands in a block, or `None` where nothing was put and no write was issued: then it is
+    /// zeros.
+    pub fn stored(&self, block: BlockNo) -> Option<&Block>
+        ensures { (s : Surface) → Stands self.now s → s.device block.0
+            ≡ unwrap_or (option_copied result) zeros }
+    {
+        self.stored.get(&block.0)
+    }
+
     /// A write is issued. Its number is the count of those before. Its guard is a time in milliseconds.
     /// After NoMemory the device stands as before.
     pub fn issue(
@@ -107,7 +118,7 @@ impl Disk {
         ensures number { IfOk result (λ number. (s : Surface) → Stands self.old s → number
             ≡ length s.writes) }
         ensures ok { OnOk result (Turns self.old self.new
-            (λ s. issued s (fresh_write owner.0 kind block.0 bytes.now guard))) }
+            (λ s. with_issued s (fresh_write owner.0 kind block.0 bytes.now guard))) }
         ensures err { OnErr result (Stays self.old self.new) }
         ensures blocks { device_size self.new ≡ device_size self.old }
     {
@@ -160,7 +171,7 @@ impl Disk {
 
     /// No further sector of a write lands.
     pub fn cancel(&mut self, write: u64)
-        ensures cancelled { Turns self.old self.new (λ s. cancelled s write) }
+        ensures cancelled { Turns self.old self.new (λ s. with_cancelled s write) }
         ensures blocks { device_size self.new ≡ device_size self.old }
     {
         let index = write as usize;
@@ -174,7 +185,7 @@ impl Disk {
     pub fn tick(&mut self, by: u32) -> bool
         ensures early { (s : Surface) → Stands self.old s
             → (IsTrue result ↔ (s.time + by < 2 ^ 47)) }
-        ensures passed { IsTrue result → Turns self.old self.new (λ s. passed s by) }
+        ensures passed { IsTrue result → Turns self.old self.new (λ s. after_time s by) }
         ensures same { result ≡ false → Stays self.old self.new }
         ensures blocks { device_size self.new ≡ device_size self.old }
     {

@@ -1,6 +1,6 @@
 //! One issued write.
 ghost use Rattle.std.specs.Prelude.{◌≡◌, ◌<◌, ◌≤◌, ◌+◌, ◌↔◌, ℕ, List, Some, true, false, slice_get, IfSome, IsTrue, MatchOption};
-ghost use Rattle.plx_base.specs.Sectors.{landed, put};
+ghost use Rattle.plx_base.specs.Sectors.{with_landed_sector, put};
 ghost use Rattle.plx_disk.specs.Landing.{MayLandAt};
 ghost use Rattle.plx_disk.specs.Missing.{IsLeastMissing};
 ghost use Rattle.plx_disk.specs.Stored.{Blocks, device_of, has_place, is_stored};
@@ -85,7 +85,7 @@ impl Write {
             → StandsFor self.new (with_sector w sector) }
         ensures bytes { (w : Issued) → StandsFor self.old w → IsTrue result → (b : ℕ)
             → device_of stored.new b ≡ put (device_of stored.old) w.block
-            (landed sector w.bytes (device_of stored.old w.block)) b }
+            (with_landed_sector sector w.bytes (device_of stored.old w.block)) b }
 
         ensures refused { (w : Issued) → StandsFor self.old w → result ≡ false
             → MayLandAt w sector time → ⊥ }

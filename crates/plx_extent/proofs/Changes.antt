@@ -7,7 +7,7 @@ use Rattle.std.proofs.lemmas.Bool.{cases_eq, cases_lt}
 use Rattle.std.proofs.lemmas.List.{get_or-set_same, get_or-set_other, length-set, set_past}
 use Rattle.std.proofs.lemmas.Nat.{and_le_l, or_lt}
 use Rattle.std.proofs.lemmas.Nat.Bits.{bit_at_set_same, bit_at_set_other, bit_at_clear_same, bit_at_clear_other}
-use Rattle.plx_extent.proofs.Maps.{has-map, holds-map, length-bits_from, length-map_bytes, map_bytes-bit, map_bytes-lt, same_bytes}
+use Rattle.plx_extent.proofs.Maps.{has-map, holds-map, length-bits_from, length-map_bytes, map_bytes-bit, map_bytes-lt, bytes-by-bits}
 use Rattle.plx_extent.specs.Landing.{OnlyBit}
 use Rattle.plx_extent.specs.Maps.{HoldsMap, IsMap, bit_of, bits_of, is_kept, kept_bits, kept_map, map_bytes}
 
@@ -46,7 +46,7 @@ pub map_bytes-set : (bits : List Bool) (k byte : ℕ) (b : Bool) → k < length 
     ((i : ℕ) → i < 8 → i ≢ k % 8 → (bit_at byte i == 1) ≡ (bit_at (slice_index (map_bytes bits) (k / 8)) i == 1)) →
     slice_set (map_bytes bits) (k / 8) byte ≡ map_bytes (slice_set bits k b)
 map_bytes-set bits k byte b below most small here others =
-    same_bytes (slice_set (map_bytes bits) (k / 8) byte) (map_bytes (slice_set bits k b))
+    bytes-by-bits (slice_set (map_bytes bits) (k / 8) byte) (map_bytes (slice_set bits k b))
     (length-set (map_bytes bits) (k / 8) byte ∙ (full ∙ sym (length-map_bytes (slice_set bits k b))))
     (set-lt (map_bytes bits) (k / 8) byte (map_bytes-lt bits) small) (map_bytes-lt (slice_set bits k b))
     (λ i less. at i (cases_eq i k))
@@ -102,7 +102,7 @@ is_map-kept_map blocks (own ∷ bits) marked h = record { long = length-kept_bit
 pub map_bytes-kept_map : (bits : List Bool) (marked : ℕ → Bool) (bytes : List ℕ) → length bits ≤ 32768 → length bytes ≡ 4096 → ((k : ℕ) → slice_index bytes k < 256) →
     ((i : ℕ) → i < 32768 → bit_of bytes i ≡ (bit_of (map_bytes bits) i && is_kept marked i)) → bytes ≡ map_bytes (kept_map marked bits)
 map_bytes-kept_map bits marked bytes most full small h =
-    same_bytes bytes (map_bytes (kept_map marked bits)) (full ∙ sym (length-map_bytes (kept_map marked bits))) small (map_bytes-lt (kept_map marked bits))
+    bytes-by-bits bytes (map_bytes (kept_map marked bits)) (full ∙ sym (length-map_bytes (kept_map marked bits))) small (map_bytes-lt (kept_map marked bits))
     (λ i less. h i (omega (arith, full))
     ∙ (ap (λ b. b && is_kept marked i) (map_bytes-bit bits i most)
     ∙ sym (map_bytes-bit (kept_map marked bits) i (rw (length-kept_bits marked 0 bits) most) ∙ get_or-kept_map marked bits i)))

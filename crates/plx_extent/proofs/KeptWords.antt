@@ -5,21 +5,18 @@ use Rattle.std.specs.Int.{bit_at, bit_not, w64}
 use Rattle.std.proofs.lemmas.Bool.{cases_eq, cases_lt}
 use Rattle.std.proofs.lemmas.Nat.{one_shl, pow_pos}
 use Rattle.std.proofs.lemmas.Nat.Bits.{and_pow, bit_at-lt, bit_at_clear_same, bit_at_clear_other}
-use Rattle.plx_base.specs.Blocks.{written}
+use Rattle.plx_base.specs.Blocks.{with_bytes_at}
 use Rattle.plx_base.specs.Fields.{little, number_at}
 use Rattle.plx_base.proofs.Fields.{length-little, number_at-written}
 use Rattle.plx_base.proofs.Written.{length-written, written-before, written-after}
 use Rattle.plx_extent.proofs.WordBits.{word-bit}
 use Rattle.plx_extent.specs.Maps.{bit_of, is_kept}
+use Rattle.plx_base.proofs.Tests.{and-no}
 
 -- the bits of a word below that one stay where they are marked, those from it on as they were
 pub record KeptBelow (marked : ℕ → Bool) (first word at now : ℕ) : Type 0 where
   pub before : (i : ℕ) → i < at → (bit_at now i == 1) ≡ ((bit_at word i == 1) && is_kept marked (first + i))
   pub after : (i : ℕ) → at ≤ i → i < 64 → (bit_at now i == 1) ≡ (bit_at word i == 1)
-
-and-false : (a b : Bool) → b ≡ false → (a && b) ≡ false
-and-false true b e = e
-and-false false b e = refl
 
 and-true : (a b : Bool) → b ≡ true → (a && b) ≡ a
 and-true true b e = e
@@ -41,7 +38,7 @@ next-cleared marked first word at now within gone h = record {
 
     go : (i : ℕ) → i < at + 1 → (i ≡ at) ⊎ (i ≢ at) → (bit_at new i == 1) ≡ ((bit_at word i == 1) && is_kept marked (first + i))
     go i below (inl same) =
-        rw same (ap (λ n. n == 1) (bit_at_clear_same w64 now at within) ∙ sym (and-false (bit_at word at == 1) (is_kept marked (first + at)) gone))
+        rw same (ap (λ n. n == 1) (bit_at_clear_same w64 now at within) ∙ sym (and-no (bit_at word at == 1) (is_kept marked (first + at)) gone))
     go i below (inr apart) = other i (omega arith) apart ∙ h.before i (omega (arith, apart))
 
 -- the next one is left as it was
@@ -79,7 +76,7 @@ pub record WordsKept (marked : ℕ → Bool) (old : List ℕ) (index : ℕ) (now
 -- one more word
 pub word-kept : (marked : ℕ → Bool) (old : List ℕ) (index word : ℕ) (now new : List ℕ) → index < 512 →
     ((k : ℕ) → slice_index new k < 256) → word < 2 ^ 64 →
-    new ≡ written (8 * index) (little 8 word) now →
+    new ≡ with_bytes_at (8 * index) (little 8 word) now →
     ((i : ℕ) → i < 64 → (bit_at word i == 1) ≡ ((bit_at (number_at 8 (8 * index) now) i == 1) && is_kept marked (64 * index + i))) →
     WordsKept marked old index now → WordsKept marked old (index + 1) new
 word-kept marked old index word now new within small less is word_bits h = record {

@@ -52,9 +52,9 @@ bit_of-past bytes i h =
     rw none (ap (λ n. n == 1) (bit_at-zero (i % 8)))
 
 -- bytes with the same bits are the same
-pub same_bytes : (xs ys : List ℕ) → length xs ≡ length ys → ((k : ℕ) → slice_index xs k < 256) → ((k : ℕ) → slice_index ys k < 256) →
+pub bytes-by-bits : (xs ys : List ℕ) → length xs ≡ length ys → ((k : ℕ) → slice_index xs k < 256) → ((k : ℕ) → slice_index ys k < 256) →
     ((i : ℕ) → i < 8 * length xs → bit_of xs i ≡ bit_of ys i) → xs ≡ ys
-same_bytes xs ys long hx hy same = same_number_lists xs ys long (λ k below. at k below)
+bytes-by-bits xs ys long hx hy same = same_number_lists xs ys long (λ k below. at k below)
   where
     at : (k : ℕ) → k < length xs → slice_index xs k ≡ slice_index ys k
     at k below =
@@ -124,7 +124,7 @@ bits-back bits blocks long most =
 pub bytes-back : (blocks : ℕ) (bytes : List ℕ) → blocks ≤ 32768 → length bytes ≡ 4096 → ((k : ℕ) → slice_index bytes k < 256) →
     ((i : ℕ) → blocks ≤ i → bit_of bytes i ≡ false) → bytes ≡ map_bytes (bits_of blocks bytes)
 bytes-back blocks bytes most full small past =
-    same_bytes bytes (map_bytes bits) (full ∙ sym (length-map_bytes bits)) small (map_bytes-lt bits) (λ i less. at i (cases_lt i blocks))
+    bytes-by-bits bytes (map_bytes bits) (full ∙ sym (length-map_bytes bits)) small (map_bytes-lt bits) (λ i less. at i (cases_lt i blocks))
   where
     bits : List Bool
     bits = bits_of blocks bytes

@@ -101,22 +101,22 @@ first-bit : (bytes : List ℕ) → bit_of bytes 0 ≡ (slice_index bytes 0 % 2 =
 first-bit bytes = bit_of-at bytes 0 0 0 refl (omega arith) ∙ ap (λ n. n == 1) (bit_at_lowest (slice_index bytes 0))
 
 -- the first bit of a map's block is set
-pub own-set : (blocks : ℕ) (bits : List Bool) → blocks ≤ 32768 → IsMap blocks bits → bit_of (map_bytes bits) 0 ≡ true
-own-set blocks bits most is =
+pub own-bit-set : (blocks : ℕ) (bits : List Bool) → blocks ≤ 32768 → IsMap blocks bits → bit_of (map_bytes bits) 0 ≡ true
+own-bit-set blocks bits most is =
     let long = is.long in
     map_bytes-bit bits 0 (omega arith) ∙ get_or_from_slice_get bits 0 true false is.own
 
 -- a bit that is clear isn't the map's own
 pub clear-above : (blocks : ℕ) (bytes : List ℕ) (bit : ℕ) → HoldsMap blocks bytes → bit_of bytes bit ≡ false → 1 ≤ bit
 clear-above blocks bytes zero h clear =
-    let set : bit_of bytes 0 ≡ true = ap (λ xs. bit_of xs 0) h.spelled ∙ own-set blocks (bits_of blocks bytes) h.most h.is in
+    let set : bit_of bytes 0 ≡ true = ap (λ xs. bit_of xs 0) h.spelled ∙ own-bit-set blocks (bits_of blocks bytes) h.most h.is in
     cc
 clear-above blocks bytes (suc bit) h clear = omega arith
 
 -- bytes whose first bit is clear spell no map
 pub even-none : (blocks : ℕ) (bits : List Bool) (bytes : List ℕ) → blocks ≤ 32768 → IsMap blocks bits → bytes ≡ map_bytes bits → slice_index bytes 0 % 2 ≡ 0 → ⊥
 even-none blocks bits bytes most is same even =
-    let set : bit_of bytes 0 ≡ true = ap (λ xs. bit_of xs 0) same ∙ own-set blocks bits most is in
+    let set : bit_of bytes 0 ≡ true = ap (λ xs. bit_of xs 0) same ∙ own-bit-set blocks bits most is in
     let clear : bit_of bytes 0 ≡ false = first-bit bytes ∙ rw even refl in
     cc
 

@@ -8,6 +8,7 @@ use Rattle.plx_extent.proofs.Changes.{get_or-kept_map, length-kept_bits, map_byt
 use Rattle.plx_extent.proofs.Maps.{map_bytes-bit}
 use Rattle.plx_extent.specs.Landing.{LandsBits, TurnsOnly, bit_sector}
 use Rattle.plx_extent.specs.Maps.{bit_of, is_kept, kept_map, map_bytes}
+use Rattle.plx_base.proofs.Tests.{and-left, and-right}
 
 -- tests
 
@@ -17,21 +18,13 @@ eq-true m n h = grind (arith, nat_tests)
 eq-false : (m n : ℕ) → (m == n) ≡ false → m ≢ n
 eq-false m n h = grind (arith, nat_tests)
 
-and-left : (a b : Bool) → (a && b) ≡ true → a ≡ true
-and-left true b h = refl
-and-left false b h = h
+or-false-left : (a b : Bool) → (a || b) ≡ false → a ≡ false
+or-false-left true b h = h
+or-false-left false b h = refl
 
-and-right : (a b : Bool) → (a && b) ≡ true → b ≡ true
-and-right true b h = h
-and-right false b h = cc
-
-or-left : (a b : Bool) → (a || b) ≡ false → a ≡ false
-or-left true b h = h
-or-left false b h = refl
-
-or-right : (a b : Bool) → (a || b) ≡ false → b ≡ false
-or-right true b h = cc
-or-right false b h = h
+or-false-right : (a b : Bool) → (a || b) ≡ false → b ≡ false
+or-false-right true b h = cc
+or-false-right false b h = h
 
 -- ---- landings
 
@@ -66,7 +59,7 @@ pub turns-more : (names more : ℕ → Bool) (to : Bool) (newest new old : List 
     TurnsOnly (λ bit. names bit || more bit) to newest old
 turns-more names more to newest new old h k = record {
   named = λ bit is. go bit (or_cases (names bit) (more bit) is) (cases_Bool (more bit));
-  others = λ bit unnamed. k.others bit (or-right (names bit) (more bit) unnamed) ∙ h.others bit (or-left (names bit) (more bit) unnamed);
+  others = λ bit unnamed. k.others bit (or-false-right (names bit) (more bit) unnamed) ∙ h.others bit (or-false-left (names bit) (more bit) unnamed);
 }
   where
     go : (bit : ℕ) → (names bit ≡ true) ⊎ (more bit ≡ true) → (more bit ≡ true) ⊎ (more bit ≡ false) → bit_of newest bit ≡ to

@@ -1,9 +1,8 @@
 -- Words of 64 bits of a block.
 use Rattle.std.proofs.Common.{◌≡◌, ◌≢◌, ◌⊎◌, inl, inr, ℕ, ◌+◌, ◌-◌, ◌*◌, ◌^◌, ◌≤◌, ◌<◌, List, ◌++◌, length, get_or, refl, ap, sym, ◌∙◌, arith, Bool, true, false, Some, None}
 use Rattle.std.proofs.lemmas.Bool.{cases_lt}
-use Rattle.std.specs.Prelude.{◌==◌, slice_index, position, nat_lt}
+use Rattle.std.specs.Prelude.{◌==◌, slice_index, position}
 use Rattle.std.proofs.lemmas.List.Sums.{position_or_len_is}
-use Rattle.std.proofs.lemmas.Bool.Decides.{nat_tests}
 use Rattle.std.specs.Int.{bit_at, trailing_ones, w64}
 use Rattle.std.specs.Int.Count.{ones}
 use Rattle.std.proofs.lemmas.Nat.Bits.{bit_at-trailing_ones, bit_at_ones}
@@ -13,6 +12,7 @@ use Rattle.plx_extent.proofs.Bits.{number_at-bit, binary_number-bit, binary_numb
 use Rattle.plx_extent.proofs.Counts.{set_count, set_count-append}
 use Rattle.plx_extent.proofs.Maps.{bits_from-add, get_or-bits_from, length-bits_from}
 use Rattle.plx_extent.specs.Maps.{bit_of, bits_from, bits_of, binary_number}
+use Rattle.plx_base.proofs.Tests.{nat_lt-false, nat_lt-true}
 
 -- a bit of a word is that of the block
 pub word-bit : (bytes : List ℕ) (index i : ℕ) → ((k : ℕ) → slice_index bytes k < 256) → i < 64 → (bit_at (number_at 8 (8 * index) bytes) i == 1) ≡ bit_of bytes (64 * index + i)
@@ -87,20 +87,14 @@ first-clear bytes index word small within is not_full before =
         ∙ (sym (word-bit bytes index j small (omega (arith, short)))
         ∙ (ap (λ n. bit_at n j == 1) (sym is) ∙ bit-true (bit_at word j) (ones_below j (omega arith))))
 
-lt-true : (a b : ℕ) → a < b → nat_lt a b ≡ true
-lt-true a b h = grind (arith, nat_tests)
-
-lt-false : (a b : ℕ) → b ≤ a → nat_lt a b ≡ false
-lt-false a b h = grind (arith, nat_tests)
-
 -- the least place at which a test passes
 pub position-at : {A : Type 0} (p : A → Bool) (xs : List A) (d : A) (i : ℕ) → i < length xs → p (get_or xs i d) ≡ true → ((k : ℕ) → k < i → p (get_or xs k d) ≡ false) → position p xs ≡ Some i
 position-at p xs d i below here before =
     let e = position_or_len_is p xs i d (omega arith) before (λ _. here) in
-    rw (e, lt-true i (length xs) below) refl
+    rw (e, nat_lt-true i (length xs) below) refl
 
 -- and none
 pub position-none : {A : Type 0} (p : A → Bool) (xs : List A) (d : A) → ((k : ℕ) → k < length xs → p (get_or xs k d) ≡ false) → position p xs ≡ None
 position-none p xs d h =
     let e = position_or_len_is p xs (length xs) d (omega arith) h (λ less. absurd (omega (arith, less))) in
-    rw (e, lt-false (length xs) (length xs) (omega arith)) refl
+    rw (e, nat_lt-false (length xs) (length xs) (omega arith)) refl

@@ -1,5 +1,5 @@
 //! Maps of extents.
-ghost use Rattle.std.specs.Prelude.{◌≡◌, ◌≤◌, ◌<◌, ◌+◌, ◌/◌, length, not, position, IfSome, slice_set, true, false};
+ghost use Rattle.std.specs.Prelude.{◌≡◌, ◌≤◌, ◌<◌, ◌+◌, ◌/◌, get_or, length, not, position, IfSome, slice_set, true, false};
 ghost use Rattle.plx_base.specs.Spelling.{IsReading, OnlySector};
 ghost use Rattle.plx_extent.specs.Landing.{bit_sector};
 ghost use Rattle.plx_extent.specs.Maps.{IsMap, allocated_count, kept_map, map_bytes};
@@ -54,6 +54,14 @@ impl ExtentMap {
         ensures len { length result.now ≡ 4096 }
     {
         &self.bytes
+    }
+
+    /// Whether a bit is set.
+    pub fn is_taken(&self, bit: u32) -> bool
+        requires { bit < length self.now }
+        ensures { result ≡ get_or self.now bit false }
+    {
+        (self.bytes[bit as usize / 8] >> (bit % 8)) % 2 == 1
     }
 
     /// The least bit that is clear, or `None` where each is set.

@@ -1,6 +1,5 @@
 -- The device that formatting leaves is formatted.
-use Rattle.std.proofs.Common.{◌≡◌, ◌≢◌, ℕ, suc, ◌≤◌, ◌<◌, length, refl, ap, sym, ◌∙◌, arith}
-use Rattle.std.proofs.lemmas.List.{length-replicate}
+use Rattle.std.proofs.Common.{◌≡◌, ◌≢◌, ℕ, ◌≤◌, ◌<◌, length, refl, sym, ◌∙◌, arith}
 use Rattle.plx_base.proofs.Devices.{put-same, put-other, put-all}
 use Rattle.plx_base.proofs.Spelling.{length-zeros}
 use Rattle.plx_base.specs.Blocks.{zeros}
@@ -21,11 +20,7 @@ use Rattle.plx_geom.specs.Superblock.{superblock_bytes}
 use Rattle.plx_geom.specs.declared.place.Place.{Place}
 use Rattle.plx_geom.specs.declared.place.Place.TheVariants.{Super, RootLease, ImageLease, ExtentLease, Record, Log, JDesc, JData, Map, Pool}
 use Rattle.plx_rules.specs.Formatted.{empty_map, formatted_block, IsFormatted}
-
--- the map of an extent fills its block
-pub length-map : length empty_map ≡ 4096
-unfolding empty_map
-length-map = ap suc (length-replicate {A = ℕ} 4095 0)
+use Rattle.plx_rules.proofs.Maps.{length-map}
 
 -- a device of zeros with its superblock
 abbrev pub with_super : Geometry → Device

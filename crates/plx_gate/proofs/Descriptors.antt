@@ -7,7 +7,7 @@ use Rattle.std.specs.List.{All}
 use Rattle.std.specs.Prelude.{slice_index}
 use Rattle.std.specs.Str.{bytes_eq}
 use Rattle.plx_base.specs.Blocks.{zeros, filled}
-use Rattle.plx_base.specs.Spelling.{IsReading, OnlySector, fields_bytes, field_number, read_by, spelled}
+use Rattle.plx_base.specs.Spelling.{IsReading, OnlySector, fields_bytes, field_number, read_by, block_of_fields}
 use Rattle.plx_base.specs.declared.stored.Field.{Field}
 use Rattle.plx_base.proofs.Spelling.{AreFields, drop-padded, length-spelled, length-spelled_head, only-spelled, only-zeros, read-exact, read-past, read-some, read-unspelled, spelled-eq, spelled-fields}
 use Rattle.plx_base.proofs.Uniform.{filled-All, All-filled}
@@ -130,19 +130,19 @@ descriptor-sector new old = only-spelled descriptor_magic (descriptor_fields new
 
 -- also over an empty one
 pub empty-sector : (new : Descriptor) → OnlySector 0 (descriptor_bytes new) zeros
-unfolding descriptor_bytes spelled
+unfolding descriptor_bytes block_of_fields
 empty-sector new =
     only-zeros (descriptor_magic ++ (fields_bytes (descriptor_fields new) ++ [])) (let l = length-spelled_head descriptor_magic (descriptor_fields new) [] in omega (arith, l))
 
 -- past its first sector a descriptor is zeros
 pub descriptor-back : (d : Descriptor) → drop 512 (descriptor_bytes d) ≡ drop 512 zeros
-unfolding descriptor_bytes spelled zeros
+unfolding descriptor_bytes block_of_fields zeros
 descriptor-back d =
     drop-padded 512 (descriptor_magic ++ (fields_bytes (descriptor_fields d) ++ [])) (let l = length-spelled_head descriptor_magic (descriptor_fields d) [] in omega (arith, l))
     ∙ sym (drop-replicate 512 4096 0)
 
 -- the block of a descriptor, written out
-pub descriptor-eq : (d : Descriptor) → descriptor_bytes d ≡ spelled descriptor_magic (descriptor_fields d) []
+pub descriptor-eq : (d : Descriptor) → descriptor_bytes d ≡ block_of_fields descriptor_magic (descriptor_fields d) []
 unfolding descriptor_bytes
 descriptor-eq d = refl
 

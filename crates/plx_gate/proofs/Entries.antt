@@ -1,14 +1,13 @@
 -- Entries of a snapshot log as bytes: each is read back, is spelled in one way, lies in one sector, and leaves the others as they are.
 use Rattle.std.proofs.Common.{◌≡◌, ◌≢◌, ◌⊎◌, ℕ, ◌/◌, ◌^◌, ◌<◌, List, [], ◌∷◌, length, take, drop, replicate, refl, ap, sym, ◌∙◌, subst, arith, inl, inr, Bool, true, false, Some, None}
-use Rattle.std.proofs.lemmas.Bool.Decides.{nat_tests}
 use Rattle.std.proofs.lemmas.List.{append-nil, length-replicate}
-use Rattle.plx_base.specs.Blocks.{written}
+use Rattle.plx_base.specs.Blocks.{with_bytes_at}
 use Rattle.std.specs.Prelude.{◌&&◌, ◌==◌, not, nat_lt}
 use Rattle.plx_base.specs.Spelling.{IsReading, OnlySector, fields_bytes, field_number, read_by}
 use Rattle.plx_base.specs.declared.stored.Field.{Field}
 use Rattle.plx_base.proofs.Pointers.{is_pointer-true, true-is_pointer}
 use Rattle.plx_base.proofs.Spelling.{AreFields, fields-back, length-fields, only-written, read-exact, read-past, read-some, read-unspelled}
-use Rattle.plx_base.proofs.Tests.{all_three}
+use Rattle.plx_base.proofs.Tests.{all_three, and-right, nat_lt-true, nat_lt-tells}
 use Rattle.plx_base.proofs.Written.{part-after, part-before, part-written, length-written, written-whole}
 use Rattle.plx_base.specs.Pointers.{is_pointer}
 use Rattle.plx_gate.specs.Entries.{IsEntry, entry_bytes, entry_fields, entry_of, entry_part, entry_sector, entry_start, flag_of, found_entry, is_entry, read_entry, with_entry}
@@ -49,27 +48,17 @@ front : (a b : Bool) → (a && b) ≡ true → a ≡ true
 front true b h = refl
 front false b h = cc
 
-back : (a b : Bool) → (a && b) ≡ true → b ≡ true
-back true b h = h
-back false b h = cc
-
-lt-true : (a b : ℕ) → a < b → nat_lt a b ≡ true
-lt-true a b h = grind (arith, nat_tests)
-
-true-lt : (a b : ℕ) → nat_lt a b ≡ true → a < b
-true-lt a b h = grind (arith, nat_tests)
-
 is_entry-true : (e : LogEntry) → IsEntry e → is_entry e ≡ true
 is_entry-true e h =
-    all_three (is_pointer e.root) (nat_lt e.root (2 ^ 63)) (nat_lt e.stamp (2 ^ 64)) (is_pointer-true e.root h.root) (lt-true e.root (2 ^ 63) h.frozen) (lt-true e.stamp (2 ^ 64) h.stamp)
+    all_three (is_pointer e.root) (nat_lt e.root (2 ^ 63)) (nat_lt e.stamp (2 ^ 64)) (is_pointer-true e.root h.root) (nat_lt-true e.root (2 ^ 63) h.frozen) (nat_lt-true e.stamp (2 ^ 64) h.stamp)
 
 true-is_entry : (e : LogEntry) → is_entry e ≡ true → IsEntry e
 true-is_entry e h =
-    let rest = back (is_pointer e.root) (nat_lt e.root (2 ^ 63) && nat_lt e.stamp (2 ^ 64)) h in
+    let rest = and-right (is_pointer e.root) (nat_lt e.root (2 ^ 63) && nat_lt e.stamp (2 ^ 64)) h in
     record {
       root = true-is_pointer e.root (front (is_pointer e.root) (nat_lt e.root (2 ^ 63) && nat_lt e.stamp (2 ^ 64)) h);
-      frozen = true-lt e.root (2 ^ 63) (front (nat_lt e.root (2 ^ 63)) (nat_lt e.stamp (2 ^ 64)) rest);
-      stamp = true-lt e.stamp (2 ^ 64) (back (nat_lt e.root (2 ^ 63)) (nat_lt e.stamp (2 ^ 64)) rest);
+      frozen = nat_lt-tells e.root (2 ^ 63) (front (nat_lt e.root (2 ^ 63)) (nat_lt e.stamp (2 ^ 64)) rest);
+      stamp = nat_lt-tells e.stamp (2 ^ 64) (and-right (nat_lt e.root (2 ^ 63)) (nat_lt e.stamp (2 ^ 64)) rest);
     }
 
 -- reading is exact: an entry within the limits where it is spelled by the bytes at its place, nothing where none is
@@ -145,7 +134,7 @@ pub entry-other : (bytes : List ℕ) (e : LogEntry) → e ≡ found_entry bytes 
 entry-other bytes e found other = sym (read-unspelled is_entry entry_bytes (found_entry bytes) bytes (λ same. other (same ∙ ap entry_bytes (sym found))))
 
 -- an entry written over zeros
-pub entry-alone : (e : LogEntry) (bytes : List ℕ) → bytes ≡ written 0 (fields_bytes (entry_fields e)) (replicate 32 0) → bytes ≡ entry_bytes e
+pub entry-alone : (e : LogEntry) (bytes : List ℕ) → bytes ≡ with_bytes_at 0 (fields_bytes (entry_fields e)) (replicate 32 0) → bytes ≡ entry_bytes e
 unfolding entry_bytes
 entry-alone e bytes is = is ∙ written-whole (fields_bytes (entry_fields e)) (replicate 32 0) (length-fields (entry_fields e) ∙ sym (length-replicate {A = ℕ} 32 0))
 

@@ -6,20 +6,20 @@ use Rattle.std.specs.Prelude.{◌&&◌}
 use Rattle.plx_base.specs.Fields.{number_at}
 use Rattle.plx_base.specs.Labels.{IsLabel, is_label}
 use Rattle.plx_base.specs.Pointers.{IsPointer, is_pointer}
-use Rattle.plx_base.specs.Spelling.{IsReading, OnlySector, fields_width, field_number, read_by, spelled}
+use Rattle.plx_base.specs.Spelling.{IsReading, OnlySector, fields_width, field_number, read_by, block_of_fields}
 use Rattle.plx_base.specs.declared.stored.Field.{Field}
 use Rattle.plx_base.proofs.Labels.{is_label-true, true-is_label}
 use Rattle.plx_base.proofs.Pointers.{IsPointer-lt, is_pointer-true, true-is_pointer}
 use Rattle.plx_base.proofs.Spelling.{AreFields, length-spelled, only-spelled, read-exact, read-past, read-some, read-unspelled, spelled-fields, spelled-last}
-use Rattle.plx_base.proofs.Tests.{all_three, not-true}
-use Rattle.plx_gate.specs.Images.{IsImage, are_within, found_image, found_label, image_bytes, image_fields, image_magic, image_of, is_image, label_of, read_image}
+use Rattle.plx_base.proofs.Tests.{all_three, not-true, and-right}
+use Rattle.plx_gate.specs.Images.{IsImage, are_within, found_image, found_label, image_bytes, image_fields, image_magic, record_of_fields, is_image, label_of, read_image}
 use Rattle.plx_gate.specs.declared.image.ImageRecord.{ImageRecord}
 use Rattle.plx_gate.specs.declared.image.ImageRecord.TheVariants.{Free, Live}
 
 -- the image record of its fields and its label
 abbrev of_fields : List Field → List ℕ → ImageRecord
 of_fields (state ∷ generation ∷ size ∷ taken ∷ root ∷ applied ∷ label_len ∷ unnamed ∷ rest) label =
-    image_of (field_number state) (field_number generation) (field_number size) (field_number taken) (field_number root) (field_number applied) label
+    record_of_fields (field_number state) (field_number generation) (field_number size) (field_number taken) (field_number root) (field_number applied) label
 of_fields rest label = Free 0
 
 -- the length of the label, in the fields
@@ -72,10 +72,6 @@ front : (a b : Bool) → (a && b) ≡ true → a ≡ true
 front true b h = refl
 front false b h = cc
 
-back : (a b : Bool) → (a && b) ≡ true → b ≡ true
-back true b h = h
-back false b h = cc
-
 pub is_image-true : (r : ImageRecord) → IsImage r → is_image r ≡ true
 is_image-true (Free generation) h = grind (arith, nat_tests)
 is_image-true (Live generation size taken root applied label) h =
@@ -87,7 +83,7 @@ pub true-is_image : (r : ImageRecord) → is_image r ≡ true → IsImage r
 true-is_image (Free generation) h = grind (arith, nat_tests)
 true-is_image (Live generation size taken root applied label) h =
     let a = true-are_within generation size taken applied (front (are_within generation size taken applied) (is_pointer root && is_label label) h) in
-    let b = back (are_within generation size taken applied) (is_pointer root && is_label label) h in
+    let b = and-right (are_within generation size taken applied) (is_pointer root && is_label label) h in
     record {
       generation_low = a.0;
       generation_high = a.1;
@@ -96,13 +92,13 @@ true-is_image (Live generation size taken root applied label) h =
       taken_high = a.4;
       root_pointer = true-is_pointer root (front (is_pointer root) (is_label label) b);
       applied_high = a.5;
-      label_is = true-is_label label (back (is_pointer root) (is_label label) b);
+      label_is = true-is_label label (and-right (is_pointer root) (is_label label) b);
     }
 
 -- what is past its limits doesn't pass the test
 
 live-is : (state generation size taken root applied : ℕ) (label : List ℕ) → state ≢ 0 →
-    image_of state generation size taken root applied label ≡ Live generation size taken root applied label
+    record_of_fields state generation size taken root applied label ≡ Live generation size taken root applied label
 live-is state generation size taken root applied label h = elim (eqb_tells state 0) [ inl x ↦ absurd (h x.1) | inr x ↦ rw x.0 refl ]
 
 pub past-limits : (bytes : List ℕ) → number_at 4 8 bytes ≢ 0 → ¬ (IsImage (live_at bytes)) → is_image (found_image bytes) ≡ false
@@ -152,7 +148,7 @@ image-sector new old h k =
     (let w = width-image new in let l = label-short new h in omega (arith, w, l)) (let w = width-image old in let l = label-short old k in omega (arith, w, l))
 
 -- the block of an image record, written out
-pub image-eq : (r : ImageRecord) → image_bytes r ≡ spelled image_magic (image_fields r) (label_of r)
+pub image-eq : (r : ImageRecord) → image_bytes r ≡ block_of_fields image_magic (image_fields r) (label_of r)
 unfolding image_bytes
 image-eq r = refl
 

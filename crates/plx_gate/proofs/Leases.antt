@@ -1,7 +1,7 @@
 -- Leases as bytes: each is read back, is spelled in one way, and differs from another in its first sector alone.
 use Rattle.std.proofs.Common.{◌≡◌, ◌≢◌, ℕ, List, [], ◌∷◌, length, refl, ap, sym, ◌∙◌, subst, arith, true, false, Some, None}
 use Rattle.std.proofs.lemmas.Bool.Decides.{nat_tests}
-use Rattle.plx_base.specs.Spelling.{IsReading, OnlySector, fields_width, field_number, read_by, spelled}
+use Rattle.plx_base.specs.Spelling.{IsReading, OnlySector, fields_width, field_number, read_by, block_of_fields}
 use Rattle.plx_base.specs.declared.lease.LeaseRecord.{LeaseRecord}
 use Rattle.plx_base.specs.declared.lease.LeaseRecord.TheVariants.{Free, Claimed}
 use Rattle.plx_base.specs.declared.stored.Field.{Field}
@@ -70,7 +70,7 @@ pub lease-only : (bytes : List ℕ) (r : LeaseRecord) → read_lease bytes ≡ S
 lease-only bytes r e = subst (IsReading IsLease lease_bytes bytes) e (lease-reading bytes)
 
 -- the bytes of a lease's fields
-width-lease : (r : LeaseRecord) → fields_width (lease_fields r) ≡ 48
+pub width-lease : (r : LeaseRecord) → fields_width (lease_fields r) ≡ 48
 width-lease Free = refl
 width-lease (Claimed claim until) = refl
 
@@ -87,7 +87,7 @@ lease-sector new old =
     (let w = width-lease new in omega (arith, w)) (let w = width-lease old in omega (arith, w))
 
 -- the block of a lease, written out
-pub lease-eq : (r : LeaseRecord) → lease_bytes r ≡ spelled lease_magic (lease_fields r) []
+pub lease-eq : (r : LeaseRecord) → lease_bytes r ≡ block_of_fields lease_magic (lease_fields r) []
 unfolding lease_bytes
 lease-eq r = refl
 

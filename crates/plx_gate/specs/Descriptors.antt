@@ -3,7 +3,7 @@ use Rattle.std.specs.Prelude.{◌≡◌, ◌≢◌, ◌≤◌, ◌<◌, ◌^◌,
 use Rattle.std.specs.Str.{bytes_eq}
 use Rattle.plx_base.specs.Blocks.{zeros}
 use Rattle.plx_base.specs.Fields.{number_at}
-use Rattle.plx_base.specs.Spelling.{spelled, read_by}
+use Rattle.plx_base.specs.Spelling.{block_of_fields, read_by}
 use Rattle.plx_base.specs.declared.stored.Field.{Field}
 use Rattle.plx_base.specs.declared.stored.Field.TheVariants.{U32, U64}
 use Rattle.plx_gate.specs.declared.descriptor.Descriptor.{Descriptor}
@@ -22,7 +22,7 @@ descriptor_fields d =
 
 -- the block that spells a descriptor
 unfoldable pub descriptor_bytes : Descriptor → List ℕ
-descriptor_bytes d = spelled descriptor_magic (descriptor_fields d) []
+descriptor_bytes d = block_of_fields descriptor_magic (descriptor_fields d) []
 
 -- the limits of a descriptor
 pub record IsDescriptor (d : Descriptor) : Type 0 where

@@ -1,6 +1,6 @@
 -- Entries of a snapshot log as bytes: each is 32 bytes of the log's block.
 use Rattle.std.specs.Prelude.{◌*◌, ◌/◌, ◌<◌, ◌^◌, ◌==◌, ℕ, List, [], ◌∷◌, take, drop, Bool, true, false, not, ◌&&◌, nat_lt, Option}
-use Rattle.plx_base.specs.Blocks.{written}
+use Rattle.plx_base.specs.Blocks.{with_bytes_at}
 use Rattle.plx_base.specs.Fields.{number_at}
 use Rattle.plx_base.specs.Pointers.{IsPointer, is_pointer}
 use Rattle.plx_base.specs.Spelling.{fields_bytes, read_by}
@@ -63,4 +63,4 @@ read_entry index block = entry_of (entry_part index block)
 
 -- a log block with an entry written at its place; the others stay
 abbrev pub with_entry : ℕ → LogEntry → List ℕ → List ℕ
-with_entry index entry block = written (entry_start index) (entry_bytes entry) block
+with_entry index entry block = with_bytes_at (entry_start index) (entry_bytes entry) block

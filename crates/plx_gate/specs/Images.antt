@@ -3,7 +3,7 @@ use Rattle.std.specs.Prelude.{◌≤◌, ◌<◌, ◌^◌, ◌==◌, ℕ, List, 
 use Rattle.plx_base.specs.Fields.{number_at}
 use Rattle.plx_base.specs.Labels.{IsLabel, is_label}
 use Rattle.plx_base.specs.Pointers.{IsPointer, is_pointer}
-use Rattle.plx_base.specs.Spelling.{spelled, read_by}
+use Rattle.plx_base.specs.Spelling.{block_of_fields, read_by}
 use Rattle.plx_base.specs.declared.stored.Field.{Field}
 use Rattle.plx_base.specs.declared.stored.Field.TheVariants.{U32, U64}
 use Rattle.plx_gate.specs.declared.image.ImageRecord.{ImageRecord}
@@ -39,7 +39,7 @@ label_of (Live generation size taken root applied label) = label
 
 -- the block that spells an image record
 unfoldable pub image_bytes : ImageRecord → List ℕ
-image_bytes image = spelled image_magic (image_fields image) (label_of image)
+image_bytes image = block_of_fields image_magic (image_fields image) (label_of image)
 
 -- the limits of a live image
 pub record IsLive (generation size taken root applied : ℕ) (label : List ℕ) : Type 0 where
@@ -68,8 +68,8 @@ is_image (Free generation) = nat_lt generation (2 ^ 32)
 is_image (Live generation size taken root applied label) = are_within generation size taken applied && (is_pointer root && is_label label)
 
 -- the image record of these numbers and this label
-abbrev pub image_of : (state generation size taken root applied : ℕ) → List ℕ → ImageRecord
-image_of state generation size taken root applied label = if state == 0 then Free generation else Live generation size taken root applied label
+abbrev pub record_of_fields : (state generation size taken root applied : ℕ) → List ℕ → ImageRecord
+record_of_fields state generation size taken root applied label = if state == 0 then Free generation else Live generation size taken root applied label
 
 -- the label that stands at its place
 abbrev pub found_label : List ℕ → List ℕ
@@ -78,7 +78,7 @@ found_label bytes = take (number_at 4 40 bytes) (drop 48 bytes)
 -- the image record whose numbers and label stand at the places of the fields
 abbrev pub found_image : List ℕ → ImageRecord
 found_image bytes =
-    image_of (number_at 4 8 bytes) (number_at 4 12 bytes) (number_at 4 16 bytes) (number_at 4 20 bytes) (number_at 8 24 bytes) (number_at 8 32 bytes)
+    record_of_fields (number_at 4 8 bytes) (number_at 4 12 bytes) (number_at 4 16 bytes) (number_at 4 20 bytes) (number_at 8 24 bytes) (number_at 8 32 bytes)
     (found_label bytes)
 
 -- what a block says: an image record within the limits, or nothing

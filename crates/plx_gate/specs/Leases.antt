@@ -1,7 +1,7 @@
 -- Leases as bytes.
 use Rattle.std.specs.Prelude.{◌+◌, ◌≤◌, ◌<◌, ◌^◌, ◌==◌, ℕ, List, [], ◌∷◌, Bool, true, ◌&&◌, nat_lt, nat_le, if◌then◌else◌, Option}
 use Rattle.plx_base.specs.Fields.{number_at}
-use Rattle.plx_base.specs.Spelling.{spelled, read_by}
+use Rattle.plx_base.specs.Spelling.{block_of_fields, read_by}
 use Rattle.plx_base.specs.declared.stored.Field.{Field}
 use Rattle.plx_base.specs.declared.stored.Field.TheVariants.{U32, U64, U128}
 use Rattle.plx_base.specs.declared.lease.Claim.{Claim}
@@ -30,7 +30,7 @@ lease_fields (Claimed claim until) = fields_of 1 claim.boot.0 claim.number claim
 
 -- the block that spells a lease
 unfoldable pub lease_bytes : LeaseRecord → List ℕ
-lease_bytes lease = spelled lease_magic (lease_fields lease) []
+lease_bytes lease = block_of_fields lease_magic (lease_fields lease) []
 
 -- the limits of a claim that stands in a lease's block, and of its moment `until`, in milliseconds
 pub record IsClaimed (claim : Claim) (until : ℕ) : Type 0 where

@@ -1,7 +1,7 @@
 -- Superblocks as bytes: a geometry is read back from its own, and each geometry has one.
 use Rattle.std.proofs.Common.{◌≡◌, ◌≢◌, ℕ, List, [], ◌∷◌, length, refl, ap, sym, subst, ◌∙◌, arith}
 use Rattle.plx_base.specs.Fields.{number_at}
-use Rattle.plx_base.specs.Spelling.{field_number, spelled}
+use Rattle.plx_base.specs.Spelling.{field_number, block_of_fields}
 use Rattle.plx_base.specs.declared.stored.Field.{Field}
 use Rattle.plx_base.proofs.Spelling.{AreFields, spelled-fields, length-spelled}
 use Rattle.plx_geom.specs.Geometry.{Geometry, IsGeometry, geometry_of}
@@ -51,7 +51,7 @@ pub other-bytes : (bytes : List ℕ) (found : Geometry) → found ≡ found_geom
 other-bytes bytes found is not_spelled g h same = not_spelled (same ∙ ap superblock_bytes (sym (is ∙ (ap found_geometry same ∙ superblock-back g h))))
 
 -- the spelling, written out
-pub superblock-eq : (g : Geometry) → superblock_bytes g ≡ spelled superblock_magic (superblock_fields g) []
+pub superblock-eq : (g : Geometry) → superblock_bytes g ≡ block_of_fields superblock_magic (superblock_fields g) []
 unfolding superblock_bytes
 superblock-eq g = refl
 

@@ -7,8 +7,8 @@ use Rattle.plx_geom.specs.declared.geometry.GeometryError.TheVariants.{OutOfLimi
 use Rattle.plx_geom.specs.declared.place.Place.{Place}
 
 -- the error names the first field that is out of its limits, with its value
-abbrev pub IsCause : GeometryError → Geometry → Type 0
-IsCause (OutOfLimit field value) g = IsFirstOut g field value
+abbrev pub IsGeometryCause : GeometryError → Geometry → Type 0
+IsGeometryCause (OutOfLimit field value) g = IsFirstOut g field value
 
 -- what stands in a block: the one place of the geometry whose block it is, or nothing past the device's end
 abbrev pub StandsIn : Geometry → ℕ → Option Place → Type 0

@@ -1,6 +1,6 @@
 -- The superblock as bytes.
 use Rattle.std.specs.Prelude.{ℕ, List, [], ◌∷◌}
-use Rattle.plx_base.specs.Spelling.{spelled}
+use Rattle.plx_base.specs.Spelling.{block_of_fields}
 use Rattle.plx_base.specs.declared.stored.Field.{Field}
 use Rattle.plx_base.specs.declared.stored.Field.TheVariants.{U32}
 use Rattle.plx_geom.specs.Geometry.{Geometry}
@@ -20,4 +20,4 @@ superblock_fields g =
 
 -- the block that spells a geometry
 unfoldable pub superblock_bytes : Geometry → List ℕ
-superblock_bytes g = spelled superblock_magic (superblock_fields g) []
+superblock_bytes g = block_of_fields superblock_magic (superblock_fields g) []

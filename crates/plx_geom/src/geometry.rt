@@ -1,7 +1,7 @@
 //! Geometries and their limits.
 ghost use Rattle.std.specs.Prelude.{◌≡◌, ◌↔◌, ◌<◌, ◌≤◌, ◌^◌, IsTrue, IsOk, IfOk, IfErr};
 ghost use Rattle.plx_geom.specs.Geometry.{IsGeometry, block_count, extents_start, geometry_of, journal_start};
-ghost use Rattle.plx_geom.specs.Limits.{IsCause};
+ghost use Rattle.plx_geom.specs.Limits.{IsGeometryCause};
 
 use std::marker::Model;
 use thiserror::Error;
@@ -55,7 +55,7 @@ impl Geometry {
         ensures limits { IsOk result ↔ IsGeometry (geometry_of images extents extent_blocks slots) }
         ensures same { IfOk result (λ g. g ≡ geometry_of images extents extent_blocks slots) }
         ensures cause { IfErr result
-            (λ error. IsCause error (geometry_of images extents extent_blocks slots)) }
+            (λ error. IsGeometryCause error (geometry_of images extents extent_blocks slots)) }
     {
         if !is_within(images, 1, 256) {
             return Err(GeometryError::OutOfLimit {

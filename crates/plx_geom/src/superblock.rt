@@ -1,6 +1,6 @@
 //! The superblock, which tells a device's geometry.
 ghost use Rattle.std.specs.Prelude.{◌≡◌, ◌↔◌, ◌≢◌, List, ℕ, IsOk, IfOk, IfErr, IsTrue, OnErr};
-ghost use Rattle.plx_base.specs.Spelling.{spelled};
+ghost use Rattle.plx_base.specs.Spelling.{block_of_fields};
 ghost use Rattle.plx_geom.specs.Geometry.{Geometry as Layout, IsGeometry};
 ghost use Rattle.plx_geom.specs.Superblock.{superblock_bytes, superblock_fields};
 

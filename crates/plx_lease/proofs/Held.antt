@@ -7,11 +7,11 @@ use Rattle.plx_geom.specs.Geometry.{lease_at}
 use Rattle.plx_gate.specs.Leases.{read_lease}
 use Rattle.plx_rules.specs.Part.{bytes_out, standing}
 use Rattle.plx_rules.specs.Claims.{end_of_term}
-use Rattle.plx_rules.specs.Holds.{Hold, Nothing, Wrote, after_answer, renewed, sample_of, shown, wrote}
+use Rattle.plx_rules.specs.Holds.{Hold, Nothing, Wrote, after_answer, hold_after_renewal, sample_of, hold_after_read, hold_after_claim}
 use Rattle.plx_rules.specs.Machines.{AsksOnly}
 use Rattle.plx_rules.specs.Times.{wait}
 use Rattle.plx_lease.specs.Claiming.{claim_at, claim_rest}
-use Rattle.plx_lease.specs.Holding.{IsSampled, IsSampledAt, LeavesClaim, ask_at, claim_ask, claim_hold, claim_sample, hold_at, lease_after, sample_at}
+use Rattle.plx_lease.specs.Holding.{IsSampled, IsSampledAt, LeavesClaim, claim_ask_at, claim_ask, claim_hold, claim_sample, claim_hold_at, lease_after, sample_at}
 use Rattle.plx_lease.specs.Releasing.{release_ask, release_rest}
 use Rattle.plx_lease.specs.Renewing.{LeavesRenewal, renewal_ask, renewal_hold, renewal_rest}
 use Rattle.plx_lease.specs.declared.claim.ClaimAt.{ClaimAt}
@@ -24,7 +24,7 @@ use Rattle.plx_lease.specs.declared.renewal.RenewalEnd.{RenewalEnd}
 use Rattle.plx_lease.proofs.Holding.{own-after}
 
 -- the ask of each place is the one that stands
-standing-at : {K : Type 0} (place : ClaimAt) (c : LeaseClaim K) → standing (claim_at place c) ≡ Some (ask_at place c.number c.claim)
+standing-at : {K : Type 0} (place : ClaimAt) (c : LeaseClaim K) → standing (claim_at place c) ≡ Some (claim_ask_at place c.number c.claim)
 standing-at at.Sample c = refl
 standing-at at.Read c = refl
 standing-at at.Damaged c = refl
@@ -37,7 +37,7 @@ pub claim-standing : {K : Type 0} (c : LeaseClaim K) → standing (claim_rest c)
 claim-standing c = standing-at c.at c
 
 -- it is of the lease's block
-asks-own : {K : Type 0} (place : ClaimAt) (c : LeaseClaim K) → AsksOnly (lease_at c.number) (ask_at place c.number c.claim)
+pub asks-own : {K : Type 0} (place : ClaimAt) (c : LeaseClaim K) → AsksOnly (lease_at c.number) (claim_ask_at place c.number c.claim)
 asks-own at.Sample c = tt
 asks-own at.Read c = refl
 asks-own at.Damaged c = tt
@@ -63,16 +63,16 @@ until-after from last other bytes others answer.Fault hold = refl
 
 -- what is held goes by the sample and the bytes of the claim alone
 same-after : {K : Type 0} (place : ClaimAt) (c : LeaseClaim K) (last : Option ℕ) (a : Answer) → IsSampledAt place c.claim last →
-    lease_after last (ask_at place c.number c.claim) (bytes_out (claim_at place c)) a (hold_at place c.claim) ≡ lease_after (sample_at place c.claim) (ask_at place c.number c.claim) c.out a (hold_at place c.claim)
+    lease_after last (claim_ask_at place c.number c.claim) (bytes_out (claim_at place c)) a (claim_hold_at place c.claim) ≡ lease_after (sample_at place c.claim) (claim_ask_at place c.number c.claim) c.out a (claim_hold_at place c.claim)
 same-after at.Sample c last a sampled = clock-after last None [] c.out a Nothing
-same-after at.Read c last (answer.Bytes found) sampled = ap (λ l. shown l found Nothing) sampled
+same-after at.Read c last (answer.Bytes found) sampled = ap (λ l. hold_after_read l found Nothing) sampled
 same-after at.Read c last answer.Done sampled = refl
 same-after at.Read c last (answer.Reading reading) sampled = refl
 same-after at.Read c last (answer.Missed reading) sampled = refl
 same-after at.Read c last answer.Fault sampled = refl
 same-after at.Damaged c last a sampled = clock-after last None [] c.out a Nothing
 same-after at.Write c last (answer.Bytes found) sampled = refl
-same-after at.Write c last answer.Done sampled = ap (λ bytes. wrote (read_lease bytes)) (sym c.spelled)
+same-after at.Write c last answer.Done sampled = ap (λ bytes. hold_after_claim (read_lease bytes)) (sym c.spelled)
 same-after at.Write c last (answer.Reading reading) sampled = refl
 same-after at.Write c last (answer.Missed reading) sampled = refl
 same-after at.Write c last answer.Fault sampled = refl
@@ -98,7 +98,7 @@ claim-holds c new end last a holds sampled is leaves =
 write-after : (last : Option ℕ) (bytes other : List ℕ) (a : Answer) (hold : Hold) (r : LeaseRenewal) → bytes ≡ other →
     lease_after last (renewal_ask r) bytes a hold ≡ lease_after None (renewal_ask r) other a hold
 write-after last bytes other (answer.Bytes found) hold r e = refl
-write-after last bytes other answer.Done hold r e = ap (λ b. renewed (read_lease b)) e
+write-after last bytes other answer.Done hold r e = ap (λ b. hold_after_renewal (read_lease b)) e
 write-after last bytes other (answer.Reading reading) hold r e = refl
 write-after last bytes other (answer.Missed reading) hold r e = refl
 write-after last bytes other answer.Fault hold r e = refl

@@ -49,11 +49,11 @@ until-if : (b : Bool) (one other : InUse) (reading : ℕ) → nat_le (first_by b
 until-if true one other reading = refl
 until-if false one other reading = refl
 
-one-more : (one : InUse) (others : Option InUse) (reading : ℕ) →
+one-more-use : (one : InUse) (others : Option InUse) (reading : ℕ) →
     (if nat_le one.until reading then Some (earlier one (first_reached (alone others) reading)) else first_reached (alone others) reading)
     ≡ first_reached (alone (Some (earlier one others))) reading
-one-more one None reading = refl
-one-more one (Some other) reading =
+one-more-use one None reading = refl
+one-more-use one (Some other) reading =
     ap (λ (x : InUse). if nat_le one.until reading then Some x else (if nat_le other.until reading then Some other else None)) (earlier-if (nat_le other.until reading) one other)
     ∙ (by-tests (is_before other one) (nat_le one.until reading) (nat_le other.until reading) one other
     (λ before reached. grind (arith, nat_tests)) (λ after reached. grind (arith, nat_tests))
@@ -64,7 +64,7 @@ pub reached-first : (uses : List InUse) (reading : ℕ) → first_reached uses r
 reached-first [] reading = refl
 reached-first (one ∷ others) reading =
     ap (λ (reached : Option InUse). if nat_le one.until reading then Some (earlier one reached) else reached) (reached-first others reading)
-    ∙ one-more one (first_of others) reading
+    ∙ one-more-use one (first_of others) reading
 
 -- ---- a claim goes by which lease in use a reading has reached, alone
 

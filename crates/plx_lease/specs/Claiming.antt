@@ -15,8 +15,8 @@ use Rattle.plx_lease.specs.declared.claim_end.ClaimEnd.{ClaimEnd as End}
 use Rattle.plx_lease.specs.declared.claim_end.ClaimEnd.TheVariants as end
 
 -- the first read of the lease
-abbrev pub read_part : List InUse → (lease : ℕ) → Claim → Part ClaimEnd
-read_part others lease claim = ReadThen (lease_at lease) (λ bytes. seen_part others lease claim (read_lease bytes)) (Ends ClaimReadFault)
+abbrev pub claim_read_part : List InUse → (lease : ℕ) → Claim → Part ClaimEnd
+claim_read_part others lease claim = ReadThen (lease_at lease) (λ bytes. seen_part others lease claim (read_lease bytes)) (Ends ClaimReadFault)
 
 -- the leases in use once the claim was written
 abbrev pub written_uses : {K : Type 0} → LeaseClaim K → List InUse
@@ -29,7 +29,7 @@ wait_part c = UntilThen (c.claim.sample + wait) (λ reading. claim_in_time (writ
 -- what is left to ask at each place
 abbrev pub claim_at : {K : Type 0} → ClaimAt → LeaseClaim K → Part ClaimEnd
 claim_at at.Sample c = claim_part c.claim.boot.0 (uses_of c.others) c.number c.claim.number
-claim_at at.Read c = read_part (uses_of c.others) c.number c.claim
+claim_at at.Read c = claim_read_part (uses_of c.others) c.number c.claim
 claim_at at.Damaged c = claim_damaged (uses_of c.others)
 claim_at at.Write c = written_part (uses_of c.others) c.number c.claim
 claim_at at.Wait c = wait_part c

@@ -10,7 +10,7 @@ use Rattle.plx_disk.specs.declared.ask.Answer.TheVariants as answer
 use Rattle.plx_gate.specs.Leases.{read_lease}
 use Rattle.plx_geom.specs.Geometry.{lease_at}
 use Rattle.plx_rules.specs.Claims.{ClaimEnd, ClaimHeld, ClaimBusy, ClaimLost, ClaimReadFault, ClaimWriteFault, ClaimDamaged, end_of_term}
-use Rattle.plx_rules.specs.Holds.{Hold, Nothing, Seen, Wrote, Waited, Held, renewed, shown, timed, wrote}
+use Rattle.plx_rules.specs.Holds.{Hold, Nothing, Seen, Wrote, Waited, Held, hold_after_renewal, hold_after_read, hold_after_reading, hold_after_claim}
 use Rattle.plx_rules.specs.Times.{wait, window}
 use Rattle.plx_lease.specs.ClaimEnds.{claim_end}
 use Rattle.plx_lease.specs.declared.claim.ClaimAt.{ClaimAt}
@@ -19,48 +19,48 @@ use Rattle.plx_lease.specs.declared.claim.LeaseClaim.{LeaseClaim}
 use Rattle.plx_lease.specs.declared.claim_end.ClaimEnd.{ClaimEnd as End}
 
 -- once a write of the lease's block is done
-abbrev pub written : WriteKind → List ℕ → Hold → Hold
-written kind.Claim bytes hold = wrote (read_lease bytes)
-written kind.Renew bytes hold = renewed (read_lease bytes)
-written kind.Release bytes hold = Nothing
-written other bytes hold = hold
+abbrev pub hold_after_write : WriteKind → List ℕ → Hold → Hold
+hold_after_write kind.Claim bytes hold = hold_after_claim (read_lease bytes)
+hold_after_write kind.Renew bytes hold = hold_after_renewal (read_lease bytes)
+hold_after_write kind.Release bytes hold = Nothing
+hold_after_write other bytes hold = hold
 
 -- what is held of one lease after an answer, where only its own block is read and written
 abbrev pub lease_after : Option ℕ → Ask → List ℕ → Answer → Hold → Hold
-lease_after sample (ask.Read block) bytes (answer.Bytes found) hold = shown sample found hold
-lease_after sample (ask.Write kind block guard) bytes answer.Done hold = written kind bytes hold
+lease_after sample (ask.Read block) bytes (answer.Bytes found) hold = hold_after_read sample found hold
+lease_after sample (ask.Write kind block guard) bytes answer.Done hold = hold_after_write kind bytes hold
 lease_after sample (ask.Write kind block guard) bytes answer.Fault hold = Nothing
 lease_after sample (ask.Write kind block guard) bytes (answer.Missed reading) hold = Nothing
-lease_after sample ask bytes (answer.Reading reading) hold = timed reading hold
+lease_after sample ask bytes (answer.Reading reading) hold = hold_after_reading reading hold
 lease_after sample ask bytes other hold = hold
 
 -- what is held of any other lease then: a write that failed or was missed drops all
 abbrev pub other_after : Ask → Answer → Hold → Hold
 other_after (ask.Write kind block guard) answer.Fault hold = Nothing
 other_after (ask.Write kind block guard) (answer.Missed reading) hold = Nothing
-other_after ask (answer.Reading reading) hold = timed reading hold
+other_after ask (answer.Reading reading) hold = hold_after_reading reading hold
 other_after ask other hold = hold
 
 -- the lease isn't held
-abbrev pub IsNotHeld : Hold → Type 0
-IsNotHeld Nothing = Unit {0}
-IsNotHeld (Seen sample) = Unit {0}
-IsNotHeld (Wrote claim until) = Unit {0}
-IsNotHeld (Waited claim until) = Unit {0}
-IsNotHeld (Held claim until) = ⊥
+abbrev pub IsUnheld : Hold → Type 0
+IsUnheld Nothing = Unit {0}
+IsUnheld (Seen sample) = Unit {0}
+IsUnheld (Wrote claim until) = Unit {0}
+IsUnheld (Waited claim until) = Unit {0}
+IsUnheld (Held claim until) = ⊥
 
 -- how far a claim has come with its lease, by where it stands
-abbrev pub hold_at : ClaimAt → Claim → Hold
-hold_at at.Sample claim = Nothing
-hold_at at.Read claim = Nothing
-hold_at at.Damaged claim = Nothing
-hold_at at.Write claim = Seen claim.sample
-hold_at at.Wait claim = Wrote claim (end_of_term claim)
-hold_at at.Reread claim = Waited claim (end_of_term claim)
-hold_at at.DamagedLate claim = Nothing
+abbrev pub claim_hold_at : ClaimAt → Claim → Hold
+claim_hold_at at.Sample claim = Nothing
+claim_hold_at at.Read claim = Nothing
+claim_hold_at at.Damaged claim = Nothing
+claim_hold_at at.Write claim = Seen claim.sample
+claim_hold_at at.Wait claim = Wrote claim (end_of_term claim)
+claim_hold_at at.Reread claim = Waited claim (end_of_term claim)
+claim_hold_at at.DamagedLate claim = Nothing
 
 abbrev pub claim_hold : {K : Type 0} → LeaseClaim K → Hold
-claim_hold c = hold_at c.at c.claim
+claim_hold c = claim_hold_at c.at c.claim
 
 -- the last answer, where it was a reading that counts
 abbrev pub sample_at : ClaimAt → Claim → Option ℕ
@@ -76,26 +76,26 @@ abbrev pub claim_sample : {K : Type 0} → LeaseClaim K → Option ℕ
 claim_sample c = sample_at c.at c.claim
 
 -- what a claim of the lease with this number asks, by where it stands
-abbrev pub ask_at : ClaimAt → (lease : ℕ) → Claim → Ask
-ask_at at.Sample lease claim = ask.Clock
-ask_at at.Read lease claim = ask.Read (record { 0 = lease_at lease })
-ask_at at.Damaged lease claim = ask.Clock
-ask_at at.Write lease claim = ask.Write kind.Claim (record { 0 = lease_at lease }) (claim.sample + window)
-ask_at at.Wait lease claim = ask.Until (claim.sample + wait)
-ask_at at.Reread lease claim = ask.Read (record { 0 = lease_at lease })
-ask_at at.DamagedLate lease claim = ask.Clock
+abbrev pub claim_ask_at : ClaimAt → (lease : ℕ) → Claim → Ask
+claim_ask_at at.Sample lease claim = ask.Clock
+claim_ask_at at.Read lease claim = ask.Read (record { 0 = lease_at lease })
+claim_ask_at at.Damaged lease claim = ask.Clock
+claim_ask_at at.Write lease claim = ask.Write kind.Claim (record { 0 = lease_at lease }) (claim.sample + window)
+claim_ask_at at.Wait lease claim = ask.Until (claim.sample + wait)
+claim_ask_at at.Reread lease claim = ask.Read (record { 0 = lease_at lease })
+claim_ask_at at.DamagedLate lease claim = ask.Clock
 
 abbrev pub claim_ask : {K : Type 0} → LeaseClaim K → Ask
-claim_ask c = ask_at c.at c.number c.claim
+claim_ask c = claim_ask_at c.at c.number c.claim
 
--- what is held at the end of a claim: the lease by the claim that it ends with, else not
+-- what is held at the end of a claim: the lease by the claim that it ends with, else not; where another record stands there, nothing is left of the claim
 abbrev pub HoldsAtEnd : ClaimEnd → Hold → Type 0
 HoldsAtEnd (ClaimHeld claim until) hold = hold ≡ Held claim until
-HoldsAtEnd (ClaimBusy seen) hold = IsNotHeld hold
-HoldsAtEnd (ClaimLost due reading) hold = IsNotHeld hold
-HoldsAtEnd ClaimReadFault hold = IsNotHeld hold
-HoldsAtEnd ClaimWriteFault hold = IsNotHeld hold
-HoldsAtEnd ClaimDamaged hold = IsNotHeld hold
+HoldsAtEnd (ClaimBusy seen) hold = hold ≡ Nothing
+HoldsAtEnd (ClaimLost due reading) hold = IsUnheld hold
+HoldsAtEnd ClaimReadFault hold = IsUnheld hold
+HoldsAtEnd ClaimWriteFault hold = IsUnheld hold
+HoldsAtEnd ClaimDamaged hold = IsUnheld hold
 
 -- the last answer was the sample, where the lease is read by it
 abbrev pub IsSampledAt : ClaimAt → Claim → Option ℕ → Type 0

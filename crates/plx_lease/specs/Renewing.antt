@@ -1,10 +1,11 @@
 -- What a renewal asks, and what is held of its lease.
-use Rattle.std.specs.Prelude.{◌≡◌, Option, Some, None}
+use Rattle.std.specs.Prelude.{◌≡◌, ℕ, Option, Some, None}
 use Rattle.plx_base.specs.declared.write_kind.WriteKind.TheVariants as kind
 use Rattle.plx_disk.specs.declared.ask.Ask.{Ask}
 use Rattle.plx_disk.specs.declared.ask.Ask.TheVariants as ask
 use Rattle.plx_geom.specs.Geometry.{lease_at}
 use Rattle.plx_rules.specs.Part.{Part}
+use Rattle.plx_rules.specs.Commands.{later_of}
 use Rattle.plx_rules.specs.Holds.{Hold, Nothing, Held}
 use Rattle.law_run.specs.Renewals.{RenewalEnd, Renewed, RenewalLost, RenewalWriteFault, renewal_part}
 use Rattle.plx_lease.specs.Uses.{use_of}
@@ -39,3 +40,8 @@ renewed_hold r end.WriteFault = Nothing
 abbrev pub LeavesRenewal : Hold → LeaseRenewal → Option End → Type 0
 LeavesRenewal hold r None = hold ≡ renewal_hold r
 LeavesRenewal hold r (Some end) = hold ≡ renewed_hold r end
+
+-- a lease that is held is held up to this moment, where that is the later one
+abbrev pub longer_hold : (end : ℕ) → Hold → Hold
+longer_hold end (Held claim until) = Held claim (later_of until end)
+longer_hold end other = other

@@ -2,7 +2,7 @@
 use Rattle.std.specs.Prelude.{◌≡◌}
 use Rattle.plx_rules.specs.Part.{Part}
 use Rattle.plx_rules.specs.Claims.{ClaimEnd}
-use Rattle.plx_rules.specs.Machines.{after}
+use Rattle.plx_rules.specs.Machines.{rest_after}
 use Rattle.plx_lease.specs.ClaimEnds.{claim_end}
 use Rattle.plx_lease.specs.Claiming.{claim_rest}
 use Rattle.law_run.specs.Releases.{ReleaseEnd}
@@ -18,15 +18,15 @@ use Rattle.plx_lease.specs.declared.renewing.RenewingEnd.TheVariants as end
 
 -- a claim
 abbrev pub claiming_rest : {K : Type 0} → Claiming K → Part ClaimEnd
-claiming_rest c = after claim_end (claim_rest c.work) c.end
+claiming_rest c = rest_after claim_end (claim_rest c.work) c.end
 
 -- a renewal
 abbrev pub renewing_rest : {K : Type 0} → Renewing K → Part RenewalEnd
-renewing_rest r = after renewal_end (renewal_rest r.work) r.end
+renewing_rest r = rest_after renewal_end (renewal_rest r.work) r.end
 
 -- a release
 abbrev pub releasing_rest : {K : Type 0} → Releasing K → Part ReleaseEnd
-releasing_rest r = after release_end (release_rest r.work) r.end
+releasing_rest r = rest_after release_end (release_rest r.work) r.end
 
 -- how a renewal ends, without the lease
 abbrev pub renewing_end : {K : Type 0} → RenewingEnd K → RenewalEnd

@@ -8,9 +8,9 @@ abbrev pub use_of : Use → InUse
 use_of use' = record { lease = use'.lease; until = use'.until }
 
 -- a lease in use, where there is one
-abbrev pub named : Option Use → Option InUse
-named None = None
-named (Some use') = Some (use_of use')
+abbrev pub use_if : Option Use → Option InUse
+use_if None = None
+use_if (Some use') = Some (use_of use')
 
 -- the leases in use: none, or one
 abbrev pub uses_of : Option Use → List InUse

@@ -5,7 +5,7 @@ ghost use Rattle.plx_rules.specs.Part.{Ends};
 ghost use Rattle.plx_rules.specs.Claims.{ClaimLost, ClaimDamaged, own_record as own};
 ghost use Rattle.plx_rules.specs.InUse.{first_reached as first, unless_reached};
 ghost use Rattle.plx_rules.specs.Times.{is_expired as is_expired_for};
-ghost use Rattle.plx_lease.specs.Uses.{named as reached_lease};
+ghost use Rattle.plx_lease.specs.Uses.{use_if as reached_lease};
 ghost use Rattle.plx_lease.specs.ClaimEnds.{claim_end as claim_end_of};
 
 use crate::claim_end::ClaimEnd;
@@ -71,12 +71,12 @@ impl<K: LeaseKind> LeaseClaim<K> {
     ghost use Rattle.plx_rules.specs.Part.{answered, standing, bytes_out};
     ghost use Rattle.plx_rules.specs.Boot.{Fits};
     ghost use Rattle.plx_rules.specs.Claims.{claim_in_time, claim_of, claim_part, end_of_term, own_use, reread_by, reread_part, seen_part};
-    ghost use Rattle.plx_rules.specs.Holds.{Hold, Nothing, Wrote, Held, sample_of, seen_by, timed, wrote, reread as confirmed};
-    ghost use Rattle.plx_rules.specs.Machines.{AreWhole, AsksOnly, IsTimely, after};
+    ghost use Rattle.plx_rules.specs.Holds.{Hold, Nothing, Wrote, Held, sample_of, seen_by, hold_after_reading, hold_after_claim, hold_after_reread as confirmed};
+    ghost use Rattle.plx_rules.specs.Machines.{AreWhole, AsksOnly, IsTimely, rest_after};
     ghost use Rattle.plx_rules.specs.Times.{wait};
     ghost use Rattle.plx_lease.specs.Uses.{use_of, uses_of};
     ghost use Rattle.plx_lease.specs.ClaimEnds.{claim_end};
-    ghost use Rattle.plx_lease.specs.Claiming.{KeepsLease, claim_rest, read_part, wait_part};
+    ghost use Rattle.plx_lease.specs.Claiming.{KeepsLease, claim_rest, claim_read_part, wait_part};
     ghost use Rattle.plx_lease.specs.Holding.{IsSampled, LeavesClaim, claim_ask, claim_hold, claim_sample, lease_after};
 
     /// The claim of a lease in this block by a boot that began so many claims before; another lease
@@ -91,7 +91,8 @@ impl<K: LeaseKind> LeaseClaim<K> {
         requires low { 1 ≤ block.0 }
         requires high { block.0 ≤ 2 ^ 32 }
         requires number { number < 2 ^ 40 }
-        ensures rest { (place : ℕ) → block.0 ≡ lease_at place → claim_rest result ≡ claim_part boot.0 (uses_of others) place number }
+        ensures rest { (place : ℕ) → block.0 ≡ lease_at place →
+            claim_rest result ≡ claim_part boot.0 (uses_of others) place number }
         ensures hold { claim_hold result ≡ Nothing }
         ensures sampled { (last : Option ℕ) → IsSampled result last }
         ensures lease { result.lease ≡ lease }
@@ -155,17 +156,21 @@ impl<K: LeaseKind> LeaseClaim<K> {
     /// The ask is answered.
     pub fn answer(&mut self, answer: &Answer) -> Option<ClaimEnd<K>>
         requires { IsTimely answer.now }
-        ensures rest { after claim_end (claim_rest self.new) result ≡ answered (claim_rest self.old) answer.now }
-        ensures hold { Fits (claim_ask self.old) answer.now → LeavesClaim (lease_after (claim_sample self.old) (claim_ask self.old) self.old.out answer.now (claim_hold self.old)) (sample_of answer.now) self.new result }
+        ensures rest { rest_after claim_end (claim_rest self.new) result
+            ≡ answered (claim_rest self.old) answer.now }
+        ensures hold { Fits (claim_ask self.old) answer.now →
+            LeavesClaim (lease_after (claim_sample self.old)
+            (claim_ask self.old) self.old.out answer.now (claim_hold self.old))
+            (sample_of answer.now) self.new result }
         ensures kept { KeepsLease self.old self.new result }
     {
         match (self.at, answer) {
-            (ClaimAt::Sample, Answer::Reading(reading)) => self.sampled(*reading),
-            (ClaimAt::Read, Answer::Bytes(bytes)) => self.seen(bytes),
+            (ClaimAt::Sample, Answer::Reading(reading)) => self.after_sample(*reading),
+            (ClaimAt::Read, Answer::Bytes(bytes)) => self.after_read(bytes),
             (ClaimAt::Damaged, Answer::Reading(reading)) => {
                 Some(damaged_at(first_reached(self.others, *reading), *reading))
             }
-            (ClaimAt::Write, Answer::Done) => self.written(),
+            (ClaimAt::Write, Answer::Done) => self.after_write(),
             (ClaimAt::Write, Answer::Fault) => Some(ClaimEnd::WriteFault),
             (ClaimAt::Write, Answer::Missed(reading)) => Some(ClaimEnd::Lost {
                 due: InUse {
@@ -174,8 +179,8 @@ impl<K: LeaseKind> LeaseClaim<K> {
                 },
                 reading: *reading,
             }),
-            (ClaimAt::Wait, Answer::Reading(reading)) => self.waited(*reading),
-            (ClaimAt::Reread, Answer::Bytes(bytes)) => self.reread(bytes),
+            (ClaimAt::Wait, Answer::Reading(reading)) => self.after_wait(*reading),
+            (ClaimAt::Reread, Answer::Bytes(bytes)) => self.after_reread(bytes),
             (ClaimAt::DamagedLate, Answer::Reading(reading)) => {
                 Some(damaged_at(self.reached(*reading), *reading))
             }
@@ -185,9 +190,12 @@ impl<K: LeaseKind> LeaseClaim<K> {
     }
 
     // The sample was read: the lease is read, unless the reading has reached the lease in use.
-    fn sampled(&mut self, reading: u64) -> Option<ClaimEnd<K>>
+    fn after_sample(&mut self, reading: u64) -> Option<ClaimEnd<K>>
         requires { reading < 2 ^ 48 }
-        ensures rest { after claim_end (claim_rest self.new) result ≡ claim_in_time (uses_of self.old.others) reading (read_part (uses_of self.old.others) self.old.number (claim_of self.old.claim.boot.0 self.old.claim.number reading)) }
+        ensures rest { rest_after claim_end (claim_rest self.new) result
+            ≡ claim_in_time (uses_of self.old.others) reading
+            (claim_read_part (uses_of self.old.others) self.old.number
+            (claim_of self.old.claim.boot.0 self.old.claim.number reading)) }
         ensures hold { LeavesClaim Nothing (Some reading) self.new result }
         ensures kept { KeepsLease self.old self.new result }
     {
@@ -202,9 +210,12 @@ impl<K: LeaseKind> LeaseClaim<K> {
     }
 
     // The lease was read: the claim is written where it is expired.
-    fn seen(&mut self, bytes: &Block) -> Option<ClaimEnd<K>>
-        ensures rest { after claim_end (claim_rest self.new) result ≡ seen_part (uses_of self.old.others) self.old.number self.old.claim (lease_in bytes.now) }
-        ensures hold { LeavesClaim (seen_by (lease_in bytes.now) self.old.claim.sample) None self.new result }
+    fn after_read(&mut self, bytes: &Block) -> Option<ClaimEnd<K>>
+        ensures rest { rest_after claim_end (claim_rest self.new) result
+            ≡ seen_part (uses_of self.old.others) self.old.number self.old.claim
+            (lease_in bytes.now) }
+        ensures hold { LeavesClaim (seen_by
+            (lease_in bytes.now) self.old.claim.sample) None self.new result }
         ensures kept { KeepsLease self.old self.new result }
     {
         match read_lease(bytes.as_slice()) {
@@ -223,9 +234,9 @@ impl<K: LeaseKind> LeaseClaim<K> {
     }
 
     // The claim is written: it waits.
-    fn written(&mut self) -> Option<ClaimEnd<K>>
-        ensures rest { after claim_end (claim_rest self.new) result ≡ wait_part self.old }
-        ensures hold { LeavesClaim (wrote (lease_in self.old.out)) None self.new result }
+    fn after_write(&mut self) -> Option<ClaimEnd<K>>
+        ensures rest { rest_after claim_end (claim_rest self.new) result ≡ wait_part self.old }
+        ensures hold { LeavesClaim (hold_after_claim (lease_in self.old.out)) None self.new result }
         ensures kept { KeepsLease self.old self.new result }
     {
         self.at = ClaimAt::Wait;
@@ -233,9 +244,15 @@ impl<K: LeaseKind> LeaseClaim<K> {
     }
 
     // The wait is over: the lease is read again, unless the reading has reached a lease in use.
-    fn waited(&mut self, reading: u64) -> Option<ClaimEnd<K>>
-        ensures rest { after claim_end (claim_rest self.new) result ≡ claim_in_time (own_use self.old.number self.old.claim ∷ uses_of self.old.others) reading (reread_part (own_use self.old.number self.old.claim ∷ uses_of self.old.others) self.old.number self.old.claim) }
-        ensures hold { self.old.claim.sample + wait ≤ reading → LeavesClaim (timed reading (Wrote self.old.claim (end_of_term self.old.claim))) (Some reading) self.new result }
+    fn after_wait(&mut self, reading: u64) -> Option<ClaimEnd<K>>
+        ensures rest { rest_after claim_end (claim_rest self.new) result
+            ≡ claim_in_time (own_use self.old.number self.old.claim ∷
+            uses_of self.old.others) reading
+            (reread_part (own_use self.old.number self.old.claim ∷
+            uses_of self.old.others) self.old.number self.old.claim) }
+        ensures hold { self.old.claim.sample + wait ≤ reading →
+            LeavesClaim (hold_after_reading reading
+            (Wrote self.old.claim (end_of_term self.old.claim))) (Some reading) self.new result }
         ensures kept { KeepsLease self.old self.new result }
     {
         if let Some(due) = self.reached(reading) {
@@ -247,9 +264,14 @@ impl<K: LeaseKind> LeaseClaim<K> {
     }
 
     // The lease was read again: it is held where its record is the claim's own.
-    fn reread(&mut self, bytes: &Block) -> Option<ClaimEnd<K>>
-        ensures rest { after claim_end (claim_rest self.new) result ≡ reread_by (bytes_eq bytes.now (lease_bytes (own self.old.claim))) (own_use self.old.number self.old.claim ∷ uses_of self.old.others) self.old.claim (lease_in bytes.now) }
-        ensures hold { LeavesClaim (confirmed (bytes_eq bytes.now (lease_bytes (own self.old.claim))) (Held self.old.claim (end_of_term self.old.claim))) None self.new result }
+    fn after_reread(&mut self, bytes: &Block) -> Option<ClaimEnd<K>>
+        ensures rest { rest_after claim_end (claim_rest self.new) result
+            ≡ reread_by (bytes_eq bytes.now (lease_bytes (own self.old.claim)))
+            (own_use self.old.number self.old.claim ∷ uses_of self.old.others) self.old.claim
+            (lease_in bytes.now) }
+        ensures hold { LeavesClaim (confirmed
+            (bytes_eq bytes.now (lease_bytes (own self.old.claim)))
+            (Held self.old.claim (end_of_term self.old.claim))) None self.new result }
         ensures kept { KeepsLease self.old self.new result }
     {
         match read_lease(bytes.as_slice()) {
@@ -289,7 +311,8 @@ impl<K: LeaseKind> LeaseClaim<K> {
 
     // The lease to be named where a reading has reached it or the other one in use.
     fn reached(&self, reading: u64) -> Option<InUse>
-        ensures { reached_lease result ≡ first (own_use self.now.number self.now.claim ∷ uses_of self.now.others) reading }
+        ensures { reached_lease result ≡ first
+            (own_use self.now.number self.now.claim ∷ uses_of self.now.others) reading }
     {
         self.own_use()
             .reached(first_reached(self.others, reading), reading)
@@ -319,7 +342,8 @@ fn is_expired(seen: &LeaseRecord, sample: u64) -> bool
 
 // The end after bytes that are no lease, where a reading may have reached a lease in use.
 fn damaged_at<K>(due: Option<InUse>, reading: u64) -> ClaimEnd<K>
-    ensures { Ends (claim_end_of result) ≡ unless_reached (reached_lease due) (λ due. Ends (ClaimLost due reading)) (Ends ClaimDamaged) }
+    ensures { Ends (claim_end_of result) ≡ unless_reached (reached_lease due)
+        (λ due. Ends (ClaimLost due reading)) (Ends ClaimDamaged) }
 {
     match due {
         Some(due) => ClaimEnd::Lost { due, reading },

@@ -1,6 +1,6 @@
 //! Leases in use, and which of them a reading has reached.
 ghost use Rattle.std.specs.Prelude.{◌≡◌, nat_le, if◌then◌else◌, Some};
-ghost use Rattle.plx_lease.specs.Uses.{named as reached_lease, uses_of};
+ghost use Rattle.plx_lease.specs.Uses.{use_if as reached_lease, uses_of};
 ghost use Rattle.plx_rules.specs.InUse.{first_reached as first};
 
 /// A lease in use.
@@ -14,7 +14,7 @@ pub struct InUse {
 }
 
 impl InUse {
-    ghost use Rattle.plx_lease.specs.Uses.{use_of, named};
+    ghost use Rattle.plx_lease.specs.Uses.{use_of, use_if};
     ghost use Rattle.plx_rules.specs.InUse.{is_before as is_named_before, earlier as earlier_of};
 
     /// Whether this lease is to be named before another: it is held up to an earlier moment, or to
@@ -27,7 +27,7 @@ impl InUse {
 
     /// Of this lease and another, where there is one, the one to be named.
     pub fn earlier(self, other: Option<InUse>) -> InUse
-        ensures { use_of result ≡ earlier_of (use_of self) (named other) }
+        ensures { use_of result ≡ earlier_of (use_of self) (use_if other) }
     {
         match other {
             Some(other) => {
@@ -43,7 +43,8 @@ impl InUse {
     /// The lease to be named of those that a reading has reached: this one may be among them, beside
     /// others.
     pub fn reached(self, others: Option<InUse>, reading: u64) -> Option<InUse>
-        ensures { named result ≡ if nat_le self.until reading then Some (earlier_of (use_of self) (named others)) else named others }
+        ensures { use_if result ≡ if nat_le self.until reading
+            then Some (earlier_of (use_of self) (use_if others)) else use_if others }
     {
         if self.until <= reading {
             return Some(self.earlier(others));

@@ -36,7 +36,7 @@ impl LeaseRelease {
     ghost use Rattle.plx_rules.specs.Part.{answered, standing, bytes_out};
     ghost use Rattle.plx_rules.specs.Boot.{Fits};
     ghost use Rattle.plx_rules.specs.Holds.{Hold, Nothing};
-    ghost use Rattle.plx_rules.specs.Machines.{AreWhole, AsksOnly, after};
+    ghost use Rattle.plx_rules.specs.Machines.{AreWhole, AsksOnly, rest_after};
     ghost use Rattle.law_run.specs.Releases.{release_part};
     ghost use Rattle.plx_lease.specs.Releasing.{release_ask, release_end, release_rest};
     ghost use Rattle.plx_lease.specs.Holding.{lease_after};
@@ -46,7 +46,8 @@ impl LeaseRelease {
         requires low { 1 ≤ block.0 }
         requires high { block.0 ≤ 2 ^ 32 }
         ensures number { (place : ℕ) → block.0 ≡ lease_at place → result.number ≡ place }
-        ensures rest { (place : ℕ) → block.0 ≡ lease_at place → release_rest result ≡ release_part place held.until }
+        ensures rest { (place : ℕ) → block.0 ≡ lease_at place →
+            release_rest result ≡ release_part place held.until }
     {
         let until = held.until();
         held.released();
@@ -81,8 +82,10 @@ impl LeaseRelease {
 
     /// The ask is answered.
     pub fn answer(&mut self, answer: &Answer) -> Option<ReleaseEnd>
-        ensures rest { after release_end (release_rest self.new) result ≡ answered (release_rest self.old) answer.now }
-        ensures hold { (hold : Hold) → Fits (release_ask self.old) answer.now → lease_after None (release_ask self.old) self.old.out answer.now hold ≡ Nothing }
+        ensures rest { rest_after release_end (release_rest self.new) result
+            ≡ answered (release_rest self.old) answer.now }
+        ensures hold { (hold : Hold) → Fits (release_ask self.old) answer.now →
+            lease_after None (release_ask self.old) self.old.out answer.now hold ≡ Nothing }
         ensures kept { self.new ≡ self.old }
     {
         match answer {

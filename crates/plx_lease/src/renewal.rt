@@ -44,7 +44,7 @@ impl LeaseRenewal {
     ghost use Rattle.plx_rules.specs.Part.{answered, standing, bytes_out};
     ghost use Rattle.plx_rules.specs.Boot.{Fits};
     ghost use Rattle.plx_rules.specs.Commands.{later_of};
-    ghost use Rattle.plx_rules.specs.Machines.{AreWhole, AsksOnly, after};
+    ghost use Rattle.plx_rules.specs.Machines.{AreWhole, AsksOnly, rest_after};
     ghost use Rattle.plx_rules.specs.Times.{term};
     ghost use Rattle.law_run.specs.Renewals.{renewal_part};
     ghost use Rattle.plx_lease.specs.Renewing.{LeavesRenewal, renewal_ask, renewal_end, renewal_hold, renewal_rest};
@@ -55,7 +55,9 @@ impl LeaseRenewal {
         requires low { 1 ≤ block.0 }
         requires high { block.0 ≤ 2 ^ 32 }
         requires reading { reading < 2 ^ 48 }
-        ensures rest { (place : ℕ) → block.0 ≡ lease_at place → renewal_rest result ≡ renewal_part place held.now.claim held.now.until (later_of held.now.until (reading + term)) }
+        ensures rest { (place : ℕ) → block.0 ≡ lease_at place →
+            renewal_rest result ≡ renewal_part place held.now.claim held.now.until
+            (later_of held.now.until (reading + term)) }
         ensures number { (place : ℕ) → block.0 ≡ lease_at place → result.number ≡ place }
         ensures claim { result.claim ≡ held.now.claim }
         ensures until { result.until ≡ held.now.until }
@@ -79,6 +81,13 @@ impl LeaseRenewal {
             later,
             out,
         }
+    }
+
+    /// The number of the lease.
+    pub fn number(&self) -> u32
+        ensures { result ≡ self.now.number }
+    {
+        self.number
     }
 
     /// The moment up to which the lease is held once it is renewed, in milliseconds.
@@ -117,8 +126,11 @@ impl LeaseRenewal {
 
     /// The ask is answered.
     pub fn answer(&mut self, answer: &Answer) -> Option<RenewalEnd>
-        ensures rest { after renewal_end (renewal_rest self.new) result ≡ answered (renewal_rest self.old) answer.now }
-        ensures hold { Fits (renewal_ask self.old) answer.now → LeavesRenewal (lease_after None (renewal_ask self.old) self.old.out answer.now (renewal_hold self.old)) self.new result }
+        ensures rest { rest_after renewal_end (renewal_rest self.new) result
+            ≡ answered (renewal_rest self.old) answer.now }
+        ensures hold { Fits (renewal_ask self.old) answer.now →
+            LeavesRenewal (lease_after None (renewal_ask self.old) self.old.out answer.now
+            (renewal_hold self.old)) self.new result }
         ensures kept { self.new ≡ self.old }
     {
         match answer {

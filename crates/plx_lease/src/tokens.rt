@@ -15,11 +15,11 @@ pub struct Tokens {
 }
 
 impl Tokens {
-    ghost use Rattle.plx_lease.specs.Tables.{root_of, image_of, images_of};
+    ghost use Rattle.plx_lease.specs.Tables.{root_token, image_token, images_of};
 
     /// No lease is held; there are so many image slots.
     pub fn new(alloc: Global, images: u32) -> Result<Tokens, NoMemory>
-        ensures root { IfOk result (λ tokens. root_of tokens ≡ None) }
+        ensures root { IfOk result (λ tokens. root_token tokens ≡ None) }
         ensures images { IfOk result (λ tokens. images_of tokens ≡ replicate images None) }
     {
         let mut slots = Vec::new(alloc);
@@ -34,15 +34,15 @@ impl Tokens {
 
     /// The root's lease, where it is held.
     pub fn root(&self) -> Option<&Held<Root>>
-        ensures { option_copied result ≡ root_of self.now }
+        ensures { option_copied result ≡ root_token self.now }
     {
         self.root.as_ref()
     }
 
     /// The root's lease is taken out, where it is held.
     pub fn take_root(&mut self) -> Option<Held<Root>>
-        ensures taken { result ≡ root_of self.old }
-        ensures root { root_of self.new ≡ None }
+        ensures taken { result ≡ root_token self.old }
+        ensures root { root_token self.new ≡ None }
         ensures images { images_of self.new ≡ images_of self.old }
     {
         self.root.take()
@@ -50,8 +50,8 @@ impl Tokens {
 
     /// The root's lease is held.
     pub fn put_root(&mut self, held: Held<Root>)
-        requires { root_of self.old ≡ None }
-        ensures root { root_of self.new ≡ Some held }
+        requires { root_token self.old ≡ None }
+        ensures root { root_token self.new ≡ Some held }
         ensures images { images_of self.new ≡ images_of self.old }
     {
         self.root = Some(held);
@@ -59,16 +59,16 @@ impl Tokens {
 
     /// An image's lease, where it is held.
     pub fn image(&self, slot: SlotNo) -> Option<&Held<Image>>
-        ensures { option_copied result ≡ image_of self.now slot.0 }
+        ensures { option_copied result ≡ image_token self.now slot.0 }
     {
         self.images.get(slot.0 as usize)?.as_ref()
     }
 
     /// An image's lease is taken out, where it is held.
     pub fn take_image(&mut self, slot: SlotNo) -> Option<Held<Image>>
-        ensures taken { result ≡ image_of self.old slot.0 }
+        ensures taken { result ≡ image_token self.old slot.0 }
         ensures images { images_of self.new ≡ slice_set (images_of self.old) slot.0 None }
-        ensures root { root_of self.new ≡ root_of self.old }
+        ensures root { root_token self.new ≡ root_token self.old }
     {
         match self.images.get_mut(slot.0 as usize) {
             Some(held) => held.take(),
@@ -79,9 +79,10 @@ impl Tokens {
     /// An image's lease is held.
     pub fn put_image(&mut self, held: Held<Image>)
         requires slot { held.lease.0.0 < length (images_of self.old) }
-        requires free { image_of self.old held.lease.0.0 ≡ None }
-        ensures images { images_of self.new ≡ slice_set (images_of self.old) held.lease.0.0 (Some held) }
-        ensures root { root_of self.new ≡ root_of self.old }
+        requires free { image_token self.old held.lease.0.0 ≡ None }
+        ensures images { images_of self.new ≡ slice_set (images_of self.old) held.lease.0.0
+            (Some held) }
+        ensures root { root_token self.new ≡ root_token self.old }
     {
         let slot = held.lease().0.0 as usize;
         self.images[slot] = Some(held);
@@ -89,7 +90,7 @@ impl Tokens {
 
     /// No lease is held any more.
     pub fn drop_all(&mut self)
-        ensures root { root_of self.new ≡ None }
+        ensures root { root_token self.new ≡ None }
         ensures images { images_of self.new ≡ replicate (length (images_of self.old)) None }
     {
         self.root = None;

@@ -8,6 +8,7 @@ use Rattle.plx_commands.specs.declared.command.Command.{Command}
 use Rattle.plx_commands.specs.declared.reply.Reply.{Reply}
 use Rattle.plx_commands.specs.declared.entry.Entry.{Entry}
 use Rattle.plx_commands.specs.declared.entry.Entry.TheVariants as entry
+use Rattle.plx_commands.proofs.Accepted.{in_command}
 
 abbrev pub Rule : Model → Entry → ℕ → Type 0
 Rule m e zero = Unit {0}
@@ -58,14 +59,8 @@ pub below_next : (m : Model) (e : Entry) (n : ℕ) → Below m e n → Rule m e 
 below_next m e n below here = below_more (Rule m e) n below here
 
 -- a rule is the least that is broken where all below it are kept
-pub least_of : (m : Model) (e : Entry) (n : ℕ) → Below m e n → Breaks m e n → IsLeastBroken m e n
-least_of m e n below here = record { broken = here; least = λ k h b. broken b (below k h) }
-
--- what holds of the command that an appliance is in
-pub in_command : (Holds : Model → ℕ → Command → Reply → Type 0) (m : Model) (a : ApplianceNo) (command : Command) (reply : Reply) → m.running a.0 ≡ Some command → Holds m a.0 command reply → InCommand Holds m (entry.Reply a reply)
-in_command Holds m a command reply runs h other also =
-    let same : command ≡ other = cc in
-    subst (λ (c : Command). Holds m a.0 c reply) same h
+pub least-broken : (m : Model) (e : Entry) (n : ℕ) → Below m e n → Breaks m e n → IsLeastBroken m e n
+least-broken m e n below here = record { broken = here; least = λ k h b. broken b (below k h) }
 
 pub not_in_command : (Holds : Model → ℕ → Command → Reply → Type 0) (m : Model) (a : ApplianceNo) (command : Command) (reply : Reply) → m.running a.0 ≡ Some command → ¬ Holds m a.0 command reply → ¬ InCommand Holds m (entry.Reply a reply)
 not_in_command Holds m a command reply runs fails h = fails (h command runs)

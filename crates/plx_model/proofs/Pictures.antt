@@ -6,11 +6,11 @@ use Rattle.std.proofs.lemmas.Bool.{cases_lt}
 use Rattle.std.proofs.lemmas.List.{length-set, length-map, map-set}
 use Rattle.std.proofs.Math.ListN.{get_or-map}
 use Rattle.plx_commands.specs.Model.{Slot, Model, first_slot, images_in, owns}
-use Rattle.plx_commands.specs.Moves.{begins_change, forgotten, given_back, given_up, refused_at, rested, started_at, under_way, where_owned}
+use Rattle.plx_commands.specs.Moves.{begins_change, model_without_sessions, slot_without_owner, given_up, refused_at, model_at_rest, started_at, under_way, where_owned}
 use Rattle.plx_commands.specs.Places.{at}
-use Rattle.plx_commands.specs.Slots.{after, changed}
+use Rattle.plx_commands.specs.Slots.{image_after, changed_slot}
 use Rattle.plx_commands.specs.declared.command.Command.{Command}
-use Rattle.plx_model.specs.Shown.{image_of, running_of, sessions_of, slot_of}
+use Rattle.plx_model.specs.Shown.{shown_image, running_of, seat_sessions, slot_of}
 use Rattle.plx_model.specs.Tables.{table}
 use Rattle.plx_model.specs.declared.seat.Seat.{Seat}
 use Rattle.plx_model.specs.declared.slot.SlotState.{SlotState}
@@ -23,7 +23,7 @@ picture slots seats = record {
   images = length slots;
   appliances = length seats;
   slots = table (map slot_of slots) first_slot;
-  sessions = table (map sessions_of seats) (λ slot. false);
+  sessions = table (map seat_sessions seats) (λ slot. false);
   running = table (map running_of seats) None;
 }
 
@@ -46,25 +46,25 @@ picture-same slots seats k x y in_slots is same =
     ∙ models-equal _ _ refl refl (at-again (picture slots seats).slots k (slot_of y) (table-at slot_of slots k x first_slot in_slots is ∙ sym same)) refl refl
 
 -- an appliance is in another command
-pub picture-run : (slots : List SlotState) (seats : List Seat) (a : ℕ) (s t : Seat) → a < length seats → s ≡ get_or seats a s → sessions_of t ≡ sessions_of s → picture slots (slice_set seats a t) ≡ record (picture slots seats) { running = at (picture slots seats).running a t.running }
+pub picture-run : (slots : List SlotState) (seats : List Seat) (a : ℕ) (s t : Seat) → a < length seats → s ≡ get_or seats a s → seat_sessions t ≡ seat_sessions s → picture slots (slice_set seats a t) ≡ record (picture slots seats) { running = at (picture slots seats).running a t.running }
 picture-run slots seats a s t in_seats is same =
     models-equal _ _ refl (length-set seats a t) refl
-    (table-map-set sessions_of seats a t (λ slot. false) in_seats
-    ∙ at-again (picture slots seats).sessions a (sessions_of t) (table-at sessions_of seats a s (λ slot. false) in_seats is ∙ sym same))
+    (table-map-set seat_sessions seats a t (λ slot. false) in_seats
+    ∙ at-again (picture slots seats).sessions a (seat_sessions t) (table-at seat_sessions seats a s (λ slot. false) in_seats is ∙ sym same))
     (table-map-set running_of seats a t None in_seats)
 
 -- an appliance rests, with the sessions that its seat has
 pub picture-rested : (slots others : List SlotState) (seats now : List Seat) (a : ℕ) (t : Seat) (new_slots : ℕ → Slot) (sessions : ℕ → Bool) → picture others now ≡ record (picture slots seats) { slots = new_slots } →
-    a < length now → sessions_of t ≡ sessions → t.running ≡ None → picture others (slice_set now a t) ≡ rested (picture slots seats) a new_slots sessions
+    a < length now → seat_sessions t ≡ sessions → t.running ≡ None → picture others (slice_set now a t) ≡ model_at_rest (picture slots seats) a new_slots sessions
 picture-rested slots others seats now a t new_slots sessions e in_seats has idle =
     models-equal _ _ (ap (λ (z : Model). z.images) e) (length-set now a t ∙ ap (λ (z : Model). z.appliances) e) (ap (λ (z : Model). z.slots) e)
-    (table-map-set sessions_of now a t (λ slot. false) in_seats
-    ∙ (ap (λ (z : Model). at z.sessions a (sessions_of t)) e ∙ ap (λ (z : ℕ → Bool). at (picture slots seats).sessions a z) has))
+    (table-map-set seat_sessions now a t (λ slot. false) in_seats
+    ∙ (ap (λ (z : Model). at z.sessions a (seat_sessions t)) e ∙ ap (λ (z : ℕ → Bool). at (picture slots seats).sessions a z) has))
     (table-map-set running_of now a t None in_seats
     ∙ (ap (λ (z : Model). at z.running a t.running) e ∙ ap (λ (r : Option Command). at (picture slots seats).running a r) idle))
 
 -- an appliance rests, with the sessions that it had
-pub kept-rested : (m n : Model) (a : ℕ) (new_slots : ℕ → Slot) → n ≡ record m { slots = new_slots } → record n { running = at n.running a None } ≡ rested m a new_slots (m.sessions a)
+pub kept-rested : (m n : Model) (a : ℕ) (new_slots : ℕ → Slot) → n ≡ record m { slots = new_slots } → record n { running = at n.running a None } ≡ model_at_rest m a new_slots (m.sessions a)
 kept-rested m n a new_slots e =
     ap (λ (z : Model). record z { running = at z.running a None }) e
     ∙ models-equal _ _ refl refl refl (sym (at-again m.sessions a (m.sessions a) refl)) refl
@@ -80,18 +80,18 @@ owner_within slots seats k a owner = by_place (cases_lt k (length slots))
         absurd (let e : false ≡ true = subst (λ (z : Slot). owns z.owner a ≡ true) none owner in let P : ⊥ = cc in P)
 
 -- a change begins
-pub picture-started : (slots : List SlotState) (seats : List Seat) (k a : ℕ) (x y : SlotState) (command : Command) → k < length slots → x ≡ get_or slots k x → changed command ≡ Some k → begins_change (picture slots seats) a command ≡ true →
-    slot_of y ≡ under_way (slot_of x) (after (λ slot. image_of x) 0 command) → picture (slice_set slots k y) seats ≡ record (picture slots seats) { slots = started_at (picture slots seats) a command (changed command) }
+pub picture-started : (slots : List SlotState) (seats : List Seat) (k a : ℕ) (x y : SlotState) (command : Command) → k < length slots → x ≡ get_or slots k x → changed_slot command ≡ Some k → begins_change (picture slots seats) a command ≡ true →
+    slot_of y ≡ under_way (slot_of x) (image_after (λ slot. shown_image x) 0 command) → picture (slice_set slots k y) seats ≡ record (picture slots seats) { slots = started_at (picture slots seats) a command (changed_slot command) }
 picture-started slots seats k a x y command in_slots is changes begins e =
     let m : Model = picture slots seats in
     let here : m.slots k ≡ slot_of x = table-at slot_of slots k x first_slot in_slots is in
-    let image : after (images_in m) k command ≡ after (λ slot. image_of x) 0 command =
-    after_alone (images_in m) k command ∙ ap (λ (z : Slot). after (λ slot. z.image) 0 command) here in
-    let put : slot_of y ≡ under_way (m.slots k) (after (images_in m) k command) =
-    e ∙ (ap (λ (z : Slot). under_way z (after (λ slot. image_of x) 0 command)) (sym here) ∙ ap (under_way (m.slots k)) (sym image)) in
-    let opened : started_at m a command (Some k) ≡ at m.slots k (under_way (m.slots k) (after (images_in m) k command)) =
-    ap (λ (b : Bool). where_owned b m.slots k (under_way (m.slots k) (after (images_in m) k command))) begins in
-    let named : started_at m a command (changed command) ≡ started_at m a command (Some k) = ap (started_at m a command) changes in
+    let image : image_after (images_in m) k command ≡ image_after (λ slot. shown_image x) 0 command =
+    after_alone (images_in m) k command ∙ ap (λ (z : Slot). image_after (λ slot. z.image) 0 command) here in
+    let put : slot_of y ≡ under_way (m.slots k) (image_after (images_in m) k command) =
+    e ∙ (ap (λ (z : Slot). under_way z (image_after (λ slot. shown_image x) 0 command)) (sym here) ∙ ap (under_way (m.slots k)) (sym image)) in
+    let opened : started_at m a command (Some k) ≡ at m.slots k (under_way (m.slots k) (image_after (images_in m) k command)) =
+    ap (λ (b : Bool). where_owned b m.slots k (under_way (m.slots k) (image_after (images_in m) k command))) begins in
+    let named : started_at m a command (changed_slot command) ≡ started_at m a command (Some k) = ap (started_at m a command) changes in
     picture-slot slots seats k y in_slots ∙ models-equal _ _ refl refl (ap (λ (z : Slot). at m.slots k z) put ∙ sym (named ∙ opened)) refl refl
 
 -- a change is given up
@@ -113,17 +113,17 @@ picture-changed f slots seats k x y in_slots is e =
     picture-slot slots seats k y in_slots ∙ models-equal _ _ refl refl (ap (λ (z : Slot). at m.slots k z) (e ∙ ap f (sym here))) refl refl
 
 -- what an appliance's seat has in the model
-pub picture-sessions : (slots : List SlotState) (seats : List Seat) (a : ℕ) (s : Seat) → a < length seats → s ≡ get_or seats a s → (picture slots seats).sessions a ≡ sessions_of s
-picture-sessions slots seats a s in_seats is = table-at sessions_of seats a s (λ slot. false) in_seats is
+pub picture-sessions : (slots : List SlotState) (seats : List Seat) (a : ℕ) (s : Seat) → a < length seats → s ≡ get_or seats a s → (picture slots seats).sessions a ≡ seat_sessions s
+picture-sessions slots seats a s in_seats is = table-at seat_sessions seats a s (λ slot. false) in_seats is
 
 -- an appliance is forgotten
-pub picture-forgotten : (slots others : List SlotState) (seats : List Seat) (a : ℕ) (t : Seat) → map slot_of others ≡ map (λ slot. given_back slot a) (map slot_of slots) → a < length seats → sessions_of t ≡ (λ slot. false) → t.running ≡ None → picture others (slice_set seats a t) ≡ forgotten (picture slots seats) a
+pub picture-forgotten : (slots others : List SlotState) (seats : List Seat) (a : ℕ) (t : Seat) → map slot_of others ≡ map (λ slot. slot_without_owner slot a) (map slot_of slots) → a < length seats → seat_sessions t ≡ (λ slot. false) → t.running ≡ None → picture others (slice_set seats a t) ≡ model_without_sessions (picture slots seats) a
 picture-forgotten slots others seats a t e in_seats none idle =
     let m : Model = picture slots seats in
-    let f : Slot → Slot = λ slot. given_back slot a in
+    let f : Slot → Slot = λ slot. slot_without_owner slot a in
     let long : length others ≡ length slots = sym (length-map others slot_of) ∙ (ap length e ∙ (length-map (map slot_of slots) f ∙ length-map slots slot_of)) in
-    let given : table (map slot_of others) first_slot ≡ (λ k. given_back (m.slots k) a) =
+    let given : table (map slot_of others) first_slot ≡ (λ k. slot_without_owner (m.slots k) a) =
     ap (λ (xs : List Slot). table xs first_slot) e ∙ fun_ext (λ k. get_or-map f (map slot_of slots) k first_slot) in
     models-equal _ _ long (length-set seats a t) given
-    (table-map-set sessions_of seats a t (λ slot. false) in_seats ∙ ap (λ (z : ℕ → Bool). at m.sessions a z) none)
+    (table-map-set seat_sessions seats a t (λ slot. false) in_seats ∙ ap (λ (z : ℕ → Bool). at m.sessions a z) none)
     (table-map-set running_of seats a t None in_seats ∙ ap (λ (r : Option Command). at m.running a r) idle)

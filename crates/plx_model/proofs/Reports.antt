@@ -5,7 +5,7 @@ use Rattle.std.proofs.lemmas.Bool.{and_from, and_parts, eqb-true, eq-eqb}
 use Rattle.plx_commands.specs.Images.{Image, report_of}
 use Rattle.plx_commands.specs.Reports.{IsReported, same_report, same_flag, same_bytes}
 use Rattle.plx_commands.specs.declared.reply.Report.{Report}
-use Rattle.plx_model.specs.Shown.{reported}
+use Rattle.plx_model.specs.Shown.{is_report_of}
 use Rattle.plx_model.proofs.SameBytes.{same_bytes-same, same_bytes-equal}
 
 same_flag-same : (b : Bool) → same_flag b b ≡ true
@@ -53,20 +53,20 @@ same_report-along : (r s : Report) → r ≡ s → same_report r s ≡ true
 same_report-along r s e = subst (λ t. same_report r t ≡ true) e (same_report-same r)
 
 -- the test for the report of an image, if there is one
-reported_of : (image : Option Image) (r : Report) → reported image r ≡ true → (other : Image) × (image ≡ Some other) × (r ≡ report_of other)
+reported_of : (image : Option Image) (r : Report) → is_report_of image r ≡ true → (other : Image) × (image ≡ Some other) × (r ≡ report_of other)
 reported_of None r h = cc
 reported_of (Some image) r h = (image, refl, same_report-equal r (report_of image) h)
 
-of_reported : (image : Option Image) (r : Report) → ((other : Image) × (image ≡ Some other) × (r ≡ report_of other)) → reported image r ≡ true
-of_reported image r h = subst (λ (o : Option Image). reported o r ≡ true) (sym h.1) (same_report-along r (report_of h.0) h.2)
+of_reported : (image : Option Image) (r : Report) → ((other : Image) × (image ≡ Some other) × (r ≡ report_of other)) → is_report_of image r ≡ true
+of_reported image r h = subst (λ (o : Option Image). is_report_of o r ≡ true) (sym h.1) (same_report-along r (report_of h.0) h.2)
 
 -- the two tests decide whether a report is permitted
-pub reported_by_own : (image : Image) (change : Option Image) (r : Report) → reported (Some image) r ≡ true → IsReported image change r
+pub reported_by_own : (image : Image) (change : Option Image) (r : Report) → is_report_of (Some image) r ≡ true → IsReported image change r
 reported_by_own image change r h = inl (same_report-equal r (report_of image) h)
 
-pub reported_by_change : (image : Image) (change : Option Image) (r : Report) → reported change r ≡ true → IsReported image change r
+pub reported_by_change : (image : Image) (change : Option Image) (r : Report) → is_report_of change r ≡ true → IsReported image change r
 reported_by_change image change r h = inr (reported_of change r h)
 
-pub reported_either : (image : Image) (change : Option Image) (r : Report) → reported (Some image) r ≡ false → IsReported image change r → reported change r ≡ true
+pub reported_either : (image : Image) (change : Option Image) (r : Report) → is_report_of (Some image) r ≡ false → IsReported image change r → is_report_of change r ≡ true
 reported_either image change r h (inl e) = let same : same_report r (report_of image) ≡ true = same_report-along r (report_of image) e in cc
 reported_either image change r h (inr e) = of_reported change r e

@@ -7,9 +7,9 @@ use Rattle.plx_model.specs.declared.judge.JudgeError.{JudgeError}
 use Rattle.plx_model.specs.declared.judge.JudgeError.TheVariants.{NotPermitted, NoMemory}
 
 -- a rule that is named is the least one that the entry breaks; memory is short only where it keeps all rules
-abbrev pub IsCause : JudgeError → Model → Entry → Type 0
-IsCause (NotPermitted rule) m entry = IsLeastBroken m entry rule
-IsCause NoMemory m entry = Accepts m entry
+abbrev pub IsJudgeCause : JudgeError → Model → Entry → Type 0
+IsJudgeCause (NotPermitted rule) m entry = IsLeastBroken m entry rule
+IsJudgeCause NoMemory m entry = Accepts m entry
 
 -- no rule is named
 abbrev pub IsTaken : {T : Type 0} → Result T JudgeError → Type 0

@@ -1,7 +1,7 @@
 -- What a command's own Ok does to the slot that the command names.
 use Rattle.std.specs.Prelude.{ℕ, ◌<◌, List, [], ◌∷◌, Bool, true, false, Option, Some, None}
 use Rattle.plx_commands.specs.Model.{Model}
-use Rattle.plx_commands.specs.Moves.{entered, forgotten, left, rested, done_at, refused_at}
+use Rattle.plx_commands.specs.Moves.{model_after_attach, model_without_sessions, model_after_detach, model_at_rest, done_at, refused_at}
 use Rattle.plx_commands.specs.declared.command.Command.{Command}
 use Rattle.plx_commands.specs.declared.command.Command.TheVariants.{Attach, Detach, Create, Delete, Read, Write, Flush, Reserve, Renew, Retire, Reclaim}
 use Rattle.plx_commands.specs.declared.reply.Reply.{Reply}
@@ -10,9 +10,9 @@ use Rattle.plx_model.specs.declared.effect.Effect.{Effect}
 use Rattle.plx_model.specs.declared.effect.Effect.TheVariants as effect
 
 -- the slot as a list
-abbrev pub slots_in : Option ℕ → List ℕ
-slots_in None = []
-slots_in (Some slot) = slot ∷ []
+abbrev pub slot_list : Option ℕ → List ℕ
+slot_list None = []
+slot_list (Some slot) = slot ∷ []
 
 -- the effect of each command
 abbrev pub effect_of : Command → Effect
@@ -43,18 +43,18 @@ IsAtHand m (effect.Change slot) = slot < m.images
 IsAtHand m effect.Rest = Unit {0}
 
 -- the model after an effect, brought by this reply
-abbrev pub brought : Model → ℕ → Effect → Reply → Model
-brought m appliance (effect.Enter slot) (Attached report) = entered m appliance slot report
-brought m appliance (effect.Enter slot) reply = rested m appliance m.slots (m.sessions appliance)
-brought m appliance (effect.Leave slot) reply = left m appliance slot
-brought m appliance (effect.Change slot) reply = rested m appliance (done_at m (Some slot)) (m.sessions appliance)
-brought m appliance effect.Rest reply = rested m appliance m.slots (m.sessions appliance)
+abbrev pub model_after_effect : Model → ℕ → Effect → Reply → Model
+model_after_effect m appliance (effect.Enter slot) (Attached report) = model_after_attach m appliance slot report
+model_after_effect m appliance (effect.Enter slot) reply = model_at_rest m appliance m.slots (m.sessions appliance)
+model_after_effect m appliance (effect.Leave slot) reply = model_after_detach m appliance slot
+model_after_effect m appliance (effect.Change slot) reply = model_at_rest m appliance (done_at m (Some slot)) (m.sessions appliance)
+model_after_effect m appliance effect.Rest reply = model_at_rest m appliance m.slots (m.sessions appliance)
 
 -- the model after a reply to a command of this effect: its own Ok, a reply that ends all sessions, or another
-abbrev pub ended : Model → ℕ → Effect → (own ends : Bool) → Reply → Model
-ended m appliance which true ends reply = brought m appliance which reply
-ended m appliance which false true reply = forgotten m appliance
-ended m appliance which false false reply = rested m appliance (refused_at m appliance (changed_by which)) (m.sessions appliance)
+abbrev pub model_after_end : Model → ℕ → Effect → (own ends : Bool) → Reply → Model
+model_after_end m appliance which true ends reply = model_after_effect m appliance which reply
+model_after_end m appliance which false true reply = model_without_sessions m appliance
+model_after_end m appliance which false false reply = model_at_rest m appliance (refused_at m appliance (changed_by which)) (m.sessions appliance)
 
 -- the command is an attach
 abbrev pub is_attach : Command → Bool

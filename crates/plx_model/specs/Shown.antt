@@ -34,8 +34,8 @@ abbrev pub frozen_of : kept.Frozen → Frozen
 frozen_of snapshot = record { content = content_of snapshot.content; dropped = snapshot.dropped }
 
 -- the image in a slot
-abbrev pub image_of : SlotState → Image
-image_of slot = record {
+abbrev pub shown_image : SlotState → Image
+shown_image slot = record {
   live = slot.live;
   generation = slot.generation;
   size = slot.size;
@@ -58,23 +58,23 @@ changed_by image (Some change) = Some (changed_image image change)
 
 -- what is kept of a slot, as the rules speak of it
 abbrev pub slot_of : SlotState → Slot
-slot_of slot = record { image = image_of slot; change = changed_by (image_of slot) slot.change; owner = slot.owner }
+slot_of slot = record { image = shown_image slot; change = changed_by (shown_image slot) slot.change; owner = slot.owner }
 
 -- of which slots an appliance has a session
-abbrev pub sessions_of : Seat → ℕ → Bool
-sessions_of seat = table seat.sessions false
+abbrev pub seat_sessions : Seat → ℕ → Bool
+seat_sessions seat = table seat.sessions false
 
 -- the command that an appliance is in
 abbrev pub running_of : Seat → Option Command
 running_of seat = seat.running
 
 -- the model that the tables show
-abbrev pub shown : code.Model → Model
-shown model = record {
+abbrev pub model_of_tables : code.Model → Model
+model_of_tables model = record {
   images = length model.slots.items;
   appliances = length model.seats.items;
   slots = table (map slot_of model.slots.items) first_slot;
-  sessions = table (map sessions_of model.seats.items) (λ slot. false);
+  sessions = table (map seat_sessions model.seats.items) (λ slot. false);
   running = table (map running_of model.seats.items) None;
 }
 
@@ -86,9 +86,9 @@ CanChange image (Write slot vblock payload) = image.writes < last_write
 CanChange image command = ⊥
 
 -- there is such an image, and the report is its own
-abbrev pub reported : Option Image → Report → Bool
-reported None report = false
-reported (Some image) report = same_report report (report_of image)
+abbrev pub is_report_of : Option Image → Report → Bool
+is_report_of None report = false
+is_report_of (Some image) report = same_report report (report_of image)
 
 -- the refusal that names this size
 abbrev pub beyond : Option ℕ → List Reply
@@ -106,8 +106,8 @@ listed_images facts =
     where_holds facts.no_image NoImage ++ (where_holds facts.exists Exists ++ (beyond facts.range ++ worn facts.worn))
 
 -- the refusals whose facts hold, in their order
-abbrev pub listed : Refusals → List Reply
-listed facts =
+abbrev pub listed_refusals : Refusals → List Reply
+listed_refusals facts =
     (where_holds facts.attached AlreadyAttached ++ where_holds facts.not_attached NotAttached) ++ listed_images facts.images
 
 -- the refusal of a command that may find that no claim is left

@@ -1,8 +1,8 @@
 //! Which slots a command names, and what its own Ok does to them.
 ghost use Rattle.std.specs.Prelude.{◌≡◌};
 ghost use Rattle.plx_commands.specs.Judge.{of_owner};
-ghost use Rattle.plx_commands.specs.Slots.{changed, named};
-ghost use Rattle.plx_model.specs.Effects.{changed_by, effect_of, is_attach, slots_in};
+ghost use Rattle.plx_commands.specs.Slots.{changed_slot, named_slots};
+ghost use Rattle.plx_model.specs.Effects.{changed_by, effect_of, is_attach, slot_list};
 
 use plx_commands::Command;
 
@@ -54,7 +54,7 @@ impl Effect {
 
 // The slot that the command names.
 pub fn named(command: &Command) -> Option<u32>
-    ensures { slots_in result ≡ named command.now }
+    ensures { slot_list result ≡ named_slots command.now }
 {
     match command {
         Command::Attach { slot } => Some(slot.0),
@@ -73,7 +73,7 @@ pub fn named(command: &Command) -> Option<u32>
 
 // The slot whose owner alone answers the command with an Ok.
 pub fn of_owner(command: &Command) -> Option<u32>
-    ensures { slots_in result ≡ of_owner command.now }
+    ensures { slot_list result ≡ of_owner command.now }
 {
     match command {
         Command::Attach { .. } => None,

@@ -1,7 +1,7 @@
 //! The tables of a model before the first entry.
 ghost use Rattle.std.specs.Prelude.{◌≡◌, IfOk, map, replicate, None, false};
 ghost use Rattle.plx_commands.specs.Model.{first_slot};
-ghost use Rattle.plx_model.specs.Shown.{running_of, sessions_of, slot_of};
+ghost use Rattle.plx_model.specs.Shown.{running_of, seat_sessions, slot_of};
 
 use crate::seat::Seat;
 use crate::slot::SlotState;
@@ -21,7 +21,7 @@ pub fn first_slots(alloc: Global, images: u32) -> Result<Vec<SlotState>, NoMemor
 
 // The appliances before the first entry.
 pub fn first_seats(alloc: Global, appliances: u32) -> Result<Vec<Seat>, NoMemory>
-    ensures sessions { IfOk result (λ seats. map sessions_of seats.items
+    ensures sessions { IfOk result (λ seats. map seat_sessions seats.items
         ≡ replicate appliances (λ slot. false)) }
     ensures running { IfOk result (λ seats. map running_of seats.items
         ≡ replicate appliances None) }

@@ -18,19 +18,21 @@ pub enum JudgeError {
 
 impl Model {
     ghost use Rattle.std.specs.Prelude.{◌≡◌, ◌<◌, ◌↔◌, IsTrue, OnOk, OnErr, IfErr, IfSome, IfNone, Some, length};
-    ghost use Rattle.plx_model.specs.Cause.{IsCause, IsTaken};
+    ghost use Rattle.plx_model.specs.Cause.{IsJudgeCause, IsTaken};
     ghost use Rattle.plx_commands.specs.Judge.{Accepts, IsLeastBroken};
-    ghost use Rattle.plx_commands.specs.Moves.{moved};
-    ghost use Rattle.plx_model.specs.Shown.{shown};
+    ghost use Rattle.plx_commands.specs.Moves.{model_after};
+    ghost use Rattle.plx_model.specs.Shown.{model_of_tables};
 
     /// Takes the next entry of a trace, where it keeps all rules. Else the model stays as it is.
     #[tactic(auto, using(crate::proofs::Numbered::accepted_keeps))]
     pub fn judge(&mut self, entry: &Entry) -> Result<(), JudgeError>
-        ensures accepted { OnOk result (Accepts (shown self.old) entry.now) }
-        ensures moved { OnOk result (shown self.new ≡ moved (shown self.old) entry.now) }
-        ensures cause { IfErr result (λ error. IsCause error (shown self.old) entry.now) }
-        ensures kept { OnErr result (shown self.new ≡ shown self.old) }
-        ensures taken { Accepts (shown self.old) entry.now → IsTaken result }
+        ensures accepted { OnOk result (Accepts (model_of_tables self.old) entry.now) }
+        ensures moved { OnOk result (model_of_tables self.new
+            ≡ model_after (model_of_tables self.old) entry.now) }
+        ensures cause { IfErr result (λ error. IsJudgeCause error
+            (model_of_tables self.old) entry.now) }
+        ensures kept { OnErr result (model_of_tables self.new ≡ model_of_tables self.old) }
+        ensures taken { Accepts (model_of_tables self.old) entry.now → IsTaken result }
     {
         if let Some(rule) = self.broken(entry) {
             return Err(JudgeError::NotPermitted { rule });
@@ -43,8 +45,9 @@ impl Model {
 
     // The least rule that the entry breaks.
     fn broken(&self, entry: &Entry) -> Option<u8>
-        ensures none { IfNone result (Accepts (shown self.now) entry.now) }
-        ensures least { IfSome result (λ rule. IsLeastBroken (shown self.now) entry.now rule) }
+        ensures none { IfNone result (Accepts (model_of_tables self.now) entry.now) }
+        ensures least { IfSome result (λ rule. IsLeastBroken
+            (model_of_tables self.now) entry.now rule) }
     {
         match entry {
             Entry::Start { appliance, command } => self.broken_by_start(*appliance, command),
@@ -60,9 +63,9 @@ impl Model {
     }
 
     fn broken_by_start(&self, appliance: ApplianceNo, command: &Command) -> Option<u8>
-        ensures none { IfNone result (Accepts (shown self.now)
+        ensures none { IfNone result (Accepts (model_of_tables self.now)
             (Entry.Start appliance command.now)) }
-        ensures least { IfSome result (λ rule. IsLeastBroken (shown self.now)
+        ensures least { IfSome result (λ rule. IsLeastBroken (model_of_tables self.now)
             (Entry.Start appliance command.now) rule) }
     {
         if !self.is_known(appliance) {
@@ -76,8 +79,8 @@ impl Model {
     }
 
     fn broken_by_crash(&self, appliance: ApplianceNo) -> Option<u8>
-        ensures none { IfNone result (Accepts (shown self.now) (Entry.Crash appliance)) }
-        ensures least { IfSome result (λ rule. IsLeastBroken (shown self.now)
+        ensures none { IfNone result (Accepts (model_of_tables self.now) (Entry.Crash appliance)) }
+        ensures least { IfSome result (λ rule. IsLeastBroken (model_of_tables self.now)
             (Entry.Crash appliance) rule) }
     {
         if !self.is_known(appliance) {
@@ -87,8 +90,9 @@ impl Model {
     }
 
     fn broken_by_reply(&self, appliance: ApplianceNo, reply: &Reply) -> Option<u8>
-        ensures none { IfNone result (Accepts (shown self.now) (Entry.Reply appliance reply.now)) }
-        ensures least { IfSome result (λ rule. IsLeastBroken (shown self.now)
+        ensures none { IfNone result (Accepts (model_of_tables self.now)
+            (Entry.Reply appliance reply.now)) }
+        ensures least { IfSome result (λ rule. IsLeastBroken (model_of_tables self.now)
             (Entry.Reply appliance reply.now) rule) }
     {
         if !self.is_known(appliance) {
@@ -104,9 +108,10 @@ impl Model {
     // The least rule that a reply to this command breaks.
     fn broken_in(&self, appliance: ApplianceNo, command: &Command, reply: &Reply) -> Option<u8>
         requires known { appliance.0 < length self.now.seats.items }
-        requires running { (shown self.now).running appliance.0 ≡ Some command.now }
-        ensures none { IfNone result (Accepts (shown self.now) (Entry.Reply appliance reply.now)) }
-        ensures least { IfSome result (λ rule. IsLeastBroken (shown self.now)
+        requires running { (model_of_tables self.now).running appliance.0 ≡ Some command.now }
+        ensures none { IfNone result (Accepts (model_of_tables self.now)
+            (Entry.Reply appliance reply.now)) }
+        ensures least { IfSome result (λ rule. IsLeastBroken (model_of_tables self.now)
             (Entry.Reply appliance reply.now) rule) }
     {
         if !is_listed(command, reply) {

@@ -20,7 +20,7 @@ pub struct Model {
 impl Model {
     ghost use Rattle.std.specs.Prelude.{◌≡◌, ◌≤◌, IfOk};
     ghost use Rattle.plx_commands.specs.Model.{first_model};
-    ghost use Rattle.plx_model.specs.Shown.{shown};
+    ghost use Rattle.plx_model.specs.Shown.{model_of_tables};
 
     /// The model before the first entry, of 1 to 256 images and 1 to 8 appliances.
     pub fn new(alloc: Global, images: u32, appliances: u32) -> Result<Model, NoMemory>
@@ -28,7 +28,7 @@ impl Model {
         requires few_images { images ≤ 256 }
         requires some_appliances { 1 ≤ appliances }
         requires few_appliances { appliances ≤ 8 }
-        ensures { IfOk result (λ model. shown model ≡ first_model images appliances) }
+        ensures { IfOk result (λ model. model_of_tables model ≡ first_model images appliances) }
     {
         let slots = first_slots(alloc, images)?;
         let seats = first_seats(alloc, appliances)?;

@@ -10,18 +10,19 @@ impl Model {
     ghost use Rattle.std.specs.Prelude.{◌≡◌, ◌<◌, IsTrue, OnOk, OnErr, length, true, None, Some};
     ghost use Rattle.plx_commands.specs.Judge.{Accepts};
     ghost use Rattle.plx_commands.specs.Model.{owns};
-    ghost use Rattle.plx_commands.specs.Moves.{begins_change, done_at, entered, forgotten, given_back, left, moved, refused_at, rested, started_at};
+    ghost use Rattle.plx_commands.specs.Moves.{begins_change, done_at, model_after_attach, model_without_sessions, slot_without_owner, model_after_detach, model_after, refused_at, model_at_rest, started_at};
     ghost use Rattle.plx_commands.specs.Places.{at};
     ghost use Rattle.plx_commands.specs.Replies.{ends_sessions, number_of};
-    ghost use Rattle.plx_commands.specs.Slots.{changed};
-    ghost use Rattle.plx_model.specs.Effects.{IsAtHand, brought, ended};
-    ghost use Rattle.plx_model.specs.Shown.{shown};
+    ghost use Rattle.plx_commands.specs.Slots.{changed_slot};
+    ghost use Rattle.plx_model.specs.Effects.{IsAtHand, model_after_effect, model_after_end};
+    ghost use Rattle.plx_model.specs.Shown.{model_of_tables};
 
     // The model moves by an entry that it accepts.
     pub(crate) fn follow(&mut self, entry: &Entry) -> Result<(), NoMemory>
-        requires { Accepts (shown self.old) entry.now }
-        ensures ok { OnOk result (shown self.new ≡ moved (shown self.old) entry.now) }
-        ensures err { OnErr result (shown self.new ≡ shown self.old) }
+        requires { Accepts (model_of_tables self.old) entry.now }
+        ensures ok { OnOk result (model_of_tables self.new
+            ≡ model_after (model_of_tables self.old) entry.now) }
+        ensures err { OnErr result (model_of_tables self.new ≡ model_of_tables self.old) }
     {
         match entry {
             Entry::Start { appliance, command } => self.start(*appliance, command),
@@ -36,9 +37,9 @@ impl Model {
     // The appliance is in the command, and the change that it makes is under way.
     fn start(&mut self, appliance: ApplianceNo, command: &Command) -> Result<(), NoMemory>
         requires { appliance.0 < length self.old.seats.items }
-        ensures ok { OnOk result (shown self.new
-            ≡ moved (shown self.old) (Entry.Start appliance command.now)) }
-        ensures err { OnErr result (shown self.new ≡ shown self.old) }
+        ensures ok { OnOk result (model_of_tables self.new
+            ≡ model_after (model_of_tables self.old) (Entry.Start appliance command.now)) }
+        ensures err { OnErr result (model_of_tables self.new ≡ model_of_tables self.old) }
     {
         let copied = command.copy(self.alloc)?;
         self.begin_change(appliance, command)?;
@@ -48,12 +49,12 @@ impl Model {
 
     fn begin_change(&mut self, appliance: ApplianceNo, command: &Command) -> Result<(), NoMemory>
         requires { appliance.0 < length self.old.seats.items }
-        ensures ok { OnOk result (shown self.new
-            ≡ record (shown self.old) {
+        ensures ok { OnOk result (model_of_tables self.new
+            ≡ record (model_of_tables self.old) {
               slots = started_at
-                  (shown self.old) appliance.0 command.now (changed command.now);
+                  (model_of_tables self.old) appliance.0 command.now (changed_slot command.now);
             }) }
-        ensures err { OnErr result (shown self.new ≡ shown self.old) }
+        ensures err { OnErr result (model_of_tables self.new ≡ model_of_tables self.old) }
         ensures seats { length self.new.seats.items ≡ length self.old.seats.items }
     {
         let Some(slot) = Effect::of(command).changed() else {
@@ -70,7 +71,7 @@ impl Model {
     // Whether the command is the owner's, and has no refusal whose fact holds.
     fn begins_change(&self, appliance: ApplianceNo, command: &Command) -> bool
         requires { appliance.0 < length self.now.seats.items }
-        ensures { result ≡ begins_change (shown self.now) appliance.0 command.now }
+        ensures { result ≡ begins_change (model_of_tables self.now) appliance.0 command.now }
     {
         if !self.owns_all(appliance.0, named(command)) {
             return false;
@@ -82,9 +83,9 @@ impl Model {
     // The appliance is in this command, or in none.
     fn run(&mut self, appliance: ApplianceNo, command: Option<Command>)
         requires { appliance.0 < length self.old.seats.items }
-        ensures { shown self.new ≡ record (shown self.old) {
+        ensures { model_of_tables self.new ≡ record (model_of_tables self.old) {
           running = at
-              (shown self.old).running appliance.0 command;
+              (model_of_tables self.old).running appliance.0 command;
         } }
     {
         let seat = &mut self.seats[appliance.0 as usize];
@@ -93,10 +94,10 @@ impl Model {
 
     // The model moves by a reply that it accepts.
     fn reply(&mut self, appliance: ApplianceNo, reply: &Reply) -> Result<(), NoMemory>
-        requires { Accepts (shown self.old) (Entry.Reply appliance reply.now) }
-        ensures ok { OnOk result (shown self.new
-            ≡ moved (shown self.old) (Entry.Reply appliance reply.now)) }
-        ensures err { OnErr result (shown self.new ≡ shown self.old) }
+        requires { Accepts (model_of_tables self.old) (Entry.Reply appliance reply.now) }
+        ensures ok { OnOk result (model_of_tables self.new
+            ≡ model_after (model_of_tables self.old) (Entry.Reply appliance reply.now)) }
+        ensures err { OnErr result (model_of_tables self.new ≡ model_of_tables self.old) }
     {
         let seat = &self.seats[appliance.0 as usize];
         let Some(command) = &seat.running else {
@@ -116,11 +117,12 @@ impl Model {
         reply: &Reply,
     ) -> Result<(), NoMemory>
         requires known { appliance.0 < length self.old.seats.items }
-        requires at_hand { own ≡ true → IsAtHand (shown self.old) effect }
-        ensures ok { OnOk result (shown self.new
-            ≡ ended (shown self.old) appliance.0 effect own (ends_sessions (number_of reply.now))
+        requires at_hand { own ≡ true → IsAtHand (model_of_tables self.old) effect }
+        ensures ok { OnOk result (model_of_tables self.new
+            ≡ model_after_end (model_of_tables self.old) appliance.0 effect own
+            (ends_sessions (number_of reply.now))
             reply.now) }
-        ensures err { OnErr result (shown self.new ≡ shown self.old) }
+        ensures err { OnErr result (model_of_tables self.new ≡ model_of_tables self.old) }
     {
         if own {
             return self.bring(appliance, effect, reply);
@@ -141,10 +143,10 @@ impl Model {
         reply: &Reply,
     ) -> Result<(), NoMemory>
         requires known { appliance.0 < length self.old.seats.items }
-        requires at_hand { IsAtHand (shown self.old) effect }
-        ensures ok { OnOk result (shown self.new
-            ≡ brought (shown self.old) appliance.0 effect reply.now) }
-        ensures err { OnErr result (shown self.new ≡ shown self.old) }
+        requires at_hand { IsAtHand (model_of_tables self.old) effect }
+        ensures ok { OnOk result (model_of_tables self.new
+            ≡ model_after_effect (model_of_tables self.old) appliance.0 effect reply.now) }
+        ensures err { OnErr result (model_of_tables self.new ≡ model_of_tables self.old) }
     {
         match effect {
             Effect::Enter(slot) => self.attach(appliance, slot, reply),
@@ -163,9 +165,10 @@ impl Model {
     fn attach(&mut self, appliance: ApplianceNo, slot: u32, reply: &Reply) -> Result<(), NoMemory>
         requires known { appliance.0 < length self.old.seats.items }
         requires within { slot < length self.old.slots.items }
-        ensures ok { OnOk result (shown self.new
-            ≡ brought (shown self.old) appliance.0 (Effect.Enter slot) reply.now) }
-        ensures err { OnErr result (shown self.new ≡ shown self.old) }
+        ensures ok { OnOk result (model_of_tables self.new
+            ≡ model_after_effect (model_of_tables self.old) appliance.0
+            (Effect.Enter slot) reply.now) }
+        ensures err { OnErr result (model_of_tables self.new ≡ model_of_tables self.old) }
     {
         match reply {
             Reply::Attached { report } => self.enter(appliance, slot, report),
@@ -180,9 +183,9 @@ impl Model {
     fn enter(&mut self, appliance: ApplianceNo, slot: u32, report: &Report) -> Result<(), NoMemory>
         requires known { appliance.0 < length self.old.seats.items }
         requires within { slot < length self.old.slots.items }
-        ensures ok { OnOk result (shown self.new
-            ≡ entered (shown self.old) appliance.0 slot report.now) }
-        ensures err { OnErr result (shown self.new ≡ shown self.old) }
+        ensures ok { OnOk result (model_of_tables self.new
+            ≡ model_after_attach (model_of_tables self.old) appliance.0 slot report.now) }
+        ensures err { OnErr result (model_of_tables self.new ≡ model_of_tables self.old) }
     {
         let alloc = self.alloc;
         let state = &mut self.slots[slot as usize];
@@ -196,7 +199,8 @@ impl Model {
     // The appliance's session of the slot has ended, and it owns it no longer.
     fn leave(&mut self, appliance: ApplianceNo, slot: u32)
         requires { appliance.0 < length self.old.seats.items }
-        ensures { shown self.new ≡ left (shown self.old) appliance.0 slot }
+        ensures { model_of_tables self.new
+            ≡ model_after_detach (model_of_tables self.old) appliance.0 slot }
     {
         self.disown(appliance, slot);
         let seat = &mut self.seats[appliance.0 as usize];
@@ -205,10 +209,10 @@ impl Model {
     }
 
     fn disown(&mut self, appliance: ApplianceNo, slot: u32)
-        ensures moved { shown self.new ≡ record
-            (shown self.old) {
-              slots = at (shown self.old).slots slot
-                  (given_back ((shown self.old).slots slot) appliance.0);
+        ensures moved { model_of_tables self.new ≡ record
+            (model_of_tables self.old) {
+              slots = at (model_of_tables self.old).slots slot
+                  (slot_without_owner ((model_of_tables self.old).slots slot) appliance.0);
             } }
         ensures seats { length self.new.seats.items ≡ length self.old.seats.items }
     {
@@ -224,10 +228,11 @@ impl Model {
     fn make(&mut self, appliance: ApplianceNo, slot: u32) -> Result<(), NoMemory>
         requires known { appliance.0 < length self.old.seats.items }
         requires within { slot < length self.old.slots.items }
-        ensures ok { OnOk result (shown self.new
-            ≡ rested (shown self.old) appliance.0 (done_at (shown self.old) (Some slot))
-            ((shown self.old).sessions appliance.0)) }
-        ensures err { OnErr result (shown self.new ≡ shown self.old) }
+        ensures ok { OnOk result (model_of_tables self.new
+            ≡ model_at_rest (model_of_tables self.old) appliance.0
+            (done_at (model_of_tables self.old) (Some slot))
+            ((model_of_tables self.old).sessions appliance.0)) }
+        ensures err { OnErr result (model_of_tables self.new ≡ model_of_tables self.old) }
     {
         let alloc = self.alloc;
         let state = &mut self.slots[slot as usize];
@@ -240,16 +245,17 @@ impl Model {
     // The command is refused, and a change of its own is given up.
     fn refuse(&mut self, appliance: ApplianceNo, slot: Option<u32>)
         requires { appliance.0 < length self.old.seats.items }
-        ensures { shown self.new ≡ rested (shown self.old) appliance.0
-            (refused_at (shown self.old) appliance.0 slot) ((shown self.old).sessions appliance.0) }
+        ensures { model_of_tables self.new ≡ model_at_rest (model_of_tables self.old) appliance.0
+            (refused_at (model_of_tables self.old) appliance.0 slot)
+            ((model_of_tables self.old).sessions appliance.0) }
     {
         self.give_up(appliance, slot);
         self.run(appliance, None);
     }
 
     fn give_up(&mut self, appliance: ApplianceNo, slot: Option<u32>)
-        ensures moved { shown self.new ≡ record
-            (shown self.old) { slots = refused_at (shown self.old) appliance.0 slot } }
+        ensures moved { model_of_tables self.new ≡ record
+            (model_of_tables self.old) { slots = refused_at (model_of_tables self.old) appliance.0 slot } }
         ensures seats { length self.new.seats.items ≡ length self.old.seats.items }
     {
         let Some(slot) = slot else {
@@ -265,7 +271,8 @@ impl Model {
     // The appliance owns nothing, has no session and is in no command.
     fn forget(&mut self, appliance: ApplianceNo)
         requires { appliance.0 < length self.old.seats.items }
-        ensures { shown self.new ≡ forgotten (shown self.old) appliance.0 }
+        ensures { model_of_tables self.new ≡ model_without_sessions
+            (model_of_tables self.old) appliance.0 }
     {
         disown_all(&mut self.slots, appliance.0);
         let seat = &mut self.seats[appliance.0 as usize];

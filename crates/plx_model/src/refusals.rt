@@ -57,18 +57,19 @@ impl Refusals {
     ghost use Rattle.std.specs.Prelude.{◌≡◌, ◌↔◌, ◌++◌, [], IsTrue};
     ghost use Rattle.plx_commands.specs.Facts.{is_none};
     ghost use Rattle.plx_commands.specs.Replies.{number_of};
-    ghost use Rattle.plx_model.specs.Shown.{IsFoundedIn, IsWornAt, listed, listed_claims};
+    ghost use Rattle.plx_model.specs.Shown.{IsFoundedIn, IsWornAt, listed_refusals, listed_claims};
 
     // Whether there is none, apart from a claim that the model knows nothing of.
     pub fn is_empty(&self) -> bool
-        ensures { result ≡ is_none (listed self.now) }
+        ensures { result ≡ is_none (listed_refusals self.now) }
     {
         !self.attached && !self.not_attached && self.images.is_empty()
     }
 
     // Whether the reply is among them, where it rests on a fact.
     pub fn found(&self, reply: &Reply) -> bool
-        ensures { IsTrue result ↔ IsFoundedIn (listed self.now ++ listed_claims self.now) reply.now }
+        ensures { IsTrue result ↔ IsFoundedIn
+            (listed_refusals self.now ++ listed_claims self.now) reply.now }
     {
         match reply {
             Reply::NotAttached => self.not_attached,
@@ -99,7 +100,7 @@ impl Refusals {
 
     // Whether there is none, where the reply is an Ok.
     pub fn allow(&self, reply: &Reply) -> bool
-        ensures { IsTrue result ↔ (number_of reply.now ≡ 0 → listed self.now ≡ []) }
+        ensures { IsTrue result ↔ (number_of reply.now ≡ 0 → listed_refusals self.now ≡ []) }
     {
         number_of(reply) != OK || self.is_empty()
     }

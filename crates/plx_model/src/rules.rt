@@ -16,13 +16,14 @@ impl Model {
     ghost use Rattle.plx_commands.specs.Model.{has_all, owns, owns_all};
     ghost use Rattle.plx_commands.specs.Replies.{may_claim, number_of};
     ghost use Rattle.plx_commands.specs.Reports.{IsReported};
-    ghost use Rattle.plx_model.specs.Effects.{slots_in};
-    ghost use Rattle.plx_model.specs.Shown.{listed, listed_images, shown, slot_of};
+    ghost use Rattle.plx_model.specs.Effects.{slot_list};
+    ghost use Rattle.plx_model.specs.Shown.{listed_refusals, listed_images, model_of_tables, slot_of};
 
     // What is kept of the slot, if there is such a slot.
     fn state(&self, slot: u32) -> Option<&SlotState>
         ensures within { IfSome result (λ state. slot < length self.now.slots.items) }
-        ensures shown { IfSome result (λ state. (shown self.now).slots slot ≡ slot_of state.now) }
+        ensures shown { IfSome result (λ state. (model_of_tables self.now).slots slot
+            ≡ slot_of state.now) }
         ensures past { IfNone result (length self.now.slots.items ≤ slot) }
     {
         let index = slot as usize;
@@ -34,7 +35,7 @@ impl Model {
 
     // Whether the appliance owns the image of the slot.
     pub(crate) fn is_owner(&self, slot: u32, appliance: u32) -> bool
-        ensures owner { result ≡ owns ((shown self.now).slots slot).owner appliance }
+        ensures owner { result ≡ owns ((model_of_tables self.now).slots slot).owner appliance }
         ensures within { IsTrue result → slot < length self.now.slots.items }
     {
         match self.state(slot) {
@@ -45,7 +46,7 @@ impl Model {
 
     // Whether the appliance owns the image of the slot, if one is named.
     pub(crate) fn owns_all(&self, appliance: u32, slot: Option<u32>) -> bool
-        ensures { result ≡ owns_all (shown self.now) appliance (slots_in slot) }
+        ensures { result ≡ owns_all (model_of_tables self.now) appliance (slot_list slot) }
     {
         match slot {
             Some(slot) => self.is_owner(slot, appliance),
@@ -60,7 +61,8 @@ impl Model {
         command: &Command,
         reply: &Reply,
     ) -> bool
-        ensures { IsTrue result ↔ IsByOwner (shown self.now) appliance.0 command.now reply.now }
+        ensures { IsTrue result ↔ IsByOwner
+            (model_of_tables self.now) appliance.0 command.now reply.now }
     {
         number_of(reply) != OK || self.owns_all(appliance.0, of_owner(command))
     }
@@ -68,14 +70,14 @@ impl Model {
     // Whether the reply's value is the one that the model has, where it is an Ok.
     pub(crate) fn is_value(&self, command: &Command, reply: &Reply) -> bool
         ensures { IsTrue result ↔ (number_of reply.now ≡ 0
-            → HasValue (shown self.now) command.now reply.now) }
+            → HasValue (model_of_tables self.now) command.now reply.now) }
     {
         number_of(reply) != OK || self.has_value(command, reply)
     }
 
     // Whether the reply is the command's Ok, with the value that the model has.
     fn has_value(&self, command: &Command, reply: &Reply) -> bool
-        ensures { IsTrue result ↔ HasValue (shown self.now) command.now reply.now }
+        ensures { IsTrue result ↔ HasValue (model_of_tables self.now) command.now reply.now }
     {
         match command {
             Command::Attach { slot } => self.is_attached(*slot, reply),
@@ -105,7 +107,8 @@ impl Model {
 
     // Whether the reply is a report of the image in the slot, or of its change.
     fn is_attached(&self, slot: SlotNo, reply: &Reply) -> bool
-        ensures { IsTrue result ↔ HasValue (shown self.now) (Command.Attach slot) reply.now }
+        ensures { IsTrue result ↔ HasValue (model_of_tables self.now)
+            (Command.Attach slot) reply.now }
     {
         match reply {
             Reply::Attached { report } => self.is_reported(slot, report),
@@ -115,7 +118,8 @@ impl Model {
 
     fn is_reported(&self, slot: SlotNo, report: &Report) -> bool
         ensures { IsTrue result ↔ ((slot.0 < length self.now.slots.items) × IsReported
-            ((shown self.now).slots slot.0).image ((shown self.now).slots slot.0).change
+            ((model_of_tables self.now).slots slot.0).image
+            ((model_of_tables self.now).slots slot.0).change
             report.now) }
     {
         match self.state(slot.0) {
@@ -126,7 +130,8 @@ impl Model {
 
     // Whether the reply has the bytes of the virtual block.
     fn is_data(&self, slot: SlotNo, vblock: u32, reply: &Reply) -> bool
-        ensures { IsTrue result ↔ HasValue (shown self.now) (Command.Read slot vblock) reply.now }
+        ensures { IsTrue result ↔ HasValue (model_of_tables self.now)
+            (Command.Read slot vblock) reply.now }
     {
         match reply {
             Reply::Data { payload } => self.is_content(slot, vblock, payload),
@@ -136,7 +141,8 @@ impl Model {
 
     fn is_content(&self, slot: SlotNo, vblock: u32, payload: &Payload) -> bool
         ensures { IsTrue result ↔ ((slot.0 < length self.now.slots.items)
-            × (bytes_of payload.now ≡ ((shown self.now).slots slot.0).image.content vblock)) }
+            × (bytes_of payload.now
+            ≡ ((model_of_tables self.now).slots slot.0).image.content vblock)) }
     {
         match self.state(slot.0) {
             Some(state) => holds(&state.content, vblock, payload),
@@ -147,7 +153,7 @@ impl Model {
     // Whether the number is that of the image's next write.
     fn is_next(&self, slot: SlotNo, number: u64) -> bool
         ensures { IsTrue result ↔ ((slot.0 < length self.now.slots.items)
-            × (number ≡ ((shown self.now).slots slot.0).image.writes + 1)) }
+            × (number ≡ ((model_of_tables self.now).slots slot.0).image.writes + 1)) }
     {
         match self.state(slot.0) {
             Some(state) => number.checked_sub(1) == Some(state.writes),
@@ -157,7 +163,8 @@ impl Model {
 
     // Whether the reply has the number of the image's last write.
     fn is_flushed(&self, slot: SlotNo, reply: &Reply) -> bool
-        ensures { IsTrue result ↔ HasValue (shown self.now) (Command.Flush slot) reply.now }
+        ensures { IsTrue result ↔ HasValue (model_of_tables self.now)
+            (Command.Flush slot) reply.now }
     {
         match reply {
             Reply::Flushed { applied, .. } => self.is_last(slot, *applied),
@@ -167,7 +174,7 @@ impl Model {
 
     fn is_last(&self, slot: SlotNo, number: u64) -> bool
         ensures { IsTrue result ↔ ((slot.0 < length self.now.slots.items)
-            × (number ≡ ((shown self.now).slots slot.0).image.writes)) }
+            × (number ≡ ((model_of_tables self.now).slots slot.0).image.writes)) }
     {
         match self.state(slot.0) {
             Some(state) => number == state.writes,
@@ -178,7 +185,8 @@ impl Model {
     // Which refusals' facts hold of the appliance's command.
     pub(crate) fn refusals(&self, appliance: ApplianceNo, command: &Command) -> Refusals
         requires { appliance.0 < length self.now.seats.items }
-        ensures listed { listed result ≡ refusals (shown self.now) appliance.0 command.now }
+        ensures listed { listed_refusals result
+            ≡ refusals (model_of_tables self.now) appliance.0 command.now }
         ensures claims { result.claims ≡ may_claim command.now }
     {
         let has = self.has_all(appliance, named(command));
@@ -194,7 +202,8 @@ impl Model {
     // Whether the appliance has a session of the slot, if one is named.
     fn has_all(&self, appliance: ApplianceNo, slot: Option<u32>) -> bool
         requires { appliance.0 < length self.now.seats.items }
-        ensures { result ≡ has_all ((shown self.now).sessions appliance.0) (slots_in slot) }
+        ensures { result ≡ has_all ((model_of_tables self.now).sessions appliance.0)
+            (slot_list slot) }
     {
         match slot {
             Some(slot) => self.has_session(appliance, slot),
@@ -204,7 +213,7 @@ impl Model {
 
     fn has_session(&self, appliance: ApplianceNo, slot: u32) -> bool
         requires { appliance.0 < length self.now.seats.items }
-        ensures { result ≡ (shown self.now).sessions appliance.0 slot }
+        ensures { result ≡ (model_of_tables self.now).sessions appliance.0 slot }
     {
         let seat = &self.seats[appliance.0 as usize];
         seat.has(slot)
@@ -212,7 +221,7 @@ impl Model {
 
     // Which refusals' facts hold of the image in the slot that the command names.
     fn of_images(&self, command: &Command) -> ImageRefusals
-        ensures { listed_images result ≡ of_images (shown self.now) command.now }
+        ensures { listed_images result ≡ of_images (model_of_tables self.now) command.now }
     {
         match command {
             Command::Attach { slot } => ImageRefusals {

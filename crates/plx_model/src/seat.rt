@@ -14,11 +14,11 @@ pub struct Seat {
 impl Seat {
     ghost use Rattle.std.specs.Prelude.{◌≡◌, ◌<◌, None, true, false};
     ghost use Rattle.plx_commands.specs.Places.{at};
-    ghost use Rattle.plx_model.specs.Shown.{sessions_of};
+    ghost use Rattle.plx_model.specs.Shown.{seat_sessions};
 
     // The seat of an appliance without a session, and in no command.
     pub fn new() -> Seat
-        ensures sessions { sessions_of result ≡ (λ slot. false) }
+        ensures sessions { seat_sessions result ≡ (λ slot. false) }
         ensures running { result.running ≡ None }
     {
         Seat {
@@ -29,7 +29,7 @@ impl Seat {
 
     // Whether the appliance has a session of the slot.
     pub fn has(&self, slot: u32) -> bool
-        ensures { result ≡ sessions_of self.now slot }
+        ensures { result ≡ seat_sessions self.now slot }
     {
         let index = slot as usize;
         if index < MAX_IMAGES {
@@ -42,7 +42,7 @@ impl Seat {
     // The appliance has a session of the slot from now on.
     pub fn open(&mut self, slot: u32)
         requires { slot < 256 }
-        ensures sessions { sessions_of self.new ≡ at (sessions_of self.old) slot true }
+        ensures sessions { seat_sessions self.new ≡ at (seat_sessions self.old) slot true }
         ensures running { self.new.running ≡ self.old.running }
     {
         self.sessions[slot as usize] = true;
@@ -50,7 +50,7 @@ impl Seat {
 
     // The appliance has no session of the slot any more.
     pub fn close(&mut self, slot: u32)
-        ensures sessions { sessions_of self.new ≡ at (sessions_of self.old) slot false }
+        ensures sessions { seat_sessions self.new ≡ at (seat_sessions self.old) slot false }
         ensures running { self.new.running ≡ self.old.running }
     {
         let index = slot as usize;
@@ -61,7 +61,7 @@ impl Seat {
 
     // The appliance has no session, and is in no command.
     pub fn forget(&mut self)
-        ensures sessions { sessions_of self.new ≡ (λ slot. false) }
+        ensures sessions { seat_sessions self.new ≡ (λ slot. false) }
         ensures running { self.new.running ≡ None }
     {
         *self = Seat::new();

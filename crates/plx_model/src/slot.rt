@@ -49,10 +49,10 @@ impl SlotState {
     ghost use Rattle.plx_commands.specs.Facts.{of_block, of_generation, of_none, of_size, of_some, of_writes};
     ghost use Rattle.plx_commands.specs.Images.{report_of};
     ghost use Rattle.plx_commands.specs.Model.{first_slot, owns};
-    ghost use Rattle.plx_commands.specs.Moves.{attached, given_back, given_up, made, under_way};
+    ghost use Rattle.plx_commands.specs.Moves.{slot_after_attach, slot_without_owner, given_up, slot_after_change, under_way};
     ghost use Rattle.plx_commands.specs.Reports.{IsReported};
-    ghost use Rattle.plx_commands.specs.Slots.{after};
-    ghost use Rattle.plx_model.specs.Shown.{CanChange, changed_by, changed_image, image_of, listed_images, reported, slot_of};
+    ghost use Rattle.plx_commands.specs.Slots.{image_after};
+    ghost use Rattle.plx_model.specs.Shown.{CanChange, changed_by, changed_image, shown_image, listed_images, is_report_of, slot_of};
 
     // A slot before the first entry.
     pub fn new(alloc: Global) -> SlotState
@@ -83,7 +83,7 @@ impl SlotState {
 
     // What an attach reports of the image.
     fn report(&self) -> Report
-        ensures { result ≡ report_of (image_of self.now) }
+        ensures { result ≡ report_of (shown_image self.now) }
     {
         Report {
             live: self.live,
@@ -98,7 +98,7 @@ impl SlotState {
 
     // What an attach reports of the image that the change makes.
     fn report_after(&self, change: &Change) -> Report
-        ensures { result ≡ report_of (changed_image (image_of self.now) change.now) }
+        ensures { result ≡ report_of (changed_image (shown_image self.now) change.now) }
     {
         match change {
             Change::Write { number, .. } => {
@@ -133,19 +133,20 @@ impl SlotState {
 
     // Whether the report is the image's, or that of its change.
     pub fn is_reported(&self, report: &Report) -> bool
-        ensures { IsTrue result ↔ IsReported (slot_of self.now).image (slot_of self.now).change report.now }
+        ensures { IsTrue result ↔ IsReported (slot_of self.now).image
+            (slot_of self.now).change report.now }
     {
         self.is_own(report) || self.is_of_change(report)
     }
 
     fn is_own(&self, report: &Report) -> bool
-        ensures { result ≡ reported (Some (image_of self.now)) report.now }
+        ensures { result ≡ is_report_of (Some (shown_image self.now)) report.now }
     {
         is_same(report, &self.report())
     }
 
     fn is_of_change(&self, report: &Report) -> bool
-        ensures { result ≡ reported (slot_of self.now).change report.now }
+        ensures { result ≡ is_report_of (slot_of self.now).change report.now }
     {
         match &self.change {
             Some(change) => is_same(report, &self.report_after(change)),
@@ -155,9 +156,9 @@ impl SlotState {
 
     // The change that a command makes of the image.
     fn change_by(&self, alloc: Global, command: &Command) -> Result<Option<Change>, NoMemory>
-        ensures { IfOk result (λ change. CanChange (image_of self.now) command.now
-            → changed_by (image_of self.now) change
-            ≡ Some (after (λ slot. image_of self.now) 0 command.now)) }
+        ensures { IfOk result (λ change. CanChange (shown_image self.now) command.now
+            → changed_by (shown_image self.now) change
+            ≡ Some (image_after (λ slot. shown_image self.now) 0 command.now)) }
     {
         match command {
             Command::Create { size, label, .. } => {
@@ -199,8 +200,9 @@ impl SlotState {
 
     // A command's change is under way.
     pub fn begin(&mut self, alloc: Global, command: &Command) -> Result<(), NoMemory>
-        ensures ok { OnOk result (CanChange (image_of self.old) command.now → slot_of self.new
-            ≡ under_way (slot_of self.old) (after (λ slot. image_of self.old) 0 command.now)) }
+        ensures ok { OnOk result (CanChange (shown_image self.old) command.now → slot_of self.new
+            ≡ under_way (slot_of self.old)
+            (image_after (λ slot. shown_image self.old) 0 command.now)) }
         ensures err { OnErr result (slot_of self.new ≡ slot_of self.old) }
     {
         let change = self.change_by(alloc, command)?;
@@ -217,7 +219,7 @@ impl SlotState {
 
     // The change under way is made.
     pub fn make(&mut self, alloc: Global) -> Result<(), NoMemory>
-        ensures ok { OnOk result (slot_of self.new ≡ made (slot_of self.old)) }
+        ensures ok { OnOk result (slot_of self.new ≡ slot_after_change (slot_of self.old)) }
         ensures err { OnErr result (slot_of self.new ≡ slot_of self.old) }
     {
         match self.change.take() {
@@ -269,7 +271,7 @@ impl SlotState {
 
     // The image was never written, and has no snapshot.
     fn empty(&mut self, alloc: Global)
-        ensures image { image_of self.new ≡ record (image_of self.old) {
+        ensures image { shown_image self.new ≡ record (shown_image self.old) {
           writes = 0;
           content = λ vblock. zeros;
           frozen = [];
@@ -285,7 +287,7 @@ impl SlotState {
     // The report decides which image it is, and the appliance owns it.
     pub fn attach(&mut self, alloc: Global, report: &Report, appliance: u32) -> Result<(), NoMemory>
         ensures ok { OnOk result (slot_of self.new
-            ≡ attached (slot_of self.old) appliance report.now) }
+            ≡ slot_after_attach (slot_of self.old) appliance report.now) }
         ensures err { OnErr result (slot_of self.new ≡ slot_of self.old) }
     {
         if self.is_own(report) {
@@ -299,7 +301,7 @@ impl SlotState {
 
     // The appliance owns the image no longer.
     pub fn disown(&mut self, appliance: u32)
-        ensures { slot_of self.new ≡ given_back (slot_of self.old) appliance }
+        ensures { slot_of self.new ≡ slot_without_owner (slot_of self.old) appliance }
     {
         if self.is_owned_by(appliance) {
             self.owner = None;
@@ -308,7 +310,7 @@ impl SlotState {
 
     // What is refused of a command that wants an image.
     pub fn of_use(&self) -> ImageRefusals
-        ensures { listed_images result ≡ of_none (image_of self.now) }
+        ensures { listed_images result ≡ of_none (shown_image self.now) }
     {
         ImageRefusals {
             no_image: !self.live,
@@ -320,7 +322,8 @@ impl SlotState {
 
     // What is refused of a read of the block.
     pub fn of_read(&self, vblock: u32) -> ImageRefusals
-        ensures { listed_images result ≡ of_none (image_of self.now) ++ of_block (image_of self.now) vblock }
+        ensures { listed_images result ≡ of_none (shown_image self.now) ++ of_block
+            (shown_image self.now) vblock }
     {
         ImageRefusals {
             no_image: !self.live,
@@ -336,8 +339,8 @@ impl SlotState {
 
     // What is refused of a write of the block.
     pub fn of_write(&self, vblock: u32) -> ImageRefusals
-        ensures { listed_images result ≡ of_none (image_of self.now)
-            ++ (of_block (image_of self.now) vblock ++ of_writes (image_of self.now)) }
+        ensures { listed_images result ≡ of_none (shown_image self.now)
+            ++ (of_block (shown_image self.now) vblock ++ of_writes (shown_image self.now)) }
     {
         ImageRefusals {
             no_image: !self.live,
@@ -357,8 +360,8 @@ impl SlotState {
 
     // What is refused of a create of an image of this size.
     pub fn of_create(&self, size: u32) -> ImageRefusals
-        ensures { listed_images result ≡ of_some (image_of self.now)
-            ++ (of_size size ++ of_generation (image_of self.now)) }
+        ensures { listed_images result ≡ of_some (shown_image self.now)
+            ++ (of_size size ++ of_generation (shown_image self.now)) }
     {
         ImageRefusals {
             no_image: false,

@@ -6,7 +6,7 @@ use Rattle.plx_gate.specs.declared.image.ImageRecord.{ImageRecord}
 use Rattle.plx_geom.specs.Geometry.{image_lease, lease_at, record_at}
 use Rattle.plx_rules.specs.Part.{Part}
 use Rattle.plx_rules.specs.Claims.{ClaimEnd, ClaimHeld, ClaimBusy, ClaimLost, ClaimReadFault, ClaimWriteFault, ClaimDamaged, claim_part}
-use Rattle.plx_rules.specs.Ends.{End, ends, lost, read_failed, write_failed, read_then, ends_in_time, damaged}
+use Rattle.plx_rules.specs.Ends.{End, ends, lost, read_failed, write_failed, read_then, ends_in_time, damaged_part}
 use Rattle.plx_rules.specs.Holds.{Hold, Held}
 use Rattle.plx_rules.specs.InUse.{InUse, lease_name}
 use Rattle.plx_rules.specs.Loading.{LoadEnd, Loaded, LoadReadFault, LoadDamaged, load_part}
@@ -28,7 +28,7 @@ attach_ends s known image until session =
 abbrev pub after_load : Setting → Known → (image until : ℕ) → ImageRecord → LoadEnd → Part End
 after_load s known image until kept (Loaded writes) = attach_ends s known image until (record { image = kept; writes = writes })
 after_load s known image until kept (LoadReadFault block) = read_failed block known
-after_load s known image until kept (LoadDamaged block) = damaged s known (image_use image until) block
+after_load s known image until kept (LoadDamaged block) = damaged_part s known (image_use image until) block
 
 -- the record is live, and its journal is read; or the slot is free
 abbrev pub load_journal : Setting → Known → (image until : ℕ) → ImageRecord → Bool → Part End
@@ -38,7 +38,7 @@ load_journal s known image until kept false = attach_ends s known image until (r
 
 -- the record was read
 abbrev pub after_record : Setting → Known → (image until : ℕ) → Option ImageRecord → Part End
-after_record s known image until None = damaged s known (image_use image until) (record_at s.geometry image)
+after_record s known image until None = damaged_part s known (image_use image until) (record_at s.geometry image)
 after_record s known image until (Some kept) = load_journal s known image until kept (is_live kept)
 
 -- the lease is held, and the record is read

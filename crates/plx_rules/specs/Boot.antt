@@ -6,10 +6,12 @@ use Rattle.plx_disk.specs.declared.ask.Ask.{Ask}
 use Rattle.plx_disk.specs.declared.ask.Ask.TheVariants as ask
 use Rattle.plx_disk.specs.declared.ask.Answer.{Answer}
 use Rattle.plx_disk.specs.declared.ask.Answer.TheVariants as answer
+use Rattle.plx_geom.specs.Geometry.{Geometry}
 use Rattle.plx_rules.specs.Part.{Part, Ends, ReadThen, WriteThen, ClockThen, UntilThen, answered, standing, bytes_out}
 use Rattle.plx_rules.specs.Commands.{IsBuilt, IsWellFormed, command_part}
 use Rattle.plx_rules.specs.Ends.{End}
-use Rattle.plx_rules.specs.Holds.{Hold, no_holds, after_answer, sample_of, after_reply, after_first}
+use Rattle.plx_rules.specs.Hands.{found_by, hand_answered, hand_held}
+use Rattle.plx_rules.specs.Holds.{Hold, no_holds, after_answer, sample_of, holds_after_reply, after_first}
 use Rattle.plx_rules.specs.Session.{Known, nothing_known}
 use Rattle.plx_rules.specs.Settings.{Setting}
 
@@ -24,10 +26,13 @@ pub data Place : Type 0 where
   Begins : Known → Command → Place
   In : Known → Command → Part End → Place
 
--- what a boot holds, by the block of each lease; its last answer, where that was a reading; and where it stands
+-- what a boot holds, by the block of each lease; the blocks in its hand, in the order in which they were taken; its last answer, where that was a
+-- reading; the block that it read last, with the bytes, where its last ask was a read; and where it stands
 pub record Position : Type 0 where
   pub holds : ℕ → Hold
+  pub hand : List ℕ
   pub sample : Option ℕ
+  pub found : Option (ℕ × List ℕ)
   pub place : Place
 
 -- the place of a boot that is in a command of which this is the rest: where that is over, in none
@@ -40,23 +45,34 @@ place_of known command (UntilThen from rest) = In known command (UntilThen from 
 
 -- what is held where this is the rest of a command: its reply may drop all
 abbrev pub after_part : Part End → (ℕ → Hold) → ℕ → Hold
-after_part (Ends end) holds = after_reply end.reply holds
+after_part (Ends end) holds = holds_after_reply end.reply holds
 after_part other holds = holds
 
--- the position at which this is the rest of a command
-abbrev pub goes_to : Known → Command → (ℕ → Hold) → Option ℕ → Part End → Position
-goes_to known command holds sample part = record { holds = after_part part holds; sample = sample; place = place_of known command part }
+-- the position at which this is the rest of a command: of the hand that stays whose extents are held
+abbrev pub goes_to : Geometry → Known → Command → (ℕ → Hold) → List ℕ → Option ℕ → Option (ℕ × List ℕ) → Part End → Position
+goes_to g known command holds hand sample found part = record {
+  holds = after_part part holds;
+  hand = hand_held g (after_part part holds) hand;
+  sample = sample;
+  found = found;
+  place = place_of known command part;
+}
 
 -- the place once a command begins; it begins where none runs
-abbrev pub begun : Command → Place → Place
-begun command (Idle known) = Begins known command
-begun command other = other
+abbrev pub place_after_begin : Command → Place → Place
+place_after_begin command (Idle known) = Begins known command
+place_after_begin command other = other
+
+-- what a command asks after its first reading: that drops expired leases, and the blocks in hand of their extents
+abbrev pub first_part : Setting → Known → (reading : ℕ) → Command → Position → Part End
+first_part s known reading command p =
+    command_part s known (after_first s.geometry known reading p.holds) (hand_held s.geometry (after_first s.geometry known reading p.holds) p.hand) reading command
 
 -- the first reading of a command drops expired leases, and then the command asks
 abbrev pub first_read : Setting → Known → Command → Answer → Position → Position
 first_read s known command (answer.Reading reading) p =
-    goes_to known command (after_first s.geometry known reading p.holds) (Some reading)
-    (command_part s known (after_first s.geometry known reading p.holds) reading command)
+    goes_to s.geometry known command (after_first s.geometry known reading p.holds) p.hand (Some reading) None
+    (first_part s known reading command p)
 first_read s known command other p = p
 
 -- where an answer leads from a place
@@ -64,13 +80,13 @@ abbrev pub went_on : Setting → Ask → List ℕ → Answer → Position → Pl
 went_on s ask bytes answer p (Idle known) = p
 went_on s ask bytes answer p (Begins known command) = first_read s known command answer p
 went_on s ask bytes answer p (In known command part) =
-    goes_to known command (after_answer p.sample ask bytes answer p.holds) (sample_of answer) (answered part answer)
+    goes_to s.geometry known command (after_answer p.sample ask bytes answer p.holds) (hand_answered s.geometry p.found ask bytes answer p.hand)
+    (sample_of answer) (found_by ask answer) (answered part answer)
 
 -- where a boot stands after its log, whose newest happening stands first
 abbrev pub position : Setting → List Happening → Position
-position s [] = record { holds = no_holds; sample = None; place = Idle (nothing_known 0) }
-position s (Began command ∷ older) =
-    record { holds = (position s older).holds; sample = None; place = begun command (position s older).place }
+position s [] = record { holds = no_holds; hand = []; sample = None; found = None; place = Idle (nothing_known 0) }
+position s (Began command ∷ older) = record (position s older) { sample = None; found = None; place = place_after_begin command (position s older).place }
 position s (Asked ask bytes answer ∷ older) = went_on s ask bytes answer (position s older) (position s older).place
 
 -- the ask that stands at a place
@@ -96,7 +112,7 @@ reply_of (UntilThen from rest) = None
 -- the reply to which an answer leads
 abbrev pub first_reply : Setting → Known → Command → Answer → Position → Option Reply
 first_reply s known command (answer.Reading reading) p =
-    reply_of (command_part s known (after_first s.geometry known reading p.holds) reading command)
+    reply_of (first_part s known reading command p)
 first_reply s known command other p = None
 
 -- the same, at any place

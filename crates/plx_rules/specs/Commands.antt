@@ -28,6 +28,7 @@ use Rattle.plx_rules.specs.Journal.{journal_slot}
 use Rattle.plx_rules.specs.Records.{is_live, generation_of, size_of, made_record}
 use Rattle.plx_rules.specs.Session.{Session, Known, with_session, new_session, write_count, content, with_write}
 use Rattle.plx_rules.specs.Settings.{Setting}
+use Rattle.plx_rules.specs.Space.{reserve_part, retire_part}
 use Rattle.plx_rules.specs.Times.{term}
 
 -- ---- commands of an attached image
@@ -153,9 +154,9 @@ IsBuilt (Delete slot) = Unit {0}
 IsBuilt (Read slot vblock) = Unit {0}
 IsBuilt (Write slot vblock payload) = Unit {0}
 IsBuilt (Flush slot) = ⊥
-IsBuilt (Reserve count) = ⊥
+IsBuilt (Reserve count) = Unit {0}
 IsBuilt Renew = Unit {0}
-IsBuilt Retire = ⊥
+IsBuilt Retire = Unit {0}
 IsBuilt Reclaim = ⊥
 
 -- what a command carries is within its limits: a label, a block of 4,096 bytes, a count from 1 to 256
@@ -178,17 +179,17 @@ of_attached s known holds reading image rest =
     attached_part s known image (known.sessions image) (nat_lt image s.geometry.images) (holds (lease_at (image_lease image))) reading rest
 
 -- what a command asks after its first reading; one that isn't built asks nothing
-abbrev pub command_part : Setting → Known → (holds : ℕ → Hold) → (reading : ℕ) → Command → Part End
-command_part s known holds reading (Attach slot) =
+abbrev pub command_part : Setting → Known → (holds : ℕ → Hold) → (hand : List ℕ) → (reading : ℕ) → Command → Part End
+command_part s known holds hand reading (Attach slot) =
     attach_part s known slot.0 (known.sessions slot.0) (nat_lt slot.0 s.geometry.images) (holds (lease_at (image_lease slot.0)))
-command_part s known holds reading (Detach slot) = of_attached s known holds reading slot.0 (detach_part s known slot.0)
-command_part s known holds reading (Create slot size label) = of_attached s known holds reading slot.0 (create_part s known slot.0 size label)
-command_part s known holds reading (Delete slot) = of_attached s known holds reading slot.0 (delete_part s known slot.0)
-command_part s known holds reading (Read slot vblock) = of_attached s known holds reading slot.0 (read_part s known slot.0 vblock)
-command_part s known holds reading (Write slot vblock payload) = of_attached s known holds reading slot.0 (write_part s known slot.0 vblock (bytes_of payload))
-command_part s known holds reading Renew =
+command_part s known holds hand reading (Detach slot) = of_attached s known holds reading slot.0 (detach_part s known slot.0)
+command_part s known holds hand reading (Create slot size label) = of_attached s known holds reading slot.0 (create_part s known slot.0 size label)
+command_part s known holds hand reading (Delete slot) = of_attached s known holds reading slot.0 (delete_part s known slot.0)
+command_part s known holds hand reading (Read slot vblock) = of_attached s known holds reading slot.0 (read_part s known slot.0 vblock)
+command_part s known holds hand reading (Write slot vblock payload) = of_attached s known holds reading slot.0 (write_part s known slot.0 vblock (bytes_of payload))
+command_part s known holds hand reading Renew =
     in_time s known (attached_uses known holds s.geometry.images 0) reading (renew_part s known holds reading (lease_count s.geometry) 0)
-command_part s known holds reading (Flush slot) = ends reply.NotAttached known
-command_part s known holds reading (Reserve count) = ends reply.NotAttached known
-command_part s known holds reading Retire = ends reply.NotAttached known
-command_part s known holds reading Reclaim = ends reply.NotAttached known
+command_part s known holds hand reading (Flush slot) = ends reply.NotAttached known
+command_part s known holds hand reading (Reserve count) = reserve_part s known holds hand count
+command_part s known holds hand reading Retire = retire_part s known holds hand
+command_part s known holds hand reading Reclaim = ends reply.NotAttached known

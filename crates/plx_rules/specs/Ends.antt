@@ -47,5 +47,5 @@ abbrev pub ends_in_time : Setting → Known → List InUse → Reply → Known �
 ends_in_time s known uses reply after = ClockThen (λ reading. in_time s known uses reading (ends reply after))
 
 -- bytes outside the format were read at a block
-abbrev pub damaged : Setting → Known → List InUse → (block : ℕ) → Part End
-damaged s known uses block = ends_in_time s known uses (reply.Damaged (record { 0 = block })) known
+abbrev pub damaged_part : Setting → Known → List InUse → (block : ℕ) → Part End
+damaged_part s known uses block = ends_in_time s known uses (reply.Damaged (record { 0 = block })) known

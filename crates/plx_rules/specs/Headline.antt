@@ -20,15 +20,15 @@ starts_and_crashes (entry.Reply appliance reply ∷ others) = starts_and_crashes
 starts_and_crashes (entry.Crash appliance ∷ others) = entry.Crash appliance ∷ starts_and_crashes others
 
 -- a history with what one event tells: a start or a crash
-abbrev pub told_by : Event → List Entry → List Entry
-told_by (event.Start appliance command) others = entry.Start appliance command ∷ others
-told_by (event.Crash appliance) others = entry.Crash appliance ∷ others
-told_by event others = others
+abbrev pub told_of_event : Event → List Entry → List Entry
+told_of_event (event.Start appliance command) others = entry.Start appliance command ∷ others
+told_of_event (event.Crash appliance) others = entry.Crash appliance ∷ others
+told_of_event event others = others
 
 -- the starts and crashes of a history
 abbrev pub events_told : List Event → List Entry
 events_told [] = []
-events_told (event ∷ others) = told_by event (events_told others)
+events_told (event ∷ others) = told_of_event event (events_told others)
 
 -- the model before a world's trace
 abbrev pub model_before : World → Model

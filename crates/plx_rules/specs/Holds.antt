@@ -32,26 +32,26 @@ abbrev pub no_holds : ℕ → Hold
 no_holds = λ block. Nothing
 
 -- once a claim is done
-abbrev pub wrote : Option LeaseRecord → Hold
-wrote (Some (Claimed claim until)) = Wrote claim until
-wrote other = Nothing
+abbrev pub hold_after_claim : Option LeaseRecord → Hold
+hold_after_claim (Some (Claimed claim until)) = Wrote claim until
+hold_after_claim other = Nothing
 
 -- once a renewal is done
-abbrev pub renewed : Option LeaseRecord → Hold
-renewed (Some (Claimed claim until)) = Held claim until
-renewed other = Nothing
+abbrev pub hold_after_renewal : Option LeaseRecord → Hold
+hold_after_renewal (Some (Claimed claim until)) = Held claim until
+hold_after_renewal other = Nothing
 
 -- once a write is done: only writes of leases change what is held
 abbrev pub after_write : WriteKind → (block : ℕ) → List ℕ → (ℕ → Hold) → ℕ → Hold
-after_write kind.Claim block bytes holds = at holds block (wrote (read_lease bytes))
-after_write kind.Renew block bytes holds = at holds block (renewed (read_lease bytes))
+after_write kind.Claim block bytes holds = at holds block (hold_after_claim (read_lease bytes))
+after_write kind.Renew block bytes holds = at holds block (hold_after_renewal (read_lease bytes))
 after_write kind.Release block bytes holds = at holds block Nothing
 after_write other block bytes holds = holds
 
 -- once a claim that has waited is read again: its own record confirms it
-abbrev pub reread : Bool → Hold → Hold
-reread true held = held
-reread false held = Nothing
+abbrev pub hold_after_reread : Bool → Hold → Hold
+hold_after_reread true held = held
+hold_after_reread false held = Nothing
 
 -- once a lease is read: it may be free, or expired for the sample
 abbrev pub seen_by : Option LeaseRecord → (sample : ℕ) → Hold
@@ -64,23 +64,23 @@ seen_for None bytes = Nothing
 seen_for (Some sample) bytes = seen_by (read_lease bytes) sample
 
 -- once the block of a lease is read
-abbrev pub shown : Option ℕ → List ℕ → Hold → Hold
-shown sample bytes (Waited claim until) = reread (bytes_eq bytes (lease_bytes (Claimed claim until))) (Held claim until)
-shown sample bytes (Held claim until) = Held claim until
-shown sample bytes other = seen_for sample bytes
+abbrev pub hold_after_read : Option ℕ → List ℕ → Hold → Hold
+hold_after_read sample bytes (Waited claim until) = hold_after_reread (bytes_eq bytes (lease_bytes (Claimed claim until))) (Held claim until)
+hold_after_read sample bytes (Held claim until) = Held claim until
+hold_after_read sample bytes other = seen_for sample bytes
 
 -- once the clock was read: a claim has waited where 601 ms have passed since its sample, and its end isn't reached
-abbrev pub timed : ℕ → Hold → Hold
-timed reading (Wrote claim until) = if nat_le (claim.sample + wait) reading && nat_lt reading until then Waited claim until else Wrote claim until
-timed reading other = other
+abbrev pub hold_after_reading : ℕ → Hold → Hold
+hold_after_reading reading (Wrote claim until) = if nat_le (claim.sample + wait) reading && nat_lt reading until then Waited claim until else Wrote claim until
+hold_after_reading reading other = other
 
 -- what is held after an answer: after a write that failed or was missed nothing
 abbrev pub after_answer : Option ℕ → Ask → List ℕ → Answer → (ℕ → Hold) → ℕ → Hold
-after_answer sample (ask.Read block) bytes (answer.Bytes found) holds = at holds block.0 (shown sample found (holds block.0))
+after_answer sample (ask.Read block) bytes (answer.Bytes found) holds = at holds block.0 (hold_after_read sample found (holds block.0))
 after_answer sample (ask.Write kind block guard) bytes answer.Done holds = after_write kind block.0 bytes holds
 after_answer sample (ask.Write kind block guard) bytes answer.Fault holds = no_holds
 after_answer sample (ask.Write kind block guard) bytes (answer.Missed reading) holds = no_holds
-after_answer sample ask bytes (answer.Reading reading) holds = λ block. timed reading (holds block)
+after_answer sample ask bytes (answer.Reading reading) holds = λ block. hold_after_reading reading (holds block)
 after_answer sample ask bytes other holds = holds
 
 -- the reading that an answer is
@@ -89,9 +89,9 @@ sample_of (answer.Reading reading) = Some reading
 sample_of other = None
 
 -- what is held after a reply: after Lost nothing
-abbrev pub after_reply : Reply → (ℕ → Hold) → ℕ → Hold
-after_reply (reply.Lost lease until reading) holds = no_holds
-after_reply other holds = holds
+abbrev pub holds_after_reply : Reply → (ℕ → Hold) → ℕ → Hold
+holds_after_reply (reply.Lost lease until reading) holds = no_holds
+holds_after_reply other holds = holds
 
 -- the first reading of a command drops a lease without a session that it has reached; and no claim of an earlier command goes on
 abbrev pub first_hold : Option Session → (reading : ℕ) → Hold → Hold

@@ -4,6 +4,7 @@ use Rattle.plx_gate.specs.Descriptors.{read_descriptor}
 use Rattle.plx_gate.specs.declared.descriptor.Descriptor.{Descriptor}
 use Rattle.plx_gate.specs.declared.image.ImageRecord.{ImageRecord}
 use Rattle.plx_rules.specs.Records.{is_live, generation_of, size_of, applied_of}
+use Rattle.plx_rules.specs.declared.journaled.Journaled.{Journaled}
 
 -- the journal slot of the write with this number
 abbrev pub journal_slot : (slots number : ℕ) → ℕ
@@ -24,8 +25,8 @@ counted_of kept slots slot (Some None) = None
 counted_of kept slots slot (Some (Some d)) = if is_unapplied kept d && is_placed slots slot d then Some d else None
 
 -- the same, of the slot's bytes
-abbrev pub counted : ImageRecord → (slots slot : ℕ) → List ℕ → Option Descriptor
-counted kept slots slot bytes = counted_of kept slots slot (read_descriptor bytes)
+abbrev pub counted_descriptor : ImageRecord → (slots slot : ℕ) → List ℕ → Option Descriptor
+counted_descriptor kept slots slot bytes = counted_of kept slots slot (read_descriptor bytes)
 
 -- what an attach finds in a journal slot: bytes outside the format, nothing that counts, or a descriptor that does
 pub data Finding : Type 0 where
@@ -43,3 +44,7 @@ finding_of kept slots slot (Some (Some d)) =
 -- the same, of the slot's bytes
 abbrev pub finding : ImageRecord → (slots slot : ℕ) → List ℕ → Finding
 finding kept slots slot bytes = finding_of kept slots slot (read_descriptor bytes)
+
+-- the descriptor of a write in an image's journal
+abbrev pub descriptor_of : ImageRecord → Journaled → Descriptor
+descriptor_of kept write = record { generation = generation_of kept; vblock = write.vblock; number = write.number }

@@ -15,6 +15,9 @@ pub mod Rests
 pub mod Session
 pub mod Settings
 pub mod Times
+pub mod Hands
+pub mod Space
+pub mod Pools
 pub mod Formatted
 pub mod Owners
 pub mod World

@@ -6,7 +6,7 @@ use Rattle.plx_rules.specs.declared.journaled.Journaled.{Journaled}
 use Rattle.plx_gate.specs.declared.image.ImageRecord.{ImageRecord}
 use Rattle.plx_rules.specs.Journal.{journal_slot, Finding, Outside, Unused, Counts, finding}
 use Rattle.plx_rules.specs.Records.{applied_of}
-use Rattle.plx_rules.specs.Session.{inserted, first_gap}
+use Rattle.plx_rules.specs.Session.{with_write_by_number, first_gap}
 
 -- how the reading of a journal ends: with its writes; the read of this block failed; or this block is outside the format
 pub data LoadEnd : Type 0 where
@@ -36,4 +36,4 @@ load_part g image kept (suc left) slot writes =
     load_read (descriptor_at g image slot) (λ bytes. load_found (descriptor_at g image slot) (finding kept g.slots slot bytes)
     (load_part g image kept left (slot + 1) writes)
     (λ number vblock. load_read (data_at g image slot) (λ data'.
-    load_part g image kept left (slot + 1) (inserted (record { number = number; vblock = vblock; block = data' }) writes))))
+    load_part g image kept left (slot + 1) (with_write_by_number (record { number = number; vblock = vblock; block = data' }) writes))))

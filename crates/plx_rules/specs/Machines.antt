@@ -9,9 +9,9 @@ use Rattle.plx_disk.specs.declared.turn.Turn.TheVariants.{Again, Ended}
 use Rattle.plx_rules.specs.Part.{Part, Ends, ReadThen, WriteThen, ClockThen, UntilThen}
 
 -- what is left to ask once an answer led to this end, or to none yet
-abbrev pub after : {E F : Type 0} → (E → F) → Part F → Option E → Part F
-after view part None = part
-after view part (Some end) = Ends (view end)
+abbrev pub rest_after : {E F : Type 0} → (E → F) → Part F → Option E → Part F
+rest_after view part None = part
+rest_after view part (Some end) = Ends (view end)
 
 -- an ask stands
 abbrev pub Asks : {E : Type 0} → Part E → Type 0

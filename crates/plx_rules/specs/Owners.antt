@@ -8,7 +8,7 @@ use Rattle.plx_gate.specs.Leases.{read_lease}
 use Rattle.plx_geom.specs.Geometry.{Geometry, lease_count, root_lease, image_lease, extent_lease, lease_at, record_at, descriptor_at, data_at, map_at}
 use Rattle.plx_rules.specs.Part.{WriteThen}
 use Rattle.plx_rules.specs.Boot.{Place, In}
-use Rattle.plx_rules.specs.Holds.{Hold, Nothing, Held, renewed}
+use Rattle.plx_rules.specs.Holds.{Hold, Nothing, Held, hold_after_renewal}
 use Rattle.plx_rules.specs.Rests.{IsUnder}
 use Rattle.plx_rules.specs.Times.{drift}
 use Rattle.plx_rules.specs.World.{World, Reached, setting_of, stands}
@@ -31,19 +31,19 @@ pending_write writes (Some number) = slice_get writes number
 -- what a boot holds of a lease while it asks a write: nothing from the ask of its release on, and what its renewal gives once sector 0 of that has landed
 abbrev pub held_while : WriteKind → (same landed : Bool) → List ℕ → Hold → Hold
 held_while kind.Release true landed bytes hold = Nothing
-held_while kind.Renew true true bytes hold = renewed (read_lease bytes)
+held_while kind.Renew true true bytes hold = hold_after_renewal (read_lease bytes)
 held_while kind same landed bytes hold = hold
 
 -- what a boot holds of the lease in this block, at its place
-abbrev pub held_at : Place → (pending : Option Issued) → (lease : ℕ) → Hold → Hold
-held_at (In known command (WriteThen kind block bytes guard done fault missed)) pending lease hold =
+abbrev pub hold_at_place : Place → (pending : Option Issued) → (lease : ℕ) → Hold → Hold
+hold_at_place (In known command (WriteThen kind block bytes guard done fault missed)) pending lease hold =
     held_while kind (lease == block) (first_landed pending) bytes hold
-held_at other pending lease hold = hold
+hold_at_place other pending lease hold = hold
 
 -- what the present boot of an appliance holds of the lease in this block
 abbrev pub held_by : World → (appliance lease : ℕ) → Hold
 held_by w appliance lease =
-    held_at (stands w appliance).place (pending_write w.surface.writes (w.seats appliance).pending) lease ((stands w appliance).holds lease)
+    hold_at_place (stands w appliance).place (pending_write w.surface.writes (w.seats appliance).pending) lease ((stands w appliance).holds lease)
 
 -- the present boot of an appliance owns a lease: it holds it, and the time isn't past the drift after its end
 pub record Owns (w : World) (appliance lease : ℕ) : Type 0 where
@@ -72,16 +72,23 @@ Needs g kind.JData block lease =
 Needs g kind.JCommit block lease =
     (image : ℕ) × (slot : ℕ) × (image < g.images) × (slot < g.slots) × (block ≡ descriptor_at g image slot) × (lease ≡ image_lease image)
 
--- at most one boot owns a lease
-abbrev pub Exclusion : Type 0
-Exclusion = (w : World) → Reached w → (a b lease : ℕ) → a < w.appliances → b < w.appliances → Owns w a lease → Owns w b lease → a ≡ b
+-- at most one boot owns each lease
+abbrev pub HasOneOwner : World → Type 0
+HasOneOwner w = (a b lease : ℕ) → a < w.appliances → b < w.appliances → Owns w a lease → Owns w b lease → a ≡ b
 
 -- no landing of a write that rests on a lease changes a byte while another boot owns that lease
-abbrev pub Guarding : Type 0
-Guarding = (w : World) → Reached w → (number sector : ℕ) (write : Issued) (lease b : ℕ) → lease < lease_count w.geometry →
+abbrev pub IsGuarded : World → Type 0
+IsGuarded w = (number sector : ℕ) (write : Issued) (lease b : ℕ) → lease < lease_count w.geometry →
     IsUnder w.rests number lease → MayLand w.surface number sector write →
     b < w.appliances → Owns w b lease → ¬ ((setting_of w b).boot ≡ write.owner) →
     (block : ℕ) → (after_landing w.surface number write sector).device block ≡ w.surface.device block
+
+-- it is so in every world that events lead to
+abbrev pub Exclusion : Type 0
+Exclusion = (w : World) → Reached w → HasOneOwner w
+
+abbrev pub Guarding : Type 0
+Guarding = (w : World) → Reached w → IsGuarded w
 
 -- each issued write rests on the leases that its kind needs for its block, and on no others
 abbrev pub RestsAsNeeded : Type 0

@@ -20,15 +20,15 @@ use Rattle.plx_rules.specs.World.{World, Step, Reached, stands, issued_by}
 -- ---- the next event of a run
 
 -- the next sector
-abbrev pub one_more : Option ℕ → Option ℕ
-one_more None = None
-one_more (Some sector) = Some (sector + 1)
+abbrev pub next_sector : Option ℕ → Option ℕ
+next_sector None = None
+next_sector (Some sector) = Some (sector + 1)
 
 -- the least sector that hasn't landed, by the flags
 abbrev pub missing : List Bool → Option ℕ
 missing [] = None
 missing (false ∷ flags) = Some 0
-missing (true ∷ flags) = one_more (missing flags)
+missing (true ∷ flags) = next_sector (missing flags)
 
 -- a write that isn't issued yet is issued, or is missed where the time is past its guard
 abbrev pub issuing : World → ApplianceNo → (guard : ℕ) → Event

@@ -7,6 +7,8 @@ use Rattle.plx_rules.specs.declared.journaled.Journaled.{Journaled}
 use Rattle.plx_gate.specs.Images.{label_of}
 use Rattle.plx_gate.specs.declared.image.ImageRecord.{ImageRecord}
 use Rattle.plx_rules.specs.Records.{is_live, generation_of, size_of, applied_of, taken_of}
+use Rattle.plx_commands.specs.declared.reply.Reply.{Reply}
+use Rattle.plx_commands.specs.declared.reply.Reply.TheVariants as reply
 
 -- a session: the image's record, and the writes that its journal holds, in order of number
 pub record Session : Type 0 where
@@ -35,9 +37,9 @@ abbrev pub new_session : ImageRecord → Session
 new_session image = record { image = image; writes = [] }
 
 -- the writes once one more was read from the journal, in order of number
-abbrev pub inserted : Journaled → List Journaled → List Journaled
-inserted new [] = new ∷ []
-inserted new (write ∷ writes) = if nat_lt new.number write.number then new ∷ write ∷ writes else write ∷ inserted new writes
+abbrev pub with_write_by_number : Journaled → List Journaled → List Journaled
+with_write_by_number new [] = new ∷ []
+with_write_by_number new (write ∷ writes) = if nat_lt new.number write.number then new ∷ write ∷ writes else write ∷ with_write_by_number new writes
 
 -- the number of the first of these writes, in order of number, that doesn't follow on the one before it
 abbrev pub first_gap : (before : ℕ) → List Journaled → Option ℕ
@@ -72,3 +74,9 @@ content session vblock = latest zeros vblock session.writes
 -- the session once one more write is journalled
 abbrev pub with_write : Session → Journaled → Session
 with_write session write = record session { writes = session.writes ++ write ∷ [] }
+
+-- what is known once a command ended with this reply: after a lost lease and a failed write no session is left
+abbrev pub known_after : Reply → Known → Known
+known_after (reply.Lost lease until reading) known = nothing_known known.claims
+known_after (reply.WriteFault block) known = nothing_known known.claims
+known_after other known = known

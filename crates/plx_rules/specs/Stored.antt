@@ -2,7 +2,7 @@
 use Rattle.std.specs.Prelude.{◌≡◌, ◌≢◌, ◌≤◌, ◌<◌, ◌*◌, ◌/◌, ◌%◌, ◌^◌, ◌⊎◌, ℕ, List, [], ◌∷◌, length, Bool, if◌then◌else◌, ◌==◌, Option, Some, None}
 use Rattle.plx_base.specs.Blocks.{zeros}
 use Rattle.plx_base.specs.Fields.{number_at}
-use Rattle.plx_base.specs.Pointers.{unmarked}
+use Rattle.plx_base.specs.Pointers.{without_mark}
 use Rattle.plx_base.specs.Sectors.{Device}
 use Rattle.plx_commands.specs.Images.{Image}
 use Rattle.plx_commands.specs.Model.{Slot}
@@ -10,7 +10,7 @@ use Rattle.plx_gate.specs.Images.{label_of, read_image}
 use Rattle.plx_gate.specs.declared.descriptor.Descriptor.{Descriptor}
 use Rattle.plx_gate.specs.declared.image.ImageRecord.{ImageRecord}
 use Rattle.plx_geom.specs.Geometry.{Geometry, record_at, descriptor_at, data_at}
-use Rattle.plx_rules.specs.Journal.{counted}
+use Rattle.plx_rules.specs.Journal.{counted_descriptor}
 use Rattle.plx_rules.specs.Records.{is_live, generation_of, size_of, taken_of, root_of, applied_of}
 
 -- the blocks whose bytes are given
@@ -48,7 +48,7 @@ record_on g given image = record_in (given (record_at g image))
 -- the descriptor that counts, of the bytes of a journal slot; one that isn't given doesn't count
 abbrev pub counted_in : ImageRecord → (slots slot : ℕ) → Option (List ℕ) → Option Descriptor
 counted_in kept slots slot None = None
-counted_in kept slots slot (Some bytes) = counted kept slots slot bytes
+counted_in kept slots slot (Some bytes) = counted_descriptor kept slots slot bytes
 
 -- a journal slot of an image counts, with this descriptor
 pub record IsCounted (g : Geometry) (given : Given) (image : ℕ) (kept : ImageRecord) (slot : ℕ) (d : Descriptor) : Type 0 where
@@ -83,10 +83,10 @@ through block digit digits (Some bytes) follow = follow (number_at 8 (8 * digit)
 
 -- what a pointer leads to by these digits: a hole reads as zeros, with or without its mark
 abbrev pub leads_to : Given → (pointer : ℕ) → (digits : List ℕ) → Content
-leads_to given pointer [] = if unmarked pointer == 0 then Holds zeros else standing_in (unmarked pointer) (given (unmarked pointer))
+leads_to given pointer [] = if without_mark pointer == 0 then Holds zeros else standing_in (without_mark pointer) (given (without_mark pointer))
 leads_to given pointer (digit ∷ digits) =
-    if unmarked pointer == 0 then Holds zeros
-    else through (unmarked pointer) digit digits (given (unmarked pointer)) (λ next. leads_to given next digits)
+    if without_mark pointer == 0 then Holds zeros
+    else through (without_mark pointer) digit digits (given (without_mark pointer)) (λ next. leads_to given next digits)
 
 -- the content of a virtual block: the data of the newest counted descriptor that names it, else what the record's root leads to
 pub data IsContent (g : Geometry) (given : Given) (image : ℕ) (kept : ImageRecord) (vblock : ℕ) : Content → Type 0 where

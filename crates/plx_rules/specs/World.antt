@@ -8,7 +8,7 @@ use Rattle.plx_commands.specs.declared.entry.Entry.{Entry}
 use Rattle.plx_commands.specs.declared.entry.Entry.TheVariants as entry
 use Rattle.plx_commands.specs.declared.event.Event.{Event}
 use Rattle.plx_commands.specs.declared.event.Event.TheVariants as event
-use Rattle.plx_disk.specs.Writes.{Surface, Issued, fresh_write, issued, MayLand, after_landing, HasLanded, passed}
+use Rattle.plx_disk.specs.Writes.{Surface, Issued, fresh_write, with_issued, MayLand, after_landing, HasLanded, after_time}
 use Rattle.plx_disk.specs.declared.ask.Ask.{Ask}
 use Rattle.plx_disk.specs.declared.ask.Ask.TheVariants as ask
 use Rattle.plx_disk.specs.declared.ask.Answer.{Answer}
@@ -16,11 +16,10 @@ use Rattle.plx_disk.specs.declared.ask.Answer.TheVariants as answer
 use Rattle.plx_geom.specs.Geometry.{Geometry, IsGeometry, block_count}
 use Rattle.plx_commands.specs.Places.{at}
 use Rattle.plx_rules.specs.Part.{Part, Ends, ReadThen, WriteThen, ClockThen, UntilThen}
-use Rattle.plx_rules.specs.Boot.{Happening, Began, Asked, Idle, Begins, In, Position, position, IsRun}
-use Rattle.plx_rules.specs.Commands.{IsBuilt, IsWellFormed, command_part}
+use Rattle.plx_rules.specs.Boot.{Happening, Began, Asked, Idle, Begins, In, Position, position, first_part, IsRun}
+use Rattle.plx_rules.specs.Commands.{IsBuilt, IsWellFormed}
 use Rattle.plx_rules.specs.Ends.{End}
 use Rattle.plx_rules.specs.Formatted.{IsFormatted}
-use Rattle.plx_rules.specs.Holds.{after_first}
 use Rattle.plx_rules.specs.Rests.{rests_on}
 use Rattle.plx_rules.specs.Session.{Known}
 use Rattle.plx_rules.specs.Settings.{Setting, boot_number}
@@ -72,12 +71,12 @@ abbrev pub stands : World → (appliance : ℕ) → Position
 stands w appliance = position (setting_of w appliance) (w.seats appliance).log
 
 -- the trace with the reply to which an appliance has come
-abbrev pub told : ApplianceNo → Part End → List Entry → List Entry
-told appliance (Ends end) trace = entry.Reply appliance end.reply ∷ trace
-told appliance (ReadThen block rest fault) trace = trace
-told appliance (WriteThen kind block bytes guard done fault missed) trace = trace
-told appliance (ClockThen rest) trace = trace
-told appliance (UntilThen from rest) trace = trace
+abbrev pub with_reply_of : ApplianceNo → Part End → List Entry → List Entry
+with_reply_of appliance (Ends end) trace = entry.Reply appliance end.reply ∷ trace
+with_reply_of appliance (ReadThen block rest fault) trace = trace
+with_reply_of appliance (WriteThen kind block bytes guard done fault missed) trace = trace
+with_reply_of appliance (ClockThen rest) trace = trace
+with_reply_of appliance (UntilThen from rest) trace = trace
 
 -- an appliance once something has happened to it, and it waits for no write
 abbrev pub with_happening : Seat → Happening → Seat
@@ -87,7 +86,7 @@ with_happening seat happening = record seat { log = happening ∷ seat.log; pend
 abbrev pub goes_on : World → Event → ApplianceNo → Ask → List ℕ → Answer → Part End → World
 goes_on w event appliance ask bytes answer rest = record w {
   seats = at w.seats appliance.0 (with_happening (w.seats appliance.0) (Asked ask bytes answer));
-  trace = told appliance rest w.trace;
+  trace = with_reply_of appliance rest w.trace;
   history = event ∷ w.history;
 }
 
@@ -110,7 +109,7 @@ issued_write w appliance kind block bytes guard = fresh_write (setting_of w appl
 -- the world once that write, of this command, is issued
 abbrev pub after_issue : World → ApplianceNo → Command → WriteKind → (block : ℕ) → List ℕ → (guard : ℕ) → World
 after_issue w appliance command kind block bytes guard = record w {
-  surface = issued w.surface (issued_write w appliance kind block bytes guard);
+  surface = with_issued w.surface (issued_write w appliance kind block bytes guard);
   rests = at w.rests (length w.surface.writes) (rests_on w.geometry command (stands w appliance.0).holds kind block bytes);
   seats = at w.seats appliance.0 (record (w.seats appliance.0) { pending = Some (length w.surface.writes) });
   history = event.Issue appliance ∷ w.history;
@@ -146,7 +145,7 @@ pub record IsReading (reading time : ℕ) : Type 0 where
 
 -- the steps that are possible
 pub data Step : World → Event → World → Type 0 where
-  ticks : {w : World} {by : ℕ} → w.surface.time + by < 2 ^ 47 → Step w (event.Tick by) (with_surface w (event.Tick by) (passed w.surface by))
+  ticks : {w : World} {by : ℕ} → w.surface.time + by < 2 ^ 47 → Step w (event.Tick by) (with_surface w (event.Tick by) (after_time w.surface by))
   starts : {w : World} {appliance : ApplianceNo} {command : Command} (known : Known) → appliance.0 < w.appliances →
       (stands w appliance.0).place ≡ Idle known → IsWellFormed command → IsBuilt command →
       Step w (event.Start appliance command) (after_start w appliance command)
@@ -154,7 +153,7 @@ pub data Step : World → Event → World → Type 0 where
       (stands w appliance.0).place ≡ Begins known command → IsReading reading w.surface.time →
       Step w (event.Reading appliance reading)
       (goes_on w (event.Reading appliance reading) appliance ask.Clock [] (answer.Reading reading)
-      (command_part (setting_of w appliance.0) known (after_first w.geometry known reading (stands w appliance.0).holds) reading command))
+      (first_part (setting_of w appliance.0) known reading command (stands w appliance.0)))
   reads : {w : World} {appliance : ApplianceNo} (known : Known) (command : Command) (block : ℕ) (rest : List ℕ → Part End) (fault : Part End) →
       appliance.0 < w.appliances →
       (stands w appliance.0).place ≡ In known command (ReadThen block rest fault) →

@@ -30,7 +30,7 @@ fn a_full_journal_is_filled_over_crashes(rt: HostRuntime) -> Result<(), Fail> {
         let written = number.saturating_add(1);
         let reply = format!(in alloc; "written {written}")?;
         write(alloc, &mut story, number, reply.as_bytes())?;
-        story.both(b"crash 0\n")?;
+        story.crash(b"0")?;
         story.play(b"tick 9500\n")?;
         let report = format!(in alloc;
             "attached live=1 gen=1 size=8 writes={written} taken=0 dropped=0 label=a"
@@ -44,5 +44,5 @@ fn a_full_journal_is_filled_over_crashes(rt: HostRuntime) -> Result<(), Fail> {
         story.call(b"0", command.as_bytes(), reply.as_bytes())?;
     }
     assert!(rt; story.schedule.len() > 65_536);
-    story.ends_in_pieces(&rt, 100)
+    story.ends(&rt, b"0", 100)
 }

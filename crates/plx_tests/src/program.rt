@@ -41,6 +41,28 @@ pub(crate) fn replay(alloc: Global, input: &[u8]) -> Result<Outcome, AllocError>
     run_in_memory(alloc, &words(alloc, &["replay"])?, input, 4096)
 }
 
+/// A line of a story. Appliances, commands and replies are spelled as in schedules and traces.
+#[derive(Clone, Copy)]
+pub(crate) enum Line {
+    /// An appliance attaches slot 0, which is free, and makes an image of eight blocks there, named `a`.
+    /// It takes 601 ms.
+    Open(&'static [u8]),
+    /// An appliance's command runs at one stretch to this reply.
+    Call(&'static [u8], &'static [u8], &'static [u8]),
+    /// An appliance's command runs to its wait, and 601 ms later to this reply.
+    Wait(&'static [u8], &'static [u8], &'static [u8]),
+    /// An appliance's command starts.
+    Start(&'static [u8], &'static [u8]),
+    /// An appliance crashes.
+    Crash(&'static [u8]),
+    /// What an appliance asked fails, and its command ends with this reply.
+    Fault(&'static [u8], &'static [u8]),
+    /// Lines of the schedule alone.
+    Play(&'static [u8]),
+    /// An appliance's reply, in the trace alone.
+    Reply(&'static [u8], &'static [u8]),
+}
+
 /// A schedule, and the trace that it is to give, whose last line is left out.
 #[derive(Drop)]
 pub(crate) struct Story {
@@ -100,6 +122,21 @@ impl Story {
         self.both(b"\n")
     }
 
+    /// An appliance crashes.
+    pub(crate) fn crash(&mut self, appliance: &[u8]) -> Result<(), AllocError> {
+        self.both(b"crash ")?;
+        self.both(appliance)?;
+        self.both(b"\n")
+    }
+
+    /// What an appliance asked fails, and its command ends with this reply.
+    pub(crate) fn fault(&mut self, appliance: &[u8], reply: &[u8]) -> Result<(), AllocError> {
+        self.play(b"fault ")?;
+        self.play(appliance)?;
+        self.play(b"\n")?;
+        self.reply(appliance, reply)
+    }
+
     /// An appliance runs.
     pub(crate) fn run(&mut self, appliance: &[u8]) -> Result<(), AllocError> {
         self.play(b"run ")?;
@@ -140,14 +177,31 @@ impl Story {
         self.call(appliance, b"create 0 8 a", b"created")
     }
 
-    /// The schedule gives the trace.
-    pub(crate) fn ends(self, rt: &impl Abort) -> Result<(), Fail> {
-        self.ends_in_pieces(rt, 4096)
+    /// A line of the story follows.
+    fn play_line(&mut self, line: &Line) -> Result<(), AllocError> {
+        match *line {
+            Line::Open(appliance) => self.open(appliance),
+            Line::Call(appliance, command, reply) => self.call(appliance, command, reply),
+            Line::Wait(appliance, command, reply) => self.wait(appliance, command, reply),
+            Line::Start(appliance, command) => self.start(appliance, command),
+            Line::Crash(appliance) => self.crash(appliance),
+            Line::Fault(appliance, reply) => self.fault(appliance, reply),
+            Line::Play(lines) => self.play(lines),
+            Line::Reply(appliance, reply) => self.reply(appliance, reply),
+        }
     }
 
-    /// The schedule gives the trace, where each call of the streams gives or takes at most `piece` bytes.
-    pub(crate) fn ends_in_pieces(mut self, rt: &impl Abort, piece: usize) -> Result<(), Fail> {
-        self.tell(b"end reachable=0 allocated=0\n")?;
+    /// The schedule gives the trace, where so many blocks of the pool are allocated at its end, and each
+    /// call of the streams gives or takes at most `piece` bytes.
+    pub(crate) fn ends(
+        mut self,
+        rt: &impl Abort,
+        allocated: &[u8],
+        piece: usize,
+    ) -> Result<(), Fail> {
+        self.tell(b"end reachable=0 allocated=")?;
+        self.tell(allocated)?;
+        self.tell(b"\n")?;
         let words = words(self.alloc, &["replay"])?;
         let outcome = run_in_memory(self.alloc, &words, self.schedule.as_slice(), piece)?;
         assert_eq!(rt; outcome.status, Status::Done);
@@ -157,6 +211,33 @@ impl Story {
         );
         Ok(())
     }
+}
+
+/// In a world of these numbers a story of these parts has a schedule that gives its trace.
+pub(crate) fn plays(
+    rt: &impl Abort,
+    alloc: Global,
+    world: &[u8],
+    parts: &[&[Line]],
+) -> Result<(), Fail> {
+    plays_to(rt, alloc, world, parts, b"0")
+}
+
+/// The same, where so many blocks of the pool are allocated at its end.
+pub(crate) fn plays_to(
+    rt: &impl Abort,
+    alloc: Global,
+    world: &[u8],
+    parts: &[&[Line]],
+    allocated: &[u8],
+) -> Result<(), Fail> {
+    let mut story = Story::new(alloc, world)?;
+    for part in parts {
+        for line in *part {
+            story.play_line(line)?;
+        }
+    }
+    story.ends(rt, allocated, 4096)
 }
 
 /// The bytes as text.

@@ -1,11 +1,18 @@
 //! Whole schedules of one appliance and their traces, written out by hand from the rules.
-use crate::program::{FREE, Story, replay};
+use crate::program::Line::{Call, Crash, Fault, Open, Play, Reply, Start, Wait};
+use crate::program::{FREE, Line, plays, replay};
 use plx_cli::Status;
-use std::alloc::AllocError;
 use std::test::Fail;
 
 /// What an attach finds of a lease that was claimed at 1,000 ms by the first boot of appliance 0.
 const BUSY: &[u8] = b"busy lease=image:0 boot=1 claim=0 sample=1000 until=11000";
+
+/// What an attach reports of the image of eight blocks in slot 0, by its number of writes.
+const UNWRITTEN: &[u8] = b"attached live=1 gen=1 size=8 writes=0 taken=0 dropped=0 label=a";
+
+const WRITTEN_ONCE: &[u8] = b"attached live=1 gen=1 size=8 writes=1 taken=0 dropped=0 label=a";
+
+const WRITTEN_TWICE: &[u8] = b"attached live=1 gen=1 size=8 writes=2 taken=0 dropped=0 label=a";
 
 /// A schedule that makes an image, writes it once and reads it. Its first and its last part are parted
 /// by the DATA of the write.
@@ -53,295 +60,346 @@ end reachable=0 allocated=0
     Ok(())
 }
 
+const FULL: &[Line] = &[
+    Open(b"0"),
+    Call(b"0", b"write 0 0 all:01", b"written 1"),
+    Call(b"0", b"write 0 0 all:01", b"written 2"),
+    Call(b"0", b"write 0 0 all:01", b"full"),
+    Call(b"0", b"write 0 8 all:01", b"out-of-range size=8"),
+    Call(b"0", b"attach 1", b"no-image"),
+    Call(b"0", b"attach 0", b"already-attached"),
+];
+
 #[test]
 fn a_journal_is_full_and_an_attached_image_stays_attached(rt: HostRuntime) -> Result<(), Fail> {
-    let mut story = Story::new(rt.alloc(), b"1 1 16 2 1")?;
-    story.open(b"0")?;
-    story.call(b"0", b"write 0 0 all:01", b"written 1")?;
-    story.call(b"0", b"write 0 0 all:01", b"written 2")?;
-    story.call(b"0", b"write 0 0 all:01", b"full")?;
-    story.call(b"0", b"write 0 8 all:01", b"out-of-range size=8")?;
-    story.call(b"0", b"attach 1", b"no-image")?;
-    story.call(b"0", b"attach 0", b"already-attached")?;
-    story.ends(&rt)
+    plays(&rt, rt.alloc(), b"1 1 16 2 1", &[FULL])
 }
+
+const FILLED: &[Line] = &[
+    Open(b"0"),
+    Call(b"0", b"attach 0", b"already-attached"),
+    Call(b"0", b"create 0 8 b", b"exists"),
+    Call(b"0", b"create 0 0 b", b"exists"),
+    Call(b"0", b"write 0 8 all:01", b"out-of-range size=8"),
+    Call(b"0", b"write 0 0 all:07", b"written 1"),
+    Call(b"0", b"write 0 0 all:08", b"written 2"),
+    Call(b"0", b"delete 0", b"deleted"),
+    Call(b"0", b"read 0 0", b"no-image"),
+    Call(b"0", b"create 0 0 b", b"out-of-range size=134217728"),
+    Call(b"0", b"create 0 134217728 b", b"created"),
+    Call(b"0", b"attach 2", b"no-image"),
+    Call(b"0", b"read 1 0", b"not-attached"),
+    // The image has the slot's second generation, and no write of the first one.
+    Call(b"0", b"read 0 0", b"data all:00"),
+    Call(b"0", b"write 0 134217727 all:09", b"written 1"),
+    Call(b"0", b"detach 0", b"detached"),
+    Wait(
+        b"0",
+        b"attach 0",
+        b"attached live=1 gen=2 size=134217728 writes=1 taken=0 dropped=0 label=b",
+    ),
+    Call(b"0", b"read 0 134217727", b"data all:09"),
+    Call(b"0", b"delete 0", b"deleted"),
+    Call(b"0", b"detach 0", b"detached"),
+    Wait(
+        b"0",
+        b"attach 0",
+        b"attached live=0 gen=2 size=0 writes=0 taken=0 dropped=0 label=-",
+    ),
+];
 
 #[test]
 fn slots_are_filled_emptied_and_filled_again(rt: HostRuntime) -> Result<(), Fail> {
-    let mut story = Story::new(rt.alloc(), b"2 1 16 2 1")?;
-    story.open(b"0")?;
-    story.call(b"0", b"attach 0", b"already-attached")?;
-    story.call(b"0", b"create 0 8 b", b"exists")?;
-    story.call(b"0", b"create 0 0 b", b"exists")?;
-    story.call(b"0", b"write 0 8 all:01", b"out-of-range size=8")?;
-    story.call(b"0", b"write 0 0 all:07", b"written 1")?;
-    story.call(b"0", b"write 0 0 all:08", b"written 2")?;
-    story.call(b"0", b"delete 0", b"deleted")?;
-    story.call(b"0", b"read 0 0", b"no-image")?;
-    story.call(b"0", b"create 0 0 b", b"out-of-range size=134217728")?;
-    story.call(b"0", b"create 0 134217728 b", b"created")?;
-    story.call(b"0", b"attach 2", b"no-image")?;
-    story.call(b"0", b"read 1 0", b"not-attached")?;
-    // The image has the slot's second generation, and no write of the first one.
-    story.call(b"0", b"read 0 0", b"data all:00")?;
-    story.call(b"0", b"write 0 134217727 all:09", b"written 1")?;
-    story.call(b"0", b"detach 0", b"detached")?;
-    let report = b"attached live=1 gen=2 size=134217728 writes=1 taken=0 dropped=0 label=b";
-    story.wait(b"0", b"attach 0", report)?;
-    story.call(b"0", b"read 0 134217727", b"data all:09")?;
-    story.call(b"0", b"delete 0", b"deleted")?;
-    story.call(b"0", b"detach 0", b"detached")?;
-    let report = b"attached live=0 gen=2 size=0 writes=0 taken=0 dropped=0 label=-";
-    story.wait(b"0", b"attach 0", report)?;
-    story.ends(&rt)
+    plays(&rt, rt.alloc(), b"2 1 16 2 1", &[FILLED])
 }
 
-/// The lines that land the first `count` sectors of the write that appliance 0 issued last.
-fn land(story: &mut Story, count: usize) -> Result<(), AllocError> {
-    let sectors: [&[u8]; 8] = [
-        b"0\n", b"1\n", b"2\n", b"3\n", b"4\n", b"5\n", b"6\n", b"7\n",
-    ];
-    for sector in sectors.into_iter().take(count) {
-        story.play(b"land 0 0 ")?;
-        story.play(sector)?;
-    }
-    Ok(())
-}
+/// A second write begins, and its data is issued.
+const SECOND_WRITE: &[Line] = &[
+    Open(b"0"),
+    Call(b"0", b"write 0 0 all:aa", b"written 1"),
+    Start(b"0", b"write 0 0 all:bb"),
+    Play(b"upto 0 jdata\nissue 0\n"),
+];
+
+/// Its sectors land: those of the data, and those of the descriptor.
+const SECTORS: &[Line] = &[
+    Play(b"land 0 0 0\n"),
+    Play(b"land 0 0 1\n"),
+    Play(b"land 0 0 2\n"),
+    Play(b"land 0 0 3\n"),
+    Play(b"land 0 0 4\n"),
+    Play(b"land 0 0 5\n"),
+    Play(b"land 0 0 6\n"),
+    Play(b"land 0 0 7\n"),
+];
+
+/// The data is done, and the descriptor issued.
+const DESCRIPTOR: &[Line] = &[Play(b"done 0\nissue 0\n")];
+
+const CRASH: &[Line] = &[
+    Crash(b"0"),
+    // It is 1,601 ms. The lease was claimed up to 11,000 ms, and is busy 100 ms longer.
+    Play(b"tick 9499\n"),
+    Call(b"0", b"attach 0", BUSY),
+    Play(b"tick 1\n"),
+];
+
+const COMMITTED: &[Line] = &[
+    Wait(b"0", b"attach 0", WRITTEN_TWICE),
+    Call(b"0", b"read 0 0", b"data all:bb"),
+    Call(b"0", b"read 0 1", b"data all:00"),
+];
+
+const NOT_COMMITTED: &[Line] = &[
+    Wait(b"0", b"attach 0", WRITTEN_ONCE),
+    Call(b"0", b"read 0 0", b"data all:aa"),
+    Call(b"0", b"read 0 1", b"data all:00"),
+];
 
 #[test]
 fn a_crash_after_each_landing_leaves_a_write_whole_or_not_at_all(
     rt: HostRuntime,
 ) -> Result<(), Fail> {
     // The data's eight sectors land before the descriptor's eight, the first of which commits the write.
-    for landings in 0..17usize {
-        let mut story = Story::new(rt.alloc(), b"1 1 16 2 1")?;
-        story.open(b"0")?;
-        story.call(b"0", b"write 0 0 all:aa", b"written 1")?;
-        story.start(b"0", b"write 0 0 all:bb")?;
-        story.play(b"upto 0 jdata\nissue 0\n")?;
-        land(&mut story, landings.min(8))?;
-        if landings >= 8 {
-            story.play(b"done 0\nissue 0\n")?;
-            land(&mut story, landings - 8)?;
-        }
-        story.both(b"crash 0\n")?;
-        // It is 1,601 ms. The lease was claimed up to 11,000 ms, and is busy 100 ms longer.
-        story.play(b"tick 9499\n")?;
-        story.call(b"0", b"attach 0", BUSY)?;
-        story.play(b"tick 1\n")?;
-        let is_committed = landings > 8;
-        let report: &[u8] = if is_committed {
-            b"attached live=1 gen=1 size=8 writes=2 taken=0 dropped=0 label=a"
+    for landed in 0..9usize {
+        let data = SECTORS.get(..landed).unwrap_or(SECTORS);
+        let lines = [SECOND_WRITE, data, CRASH, NOT_COMMITTED];
+        plays(&rt, rt.alloc(), b"1 1 16 2 1", &lines)?;
+    }
+    for landed in 0..9usize {
+        let descriptor = SECTORS.get(..landed).unwrap_or(SECTORS);
+        let end = if landed == 0 {
+            NOT_COMMITTED
         } else {
-            b"attached live=1 gen=1 size=8 writes=1 taken=0 dropped=0 label=a"
+            COMMITTED
         };
-        story.wait(b"0", b"attach 0", report)?;
-        let data: &[u8] = if is_committed {
-            b"data all:bb"
-        } else {
-            b"data all:aa"
-        };
-        story.call(b"0", b"read 0 0", data)?;
-        story.call(b"0", b"read 0 1", b"data all:00")?;
-        story.ends(&rt)?;
+        let lines = [SECOND_WRITE, SECTORS, DESCRIPTOR, descriptor, CRASH, end];
+        plays(&rt, rt.alloc(), b"1 1 16 2 1", &lines)?;
     }
     Ok(())
 }
+
+/// A record is issued.
+const CREATE: &[Line] = &[
+    Wait(b"0", b"attach 0", FREE),
+    Start(b"0", b"create 0 8 a"),
+    Play(b"upto 0 record\nissue 0\n"),
+];
+
+/// Which sector of the record landed, and what is there then: all of a record lies in its first sector.
+const MADE: [&[Line]; 2] = [
+    &[
+        Play(b"land 0 0 0\n"),
+        Crash(b"0"),
+        Play(b"tick 9500\n"),
+        Wait(b"0", b"attach 0", UNWRITTEN),
+    ],
+    &[
+        Play(b"land 0 0 1\n"),
+        Crash(b"0"),
+        Play(b"tick 9500\n"),
+        Wait(b"0", b"attach 0", FREE),
+    ],
+];
 
 #[test]
 fn a_crash_at_a_create_leaves_an_image_or_a_free_slot(rt: HostRuntime) -> Result<(), Fail> {
-    // Which sector of the record landed, and what is there then: all of a record lies in its first sector.
-    let made: &[u8] = b"attached live=1 gen=1 size=8 writes=0 taken=0 dropped=0 label=a";
-    let cases: [(&[u8], &[u8]); 2] = [(b"land 0 0 0\n", made), (b"land 0 0 1\n", FREE)];
-    for (landing, report) in cases {
-        let mut story = Story::new(rt.alloc(), b"1 1 16 2 1")?;
-        story.wait(b"0", b"attach 0", FREE)?;
-        story.start(b"0", b"create 0 8 a")?;
-        story.play(b"upto 0 record\nissue 0\n")?;
-        story.play(landing)?;
-        story.both(b"crash 0\n")?;
-        story.play(b"tick 9500\n")?;
-        story.wait(b"0", b"attach 0", report)?;
-        story.ends(&rt)?;
+    for made in MADE {
+        plays(&rt, rt.alloc(), b"1 1 16 2 1", &[CREATE, made])?;
     }
     Ok(())
 }
 
-#[test]
-fn a_lease_is_lost_at_its_end(rt: HostRuntime) -> Result<(), Fail> {
-    let mut story = Story::new(rt.alloc(), b"1 1 16 2 1")?;
-    story.open(b"0")?;
-    story.play(b"tick 9398\n")?;
-    story.call(b"0", b"read 0 0", b"data all:00")?;
-    story.play(b"tick 1\n")?;
-    story.call(
+const LOST: &[Line] = &[
+    Open(b"0"),
+    Play(b"tick 9398\n"),
+    Call(b"0", b"read 0 0", b"data all:00"),
+    Play(b"tick 1\n"),
+    Call(
         b"0",
         b"read 0 0",
         b"lost lease=image:0 until=11000 reading=11000",
-    )?;
-    story.call(b"0", b"read 0 0", b"not-attached")?;
-    story.ends(&rt)
-}
+    ),
+    Call(b"0", b"read 0 0", b"not-attached"),
+];
 
 #[test]
-fn a_renewal_never_shortens_a_lease(rt: HostRuntime) -> Result<(), Fail> {
-    let mut story = Story::new(rt.alloc(), b"1 1 16 2 1")?;
-    story.open(b"0")?;
+fn a_lease_is_lost_at_its_end(rt: HostRuntime) -> Result<(), Fail> {
+    plays(&rt, rt.alloc(), b"1 1 16 2 1", &[LOST])
+}
+
+const RENEWED: &[Line] = &[
+    Open(b"0"),
     // It is 1,601 ms, and the lease is held up to 11,601 ms. A clock that runs behind changes nothing of that.
-    story.call(b"0", b"renew", b"renewed")?;
-    story.start(b"0", b"renew")?;
-    story.play(b"clock 0 1551\n")?;
-    story.run(b"0")?;
-    story.reply(b"0", b"renewed")?;
-    story.play(b"tick 9999\n")?;
-    story.call(b"0", b"read 0 0", b"data all:00")?;
-    story.play(b"tick 1\n")?;
-    story.call(
+    Call(b"0", b"renew", b"renewed"),
+    Start(b"0", b"renew"),
+    Play(b"clock 0 1551\nrun 0\n"),
+    Reply(b"0", b"renewed"),
+    Play(b"tick 9999\n"),
+    Call(b"0", b"read 0 0", b"data all:00"),
+    Play(b"tick 1\n"),
+    Call(
         b"0",
         b"renew",
         b"lost lease=image:0 until=11601 reading=11601",
-    )?;
-    story.call(b"0", b"renew", b"renewed")?;
-    story.ends(&rt)
-}
+    ),
+    Call(b"0", b"renew", b"renewed"),
+];
 
 #[test]
-fn one_lost_lease_ends_all_sessions(rt: HostRuntime) -> Result<(), Fail> {
-    let mut story = Story::new(rt.alloc(), b"2 1 16 2 1")?;
-    story.open(b"0")?;
+fn a_renewal_never_shortens_a_lease(rt: HostRuntime) -> Result<(), Fail> {
+    plays(&rt, rt.alloc(), b"1 1 16 2 1", &[RENEWED])
+}
+
+const SESSIONS: &[Line] = &[
+    Open(b"0"),
     // The lease of image 1 is claimed at 1,601 ms, up to 11,601 ms.
-    story.wait(b"0", b"attach 1", FREE)?;
-    story.call(b"0", b"create 1 8 b", b"created")?;
-    story.play(b"tick 8798\n")?;
-    story.call(b"0", b"read 1 0", b"data all:00")?;
+    Wait(b"0", b"attach 1", FREE),
+    Call(b"0", b"create 1 8 b", b"created"),
+    Play(b"tick 8798\n"),
+    Call(b"0", b"read 1 0", b"data all:00"),
     // The first reading of a command names only its own image.
-    story.call(
+    Call(
         b"0",
         b"read 0 0",
         b"lost lease=image:0 until=11000 reading=11000",
-    )?;
-    story.call(b"0", b"read 1 0", b"not-attached")?;
-    let busy = b"busy lease=image:1 boot=1 claim=1 sample=1601 until=11601";
-    story.call(b"0", b"attach 1", busy)?;
-    story.ends(&rt)
+    ),
+    Call(b"0", b"read 1 0", b"not-attached"),
+    Call(
+        b"0",
+        b"attach 1",
+        b"busy lease=image:1 boot=1 claim=1 sample=1601 until=11601",
+    ),
+];
+
+#[test]
+fn one_lost_lease_ends_all_sessions(rt: HostRuntime) -> Result<(), Fail> {
+    plays(&rt, rt.alloc(), b"2 1 16 2 1", &[SESSIONS])
 }
+
+const FAILED_WRITE: &[Line] = &[
+    Open(b"0"),
+    Start(b"0", b"write 0 0 all:11"),
+    Play(b"upto 0 jcommit\n"),
+    Fault(b"0", b"write-fault block=6"),
+    Call(b"0", b"read 0 0", b"not-attached"),
+    Call(b"0", b"attach 0", BUSY),
+];
 
 #[test]
 fn a_failed_write_ends_the_session_and_leaves_the_lease(rt: HostRuntime) -> Result<(), Fail> {
-    let mut story = Story::new(rt.alloc(), b"1 1 16 2 1")?;
-    story.open(b"0")?;
-    story.start(b"0", b"write 0 0 all:11")?;
-    story.play(b"upto 0 jcommit\nfault 0\n")?;
-    story.reply(b"0", b"write-fault block=6")?;
-    story.call(b"0", b"read 0 0", b"not-attached")?;
-    story.call(b"0", b"attach 0", BUSY)?;
-    story.ends(&rt)
+    plays(&rt, rt.alloc(), b"1 1 16 2 1", &[FAILED_WRITE])
 }
+
+/// A descriptor is issued.
+const WRITE: &[Line] = &[
+    Open(b"0"),
+    Start(b"0", b"write 0 0 all:cc"),
+    Play(b"upto 0 jcommit\nissue 0\n"),
+];
+
+/// How a boot ends at it.
+const ENDS: [&[Line]; 2] = [&[Crash(b"0")], &[Fault(b"0", b"write-fault block=6")]];
+
+/// Its first sector lands, and what is found then. Sectors land up to 50 ms after their guard, which is the
+/// end of the lease: 11,000 ms.
+const LANDINGS: [&[Line]; 2] = [
+    &[
+        Play(b"tick 9449\nland 0 0 0\ntick 51\n"),
+        Wait(b"0", b"attach 0", WRITTEN_ONCE),
+        Call(b"0", b"read 0 0", b"data all:cc"),
+    ],
+    &[
+        Play(b"tick 9450\nland 0 0 0\ntick 50\n"),
+        Wait(b"0", b"attach 0", UNWRITTEN),
+        Call(b"0", b"read 0 0", b"data all:00"),
+    ],
+];
 
 #[test]
 fn a_failed_write_may_land_later(rt: HostRuntime) -> Result<(), Fail> {
-    // Its sectors land up to 50 ms after its guard, which is the end of the lease: 11,000 ms.
-    let landed: &[u8] = b"attached live=1 gen=1 size=8 writes=1 taken=0 dropped=0 label=a";
-    let missing: &[u8] = b"attached live=1 gen=1 size=8 writes=0 taken=0 dropped=0 label=a";
-    let cases: [(&[u8], &[u8], &[u8], &[u8]); 2] = [
-        (b"tick 9449\n", b"tick 51\n", landed, b"data all:cc"),
-        (b"tick 9450\n", b"tick 50\n", missing, b"data all:00"),
-    ];
-    for (before, after, report, data) in cases {
-        for end in [b"crash 0\n".as_slice(), b"fault 0\n".as_slice()] {
-            let mut story = Story::new(rt.alloc(), b"1 1 16 2 1")?;
-            story.open(b"0")?;
-            story.start(b"0", b"write 0 0 all:cc")?;
-            story.play(b"upto 0 jcommit\nissue 0\n")?;
-            story.play(end)?;
-            if end.starts_with(b"crash") {
-                story.tell(end)?;
-            } else {
-                story.reply(b"0", b"write-fault block=6")?;
-            }
-            story.play(before)?;
-            story.play(b"land 0 0 0\n")?;
-            story.play(after)?;
-            story.wait(b"0", b"attach 0", report)?;
-            story.call(b"0", b"read 0 0", data)?;
-            story.ends(&rt)?;
+    for landing in LANDINGS {
+        for end in ENDS {
+            plays(&rt, rt.alloc(), b"1 1 16 2 1", &[WRITE, end, landing])?;
         }
     }
     Ok(())
 }
 
+const FAILED_READS: &[Line] = &[
+    Start(b"0", b"attach 0"),
+    Play(b"upto 0 r-lease\n"),
+    Fault(b"0", b"read-fault block=2"),
+    // The lease is claimed, and the record can't be read.
+    Start(b"0", b"attach 0"),
+    Play(b"run 0\ntick 601\nupto 0 r-record\n"),
+    Fault(b"0", b"read-fault block=4"),
+    // The lease is held still: there is no wait.
+    Call(b"0", b"attach 0", FREE),
+    Call(b"0", b"create 0 8 a", b"created"),
+    Call(b"0", b"detach 0", b"detached"),
+    Start(b"0", b"attach 0"),
+    Play(b"run 0\ntick 601\nupto 0 r-journal\nread 0\n"),
+    Fault(b"0", b"read-fault block=8"),
+    Call(b"0", b"read 0 0", b"not-attached"),
+];
+
 #[test]
 fn a_failed_read_leaves_what_was_got(rt: HostRuntime) -> Result<(), Fail> {
-    let mut story = Story::new(rt.alloc(), b"1 1 16 2 1")?;
-    story.start(b"0", b"attach 0")?;
-    story.play(b"upto 0 r-lease\nfault 0\n")?;
-    story.reply(b"0", b"read-fault block=2")?;
-    // The lease is claimed, and the record can't be read.
-    story.start(b"0", b"attach 0")?;
-    story.play(b"run 0\ntick 601\nupto 0 r-record\nfault 0\n")?;
-    story.reply(b"0", b"read-fault block=4")?;
-    // The lease is held still: there is no wait.
-    story.call(b"0", b"attach 0", FREE)?;
-    story.call(b"0", b"create 0 8 a", b"created")?;
-    story.call(b"0", b"detach 0", b"detached")?;
-    story.start(b"0", b"attach 0")?;
-    story.play(b"run 0\ntick 601\nupto 0 r-journal\nread 0\nfault 0\n")?;
-    story.reply(b"0", b"read-fault block=8")?;
-    story.call(b"0", b"read 0 0", b"not-attached")?;
-    story.ends(&rt)
+    plays(&rt, rt.alloc(), b"1 1 16 2 1", &[FAILED_READS])
 }
+
+/// A claim may be issued up to 200 ms after its sample. A clock is 50 ms off at the most.
+const LATE_CLAIM: &[Line] = &[
+    Start(b"0", b"attach 0"),
+    Play(b"upto 0 claim\ntick 150\nmiss 0 1201\ntick 1\nmiss 0 1200\nmiss 0 1201\n"),
+    Reply(b"0", b"lost lease=image:0 until=1200 reading=1201"),
+    Start(b"0", b"attach 0"),
+    // It is 1,151 ms, and 1,352 ms then.
+    Play(b"upto 0 claim\ntick 201\nrun 0\n"),
+    Reply(b"0", b"lost lease=image:0 until=1351 reading=1352"),
+    // A claim that was issued in time, and whose sectors aren't all there in time.
+    Start(b"0", b"attach 0"),
+    Play(b"upto 0 claim\nissue 0\ntick 251\nland 0 0 0\nrun 0\n"),
+    Reply(b"0", b"write-fault block=2"),
+    Wait(b"0", b"attach 0", FREE),
+];
 
 #[test]
 fn a_claim_that_comes_too_late_is_lost(rt: HostRuntime) -> Result<(), Fail> {
-    // A claim may be issued up to 200 ms after its sample. A clock is 50 ms off at the most.
-    let mut story = Story::new(rt.alloc(), b"1 1 16 2 1")?;
-    story.start(b"0", b"attach 0")?;
-    story.play(b"upto 0 claim\ntick 150\nmiss 0 1201\ntick 1\nmiss 0 1200\nmiss 0 1201\n")?;
-    story.reply(b"0", b"lost lease=image:0 until=1200 reading=1201")?;
-    story.start(b"0", b"attach 0")?;
-    // It is 1,151 ms, and 1,352 ms then.
-    story.play(b"upto 0 claim\ntick 201\nrun 0\n")?;
-    story.reply(b"0", b"lost lease=image:0 until=1351 reading=1352")?;
-    // A claim that was issued in time, and whose sectors aren't all there in time.
-    story.start(b"0", b"attach 0")?;
-    story.play(b"upto 0 claim\nissue 0\ntick 251\nland 0 0 0\nrun 0\n")?;
-    story.reply(b"0", b"write-fault block=2")?;
-    story.wait(b"0", b"attach 0", FREE)?;
-    story.ends(&rt)
+    plays(&rt, rt.alloc(), b"1 1 16 2 1", &[LATE_CLAIM])
 }
+
+const NOT_POSSIBLE: &[Line] = &[
+    // Nothing runs, and there is no appliance 2.
+    Play(b"run 0\nread 0\nissue 0\nland 0 0 0\ndone 0\nfault 0\nmiss 0 1000\nclock 0 1000\n"),
+    Play(b"upto 0 claim\nstart 2 attach 0\nrun 2\ncrash 2\nland 2 0 0\nupto 2 jdata\n"),
+    Start(b"0", b"attach 0"),
+    // The clock is asked, from 950 to 1,050 ms, and no second command starts.
+    Play(b"start 0 renew\nread 0\nissue 0\ndone 0\nfault 0\nmiss 0 1001\n"),
+    Play(b"clock 0 949\nclock 0 1051\nclock 0 950\nclock 0 1050\n"),
+    // The lease is read.
+    Play(b"clock 0 1000\nissue 0\ndone 0\nmiss 0 1001\nread 0\n"),
+    // The claim is written: one sector after another, each once, and not yet done. It is too early for a miss.
+    Play(b"read 0\nclock 0 1000\ndone 0\nmiss 0 1050\nissue 0\nissue 0\ndone 0\n"),
+    Play(b"land 0 0 7\nland 0 0 7\nland 0 0 8\nland 0 0 255\nland 0 1 0\nland 1 0 0\n"),
+    Play(b"land 0 0 1\nland 0 0 2\nland 0 0 3\nland 0 0 4\nland 0 0 5\nland 0 0 6\ndone 0\n"),
+    Play(b"land 0 0 0\nread 0\ndone 0\ndone 0\n"),
+    // The sample was 1,050 ms: the wait is over at 1,651 ms.
+    Play(b"tick 600\nclock 0 1650\nrun 0\nclock 0 1651\n"),
+    Play(b"tick 1\nclock 0 1650\nclock 0 1651\nrun 0\n"),
+    Reply(b"0", FREE),
+    Play(b"tick 9549\n"),
+    Call(
+        b"1",
+        b"attach 0",
+        b"busy lease=image:0 boot=1 claim=0 sample=1050 until=11050",
+    ),
+    Play(b"tick 1\n"),
+    Wait(b"1", b"attach 0", FREE),
+];
 
 #[test]
 fn events_that_are_not_possible_change_nothing(rt: HostRuntime) -> Result<(), Fail> {
-    let mut story = Story::new(rt.alloc(), b"1 1 16 2 2")?;
-    // Nothing runs, and there is no appliance 2.
-    story.play(
-        b"run 0\nread 0\nissue 0\nland 0 0 0\ndone 0\nfault 0\nmiss 0 1000\nclock 0 1000\n",
-    )?;
-    story.play(b"upto 0 claim\nstart 2 attach 0\nrun 2\ncrash 2\nland 2 0 0\nupto 2 jdata\n")?;
-    story.start(b"0", b"attach 0")?;
-    // The clock is asked, from 950 to 1,050 ms, and no second command starts.
-    story.play(
-        b"start 0 renew\nread 0\nissue 0\ndone 0\nfault 0\nmiss 0 1001\nclock 0 949\nclock 0 1051\n",
-    )?;
-    story.play(b"clock 0 950\nclock 0 1050\n")?;
-    // The lease is read.
-    story.play(b"clock 0 1000\nissue 0\ndone 0\nmiss 0 1001\nread 0\n")?;
-    // The claim is written: one sector after another, each once, and not yet done. It is too early for a miss.
-    story.play(b"read 0\nclock 0 1000\ndone 0\nmiss 0 1050\nissue 0\nissue 0\ndone 0\n")?;
-    story.play(b"land 0 0 7\nland 0 0 7\nland 0 0 8\nland 0 0 255\nland 0 1 0\nland 1 0 0\n")?;
-    story.play(
-        b"land 0 0 1\nland 0 0 2\nland 0 0 3\nland 0 0 4\nland 0 0 5\nland 0 0 6\ndone 0\n",
-    )?;
-    story.play(b"land 0 0 0\nread 0\ndone 0\ndone 0\n")?;
-    // The sample was 1,050 ms: the wait is over at 1,651 ms.
-    story.play(
-        b"tick 600\nclock 0 1650\nrun 0\nclock 0 1651\ntick 1\nclock 0 1650\nclock 0 1651\nrun 0\n",
-    )?;
-    story.reply(b"0", FREE)?;
-    story.play(b"tick 9549\n")?;
-    let busy = b"busy lease=image:0 boot=1 claim=0 sample=1050 until=11050";
-    story.call(b"1", b"attach 0", busy)?;
-    story.play(b"tick 1\n")?;
-    story.wait(b"1", b"attach 0", FREE)?;
-    story.ends(&rt)
+    plays(&rt, rt.alloc(), b"1 1 16 2 2", &[NOT_POSSIBLE])
 }

@@ -19,7 +19,7 @@ use Rattle.plx_commands.specs.declared.reply.Reply.TheVariants.{Attached, Data, 
 use Rattle.plx_geom.specs.Geometry.{Geometry}
 use Rattle.plx_words.proofs.Values.{Tell, bit-value, data-value, label-value, spells-tell, value}
 use Rattle.plx_words.proofs.Clean.{all_bounded}
-use Rattle.plx_words.specs.Pieces.{Tells, all_spelled, spelled}
+use Rattle.plx_words.specs.Pieces.{Tells, all_spelled, piece_text}
 use Rattle.plx_text.specs.Commands.{built_line, built_of, command_line, command_of}
 use Rattle.plx_text.specs.Events.{SpellsEvent, event_line, event_of}
 use Rattle.plx_text.specs.Replies.{lease_from, lease_piece, reply_line, reply_in}
@@ -31,16 +31,19 @@ pub world-found : (world : Geometry × ℕ) (words : List (List ℕ)) → Tell (
 world-found (g, appliances) words tells =
     rw (tells.1, value g.images (omega arith), value g.extents (omega arith), value g.extent_blocks (omega arith), value g.slots (omega arith), value appliances (omega arith)) refl
 
-stop-found : (at : Stop) → Tells (stop_piece at) → stop_of (spelled (stop_piece at)) ≡ Some at
+stop-found : (at : Stop) → Tells (stop_piece at) → stop_of (piece_text (stop_piece at)) ≡ Some at
 stop-found (stop.Write kind.Claim) tells = refl
 stop-found (stop.Write kind.Renew) tells = refl
 stop-found (stop.Write kind.Release) tells = refl
+stop-found (stop.Write kind.Take) tells = refl
+stop-found (stop.Write kind.Give) tells = refl
 stop-found (stop.Write kind.Record) tells = refl
 stop-found (stop.Write kind.JData) tells = refl
 stop-found (stop.Write kind.JCommit) tells = refl
 stop-found (stop.Read region.Lease) tells = refl
 stop-found (stop.Read region.Record) tells = refl
 stop-found (stop.Read region.Journal) tells = refl
+stop-found (stop.Read region.Map) tells = refl
 stop-found other tells = grind arith
 
 pub command-found : (one : Command) (words : List (List ℕ)) → Tell (command_line one) words → command_of words ≡ Some one
@@ -53,8 +56,6 @@ built-found : (one : Command) (words : List (List ℕ)) → Tell (built_line one
 built-found (Create slot size name) words tells = rw (tells.1, value slot.0 (omega arith), value size (omega arith), label-value name tells.0.1.1.1.0) refl
 built-found (Write slot vblock payload) words tells = rw (tells.1, value slot.0 (omega arith), value vblock (omega arith), data-value payload tells.0.1.1.1.0) refl
 built-found (Flush slot) words tells = absurd tells.0.0
-built-found (Reserve count) words tells = absurd tells.0.0
-built-found Retire words tells = absurd tells.0.0
 built-found Reclaim words tells = absurd tells.0.0
 built-found other words tells = grind (arith, value)
 
@@ -64,7 +65,7 @@ event-found (event.Start appliance command) words tells =
 event-found (event.Upto appliance at) words tells = rw (tells.1, value appliance.0 (omega arith), stop-found at tells.0.1.1.0) refl
 event-found other words tells = grind (arith, value)
 
-lease_from-piece : (lease : LeaseName) → Tells (lease_piece lease) → lease_from (spelled (lease_piece lease)) ≡ lease
+lease_from-piece : (lease : LeaseName) → Tells (lease_piece lease) → lease_from (piece_text (lease_piece lease)) ≡ lease
 lease_from-piece Root tells = refl
 lease_from-piece (Image slot) tells = grind (arith, value)
 lease_from-piece (Extent extent) tells = grind (arith, value)

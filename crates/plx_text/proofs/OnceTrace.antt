@@ -14,13 +14,14 @@ use Rattle.plx_words.specs.Pieces.{AllTell, Piece, all_spelled}
 use Rattle.plx_text.specs.Replies.{reply_line}
 use Rattle.plx_text.specs.Once.{TraceOnce}
 use Rattle.plx_words.specs.Texts.{LinesTell}
-use Rattle.plx_words.proofs.Once.{heads, none-absurd, some-same}
+use Rattle.plx_words.proofs.Once.{heads, none-absurd}
 use Rattle.plx_words.proofs.Values.{value}
 use Rattle.plx_text.specs.Schedules.{world_line, world_of}
 use Rattle.plx_text.specs.Traces.{end_line, entry_line, entry_in, plain_entry, trace_lines}
 use Rattle.plx_words.proofs.Clean.{all_sound, clean-line}
 use Rattle.plx_text.proofs.Found.{entry_in-line, world-found}
 use Rattle.plx_words.proofs.SameWords.{Are-lines, Is-line, same-words}
+use Rattle.plx_base.proofs.Tests.{same-some}
 
 -- the words that are written out are clean
 command-sound : (command : Command) → all_sound (command_line command) ≡ true
@@ -78,7 +79,7 @@ rest-same (one ∷ entries) [] reachable reachable' allocated allocated' told to
 rest-same (one ∷ entries) (other ∷ entries') reachable reachable' allocated allocated' told told' same =
     let parts = heads (all_spelled (entry_line (plain_entry one))) (all_spelled (entry_line (plain_entry other)))
     (map all_spelled (rest entries reachable allocated)) (map all_spelled (rest entries' reachable' allocated')) same in
-    let first = some-same (plain_entry one) (plain_entry other)
+    let first = same-some (plain_entry one) (plain_entry other)
     (sym (entry_in-line (plain_entry one) _ (told.0, refl)) ∙ (ap entry_in parts.0 ∙ entry_in-line (plain_entry other) _ (told'.0, refl))) in
     let others = rest-same entries entries' reachable reachable' allocated allocated' told.1 told'.1 parts.1 in
     (ap (λ (e : Entry). e ∷ map plain_entry entries) first ∙ ap (λ (es : List Entry). plain_entry other ∷ es) others.0, others.1, others.2)
@@ -90,6 +91,6 @@ once world world' entries entries' reachable reachable' allocated allocated' tol
     (clean-line (world_line world'.0 world'.1) refl told'.0, are-rest entries' reachable' allocated' told'.1) same in
     let parts = heads (all_spelled (world_line world.0 world.1)) (all_spelled (world_line world'.0 world'.1))
     (map all_spelled (rest entries reachable allocated)) (map all_spelled (rest entries' reachable' allocated')) lines in
-    let first = some-same world world' (sym (world-found world _ (told.0, refl)) ∙ (ap world_of parts.0 ∙ world-found world' _ (told'.0, refl))) in
+    let first = same-some world world' (sym (world-found world _ (told.0, refl)) ∙ (ap world_of parts.0 ∙ world-found world' _ (told'.0, refl))) in
     let others = rest-same entries entries' reachable reachable' allocated allocated' told.1 told'.1 parts.1 in
     record { world_same = first; entries_same = others.0; reachable_same = others.1; allocated_same = others.2 }

@@ -23,8 +23,6 @@ command_line Reclaim = word (codes "reclaim") ∷ []
 -- the same of a command of a schedule. These aren't built yet, and no word of a schedule spells them
 abbrev pub built_line : Command → List Piece
 built_line (Flush slot) = unspelled ∷ []
-built_line (Reserve count) = unspelled ∷ []
-built_line Retire = unspelled ∷ []
 built_line Reclaim = unspelled ∷ []
 built_line other = command_line other
 
@@ -44,14 +42,14 @@ built_rows words = (codes "attach", Some (Attach (slot_at 1 words)))
     ∷ (codes "delete", Some (Delete (slot_at 1 words)))
     ∷ (codes "read", Some (Read (slot_at 1 words) (number_at 2 words)))
     ∷ (codes "write", Some (Write (slot_at 1 words) (number_at 2 words) (payload_at 3 words)))
+    ∷ (codes "reserve", Some (Reserve (number_at 1 words)))
     ∷ (codes "renew", Some Renew)
+    ∷ (codes "retire", Some Retire)
     ∷ []
 
 -- the same of commands that aren't built yet
 abbrev pub other_rows : List (List ℕ) → List (List ℕ × Option Command)
 other_rows words = (codes "flush", Some (Flush (slot_at 1 words)))
-    ∷ (codes "reserve", Some (Reserve (number_at 1 words)))
-    ∷ (codes "retire", Some Retire)
     ∷ (codes "reclaim", Some Reclaim)
     ∷ []
 

@@ -4,7 +4,7 @@ use Rattle.plx_commands.specs.declared.event.Event.{Event}
 use Rattle.plx_geom.specs.Geometry.{Geometry, geometry_of}
 use Rattle.plx_words.specs.Candidates.{Reads, by_first, number_at}
 use Rattle.plx_text.specs.Events.{SpellsEvent}
-use Rattle.plx_words.specs.Files.{Numbered, Grammar, IsFirstBad, SpellAll, lines_left, unended}
+use Rattle.plx_words.specs.Files.{Numbered, Grammar, IsFirstBad, SpellAll, lines_left, unended_text}
 use Rattle.plx_words.specs.Pieces.{Piece, word, number, Spell}
 use Rattle.plx_words.specs.Words.{words_of}
 use Rattle.plx_text.specs.declared.schedule.TextError.{TextError}
@@ -43,7 +43,7 @@ SpellSchedule world events (line ∷ lines) = SpellsWorld world (words_of line.1
 -- the bytes are the schedule of a geometry and of so many appliances, and of these events
 pub record IsSchedule (bytes : List ℕ) (world : Geometry × ℕ) (events : List Event) : Type 0 where
   pub lines : SpellSchedule world events (lines_left 0 bytes)
-  pub whole : unended bytes ≡ []
+  pub whole : unended_text bytes ≡ []
 
 -- a schedule begins with the world line, and goes on with lines of events
 abbrev pub Goes : List Numbered → List ℕ → Type 0

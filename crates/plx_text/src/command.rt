@@ -33,8 +33,14 @@ pub(crate) fn read_command(alloc: Global, words: &mut Words) -> Result<Option<Co
     if word == b"write".as_slice() {
         return read_write(alloc, words);
     }
+    if word == b"reserve".as_slice() {
+        return Ok(read_reserve(words));
+    }
     if word == b"renew".as_slice() {
         return Ok(read_renew(words));
+    }
+    if word == b"retire".as_slice() {
+        return Ok(read_retire(words));
     }
     Ok(None)
 }
@@ -105,9 +111,24 @@ fn read_write(alloc: Global, words: &mut Words) -> Result<Option<Command>, NoMem
     }))
 }
 
+fn read_reserve(words: &mut Words) -> Option<Command>
+    ensures { ReadsCommand result (codes "reserve" ∷ words.old) }
+{
+    let count = words.number(1, 256)? as u16;
+    words.end()?;
+    Some(Command::Reserve { count })
+}
+
 fn read_renew(words: &mut Words) -> Option<Command>
     ensures { ReadsCommand result (codes "renew" ∷ words.old) }
 {
     words.end()?;
     Some(Command::Renew)
+}
+
+fn read_retire(words: &mut Words) -> Option<Command>
+    ensures { ReadsCommand result (codes "retire" ∷ words.old) }
+{
+    words.end()?;
+    Some(Command::Retire)
 }

@@ -94,7 +94,8 @@ fn push_written(text: &mut Text, number: u64) -> Result<(), NoMemory>
 }
 
 fn push_flushed(text: &mut Text, applied: u64, blocks: u32) -> Result<(), NoMemory>
-    ensures { OnOk result (AddsWords text.old text.new (reply_line (Reply.Flushed applied blocks))) }
+    ensures { OnOk result (AddsWords text.old text.new
+        (reply_line (Reply.Flushed applied blocks))) }
 {
     text.words(&[
         Word::Plain(b"flushed"),

@@ -10,7 +10,8 @@ use std::alloc::Global;
 
 /// Reads the text of a schedule.
 pub fn read_schedule(alloc: Global, bytes: &[u8]) -> Result<Schedule, TextError>
-    ensures ok { IfOk result (λ schedule. IsSchedule bytes.now (schedule.geometry, schedule.appliances) schedule.events.items) }
+    ensures ok { IfOk result (λ schedule. IsSchedule bytes.now
+        (schedule.geometry, schedule.appliances) schedule.events.items) }
     ensures bad { IfErr result (λ error. NamesFirstBad bytes.now error) }
     ensures none { IfErr result (λ error. SaysNoSchedule bytes.now error) }
 {

@@ -18,6 +18,12 @@ pub(crate) fn read_stop(word: &[u8]) -> Option<Stop>
     if word == b"release".as_slice() {
         return Some(Stop::Write(WriteKind::Release));
     }
+    if word == b"take".as_slice() {
+        return Some(Stop::Write(WriteKind::Take));
+    }
+    if word == b"give".as_slice() {
+        return Some(Stop::Write(WriteKind::Give));
+    }
     if word == b"record".as_slice() {
         return Some(Stop::Write(WriteKind::Record));
     }
@@ -35,6 +41,9 @@ pub(crate) fn read_stop(word: &[u8]) -> Option<Stop>
     }
     if word == b"r-journal".as_slice() {
         return Some(Stop::Read(Region::Journal));
+    }
+    if word == b"r-map".as_slice() {
+        return Some(Stop::Read(Region::Map));
     }
     None
 }

@@ -3,11 +3,12 @@ ghost use Rattle.std.specs.Prelude.{◌≡◌, if◌then◌else◌};
 ghost use Rattle.plx_token.specs.Order.{comes_before as is_first};
 
 use crate::held::Held;
-use crate::kind::{Image, LeaseKind, Root};
+use crate::kind::{Extent, Image, LeaseKind, Root};
 use plx_base::LeaseName;
 
 /// What stands of the leases on which a write rests: the least moment up to which one of them is
-/// held, and which has it. Of several, that is the root's, or the image's with the least slot.
+/// held, and which has it. Of several, that is the root's, or the image's with the least slot, or
+/// the extent's with the least number.
 #[derive(Drop)]
 pub struct Grant {
     lease: LeaseName,
@@ -31,6 +32,17 @@ impl Grant {
     /// An image's lease alone.
     pub fn image(held: &Held<Image>) -> Grant
         ensures lease { result.lease ≡ LeaseName.Image held.now.lease.0 }
+        ensures until { result.until ≡ held.now.until }
+    {
+        Grant {
+            lease: held.name(),
+            until: held.until(),
+        }
+    }
+
+    /// An extent's lease alone.
+    pub fn extent(held: &Held<Extent>) -> Grant
+        ensures lease { result.lease ≡ LeaseName.Extent held.now.lease.0 }
         ensures until { result.until ≡ held.now.until }
     {
         Grant {

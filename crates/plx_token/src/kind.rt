@@ -2,7 +2,7 @@
 ghost use Rattle.std.specs.Prelude.{◌≡◌};
 ghost use Rattle.plx_base.specs.declared.lease.LeaseName.{LeaseName};
 
-use plx_base::{LeaseName, SlotNo};
+use plx_base::{ExtentNo, LeaseName, SlotNo};
 
 /// A kind of lease. A value of the kind is one lease.
 pub trait LeaseKind: Copy {
@@ -21,6 +21,10 @@ pub struct Root;
 #[derive(Clone, Copy, PartialEq, Eq, Debug)]
 pub struct Image(pub SlotNo);
 
+/// The lease of this extent.
+#[derive(Clone, Copy, PartialEq, Eq, Debug)]
+pub struct Extent(pub ExtentNo);
+
 impl LeaseKind for Root {
     ghost called = { λ lease. LeaseName.Root };
 
@@ -34,5 +38,13 @@ impl LeaseKind for Image {
 
     fn name(self) -> LeaseName {
         LeaseName::Image(self.0)
+    }
+}
+
+impl LeaseKind for Extent {
+    ghost called = { λ lease. LeaseName.Extent lease.0 };
+
+    fn name(self) -> LeaseName {
+        LeaseName::Extent(self.0)
     }
 }

@@ -2,11 +2,13 @@
 #![tactic(auto)]
 
 mod claimed;
+mod fresh;
 mod grant;
 mod held;
 mod kind;
 
 pub use claimed::{Claimed, Unconfirmed};
+pub use fresh::Fresh;
 pub use grant::Grant;
 pub use held::Held;
-pub use kind::{Image, LeaseKind, Root};
+pub use kind::{Extent, Image, LeaseKind, Root};

@@ -9,7 +9,7 @@ use Rattle.std.proofs.lemmas.List.Elements.{All-nil, All-cons, All-append}
 use Rattle.plx_base.specs.Labels.{IsLabel}
 use Rattle.plx_base.specs.declared.payload.Payload.{Payload}
 use Rattle.plx_base.specs.declared.payload.Payload.TheVariants.{All, Whole}
-use Rattle.plx_words.specs.Pieces.{AllFit, AllTell, FitsPiece, Piece, Tells, all_spelled, data_spelled, data_word, hex_byte, hex_digit, label, label_spelled, named, number, spelled, unspelled, word}
+use Rattle.plx_words.specs.Pieces.{AllFit, AllTell, FitsPiece, Piece, Tells, all_spelled, data_spelled, data_word, hex_byte, hex_digit, label, label_spelled, named, number, piece_text, unspelled, word}
 
 -- each byte is printable
 abbrev pub Is-clean : List ℕ → Type 0
@@ -75,7 +75,7 @@ abbrev pub all_sound : List Piece → Bool
 all_sound [] = true
 all_sound (piece ∷ pieces) = sound piece && all_sound pieces
 
-clean-piece : (piece : Piece) → sound piece ≡ true → Tells piece → Is-clean (spelled piece)
+clean-piece : (piece : Piece) → sound piece ≡ true → Tells piece → Is-clean (piece_text piece)
 clean-piece (word letters) test tells = clean-word letters test
 clean-piece (number least limit n) test tells = clean-decimal n tells
 clean-piece (named name limit n) test tells = clean-append name (decimal n) (clean-word name test) (clean-decimal n tells)

@@ -2,9 +2,7 @@
 use Rattle.std.proofs.Common.{◌≡◌, ◌∙◌, List, [], ◌∷◌, Option, Some, None, refl, ap, sym, subst}
 use Rattle.std.specs.Prelude.{IfSome}
 use Rattle.plx_words.specs.Files.{Numbered, SpellAll}
-
-pub some-same : {A : Type 0} (one other : A) → Some one ≡ Some other → one ≡ other
-some-same one other same = cc
+use Rattle.plx_base.proofs.Tests.{same-some}
 
 pub none-absurd : {A X : Type 0} (one : A) → None ≡ Some one → X
 none-absurd one same = absurd (cc)
@@ -18,7 +16,7 @@ no-value candidate P found none a is = (subst (λ c. IfSome c (λ a. ¬ P a)) (f
 
 -- two values that the same words spell are one
 pub one-value : {A : Type 0} (candidate : Option A) (one other : A) → candidate ≡ Some one → candidate ≡ Some other → one ≡ other
-one-value candidate one other here there = some-same one other (sym here ∙ there)
+one-value candidate one other here there = same-some one other (sym here ∙ there)
 
 -- lines spell one list of values alone, where each line spells one value alone
 pub lines-once : {A : Type 0} (Spells : A → Numbered → Type 0) → ((one other : A) (line : Numbered) → Spells one line → Spells other line → one ≡ other)

@@ -1,7 +1,7 @@
 -- Words in a line, and lines in a text.
 use Rattle.std.proofs.Common.{◌≡◌, ◌+◌, ◌<◌, ◌∙◌, ℕ, List, [], ◌∷◌, ◌++◌, length, map, take, get_or, refl, ap, sym, append-nil, append_assoc}
 use Rattle.std.proofs.lemmas.List.{map-append, take_more}
-use Rattle.plx_words.specs.Pieces.{AllTell, Tells, Piece, all_spelled, spelled, word}
+use Rattle.plx_words.specs.Pieces.{AllTell, Tells, Piece, all_spelled, piece_text, word}
 use Rattle.plx_words.specs.Texts.{LinesTell, text_of}
 use Rattle.plx_words.specs.Written.{AddsLine, AddsLines, AddsWords}
 use Rattle.plx_words.specs.Words.{line_text}
@@ -23,7 +23,7 @@ spaced-one last = simp append-nil
 
 spelled-append : (pieces others : List Piece) → all_spelled (pieces ++ others) ≡ all_spelled pieces ++ all_spelled others
 spelled-append [] others = refl
-spelled-append (piece ∷ pieces) others = ap (λ (words : List (List ℕ)). spelled piece ∷ words) (spelled-append pieces others)
+spelled-append (piece ∷ pieces) others = ap (λ (words : List (List ℕ)). piece_text piece ∷ words) (spelled-append pieces others)
 
 tell-append : (pieces others : List Piece) → AllTell pieces → AllTell others → AllTell (pieces ++ others)
 tell-append [] others here there = there
@@ -31,10 +31,10 @@ tell-append (piece ∷ pieces) others here there = (here.0, tell-append pieces o
 
 -- one more piece
 pub spaced-more : {A : Type 0} (piece_of : A → Piece) (words : List A) (i : ℕ) (next : A) → i < length words → get_or words i next ≡ next
-    → spaced (all_spelled (map piece_of (take (i + 1) words))) ≡ spaced (all_spelled (map piece_of (take i words))) ++ 32 ∷ spelled (piece_of next)
+    → spaced (all_spelled (map piece_of (take (i + 1) words))) ≡ spaced (all_spelled (map piece_of (take i words))) ++ 32 ∷ piece_text (piece_of next)
 spaced-more piece_of words i next below e = rw (take_more words i next below, e, map-append, spelled-append)
-    (spaced-append (all_spelled (map piece_of (take i words))) (spelled (piece_of next) ∷ [])
-    ∙ ap (λ (text : List ℕ). spaced (all_spelled (map piece_of (take i words))) ++ text) (spaced-one (spelled (piece_of next))))
+    (spaced-append (all_spelled (map piece_of (take i words))) (piece_text (piece_of next) ∷ [])
+    ∙ ap (λ (text : List ℕ). spaced (all_spelled (map piece_of (take i words))) ++ text) (spaced-one (piece_text (piece_of next))))
 
 pub tell-more : {A : Type 0} (piece_of : A → Piece) (words : List A) (i : ℕ) (next : A) → i < length words → get_or words i next ≡ next
     → AllTell (map piece_of (take i words)) → Tells (piece_of next) → AllTell (map piece_of (take (i + 1) words))

@@ -57,13 +57,13 @@ FitsPiece (data_word payload) = IsData payload
 FitsPiece unspelled = ⊥
 
 -- its word
-abbrev pub spelled : Piece → List ℕ
-spelled (word letters) = letters
-spelled (number least limit n) = decimal n
-spelled (named name limit n) = name ++ decimal n
-spelled (label name bytes) = name ++ label_spelled bytes
-spelled (data_word payload) = data_spelled payload
-spelled unspelled = []
+abbrev pub piece_text : Piece → List ℕ
+piece_text (word letters) = letters
+piece_text (number least limit n) = decimal n
+piece_text (named name limit n) = name ++ decimal n
+piece_text (label name bytes) = name ++ label_spelled bytes
+piece_text (data_word payload) = data_spelled payload
+piece_text unspelled = []
 
 -- its word tells its value: a number has at most 64 digits, a label is one, and so is a block
 abbrev pub Tells : Piece → Type 0
@@ -87,7 +87,7 @@ AllFit (piece ∷ pieces) = FitsPiece piece × AllFit pieces
 -- the words of the pieces
 abbrev pub all_spelled : List Piece → List (List ℕ)
 all_spelled [] = []
-all_spelled (piece ∷ pieces) = spelled piece ∷ all_spelled pieces
+all_spelled (piece ∷ pieces) = piece_text piece ∷ all_spelled pieces
 
 -- these words spell the pieces
 abbrev pub Spell : List Piece → List (List ℕ) → Type 0

@@ -1,7 +1,7 @@
 //! The lines of a text, one after another.
 
 ghost use Rattle.std.specs.Prelude.{◌≡◌, ◌+◌, ◌<◌, ◌^◌, ◌≤◌, [], ◌∷◌, length, MatchOption, IfNone, IfSome};
-ghost use Rattle.plx_words.specs.Files.{count_left, is_skipped, lines_left, unended};
+ghost use Rattle.plx_words.specs.Files.{count_left, is_skipped, lines_left, unended_text};
 
 use crate::cut::cut;
 
@@ -41,13 +41,13 @@ impl<'a> Lines<'a> {
         ensures line { MatchOption result (lines_left self.old.number self.old.rest.now ≡ [])
             (λ line. lines_left self.old.number self.old.rest.now
             ≡ (line.number, line.text.now) ∷ lines_left self.new.number self.new.rest.now) }
-        ensures end { IfNone result ((unended self.new.rest.now ≡ self.new.rest.now)
+        ensures end { IfNone result ((unended_text self.new.rest.now ≡ self.new.rest.now)
             × (count_left self.new.number self.new.rest.now ≡ self.new.number)) }
 
         // What the taking of lines leaves as it is, and that it comes to an end.
         ensures count { count_left self.new.number self.new.rest.now
             ≡ count_left self.old.number self.old.rest.now }
-        ensures left { unended self.new.rest.now ≡ unended self.old.rest.now }
+        ensures left { unended_text self.new.rest.now ≡ unended_text self.old.rest.now }
         ensures shorter { IfSome result (λ _. length self.new.rest.now < length self.old.rest.now) }
         ensures room { self.new.number + length self.new.rest.now
             ≤ self.old.number + length self.old.rest.now }

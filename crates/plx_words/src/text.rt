@@ -1,7 +1,7 @@
 //! Texts that are being written.
 ghost use Rattle.std.specs.Prelude.{◌≡◌, ◌++◌, ◌∷◌, [], OnOk, decimal, map};
 ghost use Rattle.plx_base.specs.Labels.{IsLabel};
-ghost use Rattle.plx_words.specs.Pieces.{Tells, label_spelled, spelled, word};
+ghost use Rattle.plx_words.specs.Pieces.{Tells, label_spelled, piece_text, word};
 ghost use Rattle.plx_words.specs.Written.{AddsLine, AddsWords, piece_of};
 
 use crate::print_data::push_data;
@@ -106,7 +106,7 @@ impl Text {
     }
 
     fn word(&mut self, word: &Word) -> Result<(), NoMemory>
-        ensures text { OnOk result (self.new ≡ self.old ++ spelled (piece_of word.now)) }
+        ensures text { OnOk result (self.new ≡ self.old ++ piece_text (piece_of word.now)) }
         ensures tells { OnOk result (Tells (piece_of word.now)) }
     {
         match word {

@@ -2,7 +2,7 @@
 use Rattle.std.proofs.Common.{◌≡◌, ◌≢◌, ℕ, List, [], ◌∷◌, ◌++◌, length, reverse, Option, Some, None, refl, ap, sym, subst, ◌∙◌, append-nil}
 use Rattle.std.specs.Prelude.{OnErr, Result, Ok, Err, slice_get, slice_set}
 use Rattle.std.proofs.lemmas.Grind.{reverse_onto}
-use Rattle.plx_appliance.specs.Appliance.{IsStanding, StandsFor, setting_of}
+use Rattle.plx_appliance.specs.Appliance.{IsStanding, StandsFor, appliance_setting}
 use Rattle.plx_appliance.specs.Giving as giving
 use Rattle.plx_appliance.specs.declared.setting.Setting.{Setting as Own}
 use Rattle.plx_base.specs.declared.numbers.ApplianceNo.{ApplianceNo}
@@ -19,7 +19,7 @@ use Rattle.plx_rules.specs.Ends.{End}
 use Rattle.plx_rules.specs.Part.{Part, Ends, ReadThen, WriteThen, ClockThen, UntilThen}
 use Rattle.plx_rules.specs.Settings.{Setting}
 use Rattle.plx_rules.specs.World as rules
-use Rattle.plx_rules.specs.World.{goes_on, stands, told, with_happening}
+use Rattle.plx_rules.specs.World.{goes_on, stands, with_reply_of, with_happening}
 use Rattle.plx_world.specs.Answering.{IsAnswered, told_entries}
 use Rattle.plx_world.specs.Numbers.{own_numbers}
 use Rattle.plx_world.specs.Seats.{KeepsSeat}
@@ -33,12 +33,12 @@ pub one-more : (new : List Entry) (trace old : List Entry) (one : Entry) → new
 one-more new trace old one is same = is ∙ ap (λ (xs : List Entry). xs ++ one ∷ []) same ∙ sym (reverse_onto old one [])
 
 -- the reply, where the command ends with it
-told-more : (a : ApplianceNo) (rest : Part End) (new trace old : List Entry) → new ≡ trace ++ told_entries a (reply_of rest) → trace ≡ reverse old → new ≡ reverse (told a rest old)
-told-more a (Ends end) new trace old is same = one-more new trace old (entry.Reply a end.reply) is same
-told-more a (ReadThen block rest fault) new trace old is same = is ∙ append-nil trace ∙ same
-told-more a (WriteThen kind block bytes guard done fault missed) new trace old is same = is ∙ append-nil trace ∙ same
-told-more a (ClockThen rest) new trace old is same = is ∙ append-nil trace ∙ same
-told-more a (UntilThen from rest) new trace old is same = is ∙ append-nil trace ∙ same
+told-entries-more : (a : ApplianceNo) (rest : Part End) (new trace old : List Entry) → new ≡ trace ++ told_entries a (reply_of rest) → trace ≡ reverse old → new ≡ reverse (with_reply_of a rest old)
+told-entries-more a (Ends end) new trace old is same = one-more new trace old (entry.Reply a end.reply) is same
+told-entries-more a (ReadThen block rest fault) new trace old is same = is ∙ append-nil trace ∙ same
+told-entries-more a (WriteThen kind block bytes guard done fault missed) new trace old is same = is ∙ append-nil trace ∙ same
+told-entries-more a (ClockThen rest) new trace old is same = is ∙ append-nil trace ∙ same
+told-entries-more a (UntilThen from rest) new trace old is same = is ∙ append-nil trace ∙ same
 
 -- the seats of a world in which one seat, and one appliance, have changed
 pub seats-changed : (old new : List Seat) (w v : rules.World) (n : ℕ) (before after : Seat) → slice_get old n ≡ Some before →
@@ -63,21 +63,21 @@ pub answers : (old new : World) (a : ApplianceNo) (given : Answer) (before after
     ((log : List Happening) (ask : Ask) (bytes : List ℕ) → StandsFor before.appliance log → IsStanding before.appliance log ask bytes → Fits ask given →
     StandsFor after.appliance (Asked ask bytes given ∷ log)) →
     ((log : List Happening) (ask : Ask) (bytes : List ℕ) → StandsFor before.appliance log → IsStanding before.appliance log ask bytes → Fits ask given →
-    reply ≡ replies (setting_of before.appliance) given (position (setting_of before.appliance) log)) →
+    reply ≡ replies (appliance_setting before.appliance) given (position (appliance_setting before.appliance) log)) →
     IsAnswered old new a given
 answers old new a given before after reply at left trace longer replied w event ask bytes rest h asked out fits leads =
     let n = a.0 in
     let log = (w.seats n).log in
     let one = h.seats n before at in
-    let where-is : position (setting_of before.appliance) log ≡ stands w n = position-of w n before one in
+    let where-is : position (appliance_setting before.appliance) log ≡ stands w n = position-of w n before one in
     let standing : IsStanding before.appliance log ask bytes = record {
       ask_is = ap (λ (p : Position). asks p.place) where-is ∙ asked;
       bytes_are = ap (λ (p : Position). writes_out p.place) where-is ∙ out;
     } in
-    let same : setting_of after.appliance ≡ setting_of before.appliance = ap (λ (s : Own). giving.given s) left.kept.setting in
+    let same : appliance_setting after.appliance ≡ appliance_setting before.appliance = ap (λ (s : Own). giving.rules_setting s) left.kept.setting in
     let reply-is : reply ≡ reply_of rest =
     replied log ask bytes one.log standing fits
-    ∙ ap (λ (p : Position). replies (setting_of before.appliance) given p) where-is
+    ∙ ap (λ (p : Position). replies (appliance_setting before.appliance) given p) where-is
     ∙ ap (λ (s : Setting). replies s given (stands w n)) one.setting
     ∙ leads in
     let v = goes_on w event a ask bytes given rest in
@@ -91,7 +91,7 @@ answers old new a given before after reply at left trace longer replied w event 
           (seat-at v n s after (at-same w.seats n s) (same ∙ one.setting) (left.kept.boots ∙ one.boots) (longer log ask bytes one.log standing fits) left.pending (left.kept.issued ∙ one.issued))
           refl
           (λ k other. at-other w.seats n k s other) (λ k other. refl);
-      trace = told-more a rest new.trace.items old.trace.items w.trace (trace ∙ ap (λ (r : Option Reply). old.trace.items ++ told_entries a r) reply-is) h.trace;
+      trace = told-entries-more a rest new.trace.items old.trace.items w.trace (trace ∙ ap (λ (r : Option Reply). old.trace.items ++ told_entries a r) reply-is) h.trace;
     }
 
 -- where a call found no memory

@@ -2,9 +2,9 @@
 use Rattle.std.proofs.Common.{◌≡◌, ℕ, List, ◌∷◌, length, Option, Some, refl, sym, subst, ◌⊎◌, inl, inr}
 use Rattle.std.proofs.Math.Logic.{∥∥₁_elim, ∥∥₁_map, ∥∥₁_prop}
 use Rattle.std.proofs.Props.{props}
-use Rattle.plx_appliance.specs.Appliance.{IsStanding, StandsFor, setting_of}
+use Rattle.plx_appliance.specs.Appliance.{IsStanding, StandsFor, appliance_setting}
 use Rattle.plx_appliance.specs.declared.appliance.Appliance.{Appliance}
-use Rattle.plx_appliance.specs.Asking.{IsOnDevice}
+use Rattle.plx_alloc.specs.Asking.{IsOnDevice}
 use Rattle.plx_base.specs.declared.numbers.BlockNo.{BlockNo}
 use Rattle.plx_base.specs.declared.write_kind.WriteKind.{WriteKind}
 use Rattle.plx_commands.specs.declared.command.Command.{Command}
@@ -31,7 +31,7 @@ within-logged a g asked logged within = ∥∥₁_elim logged (on-device-prop g 
 
 -- an appliance that is answered has come to where it stands by some log
 pub answered-logged : (old new : Appliance) (asked : Ask) (given : Answer) → HasLog old →
-    ((log : List Happening) → StandsFor old log → Some asked ≡ asks (position (setting_of old) log).place) →
+    ((log : List Happening) → StandsFor old log → Some asked ≡ asks (position (appliance_setting old) log).place) →
     ((log : List Happening) (ask : Ask) (bytes : List ℕ) → StandsFor old log → IsStanding old log ask bytes → Fits ask given → StandsFor new (Asked ask bytes given ∷ log)) →
     ((log : List Happening) (ask : Ask) (bytes : List ℕ) → StandsFor old log → IsStanding old log ask bytes → ¬ (Fits ask given) → new ≡ old) → HasLog new
 answered-logged old new asked given logged asks-it fit unfit = ∥∥₁_elim logged ∥∥₁_prop (λ h. go h.0 h.1 (fits-or asked given))
@@ -39,12 +39,12 @@ answered-logged old new asked given logged asks-it fit unfit = ∥∥₁_elim lo
     go : (log : List Happening) → StandsFor old log → Fits asked given ⊎ ¬ (Fits asked given) → HasLog new
     go log stands (inl fits) =
         ∣ (
-          Asked asked (writes_out (position (setting_of old) log).place) given ∷ log,
-          fit log asked (writes_out (position (setting_of old) log).place) stands (record { ask_is = sym (asks-it log stands); bytes_are = refl }) fits,
+          Asked asked (writes_out (position (appliance_setting old) log).place) given ∷ log,
+          fit log asked (writes_out (position (appliance_setting old) log).place) stands (record { ask_is = sym (asks-it log stands); bytes_are = refl }) fits,
         ) ∣₁
     go log stands (inr unfits) =
         let P : Appliance → Type 0 = λ x. HasLog x in
-        subst P (sym (unfit log asked (writes_out (position (setting_of old) log).place) stands (record { ask_is = sym (asks-it log stands); bytes_are = refl }) unfits)) logged
+        subst P (sym (unfit log asked (writes_out (position (appliance_setting old) log).place) stands (record { ask_is = sym (asks-it log stands); bytes_are = refl }) unfits)) logged
 
 -- one that stands for a longer log, or for the same
 pub begun-logged : (old new : Appliance) (command : Command) → HasLog old → ((log : List Happening) → StandsFor old log → StandsFor new (Began command ∷ log)) → HasLog new
@@ -55,7 +55,7 @@ same-logged old new logged stays = ∥∥₁_map logged (λ h. (h.0, stays h.0 h
 
 -- the bytes of a write that is asked fill a block, as some log led to it
 pub whole-logged : (a : Appliance) (kind : WriteKind) (block : BlockNo) (guard : ℕ) (bytes : List ℕ) → HasLog a → AsksAs a (Some (ask.Write kind block guard)) →
-    ((log : List Happening) → StandsFor a log → AreWhole (asks (position (setting_of a) log).place) bytes) → length bytes ≡ 4096
+    ((log : List Happening) → StandsFor a log → AreWhole (asks (position (appliance_setting a) log).place) bytes) → length bytes ≡ 4096
 whole-logged a kind block guard bytes logged asked whole = ∥∥₁_elim logged (search props) (λ h.
     let P : Option Ask → Type 0 = λ x. AreWhole x bytes in
     subst P (sym (asked h.0 h.1)) (whole h.0 h.1))

@@ -1,7 +1,7 @@
 -- An appliance is given a command, or loses what it has in memory.
 use Rattle.std.proofs.Common.{◌≡◌, ◌+◌, ◌^◌, ◌≤◌, ◌<◌, ℕ, List, [], ◌∷◌, ◌++◌, length, Some, None, true, false, refl, ap, sym, subst, ◌∙◌, arith}
 use Rattle.std.specs.Prelude.{slice_get, slice_set}
-use Rattle.plx_appliance.specs.Appliance.{IsIdle, IsRunning, StandsFor, setting_of}
+use Rattle.plx_appliance.specs.Appliance.{IsIdle, IsRunning, StandsFor, appliance_setting}
 use Rattle.plx_appliance.specs.Giving as giving
 use Rattle.plx_appliance.specs.declared.setting.Setting.{Setting as Own}
 use Rattle.plx_base.proofs.Uniform.{length-filled}
@@ -22,7 +22,7 @@ use Rattle.plx_rules.specs.World as rules
 use Rattle.plx_rules.specs.World.{after_crash, after_start, crashes, setting_at, starts, with_happening}
 use Rattle.plx_world.specs.Fresh.{IsFresh}
 use Rattle.plx_world.specs.Seats.{KeepsSeat}
-use Rattle.plx_world.specs.Standing.{Stays, Steps}
+use Rattle.plx_world.specs.Standing.{StandsOn, Steps}
 use Rattle.plx_world.specs.declared.seat.Seat.{Seat}
 use Rattle.plx_world.specs.declared.world.World.{World}
 use Rattle.plx_world.proofs.Answered.{one-more, seats-changed}
@@ -60,7 +60,7 @@ starts-command old new a c told given before after at below told-is given-is idl
     let s = with_happening (w.seats n) (Began c) in
     let v = after_start w a c in
     let place = idle-at w n before one idle in
-    let same : setting_of after.appliance ≡ setting_of before.appliance = ap (λ (s : Own). giving.given s) kept.setting in
+    let same : appliance_setting after.appliance ≡ appliance_setting before.appliance = ap (λ (s : Own). giving.rules_setting s) kept.setting in
     let D : Disk → Type 0 = λ x. DiskStands x w.surface in
     let B : Command → Type 0 = λ x. StandsFor after.appliance (Began x ∷ (w.seats n).log) in
     let T : Command → Type 0 = λ x. new.trace.items ≡ old.trace.items ++ entry.Start a x ∷ [] in (
@@ -85,10 +85,10 @@ starts-busy old a c seat at running = impossible old old (event.Start a c) (λ w
 
 -- without memory nothing has changed
 pub seat-stays : (old new : World) (n : ℕ) (before after : Seat) → slice_get old.seats.items n ≡ Some before → Leaves old new n after → KeepsSeat before after →
-    after.pending ≡ before.pending → new.trace.items ≡ old.trace.items → ((log : List Happening) → StandsFor before.appliance log → StandsFor after.appliance log) → Stays old new
+    after.pending ≡ before.pending → new.trace.items ≡ old.trace.items → ((log : List Happening) → StandsFor before.appliance log → StandsFor after.appliance log) → StandsOn old new
 seat-stays old new n before after at left kept pending trace stays w h =
     let one = h.seats n before at in
-    let same : setting_of after.appliance ≡ setting_of before.appliance = ap (λ (s : Own). giving.given s) kept.setting in
+    let same : appliance_setting after.appliance ≡ appliance_setting before.appliance = ap (λ (s : Own). giving.rules_setting s) kept.setting in
     record {
       geometry = left.geometry ∙ h.geometry;
       count = left.count ∙ h.count;

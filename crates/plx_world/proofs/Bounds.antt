@@ -1,6 +1,6 @@
 -- How many answers each command takes at most.
-use Rattle.std.proofs.Common.{ℕ, zero, suc, ◌+◌, ◌*◌, ◌≤◌, List, [], ◌∷◌, Bool, true, false, Option, Some, None, arith}
-use Rattle.std.specs.Prelude.{nat_lt, nat_le, not, ◌==◌, length}
+use Rattle.std.proofs.Common.{ℕ, zero, suc, ◌+◌, ◌-◌, ◌*◌, ◌≤◌, List, [], ◌∷◌, take, Bool, true, false, Option, Some, None, arith}
+use Rattle.std.specs.Prelude.{nat_lt, nat_le, not, ◌==◌, length, if◌then◌else◌}
 use Rattle.std.specs.Str.{bytes_eq}
 use Rattle.plx_base.specs.Canonical.{payload_of}
 use Rattle.plx_base.specs.Payload.{bytes_of}
@@ -15,21 +15,22 @@ use Rattle.plx_commands.specs.declared.reply.Reply.TheVariants as reply
 use Rattle.plx_gate.specs.Leases.{lease_bytes, read_lease}
 use Rattle.plx_gate.specs.declared.image.ImageRecord.{ImageRecord}
 use Rattle.plx_gate.specs.declared.image.ImageRecord.TheVariants as image_is
-use Rattle.plx_geom.specs.Geometry.{Geometry, IsGeometry, lease_count, image_lease, lease_at, descriptor_at, data_at, record_at}
+use Rattle.plx_geom.specs.Geometry.{Geometry, IsGeometry, lease_count, root_lease, image_lease, extent_lease, lease_at, descriptor_at, data_at, record_at, map_at}
 use Rattle.plx_rules.specs.Part.{Part, Ends, ReadThen, WriteThen, ClockThen, UntilThen}
 use Rattle.plx_rules.specs.Parts.{followed_by}
 use Rattle.plx_rules.specs.declared.journaled.Journaled.{Journaled}
 use Rattle.plx_rules.specs.Attaching.{image_use, attach_ends, after_load, load_journal, after_record, load_image, after_claim, claim_image, attach_held, attach_part}
 use Rattle.plx_rules.specs.Claims.{ClaimEnd, ClaimHeld, ClaimBusy, ClaimLost, ClaimReadFault, ClaimWriteFault, ClaimDamaged, claim_of, own_record, own_use, claim_in_time, claim_damaged, reread_by, reread_part, written_part, if_expired, seen_part, claim_part}
 use Rattle.plx_rules.specs.Commands.{unless, held_part, attached_part, of_attached, detach_part, record_part, create_part, delete_part, read_part, write_part, journal_part, next_write, renewal, renew_part, attached_uses, command_part}
-use Rattle.plx_rules.specs.Ends.{End, ends, lost, damaged, in_time, ends_in_time}
+use Rattle.plx_rules.specs.Ends.{End, ends, lost, damaged_part, in_time, ends_in_time}
 use Rattle.plx_rules.specs.Holds.{Hold, Nothing, Seen, Wrote, Waited, Held}
 use Rattle.plx_rules.specs.InUse.{InUse, first_reached, unless_reached}
 use Rattle.plx_rules.specs.Journal.{Finding, Outside, Unused, Counts, finding}
 use Rattle.plx_rules.specs.Loading.{LoadEnd, Loaded, LoadReadFault, LoadDamaged, load_found, load_part, load_read}
 use Rattle.plx_rules.specs.Records.{is_live, generation_of, size_of, made_record, attached_record}
-use Rattle.plx_rules.specs.Session.{Session, Known, with_claim, with_session, with_write, new_session, session_report, content, write_count, inserted}
+use Rattle.plx_rules.specs.Session.{Session, Known, with_claim, with_session, with_write, new_session, session_report, content, write_count, with_write_by_number}
 use Rattle.plx_rules.specs.Settings.{Setting}
+use Rattle.plx_rules.specs.Space.{Taking, with_claim_begun, with_claimed, with_taken, with_busy, first_taking, extent_use, if_needed, set_part, take_found, take_here, take_if_held, take_held, after_extent_claim, claim_extent, claim_if_free, other_found, take_if_other, take_others, shortage_part, taken_part, reserve_part, release_then, in_extent, give_found, give_part, retire_extent, retire_extents, retire_lease, retire_images, retire_part, read_map, free_from}
 use Rattle.plx_rules.specs.Times.{is_expired}
 use Rattle.plx_world.specs.Bounds.{AtMost, most_asks}
 
@@ -59,28 +60,28 @@ at-most-more (suc low) (suc high) (UntilThen from rest) below few = λ reading. 
 -- one part, and then another
 pub at-most-followed : {E F : Type 0} (most first second : ℕ) (part : Part E) (next : E → Part F) → first + second ≤ most → AtMost first part →
     ((end : E) → AtMost second (next end)) → AtMost most (followed_by part next)
-at-most-followed most first second (Ends end) next sum few then = at-most-more second most (next end) (omega (arith, sum)) (then end)
-at-most-followed most zero second (ReadThen block rest fault) next sum few then = absurd few
-at-most-followed zero (suc first) second (ReadThen block rest fault) next sum few then = absurd (omega (arith, sum))
-at-most-followed (suc most) (suc first) second (ReadThen block rest fault) next sum few then = (
-  (λ bytes. at-most-followed most first second (rest bytes) next (omega (arith, sum)) (few.0 bytes) then),
-  at-most-followed most first second fault next (omega (arith, sum)) few.1 then,
+at-most-followed most first second (Ends end) next sum few later = at-most-more second most (next end) (omega (arith, sum)) (later end)
+at-most-followed most zero second (ReadThen block rest fault) next sum few later = absurd few
+at-most-followed zero (suc first) second (ReadThen block rest fault) next sum few later = absurd (omega (arith, sum))
+at-most-followed (suc most) (suc first) second (ReadThen block rest fault) next sum few later = (
+  (λ bytes. at-most-followed most first second (rest bytes) next (omega (arith, sum)) (few.0 bytes) later),
+  at-most-followed most first second fault next (omega (arith, sum)) few.1 later,
 )
-at-most-followed most zero second (WriteThen kind block bytes guard done fault missed) next sum few then = absurd few
-at-most-followed zero (suc first) second (WriteThen kind block bytes guard done fault missed) next sum few then = absurd (omega (arith, sum))
-at-most-followed (suc most) (suc first) second (WriteThen kind block bytes guard done fault missed) next sum few then = (
-  at-most-followed most first second done next (omega (arith, sum)) few.0 then,
-  at-most-followed most first second fault next (omega (arith, sum)) few.1 then,
-  λ reading. at-most-followed most first second (missed reading) next (omega (arith, sum)) (few.2 reading) then,
+at-most-followed most zero second (WriteThen kind block bytes guard done fault missed) next sum few later = absurd few
+at-most-followed zero (suc first) second (WriteThen kind block bytes guard done fault missed) next sum few later = absurd (omega (arith, sum))
+at-most-followed (suc most) (suc first) second (WriteThen kind block bytes guard done fault missed) next sum few later = (
+  at-most-followed most first second done next (omega (arith, sum)) few.0 later,
+  at-most-followed most first second fault next (omega (arith, sum)) few.1 later,
+  λ reading. at-most-followed most first second (missed reading) next (omega (arith, sum)) (few.2 reading) later,
 )
-at-most-followed most zero second (ClockThen rest) next sum few then = absurd few
-at-most-followed zero (suc first) second (ClockThen rest) next sum few then = absurd (omega (arith, sum))
-at-most-followed (suc most) (suc first) second (ClockThen rest) next sum few then =
-    λ reading. at-most-followed most first second (rest reading) next (omega (arith, sum)) (few reading) then
-at-most-followed most zero second (UntilThen from rest) next sum few then = absurd few
-at-most-followed zero (suc first) second (UntilThen from rest) next sum few then = absurd (omega (arith, sum))
-at-most-followed (suc most) (suc first) second (UntilThen from rest) next sum few then =
-    λ reading. at-most-followed most first second (rest reading) next (omega (arith, sum)) (few reading) then
+at-most-followed most zero second (ClockThen rest) next sum few later = absurd few
+at-most-followed zero (suc first) second (ClockThen rest) next sum few later = absurd (omega (arith, sum))
+at-most-followed (suc most) (suc first) second (ClockThen rest) next sum few later =
+    λ reading. at-most-followed most first second (rest reading) next (omega (arith, sum)) (few reading) later
+at-most-followed most zero second (UntilThen from rest) next sum few later = absurd few
+at-most-followed zero (suc first) second (UntilThen from rest) next sum few later = absurd (omega (arith, sum))
+at-most-followed (suc most) (suc first) second (UntilThen from rest) next sum few later =
+    λ reading. at-most-followed most first second (rest reading) next (omega (arith, sum)) (few reading) later
 
 -- what is asked unless a lease in use was reached
 pub at-most-unless : {E : Type 0} (most : ℕ) (due : Option InUse) (lost : InUse → Part E) (rest : Part E) → ((use' : InUse) → AtMost most (lost use')) → AtMost most rest →
@@ -159,10 +160,10 @@ load-most (suc (suc most)) g image kept (suc left) slot writes room = (
   (λ bytes.
       found-most (suc most) (descriptor_at g image slot) (finding kept g.slots slot bytes) (load_part g image kept left (slot + 1) writes)
       (λ number vblock. load_read (data_at g image slot) (λ data'.
-      load_part g image kept left (slot + 1) (inserted (record { number = number; vblock = vblock; block = data' }) writes)))
+      load_part g image kept left (slot + 1) (with_write_by_number (record { number = number; vblock = vblock; block = data' }) writes)))
       (load-most (suc most) g image kept left (slot + 1) writes (omega (arith, room)))
       (λ number vblock. (
-        (λ data'. load-most most g image kept left (slot + 1) (inserted (record { number = number; vblock = vblock; block = data' }) writes) (omega (arith, room))),
+        (λ data'. load-most most g image kept left (slot + 1) (with_write_by_number (record { number = number; vblock = vblock; block = data' }) writes) (omega (arith, room))),
         tt,
       ))),
   tt,
@@ -174,7 +175,7 @@ module _ (s : Setting) (geometry : IsGeometry s.geometry) (known : Known) (image
       ends-most most s known (image_use image until) (reply.Attached (session_report session)) (with_session known image (Some session))
 
   -- bytes outside the format
-  attach-damaged : (most until block : ℕ) → AtMost (suc most) (damaged s known (image_use image until) block)
+  attach-damaged : (most until block : ℕ) → AtMost (suc most) (damaged_part s known (image_use image until) block)
   attach-damaged most until block = ends-most most s known (image_use image until) (reply.Damaged (record { 0 = block })) known
 
   attach-loaded : (until : ℕ) (kept : ImageRecord) (end : LoadEnd) → AtMost 1 (after_load s known image until kept end)
@@ -319,6 +320,161 @@ renew-most s known holds reading (suc left) lease =
     renewal-most left s known reading lease (holds (lease_at lease)) (renew_part s known holds reading left (lease + 1)) few
     (at-most-more left (suc left) (renew_part s known holds reading left (lease + 1)) (omega arith) few)
 
+-- ---- reserve
+
+-- a take goes on with at most so many answers, whatever it has so far
+abbrev GoesMost : (most : ℕ) → (Taking → Part End) → Type 0
+GoesMost most rest = (t : Taking) → AtMost most (rest t)
+
+set-most : (s : Setting) (most extent until : ℕ) (bits : List Bool) (blocks : List ℕ) (rest : Taking → Part End) → GoesMost most rest → GoesMost (suc most) (set_part s extent until bits blocks rest)
+set-most s most extent until bits [] rest few t = at-most-more most (suc most) (rest t) (omega arith) (few t)
+set-most s most extent until bits (block ∷ blocks) rest few t = (few (with_taken t (block ∷ blocks)), tt, λ reading. tt)
+
+map_found-most : (s : Setting) (most count extent until : ℕ) (found : Option (List Bool)) (rest : Taking → Part End) → GoesMost most rest → GoesMost (suc most) (take_found s count extent until found rest)
+map_found-most s most count extent until None rest few t =
+    ends-most most s t.known (extent_use s.geometry extent until ∷ t.claimed) (reply.Damaged (record { 0 = map_at s.geometry extent })) t.known
+map_found-most s most count extent until (Some bits) rest few t =
+    set-most s most extent until bits (take (count - length t.hand) (free_from t.hand (map_at s.geometry extent) bits)) rest few t
+
+-- a map is read, and written
+here-most : (s : Setting) (most count extent until : ℕ) (rest : Taking → Part End) → GoesMost most rest → GoesMost (suc (suc most)) (take_here s count extent until rest)
+here-most s most count extent until rest few t =
+    ((λ bytes. map_found-most s most count extent until (read_map s.geometry.extent_blocks bytes) rest few t), tt)
+
+needed-most : (most count : ℕ) (here rest : Taking → Part End) → GoesMost most here → GoesMost most rest → GoesMost most (if_needed count here rest)
+needed-most most count here rest few few' t = by_test (nat_le count (length t.hand))
+  where
+    by_test : (a : Bool) → AtMost most (if a then rest t else here t)
+    by_test true = few' t
+    by_test false = few t
+
+if_held-most : (s : Setting) (most count extent : ℕ) (hold : Hold) (rest : Taking → Part End) → GoesMost most rest → GoesMost (suc (suc most)) (take_if_held s count extent hold rest)
+if_held-most s most count extent (Held claim until) rest few t = here-most s most count extent until rest few t
+if_held-most s most count extent Nothing rest few t = at-most-more most (suc (suc most)) (rest t) (omega arith) (few t)
+if_held-most s most count extent (Seen sample) rest few t = at-most-more most (suc (suc most)) (rest t) (omega arith) (few t)
+if_held-most s most count extent (Wrote claim until) rest few t = at-most-more most (suc (suc most)) (rest t) (omega arith) (few t)
+if_held-most s most count extent (Waited claim until) rest few t = at-most-more most (suc (suc most)) (rest t) (omega arith) (few t)
+
+-- two asks for each extent
+held-take-most : (s : Setting) (most count : ℕ) (holds : ℕ → Hold) (left extent : ℕ) (rest : Taking → Part End) → GoesMost most rest → GoesMost (2 * left + most) (take_held s count holds left extent rest)
+held-take-most s most count holds zero extent rest few t = at-most-more most (2 * 0 + most) (rest t) (omega arith) (few t)
+held-take-most s most count holds (suc left) extent rest few t =
+    let next = held-take-most s most count holds left (extent + 1) rest few in
+    at-most-more (suc (suc (2 * left + most))) (2 * suc left + most) (take_held s count holds (suc left) extent rest t) (omega arith)
+    (needed-most (suc (suc (2 * left + most))) count _ _ (if_held-most s (2 * left + most) count extent (holds (lease_at (extent_lease s.geometry extent))) _ next)
+    (λ t'. at-most-more (2 * left + most) (suc (suc (2 * left + most))) (take_held s count holds left (extent + 1) rest t') (omega arith) (next t')) t)
+
+extent_claimed-most : (s : Setting) (most count extent : ℕ) (rest : Taking → Part End) → GoesMost most rest → (t : Taking) (end : ClaimEnd) → AtMost (suc (suc most)) (after_extent_claim s count extent rest t end)
+extent_claimed-most s most count extent rest few t (ClaimHeld claim until) = here-most s most count extent until rest few (with_claimed t (extent_use s.geometry extent until))
+extent_claimed-most s most count extent rest few t (ClaimBusy seen) =
+    at-most-more most (suc (suc most)) (rest (with_busy t (extent_lease s.geometry extent) seen)) (omega arith) (few (with_busy t (extent_lease s.geometry extent) seen))
+extent_claimed-most s most count extent rest few t (ClaimLost due reading) = tt
+extent_claimed-most s most count extent rest few t ClaimReadFault = tt
+extent_claimed-most s most count extent rest few t ClaimWriteFault = tt
+extent_claimed-most s most count extent rest few t ClaimDamaged = tt
+
+claim_extent-most : (s : Setting) (most count extent : ℕ) (enough : Bool) (rest : Taking → Part End) → GoesMost most rest → GoesMost (most + 8) (claim_extent enough s count extent rest)
+claim_extent-most s most count extent false rest few t = tt
+claim_extent-most s most count extent true rest few t =
+    at-most-followed (most + 8) 6 (suc (suc most)) (claim_part s.boot t.claimed (extent_lease s.geometry extent) t.known.claims) (after_extent_claim s count extent rest (with_claim_begun t)) (omega arith)
+    (claim-most s.boot t.claimed (extent_lease s.geometry extent) t.known.claims) (extent_claimed-most s most count extent rest few (with_claim_begun t))
+
+if_free-most : (s : Setting) (most count extent : ℕ) (free : List ℕ) (rest : Taking → Part End) → GoesMost most rest → GoesMost (most + 8) (claim_if_free s count extent free rest)
+if_free-most s most count extent [] rest few t = at-most-more most (most + 8) (rest t) (omega arith) (few t)
+if_free-most s most count extent (block ∷ blocks) rest few t = claim_extent-most s most count extent (nat_lt t.known.claims last_claim) rest few t
+
+other_found-most : (s : Setting) (most count extent : ℕ) (found : Option (List Bool)) (rest : Taking → Part End) → GoesMost most rest → GoesMost (most + 8) (other_found s count extent found rest)
+other_found-most s most count extent None rest few t =
+    at-most-more (suc most) (most + 8) (damaged_part s t.known t.claimed (map_at s.geometry extent)) (omega arith)
+    (ends-most most s t.known t.claimed (reply.Damaged (record { 0 = map_at s.geometry extent })) t.known)
+other_found-most s most count extent (Some bits) rest few t = if_free-most s most count extent (free_from t.hand (map_at s.geometry extent) bits) rest few t
+
+if_other-most : (s : Setting) (most count extent : ℕ) (hold : Hold) (rest : Taking → Part End) → GoesMost most rest → GoesMost (suc (most + 8)) (take_if_other s count extent hold rest)
+if_other-most s most count extent (Held claim until) rest few t = at-most-more most (suc (most + 8)) (rest t) (omega arith) (few t)
+if_other-most s most count extent Nothing rest few t = ((λ bytes. other_found-most s most count extent (read_map s.geometry.extent_blocks bytes) rest few t), tt)
+if_other-most s most count extent (Seen sample) rest few t = ((λ bytes. other_found-most s most count extent (read_map s.geometry.extent_blocks bytes) rest few t), tt)
+if_other-most s most count extent (Wrote claim until) rest few t = ((λ bytes. other_found-most s most count extent (read_map s.geometry.extent_blocks bytes) rest few t), tt)
+if_other-most s most count extent (Waited claim until) rest few t = ((λ bytes. other_found-most s most count extent (read_map s.geometry.extent_blocks bytes) rest few t), tt)
+
+-- nine asks for each extent
+others-most : (s : Setting) (most count : ℕ) (holds : ℕ → Hold) (left extent : ℕ) (rest : Taking → Part End) → GoesMost most rest → GoesMost (9 * left + most) (take_others s count holds left extent rest)
+others-most s most count holds zero extent rest few t = at-most-more most (9 * 0 + most) (rest t) (omega arith) (few t)
+others-most s most count holds (suc left) extent rest few t =
+    let next = others-most s most count holds left (extent + 1) rest few in
+    at-most-more (suc ((9 * left + most) + 8)) (9 * suc left + most) (take_others s count holds (suc left) extent rest t) (omega arith)
+    (needed-most (suc ((9 * left + most) + 8)) count _ _ (if_other-most s (9 * left + most) count extent (holds (lease_at (extent_lease s.geometry extent))) _ next)
+    (λ t'. at-most-more (9 * left + most) (suc ((9 * left + most) + 8)) (take_others s count holds left (extent + 1) rest t') (omega arith) (next t')) t)
+
+taken-most : (s : Setting) (count : ℕ) (rest : Taking → Part End) → GoesMost 0 rest → GoesMost 0 (taken_part s count rest)
+taken-most s count rest few t = by_test (nat_le count (length t.hand)) t.busy
+  where
+    by_test : (a : Bool) (busy : Option (ℕ × LeaseRecord)) → AtMost 0 (if a then rest t else shortage_part s t.known busy)
+    by_test true busy = few t
+    by_test false None = tt
+    by_test false (Some met) = tt
+
+reserve-most : (s : Setting) → IsGeometry s.geometry → (known : Known) (holds : ℕ → Hold) (hand : List ℕ) (count : ℕ) → AtMost most_asks (reserve_part s known holds hand count)
+reserve-most s geometry known holds hand count =
+    let x = s.geometry.extents in
+    let few = geometry.extents_high in
+    at-most-more (2 * x + (9 * x + 0)) most_asks (reserve_part s known holds hand count) (omega (arith, few))
+    (held-take-most s (9 * x + 0) count holds x 0 _ (others-most s 0 count holds x 0 _ (taken-most s count (λ t. ends reply.Reserved t.known) (λ t. tt))) (first_taking known hand))
+
+-- ---- retire
+
+release-most : (s : Setting) (most : ℕ) (known : Known) (due : InUse) (rest : Part End) → AtMost most rest → AtMost (suc most) (release_then s known due rest)
+release-most s most known due rest few = (few, tt, λ reading. tt)
+
+given-most : (s : Setting) (most : ℕ) (known : Known) (extent until : ℕ) (blocks : List ℕ) (found : Option (List Bool)) (rest : Part End) → AtMost most rest → AtMost (suc most) (give_found s known extent until blocks found rest)
+given-most s most known extent until blocks None rest few =
+    ends-most most s known (extent_use s.geometry extent until ∷ []) (reply.Damaged (record { 0 = map_at s.geometry extent })) known
+given-most s most known extent until blocks (Some bits) rest few = (few, tt, λ reading. tt)
+
+give-most : (s : Setting) (most : ℕ) (known : Known) (extent until : ℕ) (blocks : List ℕ) (rest : Part End) → AtMost most rest → AtMost (suc (suc most)) (give_part s known extent until blocks rest)
+give-most s most known extent until [] rest few = at-most-more most (suc (suc most)) rest (omega arith) few
+give-most s most known extent until (block ∷ blocks) rest few =
+    ((λ bytes. given-most s most known extent until (block ∷ blocks) (read_map s.geometry.extent_blocks bytes) rest few), tt)
+
+retire_extent-most : (s : Setting) (most : ℕ) (known : Known) (hand : List ℕ) (extent : ℕ) (hold : Hold) (rest : Part End) → AtMost most rest → AtMost (suc (suc (suc most))) (retire_extent s known hand extent hold rest)
+retire_extent-most s most known hand extent (Held claim until) rest few =
+    give-most s (suc most) known extent until (in_extent s.geometry extent hand) _ (release-most s most known (extent_use s.geometry extent until) rest few)
+retire_extent-most s most known hand extent Nothing rest few = at-most-more most (suc (suc (suc most))) rest (omega arith) few
+retire_extent-most s most known hand extent (Seen sample) rest few = at-most-more most (suc (suc (suc most))) rest (omega arith) few
+retire_extent-most s most known hand extent (Wrote claim until) rest few = at-most-more most (suc (suc (suc most))) rest (omega arith) few
+retire_extent-most s most known hand extent (Waited claim until) rest few = at-most-more most (suc (suc (suc most))) rest (omega arith) few
+
+-- three asks for each extent
+retire_extents-most : (s : Setting) (most : ℕ) (known : Known) (holds : ℕ → Hold) (hand : List ℕ) (left extent : ℕ) (rest : Part End) → AtMost most rest →
+    AtMost (3 * left + most) (retire_extents s known holds hand left extent rest)
+retire_extents-most s most known holds hand zero extent rest few = at-most-more most (3 * 0 + most) rest (omega arith) few
+retire_extents-most s most known holds hand (suc left) extent rest few =
+    at-most-more (suc (suc (suc (3 * left + most)))) (3 * suc left + most) (retire_extents s known holds hand (suc left) extent rest) (omega arith)
+    (retire_extent-most s (3 * left + most) known hand extent (holds (lease_at (extent_lease s.geometry extent))) _ (retire_extents-most s most known holds hand left (extent + 1) rest few))
+
+retire_lease-most : (s : Setting) (most : ℕ) (known : Known) (lease : ℕ) (session : Option Session) (hold : Hold) (rest : Part End) → AtMost most rest → AtMost (suc most) (retire_lease s known lease session hold rest)
+retire_lease-most s most known lease None (Held claim until) rest few = release-most s most known (record { lease = lease; until = until }) rest few
+retire_lease-most s most known lease None Nothing rest few = at-most-more most (suc most) rest (omega arith) few
+retire_lease-most s most known lease None (Seen sample) rest few = at-most-more most (suc most) rest (omega arith) few
+retire_lease-most s most known lease None (Wrote claim until) rest few = at-most-more most (suc most) rest (omega arith) few
+retire_lease-most s most known lease None (Waited claim until) rest few = at-most-more most (suc most) rest (omega arith) few
+retire_lease-most s most known lease (Some session) hold rest few = at-most-more most (suc most) rest (omega arith) few
+
+-- one ask for each image
+retire_images-most : (s : Setting) (most : ℕ) (known : Known) (holds : ℕ → Hold) (left image : ℕ) (rest : Part End) → AtMost most rest → AtMost (left + most) (retire_images s known holds left image rest)
+retire_images-most s most known holds zero image rest few = at-most-more most (0 + most) rest (omega arith) few
+retire_images-most s most known holds (suc left) image rest few =
+    at-most-more (suc (left + most)) (suc left + most) (retire_images s known holds (suc left) image rest) (omega arith)
+    (retire_lease-most s (left + most) known (image_lease image) (known.sessions image) (holds (lease_at (image_lease image))) _ (retire_images-most s most known holds left (image + 1) rest few))
+
+retire-most : (s : Setting) → IsGeometry s.geometry → (known : Known) (holds : ℕ → Hold) (hand : List ℕ) → AtMost most_asks (retire_part s known holds hand)
+retire-most s geometry known holds hand =
+    let x = s.geometry.extents in
+    let i = s.geometry.images in
+    let few = geometry.extents_high in
+    let some = geometry.images_high in
+    at-most-more (3 * x + (i + 1)) most_asks (retire_part s known holds hand) (omega (arith, few, some))
+    (retire_extents-most s (i + 1) known holds hand x 0 _ (retire_images-most s 1 known holds i 0 _ (retire_lease-most s 0 known root_lease None (holds (lease_at root_lease)) (ends reply.Retired known) tt)))
+
 -- ---- all commands
 
 attached-command : (s : Setting) (known : Known) (holds : ℕ → Hold) (reading image : ℕ) (rest : Session → (until : ℕ) → Part End) →
@@ -328,27 +484,27 @@ attached-command s known holds reading image rest few =
     (attached-most s known image (known.sessions image) (nat_lt image s.geometry.images) (holds (lease_at (image_lease image))) reading rest few)
 
 -- no command takes more answers
-pub command-most : (s : Setting) → IsGeometry s.geometry → (known : Known) (holds : ℕ → Hold) (reading : ℕ) (command : Command) →
-    AtMost most_asks (command_part s known holds reading command)
-command-most s geometry known holds reading (Attach slot) =
+pub command-most : (s : Setting) → IsGeometry s.geometry → (known : Known) (holds : ℕ → Hold) (hand : List ℕ) (reading : ℕ) (command : Command) →
+    AtMost most_asks (command_part s known holds hand reading command)
+command-most s geometry known holds hand reading (Attach slot) =
     at-most-more 136 most_asks (attach_part s known slot.0 (known.sessions slot.0) (nat_lt slot.0 s.geometry.images) (holds (lease_at (image_lease slot.0))))
     (omega arith) (attach-most s geometry known slot.0 (known.sessions slot.0) (nat_lt slot.0 s.geometry.images) (holds (lease_at (image_lease slot.0))))
-command-most s geometry known holds reading (Detach slot) = attached-command s known holds reading slot.0 (detach_part s known slot.0) (detach-most s known slot.0)
-command-most s geometry known holds reading (Create slot size label) =
+command-most s geometry known holds hand reading (Detach slot) = attached-command s known holds reading slot.0 (detach_part s known slot.0) (detach-most s known slot.0)
+command-most s geometry known holds hand reading (Create slot size label) =
     attached-command s known holds reading slot.0 (create_part s known slot.0 size label) (create-most s known slot.0 size label)
-command-most s geometry known holds reading (Delete slot) = attached-command s known holds reading slot.0 (delete_part s known slot.0) (delete-most s known slot.0)
-command-most s geometry known holds reading (Read slot vblock) =
+command-most s geometry known holds hand reading (Delete slot) = attached-command s known holds reading slot.0 (delete_part s known slot.0) (delete-most s known slot.0)
+command-most s geometry known holds hand reading (Read slot vblock) =
     attached-command s known holds reading slot.0 (read_part s known slot.0 vblock) (read-most s known slot.0 vblock)
-command-most s geometry known holds reading (Write slot vblock payload) =
+command-most s geometry known holds hand reading (Write slot vblock payload) =
     attached-command s known holds reading slot.0 (write_part s known slot.0 vblock (bytes_of payload)) (write-most s known slot.0 vblock (bytes_of payload))
-command-most s geometry known holds reading Renew =
+command-most s geometry known holds hand reading Renew =
     let images = geometry.images_high in
     let extents = geometry.extents_high in
     let count = lease_count s.geometry in
     let rest = renew_part s known holds reading count 0 in
     timed-most most_asks s known (attached_uses known holds s.geometry.images 0) reading rest
     (at-most-more count most_asks rest (omega (arith, images, extents)) (renew-most s known holds reading count 0))
-command-most s geometry known holds reading (Flush slot) = tt
-command-most s geometry known holds reading (Reserve count) = tt
-command-most s geometry known holds reading Retire = tt
-command-most s geometry known holds reading Reclaim = tt
+command-most s geometry known holds hand reading (Flush slot) = tt
+command-most s geometry known holds hand reading (Reserve count) = reserve-most s geometry known holds hand count
+command-most s geometry known holds hand reading Retire = retire-most s geometry known holds hand
+command-most s geometry known holds hand reading Reclaim = tt

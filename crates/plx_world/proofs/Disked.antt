@@ -6,16 +6,16 @@ use Rattle.plx_commands.specs.declared.event.Event.{Event}
 use Rattle.plx_commands.specs.declared.event.Event.TheVariants as event
 use Rattle.plx_disk.specs.Standing.{Turns}
 use Rattle.plx_disk.specs.Standing.{Stands as DiskStands, Stays as DiskStays}
-use Rattle.plx_disk.specs.Writes.{Issued, MayLand, Surface, after_landing, passed, with_sector}
+use Rattle.plx_disk.specs.Writes.{Issued, MayLand, Surface, after_landing, after_time, with_sector}
 use Rattle.plx_rules.specs.World as rules
 use Rattle.plx_rules.specs.World.{IsBack, Step, lands, ticks, with_surface}
 use Rattle.plx_world.specs.Backs.{HasNone, IsNth, IsNumber}
 use Rattle.plx_world.specs.Numbers.{own_numbers}
-use Rattle.plx_world.specs.Standing.{IsSeat, Stands, Stays, Steps}
+use Rattle.plx_world.specs.Standing.{IsSeat, Stands, StandsOn, Steps}
 use Rattle.plx_world.specs.declared.seat.Seat.{Seat}
 use Rattle.plx_world.specs.declared.world.World.{World}
 use Rattle.plx_world.proofs.Inverted.{step-land, step-tick}
-use Rattle.plx_world.proofs.Numbered.{back-few, back-unique, nth-back, own-set}
+use Rattle.plx_world.proofs.Numbered.{back-few, back-unique, nth-back, own-numbers-set}
 use Rattle.plx_world.proofs.Seating.{seat-same}
 use Rattle.plx_world.proofs.Stepping.{impossible}
 
@@ -37,7 +37,7 @@ stands-disk old new w one s only h numbers surface =
       trace = only.trace ∙ h.trace;
     }
 
-pub stays-disk : (old new : World) → OnlyDisk old new → DiskStays old.disk new.disk → Stays old new
+pub stays-disk : (old new : World) → OnlyDisk old new → DiskStays old.disk new.disk → StandsOn old new
 stays-disk old new only stays w h =
     let P : List Seat → Type 0 = λ xs. (k : ℕ) (seat : Seat) → slice_get xs k ≡ Some seat → IsSeat w k seat in
     record {
@@ -51,11 +51,11 @@ stays-disk old new only stays w h =
 -- time passes
 pub ticks-by : (old new : World) (by : ℕ) (result : Bool) → OnlyDisk old new →
     ((s : Surface) → DiskStands old.disk s → (IsTrue result ↔ (s.time + by < 2 ^ 47))) →
-    (IsTrue result → Turns old.disk new.disk (λ s. passed s by)) → (result ≡ false → DiskStays old.disk new.disk) → Steps old new (event.Tick by) result
+    (IsTrue result → Turns old.disk new.disk (λ s. after_time s by)) → (result ≡ false → DiskStays old.disk new.disk) → Steps old new (event.Tick by) result
 ticks-by old new by true only early turns stays w h = (
-  with_surface w (event.Tick by) (passed w.surface by),
+  with_surface w (event.Tick by) (after_time w.surface by),
   ticks ((early w.surface h.surface).0 refl),
-  stands-disk old new w (event.Tick by) (passed w.surface by) only h (λ a. refl) (turns refl w.surface h.surface),
+  stands-disk old new w (event.Tick by) (after_time w.surface by) only h (λ a. refl) (turns refl w.surface h.surface),
 )
 ticks-by old new by false only early turns stays w h =
     impossible old new (event.Tick by) (stays-disk old new only (stays refl))
@@ -75,7 +75,7 @@ lands-number old new a back sector number true only is landed refused stays w h 
     let P : Issued → Type 0 = λ x. IsBack w.surface.writes a.0 back number x in (
       with_surface w one (after_landing w.surface number l.0 sector),
       lands number l.0 there.0 (subst P same found.1) l.1,
-      stands-disk old new w one (after_landing w.surface number l.0 sector) only h (λ k. own-set k 0 w.surface.writes number l.0 (with_sector l.0 sector) l.1.found refl) l.2,
+      stands-disk old new w one (after_landing w.surface number l.0 sector) only h (λ k. own-numbers-set k 0 w.surface.writes number l.0 (with_sector l.0 sector) l.1.found refl) l.2,
     )
 lands-number old new a back sector number false only is landed refused stays w h =
     impossible old new (event.Land a back sector) (stays-disk old new only (stays refl)) (λ w v h step.

@@ -1,8 +1,9 @@
 -- The next plain event of a run.
-use Rattle.std.proofs.Common.{◌≡◌, ◌+◌, ◌≤◌, ◌<◌, ℕ, zero, suc, List, [], ◌∷◌, drop, Option, Some, None, Bool, true, false, if◌then◌else◌, refl, ap, sym, subst, ◌∙◌, inl, inr, arith, add-one}
-use Rattle.std.specs.Prelude.{◌⊎◌, slice_get, nat_le, nat_lt, IfOk, MatchBool, Result, Ok, Err}
+use Rattle.std.proofs.Common.{◌≡◌, ◌+◌, ◌-◌, ◌≤◌, ◌<◌, ℕ, zero, suc, List, [], ◌∷◌, drop, Option, Some, None, Bool, true, false, if◌then◌else◌, refl, ap, sym, subst, ◌∙◌, inl, inr, arith, add-one}
+use Rattle.std.specs.Prelude.{◌⊎◌, length, slice_get, nat_le, nat_lt, IfOk, MatchBool, Result, Ok, Err}
 use Rattle.std.proofs.lemmas.Bool.{le-leb, ltb-true, lt-ltb}
 use Rattle.std.proofs.lemmas.Bool.Decides.{leb_tells}
+use Rattle.std.proofs.lemmas.Option.{slice_get_cases, slice_get_within}
 use Rattle.plx_base.specs.declared.numbers.ApplianceNo.{ApplianceNo}
 use Rattle.plx_base.specs.declared.numbers.BlockNo.{BlockNo}
 use Rattle.plx_base.specs.declared.write_kind.WriteKind.{WriteKind}
@@ -16,22 +17,22 @@ use Rattle.plx_disk.specs.declared.ask.Ask.{Ask}
 use Rattle.plx_disk.specs.declared.ask.Ask.TheVariants as ask
 use Rattle.plx_rules.specs.Boot.{Place, Idle, Begins, In, asks}
 use Rattle.plx_rules.specs.Part.{Ends, ReadThen, WriteThen, ClockThen, UntilThen}
-use Rattle.plx_rules.specs.Sequences.{landing, missing, next_at, next_event, next_landing, next_of_write, one_more, stops}
+use Rattle.plx_rules.specs.Sequences.{landing, missing, next_at, next_event, next_landing, next_of_write, next_sector, stops}
 use Rattle.plx_rules.specs.World as rules
-use Rattle.plx_rules.specs.World.{Reached, Step, is_boot_of, issued_by, setting_of, stands, with_surface}
-use Rattle.law_lease.proofs.LeaseSteps.{reached-leased}
-use Rattle.law_lease.proofs.Leased.{IsAskedAt}
-use Rattle.law_lease.proofs.Runs.{own-boot, runs-go_on}
+use Rattle.plx_rules.specs.World.{IsReading, Step, is_boot_of, issued_by, stands, with_surface}
 use Rattle.plx_world.specs.Answering.{asked_by, pending_of}
-use Rattle.plx_world.specs.Running.{AsksClock, GoesOn, IsWriting, OneMore, StopsAs}
-use Rattle.plx_world.specs.Standing.{Stands, Steps, Stays}
+use Rattle.plx_world.specs.Numbers.{own_numbers}
+use Rattle.plx_world.specs.Running.{AsksClock, RunGoesOn, IsOver, IsWriting, OneMore, StopsAs}
+use Rattle.plx_world.specs.Standing.{Stands, Steps, StandsOn}
+use Rattle.plx_world.specs.declared.seat.Seat.{Seat}
 use Rattle.plx_world.specs.declared.world.World.{World}
-use Rattle.plx_world.proofs.Absent.{absent-tested}
+use Rattle.plx_world.proofs.Cancels.{cancelled-whole}
 use Rattle.plx_world.proofs.Disked.{OnlyDisk, stands-disk, stays-disk}
 use Rattle.plx_world.proofs.Left.{IsLess, less-done, less-fault, less-issue, less-land, less-miss, less-read, less-reading}
-use Rattle.plx_world.proofs.Numbered.{own-set}
+use Rattle.plx_world.proofs.Numbered.{nth-back, own-numbers-set}
 use Rattle.plx_world.proofs.Placed.{AsksClock as AsksClockAt, AsksUntil, AsksWrite, asked-clock, asked-read, asked-until, asked-write, first, later}
-use Rattle.plx_world.proofs.Seating.{if-some}
+use Rattle.plx_world.proofs.Seating.{if-none, if-some}
+use Rattle.plx_world.proofs.There.{run-there}
 
 -- where a call found memory
 pub if-ok : {E : Type 0} (r : Result Bool E) (P Q : Bool → Type 0) → IfOk r P → ((made : Bool) → P made → Q made) → IfOk r Q
@@ -42,47 +43,49 @@ if-ok (Err error) P Q p f = tt
 abbrev pub StepsTo : rules.World → World → Event → Bool → Type 0
 StepsTo w new one made = MatchBool made ((v : rules.World) × Step w one v × Stands new v) (((v : rules.World) → ¬ Step w one v) × Stands new w)
 
--- what was made of the next event of a run, or that there is none
+-- what was made of the next event of a run, or that it is over
 abbrev pub GoesTo : ApplianceNo → Option Stop → rules.World → World → Bool → Type 0
-GoesTo a stop w new made = MatchBool made ((v : rules.World) × OneMore a stop new w v) ((next_event w a stop ≡ None) × Stands new w)
+GoesTo a stop w new made = MatchBool made ((v : rules.World) × OneMore a stop new w v) (IsOver a stop w × Stands new w)
+
+-- some step of an event is possible
+abbrev Possible : rules.World → Event → Type 0
+Possible w one = (v : rules.World) × Step w one v
 
 -- the next event is possible
-goes-next : (a : ApplianceNo) (w : rules.World) (new : World) (made : Bool) → Reached w → a.0 < w.appliances → (one : Event) → next_event w a None ≡ Some one →
+goes-next : (a : ApplianceNo) (w : rules.World) (new : World) (made : Bool) (one : Event) → next_event w a None ≡ Some one → Possible w one →
     StepsTo w new one made → ((v : rules.World) → Step w one v → IsLess a w v) → GoesTo a None w new made
-goes-next a w new true reached there one next s less =
-    (s.0, record { one = one; next = next; step = s.1; stands = s.2; less = less s.0 s.1 })
-goes-next a w new false reached there one next s less = let found = runs-go_on w reached a None one next there in absurd (s.0 found.0 found.1)
+goes-next a w new true one next possible s less = (s.0, record { one = one; next = next; step = s.1; stands = s.2; less = less s.0 s.1 })
+goes-next a w new false one next possible s less = absurd (s.0 possible.0 possible.1)
 
 -- an appliance that asks is there
 asks-there : (w : rules.World) (a : ℕ) (asked : Ask) → asked_by w a ≡ Some asked → (a < w.appliances) × (asks (stands w a).place ≡ Some asked)
 asks-there w a asked e = if-some a w.appliances (asks (stands w a).place) asked e
 
--- one that asks nothing isn't there, or is in no command
-asks-none : (w : rules.World) (a : ℕ) → asked_by w a ≡ None → (nat_lt a w.appliances ≡ false) ⊎ (asks (stands w a).place ≡ None)
-asks-none w a e = by_test (nat_lt a w.appliances) refl e
-  where
-    by_test : (there : Bool) → nat_lt a w.appliances ≡ there → (if there then asks (stands w a).place else None) ≡ None →
-        (nat_lt a w.appliances ≡ false) ⊎ (asks (stands w a).place ≡ None)
-    by_test true test is = inr is
-    by_test false test is = inl test
-
 -- ---- reads and the clock
 
 -- a read
 pub goes-read : (old new : World) (a : ApplianceNo) (block : BlockNo) (made : Bool) →
-    ((w : rules.World) → Stands old w → Some (ask.Read block) ≡ asked_by w a.0) → Steps old new (event.Read a) made → GoesOn a None old new made
-goes-read old new a block made asked steps w reached h =
+    ((w : rules.World) → Stands old w → Some (ask.Read block) ≡ asked_by w a.0) → Steps old new (event.Read a) made → RunGoesOn a None old new made
+goes-read old new a block made asked steps w h =
     let there = asks-there w a.0 (ask.Read block) (sym (asked w h)) in
     let at = asked-read (stands w a.0).place block there.1 in
-    goes-next a w new made reached there.0 (event.Read a) (ap (next_at w a) at.at) (steps w h) (λ v step. less-read step)
+    goes-next a w new made (event.Read a) (ap (next_at w a) at.at) (_, rules.reads at.known at.command block.0 at.rest at.fault there.0 at.at) (steps w h)
+    (λ v step. less-read step)
+
+-- the time is a reading
+now-read : (time : ℕ) → IsReading time time
+now-read time = record { early = omega arith; late = omega arith }
 
 -- the clock
-goes-timed : (old new : World) (a : ApplianceNo) (time : ℕ) (made : Bool) (w : rules.World) → Reached w → Stands old w → time ≡ w.surface.time →
-    Steps old new (event.Reading a time) made → a.0 < w.appliances → next_event w a None ≡ Some (event.Reading a w.surface.time) → GoesTo a None w new made
-goes-timed old new a time made w reached h now steps there next =
+goes-timed : (old new : World) (a : ApplianceNo) (time : ℕ) (made : Bool) (w : rules.World) → Stands old w → time ≡ w.surface.time →
+    Steps old new (event.Reading a time) made → Possible w (event.Reading a w.surface.time) → next_event w a None ≡ Some (event.Reading a w.surface.time) → GoesTo a None w new made
+goes-timed old new a time made w h now steps possible next =
     let P : ℕ → Type 0 = λ t. StepsTo w new (event.Reading a t) made in
-    goes-next a w new made reached there (event.Reading a w.surface.time) next (subst P now (steps w h))
-    (λ v step. less-reading (reached-leased reached).geometry step)
+    goes-next a w new made (event.Reading a w.surface.time) next possible (subst P now (steps w h)) (λ v step. less-reading step)
+
+clock-possible : (w : rules.World) (a : ApplianceNo) → a.0 < w.appliances → AsksClockAt (stands w a.0).place → Possible w (event.Reading a w.surface.time)
+clock-possible w a there (first known command at) = (_, rules.begins known command there at (now-read w.surface.time))
+clock-possible w a there (later known command rest at) = (_, rules.clocks known command rest there at (now-read w.surface.time))
 
 next-clock : (w : rules.World) (a : ApplianceNo) → AsksClockAt (stands w a.0).place → next_event w a None ≡ Some (event.Reading a w.surface.time)
 next-clock w a (first known command at) = ap (next_at w a) at
@@ -102,13 +105,14 @@ reading-late {w} {a} {reading} (rules.waits known command f rest below here is p
 waits-on : (a : ApplianceNo) (w : rules.World) (new : World) (from time : ℕ) (made : Bool) → AsksUntil (stands w a.0).place from → time < from →
     next_event w a None ≡ None → StepsTo w new (event.Reading a time) made → GoesTo a None w new made
 waits-on a w new from time true at early next s = let late = reading-late s.1 from at in absurd (omega (arith, late, early))
-waits-on a w new from time false at early next s = (next, s.1)
+waits-on a w new from time false at early next s = ((λ there. next), s.1)
 
-goes-until : (old new : World) (a : ApplianceNo) (from time : ℕ) (made : Bool) (w : rules.World) → Reached w → Stands old w → time ≡ w.surface.time →
+goes-until : (old new : World) (a : ApplianceNo) (from time : ℕ) (made : Bool) (w : rules.World) → Stands old w → time ≡ w.surface.time →
     Steps old new (event.Reading a time) made → a.0 < w.appliances → AsksUntil (stands w a.0).place from → GoesTo a None w new made
-goes-until old new a from time made w reached h now steps there at =
+goes-until old new a from time made w h now steps there at =
     elim (leb_tells from w.surface.time) [
-      | inl over ↦ goes-timed old new a time made w reached h now steps there (next ∙ ap (λ (x : Bool). if x then Some (event.Reading a w.surface.time) else None) over.0)
+      | inl over ↦ goes-timed old new a time made w h now steps (_, rules.waits at.known at.command from at.rest there at.at (now-read w.surface.time) over.1)
+          (next ∙ ap (λ (x : Bool). if x then Some (event.Reading a w.surface.time) else None) over.0)
       | inr early ↦ waits-on a w new from time made at (let before = early.1 in omega (arith, before, now))
           (next ∙ ap (λ (x : Bool). if x then Some (event.Reading a w.surface.time) else None) early.0) (steps w h)
     ]
@@ -117,13 +121,14 @@ goes-until old new a from time made w reached h now steps there at =
     next = ap (next_at w a) at.at
 
 pub goes-clock : (old new : World) (a : ApplianceNo) (time : ℕ) (made : Bool) → AsksClock old a.0 → time ≡ old.disk.time → Steps old new (event.Reading a time) made →
-    GoesOn a None old new made
-goes-clock old new a time made (inl asked) now steps w reached h =
+    RunGoesOn a None old new made
+goes-clock old new a time made (inl asked) now steps w h =
     let there = asks-there w a.0 ask.Clock (asked w h) in
-    goes-timed old new a time made w reached h (now ∙ h.surface.time) steps there.0 (next-clock w a (asked-clock (stands w a.0).place there.1))
-goes-clock old new a time made (inr (from, asked)) now steps w reached h =
+    let at = asked-clock (stands w a.0).place there.1 in
+    goes-timed old new a time made w h (now ∙ h.surface.time) steps (clock-possible w a there.0 at) (next-clock w a at)
+goes-clock old new a time made (inr (from, asked)) now steps w h =
     let there = asks-there w a.0 (ask.Until from) (asked w h) in
-    goes-until old new a from time made w reached h (now ∙ h.surface.time) steps there.0 (asked-until (stands w a.0).place from there.1)
+    goes-until old new a from time made w h (now ∙ h.surface.time) steps there.0 (asked-until (stands w a.0).place from there.1)
 
 -- ---- a write that isn't issued
 
@@ -151,22 +156,29 @@ next-unissued w a guard writing none early test =
 
 -- it is issued
 pub goes-issue : (old new : World) (a : ApplianceNo) (guard time : ℕ) (made : Bool) → IsWriting old a.0 guard →
-    ((w : rules.World) → Stands old w → (w.seats a.0).pending ≡ None) → time ≡ old.disk.time → time ≤ guard → Steps old new (event.Issue a) made → GoesOn a None old new made
-goes-issue old new a guard time made writing unissued now early steps w reached h =
-    let at = writes old w a.0 guard writing h in
+    ((w : rules.World) → Stands old w → (w.seats a.0).pending ≡ None) → time ≡ old.disk.time → time ≤ guard → Steps old new (event.Issue a) made → RunGoesOn a None old new made
+goes-issue old new a guard time made writing unissued now early steps w h =
+    let to = writes old w a.0 guard writing h in
+    let at = to.at in
     let is = now ∙ h.surface.time in
-    goes-next a w new made reached at.there (event.Issue a)
-    (next-unissued w a guard at (unissued w h) true (le-leb w.surface.time guard (omega (arith, early, is)))) (steps w h) (λ v step. less-issue step)
+    goes-next a w new made (event.Issue a)
+    (next-unissued w a guard to (unissued w h) true (le-leb w.surface.time guard (omega (arith, early, is))))
+    (_, rules.issues at.known at.command to.kind to.block.0 at.bytes guard at.done at.fault at.missed to.there at.at (unissued w h)) (steps w h) (λ v step. less-issue step)
 
 -- it is missed
 pub goes-miss : (old new : World) (a : ApplianceNo) (guard time : ℕ) (made : Bool) → IsWriting old a.0 guard →
-    ((w : rules.World) → Stands old w → (w.seats a.0).pending ≡ None) → time ≡ old.disk.time → guard < time → Steps old new (event.Miss a time) made → GoesOn a None old new made
-goes-miss old new a guard time made writing unissued now late steps w reached h =
-    let at = writes old w a.0 guard writing h in
+    ((w : rules.World) → Stands old w → (w.seats a.0).pending ≡ None) → time ≡ old.disk.time → guard < time → Steps old new (event.Miss a time) made → RunGoesOn a None old new made
+goes-miss old new a guard time made writing unissued now late steps w h =
+    let to = writes old w a.0 guard writing h in
+    let at = to.at in
     let is : time ≡ w.surface.time = now ∙ h.surface.time in
     let P : ℕ → Type 0 = λ t. StepsTo w new (event.Miss a t) made in
-    goes-next a w new made reached at.there (event.Miss a w.surface.time)
-    (next-unissued w a guard at (unissued w h) false (lt-ltb-not w.surface.time guard (omega (arith, late, is)))) (subst P is (steps w h)) (λ v step. less-miss step)
+    goes-next a w new made (event.Miss a w.surface.time)
+    (next-unissued w a guard to (unissued w h) false (lt-ltb-not w.surface.time guard (omega (arith, late, is)))) (
+      _,
+      rules.misses {reading = w.surface.time} at.known at.command to.kind to.block.0 at.bytes guard at.done at.fault at.missed to.there at.at (unissued w h)
+          (omega (arith, late, is)) (now-read w.surface.time),
+    ) (subst P is (steps w h)) (λ v step. less-miss step)
   where
     lt-ltb-not : (m n : ℕ) → n < m → nat_le m n ≡ false
     lt-ltb-not m n below = elim (leb_tells m n) [ inl under ↦ absurd (let x = under.1 in omega (arith, x, below)) | inr past ↦ past.0 ]
@@ -179,31 +191,32 @@ record Waits (w : rules.World) (a : ApplianceNo) (guard number : ℕ) : Type 0 w
   waited : (w.seats a.0).pending ≡ Some number
   write : Issued
   found : slice_get w.surface.writes number ≡ Some write
-  guard-is : write.guard ≡ guard
   own : is_boot_of a.0 write.owner ≡ true
-  uncancelled : write.cancelled ≡ false
 
-waits : (world : World) (w : rules.World) (a : ApplianceNo) (guard number : ℕ) → Reached w → IsWriting world a.0 guard →
+-- the seat of an appliance that is there
+seat-there : (seats : List Seat) (n : ℕ) → n < length seats → (seat : Seat) × (slice_get seats n ≡ Some seat)
+seat-there seats n below = elim ((slice_get_cases seats n).1) [ inl found ↦ (found.0, found.2) | inr past ↦ absurd (let far = past.0 in omega (arith, below, far)) ]
+
+-- it is the newest one of its seat
+waits : (world : World) (w : rules.World) (a : ApplianceNo) (guard number : ℕ) → IsWriting world a.0 guard →
     ((v : rules.World) → Stands world v → Some number ≡ pending_of v a.0) → Stands world w → Waits w a guard number
-waits world w a guard number reached writing pending h =
+waits world w a guard number writing pending h =
     let at = writes world w a.0 guard writing h in
-    let leased = reached-leased reached in
-    let few = leased.few in
     let there = at.there in
+    let count = h.count in
     let waited : (w.seats a.0).pending ≡ Some number =
     sym (pending w h ∙ ap (λ (x : Bool). if x then (w.seats a.0).pending else None) (lt-ltb a.0 w.appliances there)) in
-    let asked = (leased.seated a.0 there).asked number waited in
-    let P : Place → Type 0 = λ p. IsAskedAt p (setting_of w a.0).boot asked.0 in
-    let is = subst P at.at.at asked.2 in
-    record {
-      writes = at;
-      waited = waited;
-      write = asked.0;
-      found = asked.1;
-      guard-is = is.3;
-      own = ap (is_boot_of a.0) is.4 ∙ own-boot a.0 (w.seats a.0).boots (omega (arith, few, there));
-      uncancelled = (leased.right number asked.0 asked.1).uncancelled;
-    }
+    let found = seat-there world.seats.items a.0 (omega (arith, count, there)) in
+    let seat = found.0 in
+    let is = h.seats a.0 seat found.1 in
+    let P : List ℕ → Type 0 = λ numbers. slice_get numbers (length numbers - 1) ≡ Some number in
+    let numbers = own_numbers a.0 0 w.surface.writes in
+    let newest = subst P is.issued (seat.newest number (is.pending ∙ waited)) in
+    let within = slice_get_within numbers (length numbers - 1) number newest in
+    let last : length numbers - 1 ≡ length numbers - 1 - 0 = omega arith in
+    let Q : ℕ → Type 0 = λ k. slice_get numbers k ≡ Some number in
+    let back = nth-back a.0 w.surface.writes 0 number (record { within = omega (arith, within); found = subst Q last newest }) in
+    record { writes = at; waited = waited; write = back.0; found = back.1.found; own = back.1.owner }
 
 -- what comes next
 next-issued : (w : rules.World) (a : ApplianceNo) (guard number : ℕ) (waiting : Waits w a guard number) (m : Option ℕ) → missing waiting.write.landed ≡ m →
@@ -224,18 +237,25 @@ missing-least (false ∷ flags) zero least = refl
 missing-least (false ∷ flags) (suc k) least = let e = least.below 0 (omega arith) in cc
 missing-least (true ∷ flags) zero least = let e = least.missing in cc
 missing-least (true ∷ flags) (suc k) least =
-    ap one_more (missing-least flags k (record { missing = least.missing; below = λ i below. least.below (suc i) (omega (arith, below)) }))
+    ap next_sector (missing-least flags k (record { missing = least.missing; below = λ i below. least.below (suc i) (omega (arith, below)) }))
     ∙ ap (λ (n : ℕ). Some n) (add-one k)
 
 -- all of it has landed, and it is answered
 pub goes-done : (old new : World) (a : ApplianceNo) (guard number : ℕ) (made : Bool) → IsWriting old a.0 guard →
     ((w : rules.World) → Stands old w → Some number ≡ pending_of w a.0) → ((s : Surface) → DiskStands old.disk s → MissesNone s number) →
-    Steps old new (event.Done a) made → GoesOn a None old new made
-goes-done old new a guard number made writing pending none steps w reached h =
-    let waiting = waits old w a guard number reached writing pending h in
-    let whole : waiting.write.landed ≡ all_sectors = none w.surface h.surface waiting.write waiting.found waiting.uncancelled in
-    goes-next a w new made reached waiting.writes.there (event.Done a) (next-issued w a guard number waiting None (ap missing whole)) (steps w h)
-    (λ v step. less-done step)
+    Steps old new (event.Done a) made → RunGoesOn a None old new made
+goes-done old new a guard number made writing pending none steps w h =
+    let waiting = waits old w a guard number writing pending h in
+    let to = waiting.writes in
+    let at = to.at in
+    let whole = landed waiting waiting.write.cancelled refl in
+    goes-next a w new made (event.Done a) (next-issued w a guard number waiting None (ap missing whole))
+    (_, rules.dones at.known at.command to.kind to.block.0 at.bytes guard at.done at.fault at.missed number to.there at.at waiting.waited (waiting.write, waiting.found, whole))
+    (steps w h) (λ v step. less-done step)
+  where
+    landed : (waiting : Waits w a guard number) (cancelled : Bool) → waiting.write.cancelled ≡ cancelled → waiting.write.landed ≡ all_sectors
+    landed waiting true is = cancelled-whole old.disk w.surface number waiting.write old.uncancelled h.surface waiting.found is
+    landed waiting false is = none w.surface h.surface waiting.write waiting.found is
 
 -- its least missing sector
 missing-here : (w : rules.World) (a : ApplianceNo) (guard number sector : ℕ) (waiting : Waits w a guard number) → IsMissing w.surface number sector →
@@ -247,20 +267,27 @@ missing-here w a guard number sector waiting is =
 -- can't land any more, and the write fails
 goes-fault : (old mid new : World) (a : ApplianceNo) (guard number sector : ℕ) (made : Bool) → IsWriting old a.0 guard →
     ((w : rules.World) → Stands old w → Some number ≡ pending_of w a.0) → ((s : Surface) → DiskStands old.disk s → IsMissing s number sector) →
-    ((s : Surface) → DiskStands old.disk s → (write : Issued) → MayLand s number sector write → ⊥) → Stays old mid →
-    Steps mid new (event.Fault a) made → GoesOn a None old new made
-goes-fault old mid new a guard number sector made writing pending least refused stays steps w reached h =
-    let waiting = waits old w a guard number reached writing pending h in
-    let is = missing-here w a guard number sector waiting (least w.surface h.surface) in
+    ((s : Surface) → DiskStands old.disk s → (write : Issued) → MayLand s number sector write → ⊥) → StandsOn old mid →
+    Steps mid new (event.Fault a) made → RunGoesOn a None old new made
+goes-fault old mid new a guard number sector made writing pending least refused stays steps w h =
+    let waiting = waits old w a guard number writing pending h in
+    let to = waiting.writes in
+    let at = to.at in
+    let misses = least w.surface h.surface in
+    let is = missing-here w a guard number sector waiting misses in
     let back = issued_by a.0 (drop (number + 1) w.surface.writes) in
-    goes-next a w new made reached waiting.writes.there (event.Fault a)
+    goes-next a w new made (event.Fault a)
     (next-issued w a guard number waiting (Some sector) (missing-least waiting.write.landed sector is)
-    ∙ ap (λ (x : Bool). Some (if x then event.Land a back sector else event.Fault a)) (late waiting is)) (steps w (stays w h))
+    ∙ ap (λ (x : Bool). Some (if x then event.Land a back sector else event.Fault a)) (late waiting misses is))
+    (_, rules.write_faults at.known at.command to.kind to.block.0 at.bytes guard at.done at.fault at.missed to.there at.at) (steps w (stays w h))
     (λ v step. less-fault step)
   where
-    late : (waiting : Waits w a guard number) → IsLeastMissing waiting.write.landed sector → nat_le w.surface.time (waiting.write.guard + 50) ≡ false
-    late waiting is = elim (leb_tells w.surface.time (waiting.write.guard + 50)) [
-      | inl early ↦ absurd (refused w.surface h.surface waiting.write (record { found = waiting.found; open_yet = waiting.uncancelled; missing = is.missing; early = early.1 }))
+    uncancelled : (waiting : Waits w a guard number) → IsMissing w.surface number sector → waiting.write.cancelled ≡ false
+    uncancelled waiting misses = ap (λ (x : Issued). x.cancelled) (sym (same-found w.surface.writes number misses.write waiting.write misses.found waiting.found)) ∙ misses.open_yet
+
+    late : (waiting : Waits w a guard number) → IsMissing w.surface number sector → IsLeastMissing waiting.write.landed sector → nat_le w.surface.time (waiting.write.guard + 50) ≡ false
+    late waiting misses is = elim (leb_tells w.surface.time (waiting.write.guard + 50)) [
+      | inl early ↦ absurd (refused w.surface h.surface waiting.write (record { found = waiting.found; open_yet = uncancelled waiting misses; missing = is.missing; early = early.1 }))
       | inr past ↦ past.0
     ]
 
@@ -268,7 +295,7 @@ goes-fault old mid new a guard number sector made writing pending least refused 
 pub ok-fault : {E : Type 0} {mid : World} (old new : World) (a : ApplianceNo) (guard number sector : ℕ) (r : Result Bool E) → IsWriting old a.0 guard →
     ((w : rules.World) → Stands old w → Some number ≡ pending_of w a.0) → ((s : Surface) → DiskStands old.disk s → IsMissing s number sector) →
     ((s : Surface) → DiskStands old.disk s → (write : Issued) → MayLand s number sector write → ⊥) → OnlyDisk old mid → DiskStays old.disk mid.disk →
-    IfOk r (Steps mid new (event.Fault a)) → IfOk r (GoesOn a None old new)
+    IfOk r (Steps mid new (event.Fault a)) → IfOk r (RunGoesOn a None old new)
 ok-fault {E} {mid} old new a guard number sector (Ok made) writing pending least refused only stays steps =
     goes-fault old mid new a guard number sector made writing pending least refused (stays-disk old mid only stays) steps
 ok-fault old new a guard number sector (Err error) writing pending least refused only stays steps = tt
@@ -277,10 +304,10 @@ ok-fault old new a guard number sector (Err error) writing pending least refused
 pub goes-land : (old new : World) (a : ApplianceNo) (guard number sector : ℕ) → IsWriting old a.0 guard →
     ((w : rules.World) → Stands old w → Some number ≡ pending_of w a.0) → ((s : Surface) → DiskStands old.disk s → IsMissing s number sector) → sector < 8 →
     ((s : Surface) → DiskStands old.disk s → (write : Issued) × MayLand s number sector write × DiskStands new.disk (after_landing s number write sector)) →
-    OnlyDisk old new → GoesOn a None old new true
-goes-land old new a guard number sector writing pending least within landed only w reached h =
+    OnlyDisk old new → RunGoesOn a None old new true
+goes-land old new a guard number sector writing pending least within landed only w h =
     let s = w.surface in
-    let waiting = waits old w a guard number reached writing pending h in
+    let waiting = waits old w a guard number writing pending h in
     let is = missing-here w a guard number sector waiting (least s h.surface) in
     let back = issued_by a.0 (drop (number + 1) s.writes) in
     let one = event.Land a back sector in
@@ -297,7 +324,7 @@ goes-land old new a guard number sector writing pending least within landed only
             ∙ ap (λ (x : Bool). Some (if x then event.Land a back sector else event.Fault a)) early;
         step = rules.lands number waiting.write waiting.writes.there (record { found = waiting.found; owner = waiting.own; newer = refl }) lands.0;
         stands = stands-disk old new w one (after_landing s number waiting.write sector) only h
-            (λ b. own-set b 0 s.writes number waiting.write (with_sector waiting.write sector) waiting.found refl) lands.1;
+            (λ b. own-numbers-set b 0 s.writes number waiting.write (with_sector waiting.write sector) waiting.found refl) lands.1;
         less = less-land w one a number sector waiting.write waiting.waited waiting.found missing-is within;
       },
     )
@@ -314,12 +341,9 @@ asks-nothing w a (In known command (WriteThen kind block bytes guard done fault 
 asks-nothing w a (In known command (ClockThen rest)) e = absurd (let P : ⊥ = cc in P)
 asks-nothing w a (In known command (UntilThen from rest)) e = absurd (let P : ⊥ = cc in P)
 
-pub goes-idle : (old : World) (a : ApplianceNo) → ((w : rules.World) → Stands old w → None ≡ asked_by w a.0) → GoesOn a None old old false
-goes-idle old a asked w reached h = (
-  elim (asks-none w a.0 (sym (asked w h))) [
-    | inl absent ↦ absent-tested reached a None absent
-    | inr none ↦ asks-nothing w a (stands w a.0).place none
-  ],
+pub goes-idle : (old : World) (a : ApplianceNo) → ((w : rules.World) → Stands old w → None ≡ asked_by w a.0) → RunGoesOn a None old old false
+goes-idle old a asked w h = (
+  (λ there. asks-nothing w a (stands w a.0).place (if-none a.0 w.appliances (asks (stands w a.0).place) there (asked w h))),
   h,
 )
 
@@ -333,24 +357,19 @@ unstopped : (stopped : Bool) (next : Option Event) → false ≡ stopped → (if
 unstopped true next e = absurd (let P : ⊥ = cc in P)
 unstopped false next e = refl
 
-pub goes-stopped : (stop : Option Stop) (old : World) (a : ApplianceNo) → StopsAs old a.0 stop true → GoesOn a stop old old false
-goes-stopped stop old a stopped w reached h = (by_test (nat_lt a.0 w.appliances) refl, h)
-  where
-    by_test : (there : Bool) → nat_lt a.0 w.appliances ≡ there → next_event w a stop ≡ None
-    by_test true test = stopped-none (stops w.geometry stop (w.seats a.0).pending (stands w a.0).place) (next_at w a (stands w a.0).place) (stopped w h (ltb-true a.0 w.appliances test))
-    by_test false test = absent-tested reached a stop test
+pub goes-stopped : (stop : Option Stop) (old : World) (a : ApplianceNo) → StopsAs old a.0 stop true → RunGoesOn a stop old old false
+goes-stopped stop old a stopped w h =
+    ((λ there. stopped-none (stops w.geometry stop (w.seats a.0).pending (stands w a.0).place) (next_at w a (stands w a.0).place) (stopped w h there)), h)
 
-same-next : (stop : Option Stop) (old : World) (a : ApplianceNo) → StopsAs old a.0 stop false → (w : rules.World) → Reached w → Stands old w →
+same-next : (stop : Option Stop) (old : World) (a : ApplianceNo) → StopsAs old a.0 stop false → (w : rules.World) → Stands old w → a.0 < w.appliances →
     next_event w a stop ≡ next_event w a None
-same-next stop old a going w reached h = by_test (nat_lt a.0 w.appliances) refl
-  where
-    by_test : (there : Bool) → nat_lt a.0 w.appliances ≡ there → next_event w a stop ≡ next_event w a None
-    by_test true test = unstopped (stops w.geometry stop (w.seats a.0).pending (stands w a.0).place) (next_at w a (stands w a.0).place) (going w h (ltb-true a.0 w.appliances test))
-    by_test false test = absent-tested reached a stop test ∙ sym (absent-tested reached a None test)
+same-next stop old a going w h there = unstopped (stops w.geometry stop (w.seats a.0).pending (stands w a.0).place) (next_at w a (stands w a.0).place) (going w h there)
 
-pub goes-unstopped : (stop : Option Stop) (old new : World) (a : ApplianceNo) (made : Bool) → StopsAs old a.0 stop false → GoesOn a None old new made → GoesOn a stop old new made
-goes-unstopped stop old new a made going goes w reached h = go made (same-next stop old a going w reached h) (goes w reached h)
+pub goes-unstopped : (stop : Option Stop) (old new : World) (a : ApplianceNo) (made : Bool) → StopsAs old a.0 stop false → RunGoesOn a None old new made → RunGoesOn a stop old new made
+goes-unstopped stop old new a made going goes w h = go made (goes w h)
   where
-    go : (m : Bool) → next_event w a stop ≡ next_event w a None → GoesTo a None w new m → GoesTo a stop w new m
-    go true next s = (s.0, record { one = s.1.one; next = next ∙ s.1.next; step = s.1.step; stands = s.1.stands; less = s.1.less })
-    go false next s = (next ∙ s.0, s.1)
+    go : (m : Bool) → GoesTo a None w new m → GoesTo a stop w new m
+    go true s =
+        let next = same-next stop old a going w h (run-there w a None s.1.one s.1.next s.1.step) in
+        (s.0, record { one = s.1.one; next = next ∙ s.1.next; step = s.1.step; stands = s.1.stands; less = s.1.less })
+    go false s = ((λ there. same-next stop old a going w h there ∙ s.0 there), s.1)

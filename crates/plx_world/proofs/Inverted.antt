@@ -9,7 +9,7 @@ use Rattle.plx_disk.specs.Writes.{Issued, HasLanded, MayLand}
 use Rattle.plx_disk.specs.declared.ask.Ask.{Ask}
 use Rattle.plx_disk.specs.declared.ask.Ask.TheVariants as ask
 use Rattle.plx_rules.specs.Boot.{Place, Idle, asks}
-use Rattle.plx_rules.specs.Commands.{IsBuilt}
+use Rattle.plx_rules.specs.Commands.{IsBuilt, IsWellFormed}
 use Rattle.plx_rules.specs.Session.{Known}
 use Rattle.plx_rules.specs.World.{World, IsBack, IsReading, Step, stands, ticks, starts, begins, reads, read_faults, issues, lands, dones, write_faults, misses, clocks, waits, crashes}
 use Rattle.plx_world.specs.Answering.{asked_by, pending_of}
@@ -30,9 +30,10 @@ pub record IsStart (w : World) (a : ApplianceNo) (command : Command) : Type 0 wh
   pub known : Known
   pub at : (stands w a.0).place ≡ Idle known
   pub built : IsBuilt command
+  pub formed : IsWellFormed command
 
 pub step-start : {a : ApplianceNo} {command : Command} {w v : World} → Step w (event.Start a command) v → IsStart w a command
-step-start (starts known below at formed built) = record { below = below; known = known; at = at; built = built }
+step-start (starts known below at formed built) = record { below = below; known = known; at = at; built = built; formed = formed }
 
 pub step-read : {a : ApplianceNo} {w v : World} → Step w (event.Read a) v → (block : BlockNo) × (asked_by w a.0 ≡ Some (ask.Read block))
 step-read {a} {w} (reads known command block rest fault below at) = (record { 0 = block }, asks-at w a.0 _ _ below at refl)

@@ -6,7 +6,7 @@ use Rattle.std.proofs.lemmas.Bool.Decides.{eqb_tells}
 use Rattle.std.proofs.lemmas.Nat.{mod-mul-add}
 use Rattle.std.proofs.lemmas.Option.{slice_get_within}
 use Rattle.law_lease.proofs.Runs.{own-boot}
-use Rattle.plx_appliance.specs.Appliance.{StandsFor, setting_of}
+use Rattle.plx_appliance.specs.Appliance.{StandsFor, appliance_setting}
 use Rattle.plx_appliance.specs.declared.appliance.Appliance.{Appliance}
 use Rattle.plx_base.specs.declared.numbers.ApplianceNo.{ApplianceNo}
 use Rattle.plx_base.specs.declared.numbers.BlockNo.{BlockNo}
@@ -15,14 +15,14 @@ use Rattle.plx_commands.proofs.Places.{at-other, at-same}
 use Rattle.plx_commands.specs.declared.event.Event.TheVariants as event
 use Rattle.plx_disk.specs.Standing.{Stands as DiskStands}
 use Rattle.plx_disk.specs.Standing.{Turns}
-use Rattle.plx_disk.specs.Writes.{Issued, Surface, fresh_write, issued}
+use Rattle.plx_disk.specs.Writes.{Issued, Surface, fresh_write, with_issued}
 use Rattle.plx_disk.specs.declared.ask.Ask.{Ask}
 use Rattle.plx_disk.specs.declared.ask.Ask.TheVariants as ask
 use Rattle.plx_rules.specs.Boot.{Happening, Position, position, writes_out}
 use Rattle.plx_rules.specs.Settings.{boot_number}
 use Rattle.plx_rules.specs.World as rules
 use Rattle.plx_rules.specs.World.{Step, after_issue, is_boot_of, issued_write, issues, stands}
-use Rattle.plx_world.specs.Numbers.{counted, own_numbers}
+use Rattle.plx_world.specs.Numbers.{with_number_if, own_numbers}
 use Rattle.plx_world.specs.Seats.{AsksAs}
 use Rattle.plx_world.specs.Standing.{Steps}
 use Rattle.plx_world.specs.declared.seat.Seat.{Seat}
@@ -48,7 +48,7 @@ own-more a boots writes x below owner =
     let own : is_boot_of a x.owner ≡ true = ap (is_boot_of a) owner ∙ own-boot a boots below in
     let zero-more : 0 + length writes ≡ length writes = omega arith in
     own-push a 0 writes x
-    ∙ ap (λ (b : Bool). own_numbers a 0 writes ++ counted b (0 + length writes) []) own
+    ∙ ap (λ (b : Bool). own_numbers a 0 writes ++ with_number_if b (0 + length writes) []) own
     ∙ ap (λ (n : ℕ). own_numbers a 0 writes ++ n ∷ []) zero-more
 
 -- no other appliance has more
@@ -56,7 +56,7 @@ own-others : (a k boots : ℕ) (writes : List Issued) (x : Issued) → a < 8 →
 own-others a k boots writes x below other owner =
     let foreign : is_boot_of k x.owner ≡ false = ap (is_boot_of k) owner ∙ other-boot a k boots below other in
     own-push k 0 writes x
-    ∙ ap (λ (b : Bool). own_numbers k 0 writes ++ counted b (0 + length writes) []) foreign
+    ∙ ap (λ (b : Bool). own_numbers k 0 writes ++ with_number_if b (0 + length writes) []) foreign
     ∙ append-nil (own_numbers k 0 writes)
 
 -- what the code's issue of a write has to leave
@@ -73,9 +73,9 @@ pub record Issues (old new : World) (n number : ℕ) (before after : Seat) : Typ
 pub issues-write : (old new : World) (a : ApplianceNo) (kind : WriteKind) (block : BlockNo) (guard owner number : ℕ) (bytes : List ℕ) (before after : Seat) →
     slice_get old.seats.items a.0 ≡ Some before → length old.seats.items ≤ 8 → Issues old new a.0 number before after →
     IsAsk old a (Some (ask.Write kind block guard)) → IsPending old a None → owner ≡ boot_number a.0 before.boots →
-    ((log : List Happening) → StandsFor before.appliance log → bytes ≡ writes_out (position (setting_of before.appliance) log).place) →
+    ((log : List Happening) → StandsFor before.appliance log → bytes ≡ writes_out (position (appliance_setting before.appliance) log).place) →
     ((s : Surface) → DiskStands old.disk s → number ≡ length s.writes) →
-    Turns old.disk new.disk (λ s. issued s (fresh_write owner kind block.0 bytes guard)) →
+    Turns old.disk new.disk (λ s. with_issued s (fresh_write owner kind block.0 bytes guard)) →
     Steps old new (event.Issue a) true
 issues-write old new a kind block guard owner number bytes before after at many left is pends owned out counted turns w h =
     let n = a.0 in
@@ -93,8 +93,8 @@ issues-write old new a kind block guard owner number bytes before after at many 
     let v = after_issue w a found.command kind block.0 found.bytes guard in
     let write = issued_write w a kind block.0 found.bytes guard in
     let s : rules.Seat = record (w.seats n) { pending = Some (length w.surface.writes) } in
-    let B : List ℕ → Type 0 = λ x. DiskStands new.disk (issued w.surface (fresh_write owner kind block.0 x guard)) in
-    let O : ℕ → Type 0 = λ x. DiskStands new.disk (issued w.surface (fresh_write x kind block.0 found.bytes guard)) in
+    let B : List ℕ → Type 0 = λ x. DiskStands new.disk (with_issued w.surface (fresh_write owner kind block.0 x guard)) in
+    let O : ℕ → Type 0 = λ x. DiskStands new.disk (with_issued w.surface (fresh_write x kind block.0 found.bytes guard)) in
     let L : Appliance → Type 0 = λ x. StandsFor x (w.seats n).log in (
       v,
       issues found.known found.command kind block.0 found.bytes guard found.done found.fault found.missed there.0 found.at none,
@@ -103,7 +103,7 @@ issues-write old new a kind block guard owner number bytes before after at many 
         count = left.count ∙ h.count;
         surface = subst O owner-is (subst B bytes-are (turns w.surface h.surface));
         seats = seats-changed old.seats.items new.seats.items w v n before after at left.seats h.seats
-            (seat-at v n s after (at-same w.seats n s) (ap setting_of left.appliance ∙ one.setting) (left.boots ∙ one.boots) (subst L (sym left.appliance) one.log)
+            (seat-at v n s after (at-same w.seats n s) (ap appliance_setting left.appliance ∙ one.setting) (left.boots ∙ one.boots) (subst L (sym left.appliance) one.log)
             (left.pending ∙ ap (λ (m : ℕ). Some m) number-is)
             (left.issued ∙ ap (λ (xs : List ℕ). xs ++ number ∷ []) one.issued ∙ ap (λ (m : ℕ). own_numbers n 0 w.surface.writes ++ m ∷ []) number-is
             ∙ sym (own-more n (w.seats n).boots w.surface.writes write few refl)))

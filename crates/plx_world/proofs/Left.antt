@@ -15,12 +15,12 @@ use Rattle.plx_disk.specs.declared.ask.Ask.{Ask}
 use Rattle.plx_disk.specs.declared.ask.Ask.TheVariants as ask
 use Rattle.plx_geom.specs.Geometry.{IsGeometry}
 use Rattle.plx_rules.specs.Boot as boot
-use Rattle.plx_rules.specs.Boot.{Happening, Place, Idle, Begins, In, Position, IsRun, position, went_on, place_of, first_read}
-use Rattle.plx_rules.specs.Ends.{End}
+use Rattle.plx_rules.specs.Hands.{hand_held}
 use Rattle.plx_rules.specs.Holds.{after_first}
+use Rattle.plx_rules.specs.Boot.{Happening, Place, Idle, Begins, In, Position, position, went_on, place_of, first_read, first_part}
+use Rattle.plx_rules.specs.Ends.{End}
 use Rattle.plx_rules.specs.Part.{Part, Ends, ReadThen, WriteThen, ClockThen, UntilThen, answered}
-use Rattle.plx_rules.specs.Commands.{command_part}
-use Rattle.plx_rules.specs.Sequences.{missing, one_more}
+use Rattle.plx_rules.specs.Sequences.{missing, next_sector}
 use Rattle.plx_rules.specs.Session.{Known}
 use Rattle.plx_rules.specs.Settings.{Setting}
 use Rattle.plx_rules.specs.World as rules
@@ -72,9 +72,9 @@ module _ (s : Setting) (geometry : IsGeometry s.geometry) where
   -- wherever an answer leads
   most-first : (known : Known) (command : Command) (a : Answer) (p : Position) → AtMostAt (most_asks + 1) p.place → AtMostAt (most_asks + 1) (first_read s known command a p).place
   most-first known command (answer.Reading reading) p few =
-      let part = command_part s known (after_first s.geometry known reading p.holds) reading command in
+      let part = first_part s known reading command p in
       at-most-place (most_asks + 1) known command part
-      (at-most-more most_asks (most_asks + 1) part (omega arith) (command-most s geometry known (after_first s.geometry known reading p.holds) reading command))
+      (at-most-more most_asks (most_asks + 1) part (omega arith) (command-most s geometry known (after_first s.geometry known reading p.holds) (hand_held s.geometry (after_first s.geometry known reading p.holds) p.hand) reading command))
   most-first known command (answer.Bytes bytes) p few = few
   most-first known command answer.Done p few = few
   most-first known command (answer.Missed reading) p few = few
@@ -86,15 +86,17 @@ module _ (s : Setting) (geometry : IsGeometry s.geometry) where
   most-went asked bytes a p (Begins known command) here few = most-first known command a p here
   most-went asked bytes a p (In known command part) here few = at-most-place (most_asks + 1) known command (answered part a) (at-most-answered (most_asks + 1) part a few)
 
-  -- wherever a run leads
-  pub most-run : {log : List Happening} → IsRun s log → AtMostAt (most_asks + 1) (position s log).place
-  most-run boot.empty = tt
-  most-run (boot.begins {command = command} known run here formed built) =
-      let P : Place → Type 0 = λ p. AtMostAt (most_asks + 1) (boot.begun command p) in
-      let few : most_asks < most_asks + 1 = omega arith in
-      subst P (sym here) few
-  most-run (boot.goes_on {log = log} {ask = asked} {bytes = bytes} {answer = a} run asks out fits) =
-      most-went asked bytes a (position s log) (position s log).place (most-run run) (most-run run)
+  -- wherever a command begins
+  most-begun : (command : Command) (place : Place) → AtMostAt (most_asks + 1) place → AtMostAt (most_asks + 1) (boot.place_after_begin command place)
+  most-begun command (Idle known) few = let more : most_asks < most_asks + 1 = omega arith in more
+  most-begun command (Begins known other) few = few
+  most-begun command (In known other part) few = few
+
+  -- wherever a log leads
+  pub most-log : (log : List Happening) → AtMostAt (most_asks + 1) (position s log).place
+  most-log [] = tt
+  most-log (boot.Began command ∷ log) = most-begun command (position s log).place (most-log log)
+  most-log (boot.Asked asked bytes a ∷ log) = most-went asked bytes a (position s log) (position s log).place (most-log log) (most-log log)
 
 sectors-most : (m : Option ℕ) → sectors_left m ≤ 9
 sectors-most None = omega arith
@@ -115,17 +117,17 @@ abbrev pub IsLess : ApplianceNo → rules.World → rules.World → Type 0
 IsLess a w v = (count : ℕ) → IsFewer w a (count + 1) → IsFewer v a count
 
 -- where the ask was answered
-fewer-answered : (w : rules.World) (one : Event) (a : ApplianceNo) (asked : Ask) (bytes : List ℕ) (given : Answer) (rest : Part End) (most : ℕ) (p : Place) →
+fewer-answered : (w : rules.World) → IsGeometry w.geometry → (one : Event) (a : ApplianceNo) (asked : Ask) (bytes : List ℕ) (given : Answer) (rest : Part End) (most : ℕ) (p : Place) →
     (went_on (setting_of w a.0) asked bytes given (stands w a.0) (stands w a.0).place).place ≡ p → AtMostAt most p → (count : ℕ) → 10 * most + 9 < count →
     IsFewer (goes_on w one a asked bytes given rest) a count
-fewer-answered w one a asked bytes given rest most p leads few count below =
+fewer-answered w geometry one a asked bytes given rest most p leads few count below =
     let seat = rules.with_happening (w.seats a.0) (boot.Asked asked bytes given) in
     let same = at-same w.seats a.0 seat in
     let v = goes_on w one a asked bytes given rest in
     let here : (stands v a.0).place ≡ p = ap (λ (x : Seat). (position (setting_at w.geometry a.0 x.boots) x.log).place) same ∙ leads in
     let nine : events_left (v.seats a.0).pending v.surface.writes ≡ 9 = ap (λ (x : Seat). events_left x.pending w.surface.writes) same in
     let P : Place → Type 0 = λ x. AtMostAt most x in
-    record { asks = most; most = subst P (sym here) few; below = omega (arith, below, nine) }
+    record { geometry = geometry; asks = most; most = subst P (sym here) few; below = omega (arith, below, nine) }
 
 less-in : (w : rules.World) (one : Event) (a : ApplianceNo) (asked : Ask) (bytes : List ℕ) (given : Answer) (rest : Part End) (known : Known) (command : Command)
     (part : Part End) → (stands w a.0).place ≡ In known command part →
@@ -135,7 +137,7 @@ less-in w one a asked bytes given rest known command part here shrinks count few
     let next = shrinks few.asks (subst P here few.most) in
     let fewer = next.1 in
     let below = few.below in
-    fewer-answered w one a asked bytes given rest next.0 (place_of known command (answered part given))
+    fewer-answered w few.geometry one a asked bytes given rest next.0 (place_of known command (answered part given))
     (ap (λ (x : Place). (went_on (setting_of w a.0) asked bytes given (stands w a.0) x).place) here)
     (at-most-place next.0 known command (answered part given) next.2) count (omega (arith, fewer, below))
 
@@ -194,24 +196,24 @@ less-miss {w} {a} {reading} (rules.misses known command kind block bytes guard d
     (WriteThen kind block bytes guard done fault missed) here (missed-shrinks kind block bytes guard done fault missed reading)
 
 -- at its first reading a command has all its asks left
-less-begins : (w : rules.World) → IsGeometry w.geometry → (a : ApplianceNo) (reading : ℕ) (known : Known) (command : Command) → (stands w a.0).place ≡ Begins known command →
+less-begins : (w : rules.World) (a : ApplianceNo) (reading : ℕ) (known : Known) (command : Command) → (stands w a.0).place ≡ Begins known command →
     IsLess a w (goes_on w (event.Reading a reading) a ask.Clock [] (answer.Reading reading)
-    (command_part (setting_of w a.0) known (after_first w.geometry known reading (stands w a.0).holds) reading command))
-less-begins w geometry a reading known command here count few =
+    (first_part (setting_of w a.0) known reading command (stands w a.0)))
+less-begins w a reading known command here count few =
+    let part = first_part (setting_of w a.0) known reading command (stands w a.0) in
     let holds = after_first w.geometry known reading (stands w a.0).holds in
-    let part = command_part (setting_of w a.0) known holds reading command in
     let P : Place → Type 0 = λ x. AtMostAt few.asks x in
     let many : most_asks < few.asks = subst P here few.most in
     let below = few.below in
-    fewer-answered w (event.Reading a reading) a ask.Clock [] (answer.Reading reading) part most_asks (place_of known command part)
+    fewer-answered w few.geometry (event.Reading a reading) a ask.Clock [] (answer.Reading reading) part most_asks (place_of known command part)
     (ap (λ (x : Place). (went_on (setting_of w a.0) ask.Clock [] (answer.Reading reading) (stands w a.0) x).place) here)
-    (at-most-place most_asks known command part (command-most (setting_of w a.0) geometry known holds reading command)) count (omega (arith, many, below))
+    (at-most-place most_asks known command part (command-most (setting_of w a.0) few.geometry known holds (hand_held w.geometry holds (stands w a.0).hand) reading command)) count (omega (arith, many, below))
 
-pub less-reading : {w : rules.World} {a : ApplianceNo} {reading : ℕ} {v : rules.World} → IsGeometry w.geometry → Step w (event.Reading a reading) v → IsLess a w v
-less-reading {w} {a} {reading} geometry (rules.begins known command below here is) = less-begins w geometry a reading known command here
-less-reading {w} {a} {reading} geometry (rules.clocks known command rest below here is) =
+pub less-reading : {w : rules.World} {a : ApplianceNo} {reading : ℕ} {v : rules.World} → Step w (event.Reading a reading) v → IsLess a w v
+less-reading {w} {a} {reading} (rules.begins known command below here is) = less-begins w a reading known command here
+less-reading {w} {a} {reading} (rules.clocks known command rest below here is) =
     less-in w (event.Reading a reading) a ask.Clock [] (answer.Reading reading) (rest reading) known command (ClockThen rest) here (clock-shrinks rest reading)
-less-reading {w} {a} {reading} geometry (rules.waits known command from rest below here is past) =
+less-reading {w} {a} {reading} (rules.waits known command from rest below here is past) =
     less-in w (event.Reading a reading) a (ask.Until from) [] (answer.Reading reading) (rest reading) known command (UntilThen from rest) here
     (until-shrinks from rest reading)
 
@@ -231,26 +233,26 @@ less-issue {w} {a} (rules.issues known command kind block bytes guard done fault
     ap (λ (x : Seat). events_left x.pending writes) same ∙ ap write_left (push-last w.surface.writes write) in
     let below = few.below in
     let P : Place → Type 0 = λ x. AtMostAt few.asks x in
-    record { asks = few.asks; most = subst P (sym place) few.most; below = omega (arith, below, nine, eight) }
+    record { geometry = few.geometry; asks = few.asks; most = subst P (sym place) few.most; below = omega (arith, below, nine, eight) }
 
 -- the next missing sector is past it
 abbrev IsPast : Option ℕ → ℕ → Type 0
 IsPast None n = Unit {0}
 IsPast (Some m) n = n < m
 
-past-first : (m : Option ℕ) → IsPast (one_more m) 0
+past-first : (m : Option ℕ) → IsPast (next_sector m) 0
 past-first None = tt
 past-first (Some k) = omega arith
 
-past-more : (m : Option ℕ) (n : ℕ) → IsPast m n → IsPast (one_more m) (suc n)
+past-more : (m : Option ℕ) (n : ℕ) → IsPast m n → IsPast (next_sector m) (suc n)
 past-more None n past = tt
 past-more (Some k) n past = omega (arith, past)
 
-one_more-zero : (m : Option ℕ) → one_more m ≡ Some 0 → ⊥
+one_more-zero : (m : Option ℕ) → next_sector m ≡ Some 0 → ⊥
 one_more-zero None e = cc
 one_more-zero (Some k) e = let same : k + 1 ≡ 0 = cc in absurd (omega (arith, same))
 
-one_more-suc : (m : Option ℕ) (n : ℕ) → one_more m ≡ Some (suc n) → m ≡ Some n
+one_more-suc : (m : Option ℕ) (n : ℕ) → next_sector m ≡ Some (suc n) → m ≡ Some n
 one_more-suc None n e = absurd (let P : ⊥ = cc in P)
 one_more-suc (Some k) n e =
     let same : k + 1 ≡ suc n = cc in
@@ -279,4 +281,4 @@ less-land w one a number sector write pending found least within count few =
     ap (λ (p : Option ℕ). events_left p writes) pending ∙ ap write_left (set-same w.surface.writes number (with_sector write sector) write found) in
     let less = left-less (missing (slice_set write.landed sector true)) sector within (past-set write.landed sector least) in
     let below = few.below in
-    record { asks = few.asks; most = few.most; below = omega (arith, before, after, less, below) }
+    record { geometry = few.geometry; asks = few.asks; most = few.most; below = omega (arith, before, after, less, below) }

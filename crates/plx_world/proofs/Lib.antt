@@ -1,15 +1,15 @@
-mod Absent
 mod Answered
 mod Asking
 mod Booting
 pub mod Bounds
+mod Cancels
 mod Deciding
 mod Disked
 mod Going
 mod Inverted
 mod Issuing
 mod Left
-mod Made
+pub mod Made
 mod Numbered
 mod Placed
 mod Regions
@@ -17,3 +17,4 @@ mod Seating
 mod Sequences
 mod Starting
 mod Stepping
+mod There

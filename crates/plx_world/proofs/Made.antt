@@ -10,19 +10,19 @@ use Rattle.plx_rules.specs.World.{Reached}
 use Rattle.law_lease.proofs.Runs.{played-reached}
 use Rattle.plx_world.specs.Playing.{IsLawful, KeepsLaws, LawsHold, Leads, LeadsPartly, PlaysAll, PlaysSome}
 use Rattle.plx_world.specs.Running.{MakesRun, RunsSome}
-use Rattle.plx_world.specs.Standing.{Stays, Steps}
+use Rattle.plx_world.specs.Standing.{StandsOn, Steps}
 use Rattle.plx_world.specs.declared.world.World.{World}
-use Rattle.plx_world.proofs.Sequences.{is_plain, leads-plain, leads-run, leads-upto, partly-plain, partly-run, partly-upto, reached-makes, reached-partly, reached-plays}
+use Rattle.plx_world.proofs.Sequences.{is_plain_event, leads-plain, leads-run, leads-upto, partly-plain, partly-run, partly-upto, reached-makes, reached-partly, plays-to-reached}
 
 -- a plain event
-pub ok-plain : {E : Type 0} (old new : World) (one plain : Event) (r : Result Bool E) → one ≡ plain → is_plain plain ≡ true → IfOk r (Steps old new plain) → IfOk r (Leads old new one)
+pub ok-plain : {E : Type 0} (old new : World) (one plain : Event) (r : Result Bool E) → one ≡ plain → is_plain_event plain ≡ true → IfOk r (Steps old new plain) → IfOk r (Leads old new one)
 ok-plain old new one plain (Ok made) is p steps = let P : Event → Type 0 = λ e. Leads old new e made in subst P (sym is) (leads-plain old new plain made p steps)
 ok-plain old new one plain (Err error) is p steps = tt
 
-pub leads-as : (old new : World) (one plain : Event) (made : Bool) → one ≡ plain → is_plain plain ≡ true → Steps old new plain made → Leads old new one made
+pub leads-as : (old new : World) (one plain : Event) (made : Bool) → one ≡ plain → is_plain_event plain ≡ true → Steps old new plain made → Leads old new one made
 leads-as old new one plain made is p steps = let P : Event → Type 0 = λ e. Leads old new e made in subst P (sym is) (leads-plain old new plain made p steps)
 
-pub err-plain : {E : Type 0} (old new : World) (one : Event) (r : Result Bool E) → OnErr r (Stays old new) → OnErr r (LeadsPartly old new one)
+pub err-plain : {E : Type 0} (old new : World) (one : Event) (r : Result Bool E) → OnErr r (StandsOn old new) → OnErr r (LeadsPartly old new one)
 err-plain old new one (Ok made) stays = tt
 err-plain old new one (Err error) stays = partly-plain old new one stays
 
@@ -61,23 +61,27 @@ cut (y ∷ xs) (suc i) x within is = ap (λ (rest : List Event). y ∷ rest) (cu
 -- ---- the laws
 
 -- they hold of a world that events lead to
-lawful : LawsHold → {w : rules.World} → Reached w → IsLawful w
+pub lawful : LawsHold → {w : rules.World} → Reached w → IsLawful w
 lawful laws {w} reached = record {
   reached = reached;
   headline = laws.headline w reached;
   undamaged = laws.undamaged w reached;
   exclusion = laws.exclusion w reached;
   guarding = laws.guarding w reached;
+  allocated = laws.allocated w reached;
+  apart = laws.apart w reached;
+  takes = laws.takes w reached;
+  gives = laws.gives w reached;
 }
 
 laws-leads : LawsHold → (old new : World) (one : Event) (possible : Bool) → Leads old new one possible → KeepsLaws old new
 laws-leads laws old new one true leads w reached h =
-    let found = leads w reached h in (found.0, lawful laws (reached-makes reached found.1), found.2)
-laws-leads laws old new one false leads w reached h = let found = leads w reached h in (w, lawful laws reached, found.1)
+    let found = leads w h in (found.0, lawful laws (reached-makes reached found.1), found.2)
+laws-leads laws old new one false leads w reached h = let found = leads w h in (w, lawful laws reached, found.1)
 
 laws-partly : LawsHold → (old new : World) (one : Event) → LeadsPartly old new one → KeepsLaws old new
 laws-partly laws old new one leads w reached h =
-    let found = leads w reached h in (found.0, lawful laws (reached-partly reached found.1), found.2)
+    let found = leads w h in (found.0, lawful laws (reached-partly reached found.1), found.2)
 
 -- after either outcome of an event
 pub laws-made : {E : Type 0} → LawsHold → (old new : World) (one : Event) (r : Result Bool E) → IfOk r (Leads old new one) → OnErr r (LeadsPartly old new one) → KeepsLaws old new
@@ -87,8 +91,8 @@ laws-made laws old new one (Err error) ok err = laws-partly laws old new one err
 -- after a schedule, or a part of one
 pub laws-plays : LawsHold → (old new : World) (events : List Event) → PlaysAll old new events → KeepsLaws old new
 laws-plays laws old new events plays w reached h =
-    let found = plays w reached h in (found.0, lawful laws (reached-plays events reached found.1), found.2)
+    let found = plays w h in (found.0, lawful laws (plays-to-reached events reached found.1), found.2)
 
 pub laws-some : LawsHold → (old new : World) (events : List Event) → PlaysSome old new events → KeepsLaws old new
 laws-some laws old new events plays w reached h =
-    let found = plays w reached h in (found.0, lawful laws (played-reached w found.0 events reached found.1), found.2)
+    let found = plays w h in (found.0, lawful laws (played-reached w found.0 events reached found.1), found.2)

@@ -1,41 +1,42 @@
 -- The numbers of an appliance's writes, and how many newer ones a write has.
 use Rattle.std.proofs.Common.{◌≡◌, ◌+◌, ◌-◌, ◌<◌, ℕ, zero, suc, List, [], ◌∷◌, ◌++◌, length, Some, Bool, true, false, refl, ap, sym, subst, ◌∙◌, arith, add-one}
 use Rattle.std.specs.Prelude.{drop, slice_get, slice_set, if◌then◌else◌}
+use Rattle.plx_disk.proofs.Lists.{push-last}
 use Rattle.plx_disk.specs.Writes.{Issued}
 use Rattle.plx_rules.specs.World.{IsBack, is_boot_of, issued_by}
 use Rattle.plx_world.specs.Backs.{IsNth}
-use Rattle.plx_world.specs.Numbers.{counted, own_numbers}
+use Rattle.plx_world.specs.Numbers.{WaitsForNewest, with_number_if, own_numbers}
 
 -- ---- what an event leaves of them
 
 -- a write that keeps its owner
-pub own-set : (a first : ℕ) (writes : List Issued) (n : ℕ) (w x : Issued) → slice_get writes n ≡ Some w → x.owner ≡ w.owner →
+pub own-numbers-set : (a first : ℕ) (writes : List Issued) (n : ℕ) (w x : Issued) → slice_get writes n ≡ Some w → x.owner ≡ w.owner →
     own_numbers a first (slice_set writes n x) ≡ own_numbers a first writes
-own-set a first [] n w x found same = refl
-own-set a first (y ∷ writes) zero w x found same =
+own-numbers-set a first [] n w x found same = refl
+own-numbers-set a first (y ∷ writes) zero w x found same =
     let is : y ≡ w = cc in
     let owner : x.owner ≡ y.owner = same ∙ ap (λ (z : Issued). z.owner) (sym is) in
-    ap (λ (o : ℕ). counted (is_boot_of a o) first (own_numbers a (first + 1) writes)) owner
-own-set a first (y ∷ writes) (suc n) w x found same = ap (counted (is_boot_of a y.owner) first) (own-set a (first + 1) writes n w x found same)
+    ap (λ (o : ℕ). with_number_if (is_boot_of a o) first (own_numbers a (first + 1) writes)) owner
+own-numbers-set a first (y ∷ writes) (suc n) w x found same = ap (with_number_if (is_boot_of a y.owner) first) (own-numbers-set a (first + 1) writes n w x found same)
 
 -- one more write
-counted-push : (own : Bool) (first : ℕ) (numbers more : List ℕ) → counted own first (numbers ++ more) ≡ counted own first numbers ++ more
+counted-push : (own : Bool) (first : ℕ) (numbers more : List ℕ) → with_number_if own first (numbers ++ more) ≡ with_number_if own first numbers ++ more
 counted-push true first numbers more = refl
 counted-push false first numbers more = refl
 
 pub own-push : (a first : ℕ) (writes : List Issued) (x : Issued) →
-    own_numbers a first (writes ++ x ∷ []) ≡ own_numbers a first writes ++ counted (is_boot_of a x.owner) (first + length writes) []
-own-push a first [] x = let zero-more : first ≡ first + 0 = omega arith in ap (λ (n : ℕ). counted (is_boot_of a x.owner) n []) zero-more
+    own_numbers a first (writes ++ x ∷ []) ≡ own_numbers a first writes ++ with_number_if (is_boot_of a x.owner) (first + length writes) []
+own-push a first [] x = let zero-more : first ≡ first + 0 = omega arith in ap (λ (n : ℕ). with_number_if (is_boot_of a x.owner) n []) zero-more
 own-push a first (y ∷ writes) x =
-    let rest : own_numbers a (first + 1) (writes ++ x ∷ []) ≡ own_numbers a (first + 1) writes ++ counted (is_boot_of a x.owner) ((first + 1) + length writes) [] =
+    let rest : own_numbers a (first + 1) (writes ++ x ∷ []) ≡ own_numbers a (first + 1) writes ++ with_number_if (is_boot_of a x.owner) ((first + 1) + length writes) [] =
     own-push a (first + 1) writes x in
     let sum : (first + 1) + length writes ≡ first + suc (length writes) = omega arith in
-    ap (counted (is_boot_of a y.owner) first) (rest ∙ ap (λ (n : ℕ). own_numbers a (first + 1) writes ++ counted (is_boot_of a x.owner) n []) sum)
-    ∙ counted-push (is_boot_of a y.owner) first (own_numbers a (first + 1) writes) (counted (is_boot_of a x.owner) (first + suc (length writes)) [])
+    ap (with_number_if (is_boot_of a y.owner) first) (rest ∙ ap (λ (n : ℕ). own_numbers a (first + 1) writes ++ with_number_if (is_boot_of a x.owner) n []) sum)
+    ∙ counted-push (is_boot_of a y.owner) first (own_numbers a (first + 1) writes) (with_number_if (is_boot_of a x.owner) (first + suc (length writes)) [])
 
 -- ---- how many there are
 
-counted-length : (own : Bool) (first count : ℕ) (numbers : List ℕ) → length numbers ≡ count → length (counted own first numbers) ≡ (if own then 1 else 0) + count
+counted-length : (own : Bool) (first count : ℕ) (numbers : List ℕ) → length numbers ≡ count → length (with_number_if own first numbers) ≡ (if own then 1 else 0) + count
 counted-length true first count numbers e = omega (arith, e)
 counted-length false first count numbers e = omega (arith, e)
 
@@ -46,15 +47,15 @@ own-length a first (x ∷ writes) = counted-length (is_boot_of a x.owner) first 
 -- ---- a write with so many newer ones
 
 -- a number among others, where the first one counts or doesn't
-own-first : (a first : ℕ) (own : Bool) (writes : List Issued) (i : ℕ) → own ≡ true → i + 1 + issued_by a writes ≡ length (counted own first (own_numbers a (first + 1) writes)) →
-    slice_get (counted own first (own_numbers a (first + 1) writes)) i ≡ Some first
+own-first : (a first : ℕ) (own : Bool) (writes : List Issued) (i : ℕ) → own ≡ true → i + 1 + issued_by a writes ≡ length (with_number_if own first (own_numbers a (first + 1) writes)) →
+    slice_get (with_number_if own first (own_numbers a (first + 1) writes)) i ≡ Some first
 own-first a first true writes zero is e = refl
 own-first a first true writes (suc i) is e = let l = own-length a (first + 1) writes in absurd (omega (arith, e, l))
 own-first a first false writes i is e = cc
 
 own-later : (a first number : ℕ) (own : Bool) (writes : List Issued) (back : ℕ) → back < issued_by a writes →
     ((i : ℕ) → i + 1 + back ≡ length (own_numbers a (first + 1) writes) → slice_get (own_numbers a (first + 1) writes) i ≡ Some number) →
-    (i : ℕ) → i + 1 + back ≡ length (counted own first (own_numbers a (first + 1) writes)) → slice_get (counted own first (own_numbers a (first + 1) writes)) i ≡ Some number
+    (i : ℕ) → i + 1 + back ≡ length (with_number_if own first (own_numbers a (first + 1) writes)) → slice_get (with_number_if own first (own_numbers a (first + 1) writes)) i ≡ Some number
 own-later a first number true writes back few rest zero e = let l = own-length a (first + 1) writes in absurd (omega (arith, e, l, few))
 own-later a first number true writes back few rest (suc i) e = rest i (omega (arith, e))
 own-later a first number false writes back few rest i e = rest i e
@@ -111,22 +112,22 @@ own-more a first x writes i j number is e longer =
 
 own-at : (a first : ℕ) (x : Issued) (writes : List Issued) (own : Bool) (i number : ℕ) → is_boot_of a x.owner ≡ own →
     ((j : ℕ) → slice_get (own_numbers a (first + 1) writes) j ≡ Some number → IsOwn a (first + 1) writes j number) →
-    slice_get (counted own first (own_numbers a (first + 1) writes)) i ≡ Some number → IsOwn a first (x ∷ writes) i number
+    slice_get (with_number_if own first (own_numbers a (first + 1) writes)) i ≡ Some number → IsOwn a first (x ∷ writes) i number
 own-at a first x writes true zero number is rest found =
     let same : first ≡ number = cc in
     let l = own-length a (first + 1) writes in
-    let longer : length (own_numbers a first (x ∷ writes)) ≡ suc (length (own_numbers a (first + 1) writes)) = ap (λ (b : Bool). length (counted b first (own_numbers a (first + 1) writes))) is in
+    let longer : length (own_numbers a first (x ∷ writes)) ≡ suc (length (own_numbers a (first + 1) writes)) = ap (λ (b : Bool). length (with_number_if b first (own_numbers a (first + 1) writes))) is in
     record { place = 0; number_is = omega (arith, same); write = x; found = refl; owner = is; newer = omega (arith, l, longer) }
 own-at a first x writes true (suc i) number is rest found =
-    let longer : length (own_numbers a first (x ∷ writes)) ≡ suc (length (own_numbers a (first + 1) writes)) = ap (λ (b : Bool). length (counted b first (own_numbers a (first + 1) writes))) is in
+    let longer : length (own_numbers a first (x ∷ writes)) ≡ suc (length (own_numbers a (first + 1) writes)) = ap (λ (b : Bool). length (with_number_if b first (own_numbers a (first + 1) writes))) is in
     own-more a first x writes i (suc i) number (rest i found) refl (omega (arith, longer))
 own-at a first x writes false i number is rest found =
-    let longer : length (own_numbers a first (x ∷ writes)) ≡ length (own_numbers a (first + 1) writes) = ap (λ (b : Bool). length (counted b first (own_numbers a (first + 1) writes))) is in
+    let longer : length (own_numbers a first (x ∷ writes)) ≡ length (own_numbers a (first + 1) writes) = ap (λ (b : Bool). length (with_number_if b first (own_numbers a (first + 1) writes))) is in
     own-more a first x writes i i number (rest i found) refl (omega (arith, longer))
 
-own-is : (a first : ℕ) (writes : List Issued) (i number : ℕ) → slice_get (own_numbers a first writes) i ≡ Some number → IsOwn a first writes i number
-own-is a first [] i number found = cc
-own-is a first (x ∷ writes) i number found = own-at a first x writes (is_boot_of a x.owner) i number refl (λ j there. own-is a (first + 1) writes j number there) found
+own-number-is : (a first : ℕ) (writes : List Issued) (i number : ℕ) → slice_get (own_numbers a first writes) i ≡ Some number → IsOwn a first writes i number
+own-number-is a first [] i number found = cc
+own-number-is a first (x ∷ writes) i number found = own-at a first x writes (is_boot_of a x.owner) i number refl (λ j there. own-number-is a (first + 1) writes j number there) found
 
 -- ---- by how many newer ones
 
@@ -154,10 +155,23 @@ back-unique a writes back n m w v first second =
 
 pub nth-back : (a : ℕ) (writes : List Issued) (back number : ℕ) → IsNth (own_numbers a 0 writes) back number → (write : Issued) × IsBack writes a back number write
 nth-back a writes back number is =
-    let own = own-is a 0 writes (length (own_numbers a 0 writes) - 1 - back) number is.found in
+    let own = own-number-is a 0 writes (length (own_numbers a 0 writes) - 1 - back) number is.found in
     let within = is.within in
     let newer = own.newer in
     let one = past-one a writes own.place in
     let same : own.place ≡ number = let e = own.number_is in omega (arith, e) in
     let P : ℕ → Type 0 = λ n. IsBack writes a back n own.write in
     (own.write, subst P same (record { found = own.found; owner = own.owner; newer = omega (arith, within, newer, one) }))
+
+-- the newest of an appliance's writes is the one that it has just issued
+pub newest-push : (old new : List ℕ) (number : ℕ) → new ≡ old ++ number ∷ [] → WaitsForNewest (Some number) new
+newest-push old new number is waited e =
+    let same : number ≡ waited = cc in
+    let count : length new ≡ length old + 1 = ap length is ∙ pushed old in
+    let last : length old ≡ length new - 1 = omega (arith, count) in
+    let P : ℕ → Type 0 = λ k. slice_get new k ≡ Some number in
+    subst P last (ap (λ (xs : List ℕ). slice_get xs (length old)) is ∙ push-last old number) ∙ ap (λ (k : ℕ). Some k) same
+  where
+    pushed : (xs : List ℕ) → length (xs ++ number ∷ []) ≡ length xs + 1
+    pushed [] = refl
+    pushed (x ∷ xs) = let rest = pushed xs in omega (arith, rest)

@@ -10,15 +10,12 @@ use Rattle.plx_commands.specs.declared.event.Region.TheVariants as region
 use Rattle.plx_geom.specs.Geometry.{Geometry, lease_at, record_at, log_at, journal_start, extents_start, block_count, descriptor_at, data_at, map_at, pool_at}
 use Rattle.plx_geom.proofs.Places.{descriptor-below, data-below, map-within, pool-within}
 use Rattle.plx_rules.specs.Sequences.{is_between, is_in_region, is_map}
+use Rattle.std.proofs.Math.Bool.{and-false}
 use denote.Enum.Bare.{sameb}
 
 -- within, and past the end
 between-within : (low high n : ℕ) → low ≤ n → n < high → is_between low high n ≡ true
 between-within low high n above below = rw (le-leb low n above, lt-ltb n high below) refl
-
-and-false : (x : Bool) → (x && false) ≡ false
-and-false true = refl
-and-false false = refl
 
 between-past : (low high n : ℕ) → high ≤ n → is_between low high n ≡ false
 between-past low high n past = rw (le-ltb n high past) (and-false (nat_le low n))

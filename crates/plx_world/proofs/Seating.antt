@@ -2,12 +2,13 @@
 use Rattle.std.proofs.Common.{◌≡◌, ◌≢◌, ◌≤◌, ◌<◌, ℕ, zero, suc, List, [], ◌∷◌, length, get_or, Option, Some, None, Bool, true, false, refl, ap, sym, subst, ◌∙◌, inl, inr, arith}
 use Rattle.std.specs.Prelude.{slice_get, slice_set, nat_lt, if◌then◌else◌, IfSome}
 use Rattle.std.proofs.lemmas.Bool.Decides.{eqb_tells, leb_tells}
-use Rattle.plx_appliance.specs.Appliance.{IsIdle, IsRunning, StandsAt, StandsFor, runs, setting_of}
+use Rattle.plx_appliance.specs.Appliance.{IsIdle, IsRunning, StandsAt, StandsFor, runs, appliance_setting}
 use Rattle.plx_appliance.specs.Kept.{known_of}
+use Rattle.plx_appliance.specs.Lent.{Lent, lent_of}
 use Rattle.plx_appliance.specs.declared.appliance.Stage.{Stage}
 use Rattle.plx_appliance.specs.declared.setting.Setting.{Setting as Own}
 use Rattle.plx_appliance.specs.declared.appliance.Stage.TheVariants as stage
-use Rattle.plx_appliance.specs.Asking.{IsOnDevice}
+use Rattle.plx_alloc.specs.Asking.{IsOnDevice}
 use Rattle.plx_disk.proofs.Lists.{set-other, set-same}
 use Rattle.plx_disk.specs.declared.ask.Ask.{Ask}
 use Rattle.plx_geom.specs.Geometry.{Geometry}
@@ -58,7 +59,7 @@ pub if-none : {X : Type 0} (n m : ℕ) (o : Option X) → n < m → None ≡ (if
 if-none n m o below e = sym (if-below n m o None below) ∙ sym e
 
 -- the appliance of a seat stands where its log leads
-pub position-of : (w : rules.World) (n : ℕ) (seat : Seat) → IsSeat w n seat → position (setting_of seat.appliance) (w.seats n).log ≡ stands w n
+pub position-of : (w : rules.World) (n : ℕ) (seat : Seat) → IsSeat w n seat → position (appliance_setting seat.appliance) (w.seats n).log ≡ stands w n
 position-of w n seat is = ap (λ (s : Setting). position s (w.seats n).log) is.setting
 
 -- what it asks
@@ -97,7 +98,7 @@ seat-same w v n seat g s numbers is =
     }
 
 -- where an appliance is this one
-pub seat-at : (v : rules.World) (n : ℕ) (s : rules.Seat) (seat : Seat) → v.seats n ≡ s → setting_of seat.appliance ≡ setting_at v.geometry n s.boots → seat.boots ≡ s.boots →
+pub seat-at : (v : rules.World) (n : ℕ) (s : rules.Seat) (seat : Seat) → v.seats n ≡ s → appliance_setting seat.appliance ≡ setting_at v.geometry n s.boots → seat.boots ≡ s.boots →
     StandsFor seat.appliance s.log → seat.pending ≡ s.pending → seat.issued.items ≡ own_numbers n 0 v.surface.writes → IsSeat v n seat
 seat-at v n s seat is setting boots log pending issued =
     let L : rules.Seat → Type 0 = λ x. StandsFor seat.appliance x.log in
@@ -148,27 +149,27 @@ set-count (y ∷ xs) (suc n) x = ap suc (set-count xs n x)
 -- ---- a seat that is idle, and one that isn't
 
 -- an idle appliance stands in no command
-idle-stage : (s : Setting) (known : Known) (st : Stage) (p : Position) → runs st ≡ false → StandsAt s known st p → p.place ≡ Idle known
-idle-stage s known stage.Idle p idle at = at
-idle-stage s known (stage.Begun begun) p idle at = cc
-idle-stage s known (stage.In work) p idle at = cc
+idle-stage : (s : Setting) (lent : Lent) (st : Stage) (p : Position) → runs st ≡ false → StandsAt s lent st p → p.place ≡ Idle lent.known
+idle-stage s lent stage.Idle p idle at = at
+idle-stage s lent (stage.Begun begun) p idle at = cc
+idle-stage s lent (stage.In work) p idle at = cc
 
 pub idle-at : (w : rules.World) (n : ℕ) (seat : Seat) → IsSeat w n seat → IsIdle seat.appliance → (known : Known) × ((stands w n).place ≡ Idle known)
 idle-at w n seat is idle = (
   known_of seat.appliance.holdings,
   ap (λ (p : Position). p.place) (sym (position-of w n seat is))
-      ∙ idle-stage (setting_of seat.appliance) (known_of seat.appliance.holdings) seat.appliance.stage (position (setting_of seat.appliance) (w.seats n).log) idle is.log.at,
+      ∙ idle-stage (appliance_setting seat.appliance) (lent_of seat.appliance.holdings) seat.appliance.stage (position (appliance_setting seat.appliance) (w.seats n).log) idle is.log.at,
 )
 
 -- one that runs does not
-busy-stage : (s : Setting) (known other : Known) (st : Stage) (p : Position) → runs st ≡ true → StandsAt s known st p → p.place ≡ Idle other → ⊥
-busy-stage s known other stage.Idle p running at idle = cc
-busy-stage s known other (stage.Begun begun) p running at idle = let e = at.place_is in cc
-busy-stage s known other (stage.In work) p running at idle = let e = at.place_is in cc
+busy-stage : (s : Setting) (lent : Lent) (other : Known) (st : Stage) (p : Position) → runs st ≡ true → StandsAt s lent st p → p.place ≡ Idle other → ⊥
+busy-stage s lent other stage.Idle p running at idle = cc
+busy-stage s lent other (stage.Begun begun) p running at idle = let e = at.place_is in cc
+busy-stage s lent other (stage.In work) p running at idle = let e = at.place_is in cc
 
 pub busy-at : (w : rules.World) (n : ℕ) (seat : Seat) → IsSeat w n seat → IsRunning seat.appliance → (known : Known) → (stands w n).place ≡ Idle known → ⊥
 busy-at w n seat is running known idle =
-    busy-stage (setting_of seat.appliance) (known_of seat.appliance.holdings) known seat.appliance.stage (position (setting_of seat.appliance) (w.seats n).log) running is.log.at
+    busy-stage (appliance_setting seat.appliance) (lent_of seat.appliance.holdings) known seat.appliance.stage (position (appliance_setting seat.appliance) (w.seats n).log) running is.log.at
     (ap (λ (p : Position). p.place) (position-of w n seat is) ∙ idle)
 
 -- a seat that keeps its setting, among as many seats as before

@@ -1,45 +1,42 @@
 -- Runs and schedules, put together from their parts.
-use Rattle.std.proofs.Common.{◌≡◌, ◌+◌, ◌-◌, ℕ, List, [], ◌∷◌, ◌++◌, Option, Some, None, Bool, true, false, refl, sym, subst, ◌∙◌, arith}
-use Rattle.std.specs.Prelude.{nat_lt}
-use Rattle.std.proofs.lemmas.Bool.{ltb-true, ltb-false}
+use Rattle.std.proofs.Common.{◌≡◌, ◌+◌, ◌-◌, ◌<◌, ℕ, List, [], ◌∷◌, ◌++◌, Option, Some, None, Bool, true, false, refl, sym, subst, ◌∙◌, arith}
 use Rattle.plx_base.specs.declared.numbers.ApplianceNo.{ApplianceNo}
 use Rattle.plx_commands.specs.declared.event.Event.{Event}
 use Rattle.plx_commands.specs.declared.event.Event.TheVariants as event
 use Rattle.plx_commands.specs.declared.event.Stop.{Stop}
-use Rattle.plx_rules.specs.Boot.{position}
+use Rattle.plx_geom.specs.Geometry.{Geometry, IsGeometry}
 use Rattle.plx_rules.specs.Sequences.{Runs, ends, goes, RunsPartly, none_yet, more, Makes, plain, runs, runs_upto, MakesPartly, nothing, of_run, of_upto, IsPlayed, made, skipped, Plays, PlaysPartly, next_event}
 use Rattle.plx_rules.specs.Sequences as sequences
 use Rattle.plx_rules.specs.World as rules
-use Rattle.plx_rules.specs.World.{Reached, Seat, Step, setting_at, setting_of, stands}
-use Rattle.law_lease.proofs.LeaseSteps.{reached-leased}
-use Rattle.law_lease.proofs.Runs.{boots-run, played-reached}
+use Rattle.plx_rules.specs.World.{Reached, Step, setting_of}
+use Rattle.law_lease.proofs.Runs.{played-reached}
 use Rattle.plx_world.specs.Bounds.{most_asks}
 use Rattle.plx_world.specs.Playing.{Leads, LeadsPartly, PlaysAll, PlaysSome}
-use Rattle.plx_world.specs.Running.{AtMostAt, GoesOn, IsFewer, MakesRun, RunsSome, RunsWhole}
-use Rattle.plx_world.specs.Standing.{Stands, Stays, Steps}
+use Rattle.plx_world.specs.Running.{RunGoesOn, IsFewer, IsOver, MakesRun, RunsSome, RunsWhole}
+use Rattle.plx_world.specs.Standing.{Stands, StandsOn, Steps}
 use Rattle.plx_world.specs.declared.world.World.{World}
-use Rattle.plx_world.proofs.Absent.{absent-seat}
-use Rattle.plx_world.proofs.Left.{events-most, most-run}
+use Rattle.plx_world.proofs.Left.{events-most, most-log}
+use Rattle.plx_world.proofs.There.{run-there, step-count}
 
 -- ---- plain events
 
 -- a plain event is one step
-abbrev pub is_plain : Event → Bool
-is_plain (event.Run appliance) = false
-is_plain (event.Upto appliance stop) = false
-is_plain other = true
+abbrev pub is_plain_event : Event → Bool
+is_plain_event (event.Run appliance) = false
+is_plain_event (event.Upto appliance stop) = false
+is_plain_event other = true
 
-plain-step : {w v : rules.World} {one : Event} → is_plain one ≡ true → Makes w one v → Step w one v
+plain-step : {w v : rules.World} {one : Event} → is_plain_event one ≡ true → Makes w one v → Step w one v
 plain-step p (plain step) = step
 plain-step p (runs appliance one next step rest) = cc
 plain-step p (runs_upto appliance stop one next step rest) = cc
 
-pub leads-plain : (old new : World) (one : Event) (possible : Bool) → is_plain one ≡ true → Steps old new one possible → Leads old new one possible
-leads-plain old new one true p steps w reached h = let found = steps w h in (found.0, plain found.1, found.2)
-leads-plain old new one false p steps w reached h = let found = steps w h in ((λ v makes. found.0 v (plain-step p makes)), found.1)
+pub leads-plain : (old new : World) (one : Event) (possible : Bool) → is_plain_event one ≡ true → Steps old new one possible → Leads old new one possible
+leads-plain old new one true p steps w h = let found = steps w h in (found.0, plain found.1, found.2)
+leads-plain old new one false p steps w h = let found = steps w h in ((λ v makes. found.0 v (plain-step p makes)), found.1)
 
-pub partly-plain : (old new : World) (one : Event) → Stays old new → LeadsPartly old new one
-partly-plain old new one stays w reached h = (w, nothing, stays w h)
+pub partly-plain : (old new : World) (one : Event) → StandsOn old new → LeadsPartly old new one
+partly-plain old new one stays w h = (w, nothing, stays w h)
 
 -- ---- runs
 
@@ -50,30 +47,30 @@ step-run step = elim step [ ]
 step-upto : {a : ApplianceNo} {stop : Stop} {w v : rules.World} → Step w (event.Upto a stop) v → ⊥
 step-upto step = elim step [ ]
 
--- a run that has no next event makes none
-run-over : (w v : rules.World) (a : ApplianceNo) → next_event w a None ≡ None → Makes w (event.Run a) v → ⊥
-run-over w v a none (plain step) = step-run step
-run-over w v a none (runs appliance one next step rest) = let both = sym none ∙ next in cc
+-- a run that is over makes none
+run-over : (w v : rules.World) (a : ApplianceNo) → IsOver a None w → Makes w (event.Run a) v → ⊥
+run-over w v a over (plain step) = step-run step
+run-over w v a over (runs appliance one next step rest) = let both = sym (over (run-there w a None one next step)) ∙ next in cc
 
-upto-over : (w v : rules.World) (a : ApplianceNo) (stop : Stop) → next_event w a (Some stop) ≡ None → Makes w (event.Upto a stop) v → ⊥
-upto-over w v a stop none (plain step) = step-upto step
-upto-over w v a stop none (runs_upto appliance s one next step rest) = let both = sym none ∙ next in cc
+upto-over : (w v : rules.World) (a : ApplianceNo) (stop : Stop) → IsOver a (Some stop) w → Makes w (event.Upto a stop) v → ⊥
+upto-over w v a stop over (plain step) = step-upto step
+upto-over w v a stop over (runs_upto appliance s one next step rest) = let both = sym (over (run-there w a (Some stop) one next step)) ∙ next in cc
 
 pub leads-run : (old new : World) (a : ApplianceNo) (possible : Bool) → MakesRun a None old new possible → Leads old new (event.Run a) possible
-leads-run old new a true makes w reached h =
-    let found = (makes w reached h).1 in ((makes w reached h).0, runs a found.one found.next found.step found.rest, found.stands)
-leads-run old new a false makes w reached h = let found = makes w reached h in ((λ v m. run-over w v a found.0 m), found.1)
+leads-run old new a true makes w h =
+    let found = (makes w h).1 in ((makes w h).0, runs a found.one found.next found.step found.rest, found.stands)
+leads-run old new a false makes w h = let found = makes w h in ((λ v m. run-over w v a found.0 m), found.1)
 
 pub leads-upto : (old new : World) (a : ApplianceNo) (stop : Stop) (possible : Bool) → MakesRun a (Some stop) old new possible → Leads old new (event.Upto a stop) possible
-leads-upto old new a stop true makes w reached h =
-    let found = (makes w reached h).1 in ((makes w reached h).0, runs_upto a stop found.one found.next found.step found.rest, found.stands)
-leads-upto old new a stop false makes w reached h = let found = makes w reached h in ((λ v m. upto-over w v a stop found.0 m), found.1)
+leads-upto old new a stop true makes w h =
+    let found = (makes w h).1 in ((makes w h).0, runs_upto a stop found.one found.next found.step found.rest, found.stands)
+leads-upto old new a stop false makes w h = let found = makes w h in ((λ v m. upto-over w v a stop found.0 m), found.1)
 
 pub partly-run : (old new : World) (a : ApplianceNo) → RunsSome a None old new → LeadsPartly old new (event.Run a)
-partly-run old new a some w reached h = let found = some w reached h in (found.0, of_run a found.1, found.2)
+partly-run old new a some w h = let found = some w h in (found.0, of_run a found.1, found.2)
 
 pub partly-upto : (old new : World) (a : ApplianceNo) (stop : Stop) → RunsSome a (Some stop) old new → LeadsPartly old new (event.Upto a stop)
-partly-upto old new a stop some w reached h = let found = some w reached h in (found.0, of_upto a stop found.1, found.2)
+partly-upto old new a stop some w h = let found = some w h in (found.0, of_upto a stop found.1, found.2)
 
 -- ---- what is reached
 
@@ -83,24 +80,20 @@ reached-makes {w} {v} {one} reached makes = played-reached w v (one ∷ []) reac
 pub reached-partly : {w v : rules.World} {one : Event} → Reached w → MakesPartly w one v → Reached v
 reached-partly {w} {v} {one} reached makes = played-reached w v (one ∷ []) reached (sequences.PlaysPartly.within makes)
 
-plays-partly : {w v : rules.World} (events : List Event) → Plays w events v → PlaysPartly w events v
-plays-partly [] sequences.Plays.over = sequences.PlaysPartly.over
-plays-partly (e ∷ events) (sequences.Plays.next first rest) = sequences.PlaysPartly.next first (plays-partly events rest)
+partly-of-plays : {w v : rules.World} (events : List Event) → Plays w events v → PlaysPartly w events v
+partly-of-plays [] sequences.Plays.over = sequences.PlaysPartly.over
+partly-of-plays (e ∷ events) (sequences.Plays.next first rest) = sequences.PlaysPartly.next first (partly-of-plays events rest)
 
-pub reached-plays : {w v : rules.World} (events : List Event) → Reached w → Plays w events v → Reached v
-reached-plays {w} {v} events reached plays = played-reached w v events reached (plays-partly events plays)
-
-reached-run : {w v : rules.World} (a : ApplianceNo) (stop : Option Stop) → Reached w → RunsPartly a stop w v → Reached v
-reached-run a None reached partly = reached-partly reached (of_run a partly)
-reached-run a (Some stop) reached partly = reached-partly reached (of_upto a stop partly)
+pub plays-to-reached : {w v : rules.World} (events : List Event) → Reached w → Plays w events v → Reached v
+plays-to-reached {w} {v} events reached plays = played-reached w v events reached (partly-of-plays events plays)
 
 -- ---- schedules
 
 -- one more event
-played : (old new : World) (one : Event) (possible : Bool) → Leads old new one possible → (w : rules.World) → Reached w → Stands old w →
+played : (old new : World) (one : Event) (possible : Bool) → Leads old new one possible → (w : rules.World) → Stands old w →
     (v : rules.World) × IsPlayed w one v × Stands new v
-played old new one true leads w reached h = let found = leads w reached h in (found.0, made found.1, found.2)
-played old new one false leads w reached h = let found = leads w reached h in (w, skipped found.0, found.1)
+played old new one true leads w h = let found = leads w h in (found.0, made found.1, found.2)
+played old new one false leads w h = let found = leads w h in (w, skipped found.0, found.1)
 
 plays-append : {w u v : rules.World} (events : List Event) (one : Event) → Plays w events u → IsPlayed u one v → Plays w (events ++ one ∷ []) v
 plays-append [] one sequences.Plays.over p = sequences.Plays.next p sequences.Plays.over
@@ -108,9 +101,9 @@ plays-append (e ∷ events) one (sequences.Plays.next first rest) p = sequences.
 
 pub plays-more : (first old new : World) (events : List Event) (one : Event) (possible : Bool) → PlaysAll first old events → Leads old new one possible →
     PlaysAll first new (events ++ one ∷ [])
-plays-more first old new events one possible plays leads w reached h =
-    let so_far = plays w reached h in
-    let last = played old new one possible leads so_far.0 (reached-plays events reached so_far.1) so_far.2 in
+plays-more first old new events one possible plays leads w h =
+    let so_far = plays w h in
+    let last = played old new one possible leads so_far.0 so_far.2 in
     (last.0, plays-append events one so_far.1 last.1, last.2)
 
 some-append : {w u v : rules.World} (events others : List Event) (one : Event) → Plays w events u → MakesPartly u one v → PlaysPartly w (events ++ one ∷ others) v
@@ -119,14 +112,14 @@ some-append (e ∷ events) others one (sequences.Plays.next first rest) p = sequ
 
 pub plays-some : (first old new : World) (events others : List Event) (one : Event) → PlaysAll first old events → LeadsPartly old new one →
     PlaysSome first new (events ++ one ∷ others)
-plays-some first old new events others one plays leads w reached h =
-    let so_far = plays w reached h in
-    let partly = leads so_far.0 (reached-plays events reached so_far.1) so_far.2 in
+plays-some first old new events others one plays leads w h =
+    let so_far = plays w h in
+    let partly = leads so_far.0 so_far.2 in
     (partly.0, some-append events others one so_far.1 partly.1, partly.2)
 
 -- none yet
 pub plays-none : (world : World) → PlaysAll world world []
-plays-none world w reached h = (w, sequences.Plays.over, h)
+plays-none world w h = (w, sequences.Plays.over, h)
 
 -- ---- a run, event by event
 
@@ -149,15 +142,15 @@ pub record IsUnderWay (a : ApplianceNo) (stop : Option Stop) (old : World) (coun
   pub fewer : IsFewer v a left
 
 abbrev pub HasRun : ApplianceNo → Option Stop → World → World → (count most : ℕ) → Type 0
-HasRun a stop first old count most = (w : rules.World) → Reached w → Stands first w → (v : rules.World) × IsUnderWay a stop old count most w v
+HasRun a stop first old count most = (w : rules.World) → Stands first w → (v : rules.World) × IsUnderWay a stop old count most w v
 
 -- it goes on
-pub has-more : (a : ApplianceNo) (stop : Option Stop) (first old new : World) (i most : ℕ) → HasRun a stop first old i most → GoesOn a stop old new true →
+pub has-more : (a : ApplianceNo) (stop : Option Stop) (first old new : World) (i most : ℕ) → HasRun a stop first old i most → RunGoesOn a stop old new true →
     HasRun a stop first new (i + 1) most
-has-more a stop first old new i most has going w reached h =
-    let so_far = has w reached h in
+has-more a stop first old new i most has going w h =
+    let so_far = has w h in
     let is = so_far.1 in
-    let one = going so_far.0 (reached-run a stop reached is.partly) is.stands in
+    let one = going so_far.0 is.stands in
     let below = is.fewer.below in
     let sum = is.sum in
     let left = is.left - 1 in
@@ -173,52 +166,58 @@ has-more a stop first old new i most has going w reached h =
       },
     )
 
+-- as many appliances are there after some events of a run
+partly-count : {a : ApplianceNo} {stop : Option Stop} {w v : rules.World} → RunsPartly a stop w v → v.appliances ≡ w.appliances
+partly-count none_yet = refl
+partly-count (more one next step rest) = partly-count rest ∙ step-count step
+
 -- it ends
-pub has-over : (a : ApplianceNo) (stop : Option Stop) (first old new : World) (i most : ℕ) → HasRun a stop first old i most → GoesOn a stop old new false →
+pub has-over : (a : ApplianceNo) (stop : Option Stop) (first old new : World) (i most : ℕ) → HasRun a stop first old i most → RunGoesOn a stop old new false →
     RunsWhole a stop first new
-has-over a stop first old new i most has going w reached h =
-    let so_far = has w reached h in
+has-over a stop first old new i most has going w h there =
+    let so_far = has w h in
     let is = so_far.1 in
-    let over = going so_far.0 (reached-run a stop reached is.partly) is.stands in
-    (so_far.0, run-joined is.partly (ends over.0), over.1)
+    let over = going so_far.0 is.stands in
+    let same = partly-count is.partly in
+    (so_far.0, run-joined is.partly (ends (over.0 (omega (arith, there, same)))), over.1)
 
 -- a run, its first event and the rest
-pub run-whole : (a : ApplianceNo) (stop : Option Stop) (first old new : World) → GoesOn a stop first old true → RunsWhole a stop old new → MakesRun a stop first new true
-run-whole a stop first old new going whole w reached h =
-    let one = going w reached h in
-    let rest = whole one.0 (rules.later reached one.1.step) one.1.stands in
-    (rest.0, record { one = one.1.one; after = one.0; next = one.1.next; step = one.1.step; rest = rest.1; stands = rest.2 })
+pub run-whole : (a : ApplianceNo) (stop : Option Stop) (first old new : World) → RunGoesOn a stop first old true → RunsWhole a stop old new → MakesRun a stop first new true
+run-whole a stop first old new going whole w h =
+    let one = going w h in
+    let is = one.1 in
+    let there = run-there w a stop is.one is.next is.step in
+    let same = step-count is.step in
+    let rest = whole one.0 is.stands (omega (arith, there, same)) in
+    (rest.0, record { one = is.one; after = one.0; next = is.next; step = is.step; rest = rest.1; stands = rest.2 })
 
-pub run-some : (a : ApplianceNo) (stop : Option Stop) (first old new : World) → GoesOn a stop first old true → RunsSome a stop old new → RunsSome a stop first new
-run-some a stop first old new going some w reached h =
-    let one = going w reached h in
-    let rest = some one.0 (rules.later reached one.1.step) one.1.stands in
+pub run-some : (a : ApplianceNo) (stop : Option Stop) (first old new : World) → RunGoesOn a stop first old true → RunsSome a stop old new → RunsSome a stop first new
+run-some a stop first old new going some w h =
+    let one = going w h in
+    let rest = some one.0 one.1.stands in
     (rest.0, more one.1.one one.1.next one.1.step rest.1, rest.2)
 
-pub run-none : (a : ApplianceNo) (stop : Option Stop) (first old : World) → Stays first old → RunsSome a stop first old
-run-none a stop first old stays w reached h = (w, none_yet, stays w h)
+pub run-none : (a : ApplianceNo) (stop : Option Stop) (first old : World) → StandsOn first old → RunsSome a stop first old
+run-none a stop first old stays w h = (w, none_yet, stays w h)
 
 -- ---- how much is left at first
 
--- in every world that events lead to
-most-reached : {w : rules.World} → Reached w → (a : ℕ) → AtMostAt (most_asks + 1) (stands w a).place
-most-reached {w} reached a = by_test (nat_lt a w.appliances) refl
-  where
-    by_test : (there : Bool) → nat_lt a w.appliances ≡ there → AtMostAt (most_asks + 1) (stands w a).place
-    by_test true test = most-run (setting_of w a) (reached-leased reached).geometry (boots-run w reached a (ltb-true a w.appliances test))
-    by_test false test =
-        let P : Seat → Type 0 = λ x. AtMostAt (most_asks + 1) (position (setting_at w.geometry a x.boots) x.log).place in
-        subst P (sym (absent-seat reached a (ltb-false a w.appliances test))) tt
-
-pub has-first : (a : ApplianceNo) (stop : Option Stop) (world : World) → HasRun a stop world world 0 50020
-has-first a stop world w reached h =
-    let events = events-most (w.seats a.0).pending w.surface.writes in (
+pub has-first : (a : ApplianceNo) (stop : Option Stop) (world : World) → IsGeometry world.geometry → HasRun a stop world world 0 60020
+has-first a stop world geometry w h =
+    let events = events-most (w.seats a.0).pending w.surface.writes in
+    let G : Geometry → Type 0 = λ g. IsGeometry g in
+    let limits = subst G h.geometry geometry in (
       w,
       record {
         partly = none_yet;
         stands = h;
-        left = 50020;
+        left = 60020;
         sum = refl;
-        fewer = record { asks = most_asks + 1; most = most-reached reached a.0; below = omega (arith, events) };
+        fewer = record {
+          geometry = limits;
+          asks = most_asks + 1;
+          most = most-log (setting_of w a.0) limits (w.seats a.0).log;
+          below = omega (arith, events);
+        };
       },
     )

@@ -12,13 +12,11 @@ use Rattle.plx_disk.specs.declared.ask.Answer.{Answer}
 use Rattle.plx_disk.specs.declared.ask.Answer.TheVariants as answer
 use Rattle.plx_disk.specs.declared.ask.Ask.{Ask}
 use Rattle.plx_disk.specs.declared.ask.Ask.TheVariants as ask
-use Rattle.plx_rules.specs.Boot.{asks, replies_at, writes_out}
-use Rattle.plx_rules.specs.Commands.{command_part}
-use Rattle.plx_rules.specs.Holds.{after_first}
+use Rattle.plx_rules.specs.Boot.{asks, replies_at, writes_out, first_part}
 use Rattle.plx_rules.specs.World as rules
 use Rattle.plx_rules.specs.World.{IsReading, Step, stands, setting_of, goes_on, reads, read_faults, write_faults, dones, misses, begins, clocks, waits}
 use Rattle.plx_world.specs.Answering.{GivesBlock, IsAnswered, asked_by, pending_of}
-use Rattle.plx_world.specs.Standing.{Stands, Stays, Steps}
+use Rattle.plx_world.specs.Standing.{Stands, StandsOn, Steps}
 use Rattle.plx_world.specs.declared.world.World.{World}
 use Rattle.plx_world.proofs.Inverted.{step-read, step-fault, step-done, step-miss, step-reading, AsksDevice, read, write, Answers, clock, wait}
 use Rattle.plx_world.proofs.Placed.{asked-read, asked-write, asked-clock, asked-until, AsksClock, first, later}
@@ -38,8 +36,62 @@ pub asks-there : (world : World) (a : ApplianceNo) (asked : Ask) (w : rules.Worl
 asks-there world a asked w is h = if-some a.0 w.appliances (asks (stands w a.0).place) asked (sym (is w h))
 
 -- an event that no world allows
-pub impossible : (old new : World) (one : Event) → Stays old new → ((w v : rules.World) → Stands old w → Step w one v → ⊥) → Steps old new one false
+pub impossible : (old new : World) (one : Event) → StandsOn old new → ((w v : rules.World) → Stands old w → Step w one v → ⊥) → Steps old new one false
 impossible old new one stays none w h = (λ v step. none w v h step, stays w h)
+
+-- ---- answers that no ask wants
+
+-- no read is asked for
+pub reads-none : (old : World) (a : ApplianceNo) (asked : Option Ask) → IsAsk old a asked → ((block : BlockNo) → asked ≢ Some (ask.Read block)) →
+    Steps old old (event.Read a) false
+reads-none old a asked is none = impossible old old (event.Read a) (λ w h. h) (λ w v h step. let found = step-read step in none found.0 (is w h ∙ found.1))
+
+-- no write is
+pub dones-none : (old : World) (a : ApplianceNo) (asked : Option Ask) → IsAsk old a asked →
+    ((kind : WriteKind) (block : BlockNo) (guard : ℕ) → asked ≢ Some (ask.Write kind block guard)) → Steps old old (event.Done a) false
+dones-none old a asked is none = impossible old old (event.Done a) (λ w h. h)
+    (λ w v h step. let found = step-done step in none found.1.kind found.1.block found.1.guard (is w h ∙ found.1.asked))
+
+misses-none : (old : World) (a : ApplianceNo) (reading : ℕ) (asked : Option Ask) → IsAsk old a asked →
+    ((kind : WriteKind) (block : BlockNo) (guard : ℕ) → asked ≢ Some (ask.Write kind block guard)) → Steps old old (event.Miss a reading) false
+misses-none old a reading asked is none = impossible old old (event.Miss a reading) (λ w h. h)
+    (λ w v h step. let found = step-miss step in none found.0.kind found.0.block found.0.guard (is w h ∙ found.0.asked))
+
+-- the write hasn't landed
+pub dones-unlanded : (old mid : World) (a : ApplianceNo) (number : ℕ) → IsPending old a (Some number) → StandsOn old mid →
+    ((s : Surface) → DiskStands old.disk s → HasLanded s number → ⊥) → Steps old mid (event.Done a) false
+dones-unlanded old mid a number pends stays unlanded = impossible old mid (event.Done a) stays
+    (λ w v h step. let found = step-done step in let e : Some number ≡ Some found.0 = pends w h ∙ found.1.pends in let same : found.0 ≡ number = cc in
+    unlanded w.surface h.surface (subst (λ (n : ℕ). HasLanded w.surface n) same found.2))
+
+pub misses-read : (old : World) (a : ApplianceNo) (reading : ℕ) (block : BlockNo) → IsAsk old a (Some (ask.Read block)) → Steps old old (event.Miss a reading) false
+misses-read old a reading block is = misses-none old a reading (Some (ask.Read block)) is (λ kind b guard e. cc)
+
+pub misses-clock : (old : World) (a : ApplianceNo) (reading : ℕ) → IsAsk old a (Some ask.Clock) → Steps old old (event.Miss a reading) false
+misses-clock old a reading is = misses-none old a reading (Some ask.Clock) is (λ kind b guard e. cc)
+
+pub misses-until : (old : World) (a : ApplianceNo) (reading from : ℕ) → IsAsk old a (Some (ask.Until from)) → Steps old old (event.Miss a reading) false
+misses-until old a reading from is = misses-none old a reading (Some (ask.Until from)) is (λ kind b guard e. cc)
+
+-- a write is, and its guard isn't past
+pub misses-early : (old : World) (a : ApplianceNo) (reading : ℕ) (kind : WriteKind) (block : BlockNo) (guard : ℕ) →
+    IsAsk old a (Some (ask.Write kind block guard)) → reading ≤ guard → Steps old old (event.Miss a reading) false
+misses-early old a reading kind block guard is early = impossible old old (event.Miss a reading) (λ w h. h)
+    (λ w v h step. let found = step-miss step in let e : Some (ask.Write kind block guard) ≡ Some (ask.Write found.0.kind found.0.block found.0.guard) = is w h ∙ found.0.asked in
+    let same : guard ≡ found.0.guard = cc in let past = found.1 in absurd (omega (arith, early, past, same)))
+
+-- no reading is
+clocks-none : (old : World) (a : ApplianceNo) (reading : ℕ) (asked : Option Ask) → IsAsk old a asked → asked ≢ Some ask.Clock →
+    ((from : ℕ) → asked ≢ Some (ask.Until from)) → Steps old old (event.Reading a reading) false
+clocks-none old a reading asked is clockless waitless = impossible old old (event.Reading a reading) (λ w h. h) (λ w v h step. by-answer w h (step-reading step).0)
+  where
+    by-answer : (w : rules.World) → Stands old w → Answers w a reading → ⊥
+    by-answer w h (clock asks) = clockless (is w h ∙ asks)
+    by-answer w h (wait from asks late) = waitless from (is w h ∙ asks)
+
+pub clocks-write : (old : World) (a : ApplianceNo) (reading : ℕ) (kind : WriteKind) (block : BlockNo) (guard : ℕ) →
+    IsAsk old a (Some (ask.Write kind block guard)) → Steps old old (event.Reading a reading) false
+clocks-write old a reading kind block guard is = clocks-none old a reading (Some (ask.Write kind block guard)) is (λ e. cc) (λ from e. cc)
 
 -- ---- reads
 
@@ -95,7 +147,7 @@ faults-write old new a kind block guard is answered w h =
 
 pub dones-write : (old mid new : World) (a : ApplianceNo) (kind : WriteKind) (block : BlockNo) (guard number : ℕ) → IsAsk old a (Some (ask.Write kind block guard)) →
     IsPending old a (Some number) → ((s : Surface) → DiskStands old.disk s → HasLanded s number) →
-    Stays old mid → IsAnswered mid new a answer.Done → Steps old new (event.Done a) true
+    StandsOn old mid → IsAnswered mid new a answer.Done → Steps old new (event.Done a) true
 dones-write old mid new a kind block guard number is pends landed stays answered w h =
     let there = asks-there old a (ask.Write kind block guard) w is h in
     let found = asked-write (stands w a.0).place kind block guard there.1 in
@@ -134,7 +186,7 @@ clocks-place : (old new : World) (a : ApplianceNo) (reading : ℕ) (w : rules.Wo
     (v : rules.World) × Step w (event.Reading a reading) v × Stands new v
 clocks-place old new a reading w below asked near soon h answered (first known command at) =
     let one = event.Reading a reading in
-    let rest = command_part (setting_of w a.0) known (after_first w.geometry known reading (stands w a.0).holds) reading command in (
+    let rest = first_part (setting_of w a.0) known reading command (stands w a.0) in (
       goes_on w one a ask.Clock [] (answer.Reading reading) rest,
       begins known command below at near,
       answered w one ask.Clock [] rest h asked (ap writes_out at) soon (ap (replies_at (setting_of w a.0) (answer.Reading reading) (stands w a.0)) at),

@@ -1,7 +1,7 @@
 -- An appliance's ask, and its answer.
 use Rattle.std.specs.Prelude.{◌≡◌, ℕ, List, [], ◌∷◌, length, slice_get, nat_lt, if◌then◌else◌, Option, Some, None}
 use Rattle.plx_appliance.specs.Appliance.{IsRunning}
-use Rattle.plx_appliance.specs.Asking.{IsOnDevice}
+use Rattle.plx_alloc.specs.Asking.{IsOnDevice}
 use Rattle.plx_base.specs.declared.numbers.ApplianceNo.{ApplianceNo}
 use Rattle.plx_base.specs.declared.numbers.BlockNo.{BlockNo}
 use Rattle.plx_base.specs.declared.write_kind.WriteKind.{WriteKind}

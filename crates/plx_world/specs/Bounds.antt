@@ -17,4 +17,4 @@ AtMost (suc most) (UntilThen from rest) = (reading : ℕ) → AtMost most (rest 
 
 -- more answers than any command takes after its first reading
 abbrev pub most_asks : ℕ
-most_asks = 5000
+most_asks = 6000

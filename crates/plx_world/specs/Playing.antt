@@ -1,53 +1,45 @@
 -- What the events of a schedule make of the program's world, and the laws that they keep.
-use Rattle.std.specs.Prelude.{◌≡◌, ◌<◌, ℕ, List, Bool, MatchBool}
+use Rattle.std.specs.Prelude.{List, Bool, MatchBool}
 use Rattle.plx_commands.specs.declared.event.Event.{Event}
-use Rattle.plx_disk.specs.Writes.{Issued, MayLand, after_landing}
-use Rattle.plx_geom.specs.Geometry.{lease_count}
 use Rattle.plx_rules.specs.Headline.{AreUndamaged, Headline, HeadlineOfAll, NeverDamaged}
-use Rattle.plx_rules.specs.Owners.{Exclusion, Guarding, Owns}
-use Rattle.plx_rules.specs.Rests.{IsUnder}
+use Rattle.plx_rules.specs.Owners.{Exclusion, Guarding, HasOneOwner, IsGuarded}
+use Rattle.plx_rules.specs.Pools.{AreAllocated, AreApart, GivesClear, HandsAllocated, HandsApart, IsClearedByGives, IsSetByTakes, TakesSet}
 use Rattle.plx_rules.specs.Sequences.{Makes, MakesPartly, Plays, PlaysPartly}
 use Rattle.plx_rules.specs.World as rules
-use Rattle.plx_rules.specs.World.{Reached, setting_of}
+use Rattle.plx_rules.specs.World.{Reached}
 use Rattle.plx_world.specs.Standing.{Stands}
 use Rattle.plx_world.specs.declared.world.World.{World}
 
--- each world that events lead to, for which the old one stands, leads by an event to one that the new one stands for, where the event is possible; else it isn't possible in any
+-- each world that the old one stands for leads by an event to one that the new one stands for, where the event is possible; else it isn't possible in any
 abbrev pub Leads : World → World → Event → Bool → Type 0
 Leads old new event possible =
-    (w : rules.World) → Reached w → Stands old w →
+    (w : rules.World) → Stands old w →
     MatchBool possible ((v : rules.World) × Makes w event v × Stands new v) (((v : rules.World) → ¬ Makes w event v) × Stands new w)
 
 -- some plain events of an event were made
 abbrev pub LeadsPartly : World → World → Event → Type 0
-LeadsPartly old new event = (w : rules.World) → Reached w → Stands old w → (v : rules.World) × MakesPartly w event v × Stands new v
+LeadsPartly old new event = (w : rules.World) → Stands old w → (v : rules.World) × MakesPartly w event v × Stands new v
 
 -- all events of a schedule were played
 abbrev pub PlaysAll : World → World → List Event → Type 0
-PlaysAll old new events = (w : rules.World) → Reached w → Stands old w → (v : rules.World) × Plays w events v × Stands new v
+PlaysAll old new events = (w : rules.World) → Stands old w → (v : rules.World) × Plays w events v × Stands new v
 
 -- some plain events of a schedule were made, from the first one on
 abbrev pub PlaysSome : World → World → List Event → Type 0
-PlaysSome old new events = (w : rules.World) → Reached w → Stands old w → (v : rules.World) × PlaysPartly w events v × Stands new v
+PlaysSome old new events = (w : rules.World) → Stands old w → (v : rules.World) × PlaysPartly w events v × Stands new v
 
--- at most one boot owns each lease
-abbrev pub HasOneOwner : rules.World → Type 0
-HasOneOwner w = (a b lease : ℕ) → a < w.appliances → b < w.appliances → Owns w a lease → Owns w b lease → a ≡ b
-
--- no landing of a write that rests on a lease changes a byte while another boot owns that lease
-abbrev pub IsGuarded : rules.World → Type 0
-IsGuarded w = (number sector : ℕ) (write : Issued) (lease b : ℕ) → lease < lease_count w.geometry →
-    IsUnder w.rests number lease → MayLand w.surface number sector write →
-    b < w.appliances → Owns w b lease → ¬ ((setting_of w b).boot ≡ write.owner) →
-    (block : ℕ) → (after_landing w.surface number write sector).device block ≡ w.surface.device block
-
--- the laws hold of a world that events lead to: its replies and images are the model's, no reply is Damaged, and leases exclude and guard
+-- the laws hold of a world that events lead to: its replies and images are the model's, no reply is Damaged, leases exclude and guard, and blocks in hand
+-- are allocated, in one hand each, and taken and given back under their extents' leases
 pub record IsLawful (w : rules.World) : Type 0 where
   pub reached : Reached w
   pub headline : Headline w
   pub undamaged : AreUndamaged w.trace
   pub exclusion : HasOneOwner w
   pub guarding : IsGuarded w
+  pub allocated : AreAllocated w
+  pub apart : AreApart w
+  pub takes : IsSetByTakes w
+  pub gives : IsClearedByGives w
 
 -- what the laws say of all worlds that events lead to
 pub record LawsHold : Type 0 where
@@ -55,6 +47,10 @@ pub record LawsHold : Type 0 where
   pub undamaged : NeverDamaged
   pub exclusion : Exclusion
   pub guarding : Guarding
+  pub allocated : HandsAllocated
+  pub apart : HandsApart
+  pub takes : TakesSet
+  pub gives : GivesClear
 
 -- from each world that events lead to, for which the old one stands, to one for which the new one stands, and of which the laws hold
 abbrev pub KeepsLaws : World → World → Type 0

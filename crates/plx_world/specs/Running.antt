@@ -4,13 +4,14 @@ use Rattle.plx_base.specs.declared.numbers.ApplianceNo.{ApplianceNo}
 use Rattle.plx_commands.specs.declared.event.Event.{Event}
 use Rattle.plx_commands.specs.declared.event.Stop.{Stop}
 use Rattle.plx_disk.specs.Writes.{Issued}
+use Rattle.plx_geom.specs.Geometry.{IsGeometry}
 use Rattle.plx_disk.specs.declared.ask.Ask.TheVariants as ask
 use Rattle.plx_base.specs.declared.write_kind.WriteKind.{WriteKind}
 use Rattle.plx_base.specs.declared.numbers.BlockNo.{BlockNo}
 use Rattle.plx_rules.specs.Boot.{Place, Idle, Begins, In}
 use Rattle.plx_rules.specs.Sequences.{Runs, RunsPartly, missing, next_event, stops}
 use Rattle.plx_rules.specs.World as rules
-use Rattle.plx_rules.specs.World.{Reached, Step, stands}
+use Rattle.plx_rules.specs.World.{Step, stands}
 use Rattle.plx_world.specs.Answering.{asked_by}
 use Rattle.plx_world.specs.Bounds.{AtMost, most_asks}
 use Rattle.plx_world.specs.Standing.{Stands}
@@ -39,6 +40,7 @@ events_left (Some number) writes = write_left (slice_get writes number)
 
 -- a run of an appliance makes fewer plain events than this
 pub record IsFewer (w : rules.World) (appliance : ApplianceNo) (count : ℕ) : Type 0 where
+  pub geometry : IsGeometry w.geometry
   pub asks : ℕ
   pub most : AtMostAt asks (stands w appliance.0).place
   pub below : 10 * asks + events_left (w.seats appliance.0).pending w.surface.writes < count
@@ -51,19 +53,22 @@ pub record OneMore (appliance : ApplianceNo) (stop : Option Stop) (new : World) 
   pub stands : Stands new v
   pub less : (count : ℕ) → IsFewer w appliance (count + 1) → IsFewer v appliance count
 
--- the next plain event of a run was made, or there is none
-abbrev pub GoesOn : ApplianceNo → Option Stop → World → World → Bool → Type 0
-GoesOn appliance stop old new made =
-    (w : rules.World) → Reached w → Stands old w →
-    MatchBool made ((v : rules.World) × OneMore appliance stop new w v) ((next_event w appliance stop ≡ None) × Stands new w)
+-- a run is over: there is no next event, or no such appliance
+abbrev pub IsOver : ApplianceNo → Option Stop → rules.World → Type 0
+IsOver appliance stop w = appliance.0 < w.appliances → next_event w appliance stop ≡ None
 
--- a run went to its end
+-- the next plain event of a run was made, or the run is over
+abbrev pub RunGoesOn : ApplianceNo → Option Stop → World → World → Bool → Type 0
+RunGoesOn appliance stop old new made =
+    (w : rules.World) → Stands old w → MatchBool made ((v : rules.World) × OneMore appliance stop new w v) (IsOver appliance stop w × Stands new w)
+
+-- a run of an appliance that is there went to its end
 abbrev pub RunsWhole : ApplianceNo → Option Stop → World → World → Type 0
-RunsWhole appliance stop old new = (w : rules.World) → Reached w → Stands old w → (v : rules.World) × Runs appliance stop w v × Stands new v
+RunsWhole appliance stop old new = (w : rules.World) → Stands old w → appliance.0 < w.appliances → (v : rules.World) × Runs appliance stop w v × Stands new v
 
 -- some plain events of a run were made
 abbrev pub RunsSome : ApplianceNo → Option Stop → World → World → Type 0
-RunsSome appliance stop old new = (w : rules.World) → Reached w → Stands old w → (v : rules.World) × RunsPartly appliance stop w v × Stands new v
+RunsSome appliance stop old new = (w : rules.World) → Stands old w → (v : rules.World) × RunsPartly appliance stop w v × Stands new v
 
 -- a run of one plain event or more went to its end
 pub record IsRun (appliance : ApplianceNo) (stop : Option Stop) (new : World) (w v : rules.World) : Type 0 where
@@ -77,8 +82,7 @@ pub record IsRun (appliance : ApplianceNo) (stop : Option Stop) (new : World) (w
 -- a run from each world that the old one stands for to one that the new one stands for, or none where it makes no event
 abbrev pub MakesRun : ApplianceNo → Option Stop → World → World → Bool → Type 0
 MakesRun appliance stop old new made =
-    (w : rules.World) → Reached w → Stands old w →
-    MatchBool made ((v : rules.World) × IsRun appliance stop new w v) ((next_event w appliance stop ≡ None) × Stands new w)
+    (w : rules.World) → Stands old w → MatchBool made ((v : rules.World) × IsRun appliance stop new w v) (IsOver appliance stop w × Stands new w)
 
 -- the appliance asks for a write with this guard
 abbrev pub IsWriting : World → (number guard : ℕ) → Type 0

@@ -1,6 +1,6 @@
 -- What the program's world stands for, and what a plain event makes of that.
 use Rattle.std.specs.Prelude.{◌≡◌, ℕ, List, length, reverse, slice_get, Bool, MatchBool, Some}
-use Rattle.plx_appliance.specs.Appliance.{StandsFor, setting_of}
+use Rattle.plx_appliance.specs.Appliance.{StandsFor, appliance_setting}
 use Rattle.plx_commands.specs.declared.entry.Entry.{Entry}
 use Rattle.plx_commands.specs.declared.event.Event.{Event}
 use Rattle.plx_disk.specs.Standing.{Stands as DiskStands}
@@ -16,7 +16,7 @@ entries_of world = world.trace.items
 
 -- a seat stands for the appliance of this number: for its boot, the log of that, what it waits for, and the writes that it issued over all its boots
 pub record IsSeat (w : rules.World) (number : ℕ) (seat : Seat) : Type 0 where
-  pub setting : setting_of seat.appliance ≡ rules.setting_of w number
+  pub setting : appliance_setting seat.appliance ≡ rules.setting_of w number
   pub boots : seat.boots ≡ (w.seats number).boots
   pub log : StandsFor seat.appliance (w.seats number).log
   pub pending : seat.pending ≡ (w.seats number).pending
@@ -31,8 +31,8 @@ pub record Stands (world : World) (w : rules.World) : Type 0 where
   pub trace : world.trace.items ≡ reverse w.trace
 
 -- the new one stands for what the old one stood for
-abbrev pub Stays : World → World → Type 0
-Stays old new = (w : rules.World) → Stands old w → Stands new w
+abbrev pub StandsOn : World → World → Type 0
+StandsOn old new = (w : rules.World) → Stands old w → Stands new w
 
 -- each world that the old one stands for leads by a plain event to one that the new one stands for, where the event is possible; else it isn't possible in any
 abbrev pub Steps : World → World → Event → Bool → Type 0

@@ -18,13 +18,13 @@ impl World {
     ghost use Rattle.std.specs.Prelude.{IfOk, OnErr};
     ghost use Rattle.plx_commands.specs.declared.event.Event.TheVariants as event;
     ghost use Rattle.plx_world.specs.Answering.{IsAnswered, Runs};
-    ghost use Rattle.plx_world.specs.Standing.{Stays, Steps};
+    ghost use Rattle.plx_world.specs.Standing.{StandsOn, Steps};
 
     // The ask that stands is answered, and the reply told to which that leads.
     fn answer(&mut self, appliance: ApplianceNo, answer: &Answer) -> Result<(), NoMemory>
         requires { Runs self.old appliance.0 }
         ensures ok { OnOk result (IsAnswered self.old self.new appliance answer.now) }
-        ensures err { OnErr result (Stays self.old self.new) }
+        ensures err { OnErr result (StandsOn self.old self.new) }
     {
         self.trace.reserve(1)?;
         let index = appliance.0 as usize;
@@ -40,7 +40,7 @@ impl World {
         buffer: &mut Answer,
     ) -> Result<bool, NoMemory>
         ensures ok { IfOk result (Steps self.old self.new (event.Read appliance)) }
-        ensures err { OnErr result (Stays self.old self.new) }
+        ensures err { OnErr result (StandsOn self.old self.new) }
     {
         match self.asked(appliance) {
             Some(Ask::Read { block }) => {
@@ -58,7 +58,7 @@ impl World {
     // The read or the write that is asked for is answered: it failed.
     pub(crate) fn fault(&mut self, appliance: ApplianceNo) -> Result<bool, NoMemory>
         ensures ok { IfOk result (Steps self.old self.new (event.Fault appliance)) }
-        ensures err { OnErr result (Stays self.old self.new) }
+        ensures err { OnErr result (StandsOn self.old self.new) }
     {
         match self.asked(appliance) {
             Some(Ask::Read { .. }) => {
@@ -78,7 +78,7 @@ impl World {
     // The write that is asked for is answered, if all of it has landed.
     pub(crate) fn done(&mut self, appliance: ApplianceNo) -> Result<bool, NoMemory>
         ensures ok { IfOk result (Steps self.old self.new (event.Done appliance)) }
-        ensures err { OnErr result (Stays self.old self.new) }
+        ensures err { OnErr result (StandsOn self.old self.new) }
     {
         let Some(number) = self.pending(appliance) else {
             return Ok(false);
@@ -101,7 +101,7 @@ impl World {
     // The write that is asked for is answered without being issued: at this reading its guard is past.
     pub(crate) fn miss(&mut self, appliance: ApplianceNo, reading: u64) -> Result<bool, NoMemory>
         ensures ok { IfOk result (Steps self.old self.new (event.Miss appliance reading)) }
-        ensures err { OnErr result (Stays self.old self.new) }
+        ensures err { OnErr result (StandsOn self.old self.new) }
     {
         if !is_near(reading, self.disk.time()) {
             return Ok(false);
@@ -127,7 +127,7 @@ impl World {
     // The clock answers.
     pub(crate) fn reading(&mut self, appliance: ApplianceNo, reading: u64) -> Result<bool, NoMemory>
         ensures ok { IfOk result (Steps self.old self.new (event.Reading appliance reading)) }
-        ensures err { OnErr result (Stays self.old self.new) }
+        ensures err { OnErr result (StandsOn self.old self.new) }
     {
         if !is_near(reading, self.disk.time()) {
             return Ok(false);

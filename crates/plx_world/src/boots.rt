@@ -12,7 +12,7 @@ use plx_commands::{Command, Entry};
 impl World {
     ghost use Rattle.std.specs.Prelude.{IfOk, OnErr};
     ghost use Rattle.plx_commands.specs.declared.event.Event.TheVariants as event;
-    ghost use Rattle.plx_world.specs.Standing.{Stays, Steps};
+    ghost use Rattle.plx_world.specs.Standing.{StandsOn, Steps};
 
     // An appliance is given a command.
     pub(crate) fn start(
@@ -21,7 +21,7 @@ impl World {
         command: &Command,
     ) -> Result<bool, NoMemory>
         ensures ok { IfOk result (Steps self.old self.new (event.Start appliance command.now)) }
-        ensures err { OnErr result (Stays self.old self.new) }
+        ensures err { OnErr result (StandsOn self.old self.new) }
     {
         let index = appliance.0 as usize;
         if index >= self.seats.len() {
@@ -50,7 +50,7 @@ impl World {
     // An appliance loses all that it has in memory. Its issued writes stay.
     pub(crate) fn crash(&mut self, appliance: ApplianceNo) -> Result<bool, NoMemory>
         ensures ok { IfOk result (Steps self.old self.new (event.Crash appliance)) }
-        ensures err { OnErr result (Stays self.old self.new) }
+        ensures err { OnErr result (StandsOn self.old self.new) }
     {
         let index = appliance.0 as usize;
         if index >= self.seats.len() {
@@ -67,11 +67,11 @@ impl World {
     }
 }
 
-// Whether a command is built. What it carries is always within its limits.
+// Whether a command is built, and what it carries within its limits.
 fn is_built(command: &Command) -> bool
     ensures built { IsTrue result → IsBuilt command.now }
     ensures formed { IsTrue result → IsWellFormed command.now }
-    ensures other { result ≡ false → ¬ (IsBuilt command.now) }
+    ensures other { result ≡ false → ¬ (IsBuilt command.now × IsWellFormed command.now) }
 {
     match command {
         Command::Attach { .. } => true,
@@ -88,8 +88,8 @@ fn is_built(command: &Command) -> bool
         }
         Command::Renew => true,
         Command::Flush { .. } => false,
-        Command::Reserve { .. } => false,
-        Command::Retire => false,
+        Command::Reserve { count } => 1 <= *count && *count <= 256,
+        Command::Retire => true,
         Command::Reclaim => false,
     }
 }

@@ -12,7 +12,7 @@ impl World {
     ghost use Rattle.plx_commands.specs.declared.event.Event.TheVariants as event;
     ghost use Rattle.plx_world.specs.Answering.{AsksWrite};
     ghost use Rattle.plx_world.specs.Backs.{HasNone, IsNumber};
-    ghost use Rattle.plx_world.specs.Standing.{Stays, Steps};
+    ghost use Rattle.plx_world.specs.Standing.{StandsOn, Steps};
 
     // Time passes, in milliseconds.
     pub(crate) fn tick(&mut self, by: u32) -> bool
@@ -24,7 +24,7 @@ impl World {
     // The write that is asked for is issued, under the number of its boot.
     pub(crate) fn issue(&mut self, appliance: ApplianceNo) -> Result<bool, NoMemory>
         ensures ok { IfOk result (Steps self.old self.new (event.Issue appliance)) }
-        ensures err { OnErr result (Stays self.old self.new) }
+        ensures err { OnErr result (StandsOn self.old self.new) }
     {
         let index = appliance.0 as usize;
         if index >= self.seats.len() {
@@ -56,7 +56,7 @@ impl World {
     ) -> Result<(), NoMemory>
         requires { AsksWrite self.old appliance.0 kind block guard }
         ensures ok { OnOk result (Steps self.old self.new (event.Issue appliance) true) }
-        ensures err { OnErr result (Stays self.old self.new) }
+        ensures err { OnErr result (StandsOn self.old self.new) }
     {
         let index = appliance.0 as usize;
         self.seats[index].make_room()?;

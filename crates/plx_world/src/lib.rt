@@ -9,4 +9,5 @@ mod run;
 mod seat;
 mod world;
 
+pub use play::laws;
 pub use world::World;

@@ -4,6 +4,7 @@ ghost use Rattle.plx_world.specs.Playing.{LawsHold};
 use crate::world::World;
 use law_headline::{headline, never_damaged};
 use law_lease::{exclusion, guarding};
+use law_space::{gives_clear, hands_are_allocated, hands_are_apart, takes_set};
 use plx_base::NoMemory;
 use plx_commands::Event;
 use plx_disk::Answer;
@@ -65,12 +66,17 @@ impl World {
     }
 }
 
-// What holds of all worlds that events lead to.
-fn laws()
+/// What holds of all worlds that events lead to: the headline, no reply of bytes outside the format, one owner a
+/// lease, no late write that disturbs an owner, and blocks in hand that are allocated and in one hand each.
+pub fn laws()
     ensures { LawsHold }
 {
     headline();
     never_damaged();
     exclusion();
     guarding();
+    hands_are_allocated();
+    hands_are_apart();
+    takes_set();
+    gives_clear();
 }

@@ -8,15 +8,15 @@ use plx_commands::{Region, Stop};
 use plx_disk::{Answer, Ask};
 use plx_geom::{Geometry, Place};
 
-/// More plain events than a run can have: 10 for each ask, of which a command has at most 5,001 with its first reading.
-const MOST: u32 = 50_020;
+/// More plain events than a run can have: 10 for each ask, of which a command has at most 6,001 with its first reading.
+const MOST: u32 = 60_020;
 
 impl World {
     ghost use Rattle.std.specs.Prelude.{◌≡◌, Some, None, IfOk, OnOk, OnErr};
     ghost use Rattle.plx_commands.specs.declared.event.Stop.TheVariants as stop_is;
     ghost use Rattle.plx_rules.specs.World as rules;
-    ghost use Rattle.plx_world.specs.Running.{AsksClock, GoesOn, IsWriting, MakesRun, RunsSome, RunsWhole, StopsAs};
-    ghost use Rattle.plx_world.specs.Standing.{Stands, Stays};
+    ghost use Rattle.plx_world.specs.Running.{AsksClock, RunGoesOn, IsWriting, MakesRun, RunsSome, RunsWhole, StopsAs};
+    ghost use Rattle.plx_world.specs.Standing.{Stands, StandsOn};
 
     // A run, until the appliance's reply or until it stops. False, and nothing changes, where it makes no event.
     pub(crate) fn run(
@@ -45,6 +45,8 @@ impl World {
         ensures ok { OnOk result (RunsWhole appliance stop self.old self.new) }
         ensures err { OnErr result (RunsSome appliance stop self.old self.new) }
     {
+        // The limits of the layout bound a run.
+        let _blocks = self.geometry.blocks();
         for _ in 0..MOST {
             if !self.advance(appliance, stop, buffer)? {
                 return Ok(());
@@ -60,8 +62,8 @@ impl World {
         stop: Option<Stop>,
         buffer: &mut Answer,
     ) -> Result<bool, NoMemory>
-        ensures ok { IfOk result (GoesOn appliance stop self.old self.new) }
-        ensures err { OnErr result (Stays self.old self.new) }
+        ensures ok { IfOk result (RunGoesOn appliance stop self.old self.new) }
+        ensures err { OnErr result (StandsOn self.old self.new) }
     {
         if self.stops(appliance, stop) {
             return Ok(false);
@@ -71,8 +73,8 @@ impl World {
 
     // The next plain event of a run that doesn't stop.
     fn go_on(&mut self, appliance: ApplianceNo, buffer: &mut Answer) -> Result<bool, NoMemory>
-        ensures ok { IfOk result (GoesOn appliance None self.old self.new) }
-        ensures err { OnErr result (Stays self.old self.new) }
+        ensures ok { IfOk result (RunGoesOn appliance None self.old self.new) }
+        ensures err { OnErr result (StandsOn self.old self.new) }
     {
         match self.asked(appliance) {
             Some(Ask::Read { .. }) => self.read(appliance, buffer),
@@ -86,8 +88,8 @@ impl World {
     // The clock answers with the time, unless a later one is waited for.
     fn read_clock(&mut self, appliance: ApplianceNo) -> Result<bool, NoMemory>
         requires { AsksClock self.old appliance.0 }
-        ensures ok { IfOk result (GoesOn appliance None self.old self.new) }
-        ensures err { OnErr result (Stays self.old self.new) }
+        ensures ok { IfOk result (RunGoesOn appliance None self.old self.new) }
+        ensures err { OnErr result (StandsOn self.old self.new) }
     {
         let time = self.disk.time();
         self.reading(appliance, time)
@@ -96,8 +98,8 @@ impl World {
     // The next plain event of a write: it is issued or missed, its least missing sector lands or fails, or it is answered.
     fn write_on(&mut self, appliance: ApplianceNo, guard: u64) -> Result<bool, NoMemory>
         requires { IsWriting self.old appliance.0 guard }
-        ensures ok { IfOk result (GoesOn appliance None self.old self.new) }
-        ensures err { OnErr result (Stays self.old self.new) }
+        ensures ok { IfOk result (RunGoesOn appliance None self.old self.new) }
+        ensures err { OnErr result (StandsOn self.old self.new) }
     {
         let Some(number) = self.pending(appliance) else {
             return self.issue_or_miss(appliance, guard);
@@ -116,8 +118,8 @@ impl World {
         requires writing { IsWriting self.old appliance.0 guard }
         requires unissued { (w : rules.World) → Stands self.old w
             → (w.seats appliance.0).pending ≡ None }
-        ensures ok { IfOk result (GoesOn appliance None self.old self.new) }
-        ensures err { OnErr result (Stays self.old self.new) }
+        ensures ok { IfOk result (RunGoesOn appliance None self.old self.new) }
+        ensures err { OnErr result (StandsOn self.old self.new) }
     {
         let time = self.disk.time();
         if time <= guard {

@@ -1,5 +1,6 @@
 //! One appliance of a world.
 ghost use Rattle.std.specs.Prelude.{◌≡◌, IfOk};
+ghost use Rattle.plx_world.specs.Numbers.{WaitsForNewest};
 ghost use Rattle.plx_rules.specs.Settings.{boot_number};
 ghost use Rattle.plx_world.specs.Logs.{HasLog};
 ghost use Rattle.plx_world.specs.Fresh.{IsFresh};
@@ -26,13 +27,14 @@ pub struct Seat {
     /// The numbers of the writes that it issued over all its boots, the oldest first.
     pub issued: Vec<u64>,
     ghost logged: { HasLog appliance },
+    ghost newest: { WaitsForNewest pending issued.items },
 }
 
 impl Seat {
     ghost use Rattle.std.specs.Prelude.{◌≡◌, ◌<◌, ◌+◌, ◌^◌, ◌++◌, ◌∷◌, [], List, ℕ, None, Some, IfOk, IfSome, MatchOption, OnErr, OnOk, true, false};
     ghost use Rattle.std.specs.Vec.{vec_capacity, vec_len};
-    ghost use Rattle.plx_appliance.specs.Appliance.{IsIdle, IsRunning, IsStanding, StandsFor, setting_of};
-    ghost use Rattle.plx_appliance.specs.Asking.{IsOnDevice};
+    ghost use Rattle.plx_appliance.specs.Appliance.{IsIdle, IsRunning, IsStanding, StandsFor, appliance_setting};
+    ghost use Rattle.plx_alloc.specs.Asking.{IsOnDevice};
     ghost use Rattle.plx_disk.specs.declared.ask.Ask.{Ask};
     ghost use Rattle.plx_rules.specs.Boot.{Asked, Began, Fits, Happening, asks, position, replies};
     ghost use Rattle.plx_rules.specs.Commands.{IsBuilt, IsWellFormed};
@@ -76,11 +78,13 @@ impl Seat {
         requires { IsRunning self.old.appliance }
         ensures log { (log : List Happening) (ask : Ask) (bytes : List ℕ)
             → StandsFor self.old.appliance log → IsStanding self.old.appliance log ask bytes
-            → Fits ask answer.now → StandsFor self.new.appliance (Asked ask bytes answer.now ∷ log) }
+            → Fits ask answer.now → StandsFor self.new.appliance
+            (Asked ask bytes answer.now ∷ log) }
         ensures reply { (log : List Happening) (ask : Ask) (bytes : List ℕ)
             → StandsFor self.old.appliance log → IsStanding self.old.appliance log ask bytes
-            → Fits ask answer.now → result ≡ replies (setting_of self.old.appliance) answer.now
-            (position (setting_of self.old.appliance) log) }
+            → Fits ask answer.now → result
+            ≡ replies (appliance_setting self.old.appliance) answer.now
+            (position (appliance_setting self.old.appliance) log) }
         ensures pending { self.new.pending ≡ None }
         ensures kept { KeepsSeat self.old self.new }
     {

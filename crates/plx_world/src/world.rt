@@ -2,14 +2,17 @@
 ghost use Rattle.std.specs.Prelude.{◌≡◌, ◌≤◌, length};
 ghost use Rattle.plx_disk.specs.Standing.{device_size};
 ghost use Rattle.plx_geom.specs.Geometry.{block_count};
+ghost use Rattle.plx_world.specs.Cancels.{NeverCancels};
 ghost use Rattle.plx_world.specs.Ties.{AreTied};
 
 use crate::seat::Seat;
+use law_headline::maps_stay;
 use plx_base::{ApplianceNo, NoMemory};
 use plx_commands::Entry;
 use plx_disk::{Ask, Disk};
 use plx_format::formatted_disk;
 use plx_geom::Geometry;
+use plx_pool::allocated;
 use std::alloc::Global;
 
 /// Appliances over one device.
@@ -24,6 +27,7 @@ pub struct World {
     ghost many: { length seats.items ≤ 8 },
     ghost sized: { device_size disk ≡ block_count geometry },
     ghost tied: { AreTied geometry seats.items },
+    ghost uncancelled: { NeverCancels disk },
 }
 
 /// The time of a new world, in milliseconds.
@@ -31,13 +35,15 @@ const FIRST_TIME: u64 = 1_000;
 
 impl World {
     ghost use Rattle.std.specs.Prelude.{◌≡◌, IfOk, IfSome};
-    ghost use Rattle.plx_appliance.specs.Asking.{IsOnDevice};
+    ghost use Rattle.plx_alloc.specs.Asking.{IsOnDevice};
     ghost use Rattle.plx_base.specs.Sectors.{Device};
     ghost use Rattle.plx_disk.specs.Standing.{Stands as DiskStands};
     ghost use Rattle.plx_rules.specs.Formatted.{IsFormatted};
     ghost use Rattle.plx_rules.specs.World as rules;
-    ghost use Rattle.plx_rules.specs.World.{first_world};
+    ghost use Rattle.plx_rules.specs.Pools.{allocated_in};
+    ghost use Rattle.plx_rules.specs.World.{Reached, first_world};
     ghost use Rattle.plx_world.specs.Answering.{Runs, asked_by, pending_of};
+    ghost use Rattle.plx_world.specs.Cancels.{NeverCancels};
     ghost use Rattle.plx_world.specs.Standing.{Stands, entries_of};
 
     /// A formatted device at time 1,000 milliseconds, and so many appliances, 1 to 8, each asked nothing yet.
@@ -60,6 +66,7 @@ impl World {
     ) -> Result<World, NoMemory>
         requires sized { device_size disk ≡ block_count geometry }
         requires many { appliances ≤ 8 }
+        requires uncancelled { NeverCancels disk }
         ensures { IfOk result (λ world. (device : Device)
             → DiskStands disk (first_world geometry appliances device).surface
             → Stands world (first_world geometry appliances device)) }
@@ -91,18 +98,20 @@ impl World {
         self.disk.time()
     }
 
-    /// How many blocks of the pool an image reaches. No command takes a block of the pool yet.
+    /// How many blocks of the pool an image reaches. There is no tree yet.
     pub fn reachable(&self) -> Result<u64, NoMemory>
         ensures { IfOk result (λ count. count ≡ 0) }
     {
         Ok(0)
     }
 
-    /// How many blocks of the pool are allocated. No command takes a block of the pool yet.
+    /// How many blocks of the pool are allocated on the device: those whose bits are set in the maps of their extents. The blocks
+    /// of maps don't count.
     pub fn allocated(&self) -> u64
-        ensures { result ≡ 0 }
+        ensures { (w : rules.World) → Reached w → Stands self.now w → result ≡ allocated_in w }
     {
-        0
+        maps_stay();
+        allocated(&self.disk, &self.geometry)
     }
 
     // What an appliance asks, if it is there and a command runs.

@@ -1,20 +1,24 @@
-use Rattle.std.proofs.Common.{◌∙◌, ap, arith}
-use Rattle.std.specs.Prelude.{◌≡◌, nat_lt, true}
+use Rattle.std.proofs.Common.{◌≡◌, ℕ, [], ap, ◌∙◌}
+use Rattle.std.specs.Prelude.{nat_lt, true}
 use Rattle.plx_commands.specs.Limits.{last_claim}
-use Rattle.plx_rules.specs.Session.{with_claim}
-use Rattle.plx_base.specs.declared.numbers.SlotNo.{SlotNo}
-use Rattle.plx_appliance.specs.Kept.{known_of}
-use Rattle.plx_appliance.specs.Tokens.{leases_of}
-use Rattle.plx_appliance.proofs.Numbers.{lt-true}
+use Rattle.plx_geom.specs.Geometry.{image_lease}
+use Rattle.plx_rules.specs.Attaching.{after_claim}
+use Rattle.plx_rules.specs.Claims.{claim_part}
+use Rattle.plx_rules.specs.Parts.{followed_by}
+use Rattle.plx_appliance.specs.Giving.{rules_setting}
+use Rattle.plx_appliance.specs.Kept.{known_by}
+use Rattle.plx_appliance.proofs.Numbers.{next-told}
 use Rattle.plx_appliance.proofs.entering.enter_claim.Goals as goal
-
-pub returns-clause-inside : goal.returns-clause-inside
-returns-clause-inside c =
-    let e = c.claim.ensures in
-    rw e.at (record { number = e.number; none = ap (leases_of c.args.holdings.now.leases.leases.items) (ap (λ (s : SlotNo). s.0) e.slot) ∙ c.requires.free; fresh = e.fresh; sampled = e.sampled })
+use Rattle.plx_base.proofs.Tests.{nat_lt-true}
 
 pub returns-clause-part : goal.returns-clause-part
 returns-clause-part c =
     let h = c.args.holdings.now in
-    let test : nat_lt h.claims last_claim ≡ true = lt-true h.claims last_claim (omega (arith, c.if-number-ge-LAST_CLAIM.false)) in
-    rw test (c.claim.ensures.rest (with_claim (known_of h)))
+    let s = rules_setting h.setting in
+    let slot = c.args.slot.0 in
+    let claims = h.space.claims in
+    let told = next-told claims c.in-Some.number h.space.begun c.in-Some.ensures.number in
+    let test : nat_lt claims last_claim ≡ true = nat_lt-true claims last_claim told.0 in
+    let part = λ (number now : ℕ). followed_by (claim_part s.boot [] (image_lease slot) number) (after_claim s (known_by h.sessions now) slot) in
+    rw test (c.claim.ensures.rest (known_by h.sessions c.next_claim.new.self.claims)
+    ∙ ap (λ (n : ℕ). part n c.next_claim.new.self.claims) told.1 ∙ ap (part claims) c.in-Some.ensures.claims)

@@ -1,19 +1,19 @@
 use Rattle.std.proofs.Common.{List, ap, sym, ◌∙◌}
 use Rattle.plx_commands.specs.declared.reply.Reply.TheVariants as reply
 use Rattle.plx_rules.specs.Ends.{ends}
-use Rattle.plx_appliance.specs.Giving.{given}
+use Rattle.plx_appliance.specs.Giving.{rules_setting}
 use Rattle.plx_appliance.specs.Kept.{known_of}
 use Rattle.plx_appliance.specs.Renews.{renewals_then}
-use Rattle.plx_appliance.specs.declared.image_renewal.ImageRenewal.{ImageRenewal}
+use Rattle.plx_lease.specs.declared.renewal.LeaseRenewal.{LeaseRenewal}
 use Rattle.plx_appliance.proofs.Renewed.{renewals-last}
 use Rattle.plx_appliance.proofs.entering.enter_renewals.Goals as goal
 
 pub returns-clause-part : goal.returns-clause-part
 returns-clause-part c =
     let h = c.args.holdings.now in
-    let s = given h.setting in
+    let s = rules_setting h.setting in
     let k = known_of h in
     let done = ends reply.Renewed k in
     sym (renewals-last s k c.pop.new.self.items c.in-Some.renewal done)
-    ∙ sym (ap (λ (items : List ImageRenewal). renewals_then s k items done) c.in-Some.ensures.items)
+    ∙ sym (ap (λ (items : List LeaseRenewal). renewals_then s k items done) c.in-Some.ensures.items)
     ∙ c.renewals-left.ensures.part s k

@@ -1,7 +1,9 @@
 use Rattle.std.proofs.Common.{List, ℕ, Result, Ok, Err, IfOk, subst}
 use Rattle.plx_commands.specs.declared.event.Event.{Event}
 use Rattle.plx_world.specs.Playing.{PlaysAll}
-use Rattle.plx_cli.proofs.Told.{lawful, world-told}
+use Rattle.plx_rules.specs.World as rules
+use Rattle.plx_world.proofs.Made.{lawful}
+use Rattle.plx_cli.proofs.Told.{world-told}
 use Rattle.plx_cli.proofs.replay.play.Goals as goal
 
 -- what holds of the value of an answer
@@ -15,6 +17,6 @@ returns c =
     let P : List Event → Type 0 = λ events. PlaysAll c.in_ok-world.world c.play.new.self events in
     let plays = subst P c.as_slice.ensures.value c.in_ok-play.ensures.ok in
     at-ok _ _ _ c.print_trace.result
-    (λ text is tells. world-told (lawful c.headline.ensures c.never_damaged.ensures c.exclusion.ensures c.guarding.ensures) _ made.0 _ text _ _ _ c.in_ok-world.world c.play.new.self
+    (λ text is tells. world-told (λ (w : rules.World) reached. lawful c.laws.ensures reached) _ made.0 _ text _ _ _ c.in_ok-world.world c.play.new.self
     c.requires.geometry c.requires.low c.requires.high made.1 made.2 plays c.trace.ensures c.in_ok-reachable.ensures c.allocated-allocated.ensures is tells)
     c.print_trace.ensures.text c.print_trace.ensures.tells

@@ -1,5 +1,5 @@
 use Rattle.std.proofs.Common.{◌≡◌, [], ap, sym, subst, ◌∙◌, refl, true, false}
-use Rattle.plx_base.specs.Spelling.{spelled}
+use Rattle.plx_base.specs.Spelling.{block_of_fields}
 use Rattle.plx_gate.specs.Descriptors.{IsDescriptorReading, descriptor_magic, read_descriptor}
 use Rattle.plx_gate.proofs.Descriptors.{All-zeros, descriptor-eq, descriptor-other, descriptor-past, descriptor-reading, descriptor-some, read-zeros, zeros-All}
 use Rattle.plx_gate.proofs.descriptor.read_descriptor.Goals as goal
@@ -24,7 +24,7 @@ returns-then-not-is_record-clause-same c =
     descriptor-other c.args.bytes.now c.found-descriptor.result
     (λ e. let told : false ≡ true = c.if-are_zeros.ensures.1 (All-zeros c.args.bytes.now e) in cc)
     c.found-descriptor.ensures
-    (λ same. let bad : false ≡ true = c.if-not-is_record.ensures.1 (same ∙ (descriptor-eq c.found-descriptor.result ∙ ap (λ f. spelled descriptor_magic f []) (sym c.fields.ensures))) in cc)
+    (λ same. let bad : false ≡ true = c.if-not-is_record.ensures.1 (same ∙ (descriptor-eq c.found-descriptor.result ∙ ap (λ f. block_of_fields descriptor_magic f []) (sym c.fields.ensures))) in cc)
 
 pub returns-then-not-is_record-clause-grammar : goal.returns-then-not-is_record-clause-grammar
 returns-then-not-is_record-clause-grammar c = subst (IsDescriptorReading c.args.bytes.now) (sym (returns-then-not-is_record-clause-same c)) (descriptor-reading c.args.bytes.now)
@@ -34,7 +34,7 @@ returns-clause-same c =
     descriptor-some c.args.bytes.now c.found-descriptor.result
     (λ e. let told : false ≡ true = c.if-are_zeros.ensures.1 (All-zeros c.args.bytes.now e) in cc)
     c.found-descriptor.ensures (sym c.if-not-is_within.ensures)
-    (c.if-not-is_record.ensures.0 refl ∙ (ap (λ f. spelled descriptor_magic f []) c.fields.ensures ∙ sym (descriptor-eq c.found-descriptor.result)))
+    (c.if-not-is_record.ensures.0 refl ∙ (ap (λ f. block_of_fields descriptor_magic f []) c.fields.ensures ∙ sym (descriptor-eq c.found-descriptor.result)))
 
 pub returns-clause-grammar : goal.returns-clause-grammar
 returns-clause-grammar c = subst (IsDescriptorReading c.args.bytes.now) (sym (returns-clause-same c)) (descriptor-reading c.args.bytes.now)

@@ -1,13 +1,13 @@
 use Rattle.std.proofs.Common.{[], ap, sym, ◌∙◌}
 use Rattle.plx_base.specs.Blocks.{zeros}
-use Rattle.plx_base.specs.Spelling.{spelled}
+use Rattle.plx_base.specs.Spelling.{block_of_fields}
 use Rattle.plx_base.proofs.Spelling.{only-of}
 use Rattle.plx_gate.specs.Descriptors.{descriptor_bytes, descriptor_magic}
 use Rattle.plx_gate.proofs.Descriptors.{descriptor-eq, descriptor-sector, empty-sector}
 use Rattle.plx_gate.proofs.descriptor.write_descriptor.Goals as goal
 
 pub returns-clause-spelled : goal.returns-clause-spelled
-returns-clause-spelled c = c.put_record.ensures ∙ (ap (λ f. spelled descriptor_magic f []) c.fields.ensures ∙ sym (descriptor-eq c.args.value.now))
+returns-clause-spelled c = c.put_record.ensures ∙ (ap (λ f. block_of_fields descriptor_magic f []) c.fields.ensures ∙ sym (descriptor-eq c.args.value.now))
 
 pub returns-clause-sector : goal.returns-clause-sector
 returns-clause-sector c =

@@ -1,5 +1,5 @@
 use Rattle.std.proofs.Common.{ap, sym, subst, ◌∙◌}
-use Rattle.plx_base.specs.Blocks.{written}
+use Rattle.plx_base.specs.Blocks.{with_bytes_at}
 use Rattle.plx_base.specs.Spelling.{OnlySector, fields_bytes}
 use Rattle.plx_gate.specs.Entries.{entry_sector, entry_start, read_entry}
 use Rattle.plx_gate.proofs.Entries.{entry-back, entry-eq, entry-sector, other-entry}
@@ -8,8 +8,8 @@ use Rattle.plx_gate.proofs.entry.write_entry.Goals as goal
 pub returns-clause-written : goal.returns-clause-written
 returns-clause-written c =
     c.put_fields.ensures.same
-    ∙ (ap (λ f. written (entry_start c.args.index) (fields_bytes f) c.args.bytes.now) c.fields.ensures
-    ∙ ap (λ xs. written (entry_start c.args.index) xs c.args.bytes.now) (sym (entry-eq c.args.value.now)))
+    ∙ (ap (λ f. with_bytes_at (entry_start c.args.index) (fields_bytes f) c.args.bytes.now) c.fields.ensures
+    ∙ ap (λ xs. with_bytes_at (entry_start c.args.index) xs c.args.bytes.now) (sym (entry-eq c.args.value.now)))
 
 pub returns-clause-here : goal.returns-clause-here
 returns-clause-here c =

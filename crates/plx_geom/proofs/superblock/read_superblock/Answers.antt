@@ -1,5 +1,5 @@
 use Rattle.std.proofs.Common.{◌≡◌, [], ap, sym, ◌∙◌, refl, true, false}
-use Rattle.plx_base.specs.Spelling.{spelled}
+use Rattle.plx_base.specs.Spelling.{block_of_fields}
 use Rattle.plx_geom.specs.Geometry.{geometry_of}
 use Rattle.plx_geom.specs.Superblock.{superblock_magic}
 use Rattle.plx_geom.proofs.Superblocks.{superblock-eq, no-geometry, other-bytes, found-is, found_geometry}
@@ -23,9 +23,9 @@ returns-then-not-is_record-clause-damaged c =
     ∙ found-is c.get_u32-images.result c.get_u32-extents.result c.get_u32-extent_blocks.result c.get_u32-slots.result c.as_slice-bytes.result.now c.args.block.now c.as_slice-bytes.ensures.same c.get_u32-images.ensures c.get_u32-extents.ensures c.get_u32-extent_blocks.ensures c.get_u32-slots.ensures in
     other-bytes c.args.block.now g here
     (λ same. let bad : false ≡ true =
-    c.if-not-is_record.ensures.1 (c.as_slice-bytes.ensures.same ∙ (same ∙ (superblock-eq g ∙ ap (λ f. spelled superblock_magic f []) (sym c.fields.ensures)))) in cc)
+    c.if-not-is_record.ensures.1 (c.as_slice-bytes.ensures.same ∙ (same ∙ (superblock-eq g ∙ ap (λ f. block_of_fields superblock_magic f []) (sym c.fields.ensures)))) in cc)
 
 pub returns-clause-spelled : goal.returns-clause-spelled
 returns-clause-spelled c =
     let g = c.in-Ok.geometry in
-    sym c.as_slice-bytes.ensures.same ∙ (c.if-not-is_record.ensures.0 refl ∙ (ap (λ f. spelled superblock_magic f []) c.fields.ensures ∙ sym (superblock-eq g)))
+    sym c.as_slice-bytes.ensures.same ∙ (c.if-not-is_record.ensures.0 refl ∙ (ap (λ f. block_of_fields superblock_magic f []) c.fields.ensures ∙ sym (superblock-eq g)))

@@ -2,7 +2,8 @@ use Rattle.std.proofs.Common.{◌≡◌, ℕ, ap, sym, subst}
 use Rattle.plx_geom.specs.Geometry.{lease_at}
 use Rattle.plx_rules.specs.Boot.{Idle}
 use Rattle.plx_rules.specs.Holds.{Hold, Nothing}
-use Rattle.plx_appliance.specs.Tokens.{held_at}
+use Rattle.plx_appliance.specs.Space.{extents_in}
+use Rattle.plx_appliance.specs.Tokens.{lease_holds_at}
 use Rattle.plx_appliance.proofs.Held.{nothing-at}
 use Rattle.plx_appliance.proofs.appliance.Appliance.fresh.Goals as goal
 
@@ -12,6 +13,8 @@ returns-clause-log c =
     record {
       at = ap Idle (sym c.in_ok-holdings.ensures.known);
       held = λ lease within.
-          let P : (ℕ → Hold) → Type 0 = λ leases. Nothing ≡ held_at h.setting.geometry leases (lease_at lease) in
-          subst P (sym c.in_ok-holdings.ensures.leases) (nothing-at h.setting.geometry (lease_at lease));
+          let P : (leases extents : ℕ → Hold) → Type 0 = λ leases extents. Nothing ≡ lease_holds_at h.setting.geometry leases extents (lease_at lease) in
+          subst (λ (leases : ℕ → Hold). P leases (extents_in h)) (sym c.in_ok-holdings.ensures.leases)
+          (subst (P (λ image. Nothing)) (sym c.in_ok-holdings.ensures.extents) (nothing-at h.setting.geometry (lease_at lease)));
+      hand = sym c.in_ok-holdings.ensures.hand;
     }

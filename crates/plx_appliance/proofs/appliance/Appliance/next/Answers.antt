@@ -1,55 +1,74 @@
-use Rattle.std.proofs.Common.{◌∷◌, Some, None, sym, ap, ◌∙◌, subst}
+use Rattle.std.proofs.Common.{◌≡◌, ◌∷◌, ℕ, List, Some, None, refl, sym, ap, ◌∙◌, subst}
 use Rattle.plx_disk.specs.declared.ask.Ask.{Ask}
 use Rattle.plx_rules.specs.Boot.{Asked, position}
-use Rattle.plx_appliance.specs.Appliance.{StandsAt, setting_of}
-use Rattle.plx_appliance.specs.Ending.{known_after, leases_after}
-use Rattle.plx_appliance.specs.Giving.{given}
-use Rattle.plx_appliance.specs.Holding.{dropped}
+use Rattle.plx_appliance.specs.Appliance.{IsIn, StandsAt, appliance_setting}
+use Rattle.plx_appliance.specs.Ending.{hand_after_reply, known_after, leases_after}
+use Rattle.plx_appliance.specs.Giving.{rules_setting}
+use Rattle.plx_appliance.specs.Holding.{IsKept, image_leases_after_write, dropped_hand}
 use Rattle.plx_appliance.specs.Kept.{known_of}
-use Rattle.plx_appliance.specs.Tokens.{leases_of}
+use Rattle.plx_appliance.specs.Lent.{lent_of}
+use Rattle.plx_appliance.specs.Space.{extents_in, hand_in}
+use Rattle.plx_appliance.specs.Ties.{stage_setting, stage_slots}
+use Rattle.plx_appliance.specs.Tokens.{image_leases}
+use Rattle.plx_appliance.specs.Works.{work_suits}
 use Rattle.plx_appliance.specs.declared.appliance.Stage.{Stage}
-use Rattle.plx_appliance.proofs.Went.{answered-by, stands-in, stands-out, went-in, went-out}
+use Rattle.plx_appliance.specs.declared.holdings.Holdings.{Holdings}
+use Rattle.plx_appliance.specs.declared.setting.Setting.{Setting}
+use Rattle.plx_appliance.proofs.Answered.{work-kept}
+use Rattle.plx_appliance.proofs.Went.{Stood, answered-by, keeps_of, stands-in, stands-out, went-in, went-out}
 use Rattle.plx_appliance.proofs.appliance.Appliance.next.Goals as goal
 
 pub returns-in-None-clause-log : goal.returns-in-None-clause-log
 returns-in-None-clause-log c = λ log ask bytes work is stands standing fits.
     let a = c.args.self.now in
     let h = c.answer-reply.new.holdings in
-    let after = leases_of h.leases.leases.items in
+    let w = c.in-In.running in
+    let new = c.answer-reply.new.self in
     let found = c.args.answer.now in
-    let d = c.drop_failed.ensures in
-    let by = answered-by a c.in-In.running c.answer-reply.new.self log c.ask-ask.result ask bytes found h None (sym c.in-In.ensures.value) stands standing fits c.ask-ask.ensures.ask c.ask-ask.ensures.spare c.in-None.ensures.moves in
-    let went = went-in (setting_of a) (known_of a.holdings) (known_of h) c.in-In.running c.answer-reply.new.self log ask bytes found (leases_of a.holdings.leases.leases.items) after by.1 c.in-None.ensures.rest in
-    let stood = stands-in a h c.drop_failed.new.self c.answer-reply.new.self log ask bytes found (dropped ask found after)
-    (d.setting ∙ c.in-None.ensures.setting) d.known (d.leases ∙ ap (λ (q : Ask). dropped q found after) by.0) went in
-    record { at = stood.0; held = stood.1 }
+    let x = c.in-None.ensures in
+    let by = answered-by a w new log c.ask-ask.result ask bytes found h None (sym c.in-In.ensures.value) stands standing fits c.ask-ask.ensures.ask c.ask-ask.ensures.spare
+    x.moves x.setting x.kept x.suits in
+    let went = went-in (appliance_setting a) (lent_of a.holdings) (lent_of h) w new log ask bytes found (keeps_of a.holdings) (keeps_of h) by.1 x.rest in
+    let kept = work-kept (lent_of a.holdings) (lent_of h) w new c.ask-ask.result found (c.ask-ask.ensures.ask (lent_of a.holdings)) x.rest in
+    let same = c.drop_failed.ensures.kept kept in
+    let stood = subst (λ (k : Holdings). Stood k (position (rules_setting k.setting) (Asked ask bytes found ∷ log)) (λ lent. IsIn lent new (position (rules_setting k.setting) (Asked ask bytes found ∷ log)))) (sym same)
+    (stands-in a h new log ask bytes found x.setting (subst (λ (q : Ask). IsKept q found) by.0 kept) went) in
+    record { at = stood.at; held = stood.held; hand = stood.hand }
 
 pub returns-in-None-clause-reply : goal.returns-in-None-clause-reply
 returns-in-None-clause-reply c = λ log ask bytes work is stands standing fits.
     let a = c.args.self.now in
     let h = c.answer-reply.new.holdings in
     let found = c.args.answer.now in
-    let by = answered-by a c.in-In.running c.answer-reply.new.self log c.ask-ask.result ask bytes found h None (sym c.in-In.ensures.value) stands standing fits c.ask-ask.ensures.ask c.ask-ask.ensures.spare c.in-None.ensures.moves in
-    let went = went-in (setting_of a) (known_of a.holdings) (known_of h) c.in-In.running c.answer-reply.new.self log ask bytes found (leases_of a.holdings.leases.leases.items) (leases_of h.leases.leases.items) by.1 c.in-None.ensures.rest in
-    went.no_reply
+    let x = c.in-None.ensures in
+    let by = answered-by a c.in-In.running c.answer-reply.new.self log c.ask-ask.result ask bytes found h None (sym c.in-In.ensures.value) stands standing fits c.ask-ask.ensures.ask c.ask-ask.ensures.spare
+    x.moves x.setting x.kept x.suits in
+    (went-in (appliance_setting a) (lent_of a.holdings) (lent_of h) c.in-In.running c.answer-reply.new.self log ask bytes found (keeps_of a.holdings) (keeps_of h) by.1 x.rest).no_reply
 
 pub returns-in-Some-clause-log : goal.returns-in-Some-clause-log
 returns-in-Some-clause-log c = λ log ask bytes work is stands standing fits.
     let a = c.args.self.now in
     let h = c.answer-reply.new.holdings in
     let k = c.settle.new.self in
-    let after = leases_of h.leases.leases.items in
     let found = c.args.answer.now in
     let r = c.in-Some.reply in
     let d = c.drop_failed.ensures in
     let e = c.settle.ensures in
-    let by = answered-by a c.in-In.running c.answer-reply.new.self log c.ask-ask.result ask bytes found h (Some r) (sym c.in-In.ensures.value) stands standing fits c.ask-ask.ensures.ask c.ask-ask.ensures.spare c.in-Some.ensures.moves in
-    let went = went-out (setting_of a) (known_of a.holdings) (known_of h) c.in-In.running c.answer-reply.new.self r log ask bytes found (leases_of a.holdings.leases.leases.items) after by.1 c.in-Some.ensures.rest in
-    let stood = stands-out a h k r log ask bytes found (dropped ask found after)
-    (e.setting ∙ d.setting ∙ c.in-Some.ensures.setting) (e.known ∙ ap (known_after r) d.known) (e.leases ∙ ap (leases_after r) (d.leases ∙ ap (λ (q : Ask). dropped q found after) by.0)) went in
+    let x = c.in-Some.ensures in
+    let by = answered-by a c.in-In.running c.answer-reply.new.self log c.ask-ask.result ask bytes found h (Some r) (sym c.in-In.ensures.value) stands standing fits c.ask-ask.ensures.ask c.ask-ask.ensures.spare
+    x.moves x.setting x.kept x.suits in
+    let went = went-out (appliance_setting a) (lent_of a.holdings) (lent_of h) c.in-In.running c.answer-reply.new.self r log ask bytes found (keeps_of a.holdings) (keeps_of h) by.1 x.rest in
+    let stood = stands-out a h k r log ask bytes found (record {
+      setting = e.setting ∙ d.setting ∙ x.setting;
+      known = e.known ∙ ap (known_after r) d.known;
+      leases = e.leases ∙ ap (leases_after r) (d.leases ∙ ap (λ (q : Ask). image_leases_after_write q found (image_leases h.leases.leases.items)) by.0);
+      extents = e.extents ∙ ap (leases_after r) (d.extents ∙ ap (λ (q : Ask). image_leases_after_write q found (extents_in h)) by.0);
+      hand = e.hand ∙ ap (hand_after_reply r) (d.hand ∙ ap (λ (q : Ask). dropped_hand q found (hand_in h)) by.0);
+    }) went in
     record {
-      at = subst (λ (st : Stage). StandsAt (given k.setting) (known_of k) st (position (given k.setting) (Asked ask bytes found ∷ log))) (sym c.replace.ensures.after) stood.0;
-      held = stood.1;
+      at = subst (λ (st : Stage). StandsAt (rules_setting k.setting) (lent_of k) st (position (rules_setting k.setting) (Asked ask bytes found ∷ log))) (sym c.replace.ensures.after) stood.at;
+      held = stood.held;
+      hand = stood.hand;
     }
 
 pub returns-in-Some-clause-reply : goal.returns-in-Some-clause-reply
@@ -58,6 +77,25 @@ returns-in-Some-clause-reply c = λ log ask bytes work is stands standing fits.
     let h = c.answer-reply.new.holdings in
     let found = c.args.answer.now in
     let r = c.in-Some.reply in
-    let by = answered-by a c.in-In.running c.answer-reply.new.self log c.ask-ask.result ask bytes found h (Some r) (sym c.in-In.ensures.value) stands standing fits c.ask-ask.ensures.ask c.ask-ask.ensures.spare c.in-Some.ensures.moves in
-    let went = went-out (setting_of a) (known_of a.holdings) (known_of h) c.in-In.running c.answer-reply.new.self r log ask bytes found (leases_of a.holdings.leases.leases.items) (leases_of h.leases.leases.items) by.1 c.in-Some.ensures.rest in
-    went.replied
+    let x = c.in-Some.ensures in
+    let by = answered-by a c.in-In.running c.answer-reply.new.self log c.ask-ask.result ask bytes found h (Some r) (sym c.in-In.ensures.value) stands standing fits c.ask-ask.ensures.ask c.ask-ask.ensures.spare
+    x.moves x.setting x.kept x.suits in
+    (went-out (appliance_setting a) (lent_of a.holdings) (lent_of h) c.in-In.running c.answer-reply.new.self r log ask bytes found (keeps_of a.holdings) (keeps_of h) by.1 x.rest).replied
+
+pub invariant_of-self : goal.invariant_of-self
+invariant_of-self c =
+    let a = c.args.self.now in
+    let w = c.in-In.running in
+    let new = c.answer-reply.new.self in
+    let x = c.in-None.ensures in
+    let kept = work-kept (lent_of a.holdings) (lent_of c.answer-reply.new.holdings) w new c.ask-ask.result c.args.answer.now (c.ask-ask.ensures.ask (lent_of a.holdings)) x.rest in
+    let same = c.drop_failed.ensures.kept kept in
+    let tied = subst (λ (st : Stage). stage_setting a.holdings.setting st ≡ a.holdings.setting) (sym c.in-In.ensures.value) a.same in
+    let room = subst (λ (st : Stage). stage_slots a.holdings.setting.geometry.slots st ≡ a.holdings.setting.geometry.slots) (sym c.in-In.ensures.value) a.room in
+    let set = c.drop_failed.ensures.setting ∙ x.setting in
+    record {
+      same = x.kept refl ∙ tied ∙ sym set;
+      room = x.own refl ∙ room ∙ sym (ap (λ (st : Setting). st.geometry.slots) set);
+      suits = subst (λ (k : Holdings). work_suits k.space new) (sym same) (x.suits refl);
+      renewals = refl;
+    }

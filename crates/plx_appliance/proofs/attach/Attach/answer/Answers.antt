@@ -14,7 +14,7 @@ returns-in-None-clause-moves c =
 pub returns-in-Some-clause-moves : goal.returns-in-Some-clause-moves
 returns-in-Some-clause-moves c =
     let e = c.in-Some.ensures in
-    let k = c.claimed.ensures in
+    let k = c.after_claim.ensures in
     rw (c.in-Claim.is, k.claim) (record {
       end = Some c.in-Some.end;
       hold = e.hold;

@@ -1,6 +1,6 @@
 use Rattle.std.proofs.Common.{◌<◌, ◌≤◌, length, arith}
 use Rattle.std.specs.Prelude.{None}
-use Rattle.plx_appliance.specs.Tokens.{hold_of}
+use Rattle.plx_appliance.specs.Tokens.{image_hold}
 use Rattle.plx_appliance.proofs.Tables.{set-default, table-default}
 use Rattle.plx_appliance.proofs.lease.Leases.forget.Goals as goal
 
@@ -12,4 +12,4 @@ loop-index-preserved c =
 pub returns-clause-none : goal.returns-clause-none
 returns-clause-none c =
     let all : length c.loop-index.self.leases.items ≤ c.loop-index.index = omega (arith, c.loop-index.self.leases.ok.0, c.loop-index-test.false, c.len-index-end.ensures, c.loop-index.self.long, c.args.self.now.long, c.loop-index.invariant.0) in
-    table-default hold_of c.loop-index.self.leases.items c.loop-index.index None all c.loop-index.invariant.1
+    table-default image_hold c.loop-index.self.leases.items c.loop-index.index None all c.loop-index.invariant.1

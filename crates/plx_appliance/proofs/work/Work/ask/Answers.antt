@@ -1,7 +1,16 @@
 use Rattle.plx_appliance.proofs.work.Work.ask.Goals as goal
 
 pub returns-in-Detach-clause-ask : goal.returns-in-Detach-clause-ask
-returns-in-Detach-clause-ask c = λ known. rw c.in-Detach.is (c.ask-in-Detach.ensures.ask known)
+returns-in-Detach-clause-ask c = λ lent. rw c.in-Detach.is (c.ask-in-Detach.ensures.ask lent.known)
 
 pub returns-in-Renew-clause-ask : goal.returns-in-Renew-clause-ask
-returns-in-Renew-clause-ask c = λ known. rw c.in-Renew.is (c.ask-in-Renew.ensures.ask known)
+returns-in-Renew-clause-ask c = λ lent. rw c.in-Renew.is (c.ask-in-Renew.ensures.ask lent.known)
+
+pub returns-in-Retire-clause-ask : goal.returns-in-Retire-clause-ask
+returns-in-Retire-clause-ask c = λ lent. rw c.in-Retire.is (c.ask-in-Retire.ensures.ask lent)
+
+pub returns-in-Retire-clause-within : goal.returns-in-Retire-clause-within
+returns-in-Retire-clause-within c = rw c.in-Retire.is (λ space holds sample found suits same inside. c.ask-in-Retire.ensures.within space suits same)
+
+pub returns-in-Reserve-clause-ask : goal.returns-in-Reserve-clause-ask
+returns-in-Reserve-clause-ask c = λ lent. rw c.in-Reserve.is (c.ask-in-Reserve.ensures.ask lent)

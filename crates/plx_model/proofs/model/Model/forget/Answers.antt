@@ -1,7 +1,7 @@
 use Rattle.std.proofs.Common.{◌≡◌, ◌∙◌, List, length, sym, ap, map}
 use Rattle.std.proofs.lemmas.List.{with_items_is}
 use Rattle.plx_commands.specs.Model.{Slot}
-use Rattle.plx_commands.specs.Moves.{given_back}
+use Rattle.plx_commands.specs.Moves.{slot_without_owner}
 use Rattle.plx_model.specs.Shown.{slot_of}
 use Rattle.plx_model.specs.declared.slot.SlotState.{SlotState}
 use Rattle.plx_model.proofs.Pictures.{picture-forgotten}
@@ -9,7 +9,7 @@ use Rattle.plx_model.proofs.model.Model.forget.Goals as goal
 
 pub returns : goal.returns
 returns c =
-    let f : Slot → Slot = λ slot. given_back slot c.args.appliance.0 in
+    let f : Slot → Slot = λ slot. slot_without_owner slot c.args.appliance.0 in
     let kept : length c.disown_all.new.slots ≡ length c.args.self.now.slots.items = c.disown_all.auto.slots ∙ ap length c.deref_mut.ensures.value in
     let long : c.args.self.now.slots.len ≡ length c.args.self.now.slots.items = c.args.self.now.slots.ok.0 in
     picture-forgotten c.args.self.now.slots.items _ c.args.self.now.seats.items c.args.appliance.0 c.forget.new.self

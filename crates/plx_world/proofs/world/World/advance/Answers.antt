@@ -1,5 +1,5 @@
 use Rattle.std.proofs.Common.{Bool, None, subst}
-use Rattle.plx_world.specs.Running.{GoesOn, StopsAs}
+use Rattle.plx_world.specs.Running.{RunGoesOn, StopsAs}
 use Rattle.plx_world.proofs.Going.{goes-stopped, goes-unstopped, if-ok}
 use Rattle.plx_world.proofs.world.World.advance.Goals as goal
 
@@ -16,4 +16,4 @@ returns-clause-ok c =
     let a = c.args.appliance in
     let P : Bool → Type 0 = λ x. StopsAs old a.0 c.args.stop x in
     let going = subst P c.if-stops.false c.stops.ensures in
-    if-ok c.go_on.result (GoesOn a None old new) (GoesOn a c.args.stop old new) c.go_on.ensures.ok (λ made goes. goes-unstopped c.args.stop old new a made going goes)
+    if-ok c.go_on.result (RunGoesOn a None old new) (RunGoesOn a c.args.stop old new) c.go_on.ensures.ok (λ made goes. goes-unstopped c.args.stop old new a made going goes)

@@ -24,6 +24,7 @@ invariant_of-self-2 c =
     record {
       many = many-set v.items n c.restart.new.self old.many;
       sized = old.sized;
+      uncancelled = old.uncancelled;
       tied = tied-set old.geometry v.items n c.index_mut.result.now c.restart.new.self at old.tied
           (ap (λ (a : Appliance). a.holdings.setting.geometry) c.restart.ensures.appliance ∙ c.in_ok-fresh.ensures.layout);
     }

@@ -1,7 +1,7 @@
 use Rattle.std.proofs.Common.{Some, None, sym, ◌∙◌, ap}
 use Rattle.plx_commands.specs.declared.event.Event.TheVariants as event
 use Rattle.plx_disk.specs.declared.ask.Ask.{Ask}
-use Rattle.plx_world.specs.Running.{GoesOn}
+use Rattle.plx_world.specs.Running.{RunGoesOn}
 use Rattle.plx_world.specs.Standing.{Steps}
 use Rattle.plx_world.proofs.Going.{goes-idle, goes-read, if-ok}
 use Rattle.plx_world.proofs.world.World.go_on.Goals as goal
@@ -12,7 +12,7 @@ returns-in-Some-Read-clause-ok c =
     let new = c.read.new.self in
     let a = c.args.appliance in
     let found = c.in-Some-Read in
-    if-ok c.read.result (Steps old new (event.Read a)) (GoesOn a None old new) c.read.ensures.ok
+    if-ok c.read.result (Steps old new (event.Read a)) (RunGoesOn a None old new) c.read.ensures.ok
     (λ made steps. goes-read old new a found.field-0-0 made (λ w h. ap (λ (x : Ask). Some x) (sym found.field-0-is) ∙ found.ensures.ask w h) steps)
 
 pub returns-in-None-clause-ok : goal.returns-in-None-clause-ok

@@ -1,7 +1,7 @@
 use Rattle.std.proofs.Common.{◌≡◌, Some, arith, false, refl, ◌∙◌, subst, sym, true}
 use Rattle.std.specs.Prelude.{is_some, slice_get}
 use Rattle.std.proofs.lemmas.Option.{slice_get_read}
-use Rattle.plx_appliance.specs.Asking.{IsOnDevice}
+use Rattle.plx_alloc.specs.Asking.{IsOnDevice}
 use Rattle.plx_disk.specs.declared.ask.Ask.{Ask}
 use Rattle.plx_world.proofs.Issuing.{asks-it, issues-absent, issues-before, issues-none, pends-it}
 use Rattle.plx_world.proofs.Seating.{within-there}

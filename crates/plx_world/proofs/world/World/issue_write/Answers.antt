@@ -2,7 +2,7 @@ use Rattle.std.proofs.Common.{◌≡◌, ◌∙◌, ◌++◌, ◌∷◌, [], ◌
 use Rattle.std.specs.Prelude.{slice_get, slice_set}
 use Rattle.std.specs.Vec.{vec_capacity, vec_len}
 use Rattle.std.proofs.lemmas.Option.{slice_get_within}
-use Rattle.plx_appliance.specs.Appliance.{IsRunning, StandsFor, setting_of}
+use Rattle.plx_appliance.specs.Appliance.{IsRunning, StandsFor, appliance_setting}
 use Rattle.plx_appliance.specs.declared.appliance.Appliance.{Appliance}
 use Rattle.plx_rules.specs.Boot.{Happening, position, writes_out}
 use Rattle.plx_rules.specs.Settings.{boot_number}
@@ -13,6 +13,7 @@ use Rattle.plx_world.specs.declared.seat.Seat.{Seat}
 use Rattle.plx_world.proofs.Answered.{on-err}
 use Rattle.plx_world.proofs.Asking.{whole-logged}
 use Rattle.plx_world.proofs.Booting.{seat-stays}
+use Rattle.plx_world.proofs.Cancels.{cancels-issued, cancels-stays}
 use Rattle.plx_world.proofs.Issuing.{asks-it, issues-write, pends-it}
 use Rattle.plx_world.proofs.Seating.{get-after, get-same, many-set, read-same, set-count, set-twice, tied-kept}
 use Rattle.plx_world.proofs.world.World.issue_write.Goals as goal
@@ -96,6 +97,7 @@ invariant_of-self-in-Break-branch-2 c =
     record {
       many = many-set v.items n c.make_room.new.self old.many;
       sized = c.issue.ensures.blocks ∙ old.sized;
+      uncancelled = cancels-stays old.disk c.issue.new.self c.in_err-number.ensures.err old.uncancelled;
       tied = tied-kept old.geometry v.items n c.index_mut.result.now c.make_room.new.self at old.tied (ap (λ (a : Appliance). a.holdings.setting) c.make_room.ensures.appliance);
     }
 
@@ -127,6 +129,7 @@ invariant_of-self-2 c =
     record {
       many = subst M (sym twice) (many-set v.items n c.wait_for.new.self old.many);
       sized = c.issue.ensures.blocks ∙ old.sized;
+      uncancelled = cancels-issued old.disk c.issue.new.self c.boot_of-owner.result.0 c.args.kind c.args.block.0 c.out.result.now c.args.guard c.in_ok-number.ensures.ok old.uncancelled;
       tied = subst T (sym twice) (tied-kept old.geometry v.items n c.index_mut.result.now c.wait_for.new.self at old.tied (ap (λ (a : Appliance). a.holdings.setting) same));
     }
 
@@ -147,7 +150,7 @@ returns-clause-ok c =
     let waits = c.wait_for.ensures in
     let number = c.in_ok-number.number in
     let R : Seat → Type 0 = λ s. AsksAs s.appliance (Some (ask.Write c.args.kind c.args.block c.args.guard)) in
-    let O : Appliance → Type 0 = λ x. (log : List Happening) → StandsFor x log → c.out.result.now ≡ writes_out (position (setting_of x) log).place in
+    let O : Appliance → Type 0 = λ x. (log : List Happening) → StandsFor x log → c.out.result.now ≡ writes_out (position (appliance_setting x) log).place in
     let reads : c.index-seat.result.now.appliance ≡ before.appliance = ap (λ (s : Seat). s.appliance) read ∙ room.appliance in
     issues-write old _ a c.args.kind c.args.block c.args.guard c.boot_of-owner.result.0 number c.out.result.now before after at old.many
     (record {

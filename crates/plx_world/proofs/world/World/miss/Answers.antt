@@ -1,7 +1,7 @@
 use Rattle.std.proofs.Common.{◌≡◌, Option, false, true, ℕ, arith, subst}
 use Rattle.std.specs.Prelude.{is_some}
 use Rattle.plx_rules.specs.World.{IsReading}
-use Rattle.plx_world.proofs.Stepping.{IsPending, misses-write, none-pending}
+use Rattle.plx_world.proofs.Stepping.{IsPending, misses-clock, misses-early, misses-read, misses-until, misses-write, none-pending}
 use Rattle.plx_world.proofs.world.World.miss.Goals as goal
 
 pub returns-in_ok-answer-in-Some-Write-clause-ok : goal.returns-in_ok-answer-in-Some-Write-clause-ok
@@ -16,3 +16,19 @@ returns-in_ok-answer-in-Some-Write-clause-ok c =
     misses-write old c.answer.new.self c.args.appliance asked.field-0-0 asked.field-0-1 asked.guard c.args.reading (λ w h. cc (asked.ensures.ask w h))
     (subst P (none-pending c.pending.result none) c.pending.ensures) (omega arith) (subst Q now (c.is_near.ensures.0 near)) (let e = c.time.ensures.early in omega arith)
     c.in_ok-answer-in-Some-Write.ensures.ok
+
+pub returns-in-Some-Read-clause-ok : goal.returns-in-Some-Read-clause-ok
+returns-in-Some-Read-clause-ok c =
+    misses-read c.args.self.now c.args.appliance c.args.reading c.in-Some-Read.field-0-0 (λ w h. cc (c.in-Some-Read.ensures.ask w h))
+
+pub returns-in-Some-Clock-clause-ok : goal.returns-in-Some-Clock-clause-ok
+returns-in-Some-Clock-clause-ok c = misses-clock c.args.self.now c.args.appliance c.args.reading (λ w h. cc (c.in-Some-Clock.ensures.ask w h))
+
+pub returns-in-Some-Until-clause-ok : goal.returns-in-Some-Until-clause-ok
+returns-in-Some-Until-clause-ok c =
+    misses-until c.args.self.now c.args.appliance c.args.reading c.in-Some-Until.field-0-0 (λ w h. cc (c.in-Some-Until.ensures.ask w h))
+
+pub returns-then-reading-guard-clause-ok : goal.returns-then-reading-guard-clause-ok
+returns-then-reading-guard-clause-ok c =
+    let asked = c.in-Some-Write in
+    misses-early c.args.self.now c.args.appliance c.args.reading asked.field-0-0 asked.field-0-1 asked.guard (λ w h. cc (asked.ensures.ask w h)) (omega arith)

@@ -1,4 +1,5 @@
-use Rattle.std.proofs.Common.{Result, Ok, Err, IfOk}
+use Rattle.std.proofs.Common.{Result, Ok, Err, IfOk, refl}
+use Rattle.plx_world.proofs.Cancels.{cancels-new}
 use Rattle.plx_world.proofs.world.World.new.Goals as goal
 
 -- what holds of the value of an answer
@@ -10,3 +11,6 @@ pub returns : goal.returns
 returns c =
     let formatted = c.in_ok-disk.ensures.formatted in
     at-ok _ _ c.over.result (λ world stands. (formatted.0, formatted.1, stands formatted.0 formatted.2)) c.over.ensures
+
+pub over-requires-clause-uncancelled : goal.over-requires-clause-uncancelled
+over-requires-clause-uncancelled c = let formatted = c.in_ok-disk.ensures.formatted in cancels-new c.in_ok-disk.disk _ refl formatted.2

@@ -24,7 +24,7 @@ invariant_of-result c =
     let l = c.loop-number in
     let few = c.requires.many in
     let count = l.invariant.count in
-    record { many = omega arith; sized = c.requires.sized; tied = tied-new c.args.geometry l.seats.items l.invariant.fresh }
+    record { many = omega arith; sized = c.requires.sized; tied = tied-new c.args.geometry l.seats.items l.invariant.fresh; uncancelled = c.requires.uncancelled }
 
 pub returns : goal.returns
 returns c =

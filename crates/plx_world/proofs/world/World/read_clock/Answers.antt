@@ -1,4 +1,4 @@
-use Rattle.plx_world.specs.Running.{GoesOn}
+use Rattle.plx_world.specs.Running.{RunGoesOn}
 use Rattle.plx_world.specs.Standing.{Steps}
 use Rattle.plx_commands.specs.declared.event.Event.TheVariants as event
 use Rattle.std.specs.Prelude.{None}
@@ -11,5 +11,5 @@ returns-clause-ok c =
     let new = c.reading.new.self in
     let a = c.args.appliance in
     let time = c.time-time.result in
-    if-ok c.reading.result (Steps old new (event.Reading a time)) (GoesOn a None old new) c.reading.ensures.ok
+    if-ok c.reading.result (Steps old new (event.Reading a time)) (RunGoesOn a None old new) c.reading.ensures.ok
     (λ made steps. goes-clock old new a time made c.requires c.time-time.ensures.time steps)

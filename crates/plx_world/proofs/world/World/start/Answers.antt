@@ -27,6 +27,7 @@ invariant_of-self-in-Break-branch-4 c =
     record {
       many = many-set v.items n c.begin.new.self old.many;
       sized = old.sized;
+      uncancelled = old.uncancelled;
       tied = tied-kept old.geometry v.items n c.index_mut.result.now c.begin.new.self at old.tied c.begin.ensures.kept.setting;
     }
 
@@ -39,6 +40,7 @@ invariant_of-self-2 c =
     record {
       many = many-set v.items n c.begin.new.self old.many;
       sized = old.sized;
+      uncancelled = old.uncancelled;
       tied = tied-kept old.geometry v.items n c.index_mut.result.now c.begin.new.self at old.tied c.begin.ensures.kept.setting;
     }
 

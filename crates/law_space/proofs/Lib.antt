@@ -1,0 +1,11 @@
+pub mod Marks
+pub mod CarefulCommands
+pub mod Lists
+pub mod Kept
+pub mod Held
+pub mod MapWrites
+pub mod SpaceLands
+pub mod SpaceSteps
+pub mod Hands
+pub mod Landings
+pub mod Witness

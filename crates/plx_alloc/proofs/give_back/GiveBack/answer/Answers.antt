@@ -1,0 +1,29 @@
+use Rattle.std.proofs.Common.{ap, sym, ◌+◌, ◌∙◌}
+use Rattle.plx_base.specs.declared.numbers.ExtentNo.{ExtentNo}
+use Rattle.plx_alloc.specs.Ending.{space_end}
+use Rattle.plx_alloc.specs.Gives.{around_known, give_from, giving_rest}
+use Rattle.plx_alloc.proofs.Released.{gives-past}
+use Rattle.plx_alloc.proofs.give_back.GiveBack.answer.Goals as goal
+
+pub returns-in-Some-Done-clause-rest : goal.returns-in-Some-Done-clause-rest
+returns-in-Some-Done-clause-rest c = λ o.
+    let a = c.args.space.now in
+    let b = c.answer.new.space in
+    let m = c.args.self.now.giving in
+    let e = c.answer.ensures in
+    c.go_on.ensures.rest o
+    ∙ (ap (λ (x : ExtentNo). give_from o b (x.0 + 1)) e.extent.extent
+    ∙ (gives-past o a b m.extent.0 e.same e.claims e.leases e.others
+    ∙ (ap (λ end. space_end (give_from o a (m.extent.0 + 1)) (around_known o b) end) (sym c.in-Some-Done.field-0-is)
+    ∙ c.in-Some-Done.ensures.rest (record o { rest = give_from o a (m.extent.0 + 1) }))))
+
+pub returns-in-None-clause-rest : goal.returns-in-None-clause-rest
+returns-in-None-clause-rest c = λ o.
+    let a = c.args.space.now in
+    let b = c.answer.new.space in
+    let m = c.args.self.now.giving in
+    let new = c.answer.new.self in
+    let e = c.answer.ensures in
+    ap (λ next. giving_rest (record o { rest = next }) b new)
+    (ap (λ (x : ExtentNo). give_from o b (x.0 + 1)) e.extent.extent ∙ gives-past o a b m.extent.0 e.same e.claims e.leases e.others)
+    ∙ c.in-None.ensures.rest (record o { rest = give_from o a (m.extent.0 + 1) })

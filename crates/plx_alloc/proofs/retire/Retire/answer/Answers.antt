@@ -1,0 +1,40 @@
+use Rattle.std.proofs.Common.{ap, sym, ◌∙◌}
+use Rattle.plx_rules.specs.Ends.{lost}
+use Rattle.plx_rules.specs.Part.{answered}
+use Rattle.plx_alloc.specs.Ending.{space_end}
+use Rattle.plx_alloc.specs.Gives.{around_known, giving_rest}
+use Rattle.plx_alloc.specs.Retires.{release_next, retire_at}
+use Rattle.plx_alloc.specs.Tables.{allocator_setting}
+use Rattle.plx_alloc.proofs.Released.{release-past}
+use Rattle.plx_alloc.proofs.retire.Retire.answer.Goals as goal
+
+pub returns-in-Some-Done-clause-rest : goal.returns-in-Some-Done-clause-rest
+returns-in-Some-Done-clause-rest c = λ o.
+    let a = c.args.space.now in
+    let b = c.answer.new.space in
+    let m = c.args.self.now.giving in
+    let e = c.answer.ensures in
+    release-past o a b m c.answer.new.self e.extent e.same e.claims e.leases e.others
+    ∙ (ap (λ end. space_end (release_next o a m) (around_known o b) end) (sym c.in-Some-Done.field-0-is)
+    ∙ (c.in-Some-Done.ensures.rest (record o { rest = release_next o a m })
+    ∙ ap (λ at. answered (retire_at at o a m) c.args.answer.now) (sym c.in-Give-default.is-0)))
+
+pub returns-in-None-clause-rest : goal.returns-in-None-clause-rest
+returns-in-None-clause-rest c = λ o.
+    let a = c.args.space.now in
+    let b = c.answer.new.space in
+    let m = c.args.self.now.giving in
+    let new = c.answer.new.self in
+    let e = c.answer.ensures in
+    ap (λ at. retire_at at o b new) c.in-Give-default.is-0
+    ∙ (ap (λ next. giving_rest (record o { rest = next }) b new) (release-past o a b m new e.extent e.same e.claims e.leases e.others)
+    ∙ (c.in-None.ensures.rest (record o { rest = release_next o a m })
+    ∙ ap (λ at. answered (retire_at at o a m) c.args.answer.now) (sym c.in-Give-default.is-0)))
+
+pub returns-in-Release-Missed-clause-rest : goal.returns-in-Release-Missed-clause-rest
+returns-in-Release-Missed-clause-rest c = λ o.
+    let a = c.args.space.now in
+    let s = allocator_setting o.appliance a in
+    let known = around_known o a in
+    rw (c.in-Release-Missed.is-0, c.in-Release-Missed.is-1)
+    (c.lost.ensures s o.rest known (sym c.geometry.ensures) ∙ ap (λ due. lost s known due c.in-Release-Missed.reading) c.own_use.ensures)

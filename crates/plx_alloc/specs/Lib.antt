@@ -1,0 +1,11 @@
+pub mod Asking
+pub mod Ending
+pub mod GiveRules
+pub mod Gives
+pub mod Moving
+pub mod Pools
+pub mod Retires
+pub mod Suiting
+pub mod Tables
+pub mod TakeRules
+pub mod Takes

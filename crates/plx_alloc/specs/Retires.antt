@@ -1,0 +1,29 @@
+-- What the extents' part of a retire still asks, by where its machine stands and by what is lent to it.
+use Rattle.std.specs.Prelude.{◌+◌, ◌-◌, ℕ}
+use Rattle.plx_rules.specs.Ends.{End}
+use Rattle.plx_rules.specs.Part.{Part}
+use Rattle.plx_rules.specs.Space.{release_then, retire_extents}
+use Rattle.plx_alloc.specs.Gives.{Around, around_known, giving_rest, retire_use}
+use Rattle.plx_alloc.specs.Tables.{allocator_setting, hand_numbers, holds_of}
+use Rattle.plx_alloc.specs.declared.allocator.Allocator.{Allocator}
+use Rattle.plx_alloc.specs.declared.giving.Giving.{Giving}
+use Rattle.plx_alloc.specs.declared.retire.Retire.{Retire}
+use Rattle.plx_alloc.specs.declared.retire.RetireAt.{RetireAt}
+use Rattle.plx_alloc.specs.declared.retire.RetireAt.TheVariants as at
+
+-- what is asked of the extents from one on
+abbrev pub retire_extents_from : Around → Allocator → (from : ℕ) → Part End
+retire_extents_from o a from =
+    retire_extents (allocator_setting o.appliance a) (around_known o a) (holds_of a) (hand_numbers a) (a.geometry.extents - from) from o.rest
+
+-- the lease of the extent is released, and the retire goes on past it
+abbrev pub release_next : Around → Allocator → Giving → Part End
+release_next o a m = release_then (allocator_setting o.appliance a) (around_known o a) (retire_use m) (retire_extents_from o a (m.extent.0 + 1))
+
+-- what a retire still asks
+abbrev pub retire_at : RetireAt → Around → Allocator → Giving → Part End
+retire_at at.Give o a m = giving_rest (record o { rest = release_next o a m }) a m
+retire_at at.Release o a m = release_next o a m
+
+abbrev pub retire_extents_rest : Around → Allocator → Retire → Part End
+retire_extents_rest o a m = retire_at m.at o a m.giving

@@ -1,0 +1,21 @@
+//! Space: the extents whose leases a boot holds, the fresh blocks in its hand, and how blocks are
+//! taken and given back.
+#![tactic(auto)]
+
+mod allocator;
+mod choosing;
+mod give_back;
+mod giving;
+mod reserve;
+mod retire;
+mod rules;
+mod space_end;
+
+pub use allocator::{Allocator, HAND_LEN};
+pub use choosing::{choose, clear, has_free, is_among};
+pub use give_back::GiveBack;
+pub use giving::{Giving, GivingAt};
+pub use reserve::{Met, Pass, Reserve, ReserveAt};
+pub use retire::{Retire, RetireAt};
+pub use rules::{gives_keep_rules, takes_keep_rules};
+pub use space_end::{SpaceEnd, lease_name, lost};

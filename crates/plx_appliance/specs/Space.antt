@@ -1,0 +1,30 @@
+-- What an appliance keeps of space: the leases of extents that are held, and the blocks in hand.
+use Rattle.std.specs.Prelude.{◌≡◌, ℕ, List, [], ◌∷◌, ◌<◌}
+use Rattle.plx_geom.specs.Geometry.{Geometry}
+use Rattle.plx_rules.specs.Holds.{Hold, Nothing}
+use Rattle.plx_rules.specs.Rests.{extent_of}
+pub use Rattle.plx_alloc.specs.Tables.{held_hand}
+use Rattle.plx_alloc.specs.Tables.{hand_numbers, extent_leases}
+use Rattle.plx_appliance.specs.declared.holdings.Holdings.{Holdings}
+
+-- no lease of an extent is held
+abbrev pub no_extents : ℕ → Hold
+no_extents = λ extent. Nothing
+
+-- the leases by extent
+abbrev pub extents_in : Holdings → ℕ → Hold
+extents_in h = extent_leases h.space
+
+-- the blocks in hand, in the order in which they were taken
+abbrev pub hand_in : Holdings → List ℕ
+hand_in h = hand_numbers h.space
+
+-- each of these blocks lies in an extent of the geometry
+abbrev pub AreWithin : Geometry → List ℕ → Type 0
+AreWithin g [] = Unit {0}
+AreWithin g (block ∷ blocks) = (extent_of g block < g.extents) × AreWithin g blocks
+
+-- the blocks in hand lie in extents of the geometry whose leases are held
+pub record IsHand (g : Geometry) (extents : ℕ → Hold) (hand : List ℕ) : Type 0 where
+  pub held : held_hand g extents hand ≡ hand
+  pub within : AreWithin g hand
