@@ -31,6 +31,12 @@ run() {
     status=$?
 }
 
+# run_within KIB WORD..: the same with so much address space.
+run_within() {
+    (ulimit -v "$1" && shift && exec "$program" "$@") > "$room/output" 2> "$room/errors"
+    status=$?
+}
+
 plays_examples() {
     local schedule found=0
     for schedule in examples/*.plx; do
@@ -62,6 +68,12 @@ tells_each_failure() {
     "$program" replay < examples/first.plx > /dev/full 2> "$room/errors"
     status=$?
     ended "a full device as output" 4
+
+    # What is enough for a short schedule is too little for half a million lines.
+    run_within 20000 replay < examples/first.plx
+    ended "a short schedule in little memory" 0; wrote "a short schedule in little memory" examples/first.trace
+    run_within 20000 replay < <(echo 'world 1 1 16 2 1' && yes 'tick 1' | head -n 500000)
+    ended "a long schedule in little memory" 5; wrote "a long schedule in little memory" /dev/null
 
     printf 'bad line 1\n' > "$room/expected"
     run replay < <(head -c 67108864 /dev/zero)

@@ -25,11 +25,11 @@ use Rattle.law_lease.proofs.Frame.{AllStand}
 use Rattle.law_lease.proofs.Leased.{Leased}
 use Rattle.law_lease.proofs.Open.{GripsLease, IsOpen}
 use Rattle.law_headline.proofs.HandFacts.{HandFits}
-use Rattle.law_headline.proofs.Held.{SameSessions, Regime, With, IsRunning, Looks, HasImage, IsOf, IsOn, HeldPart, Backs, Fair}
+use Rattle.law_headline.proofs.Held.{SameSessions, Regime, With, ModelRuns, Looks, HasImage, IsOf, IsOn, HeldPart, Backs, Fair}
 use Rattle.law_headline.proofs.HeldBegins.{IsBegunChange}
 use Rattle.law_headline.proofs.HeldFrames.{missing_of}
-use Rattle.law_headline.proofs.Journals.{IsJournal, IsShown, Keeps}
-use Rattle.law_headline.proofs.MapFacts.{SpellsMap}
+use Rattle.law_headline.proofs.Journals.{IsJournal, IsShown, HoldsSlot}
+use Rattle.law_headline.proofs.MapFacts.{IsMapSpelled}
 use Rattle.law_headline.proofs.PlacedByKind.{PlacedBy}
 use Rattle.law_headline.proofs.Replied.{Names}
 use Rattle.law_headline.proofs.WaitsByKind.{WaitsOn}
@@ -54,8 +54,8 @@ stands_at g appliance seat = position (setting_at g appliance seat.boots) seat.l
 -- by where it stands: it is in no command, has begun one, or is in one of which this is left
 abbrev pub PlaceFits : Geometry → ℕ → Model → Position → Place → Type 0
 PlaceFits g a m p (Idle known) = (m.running a ≡ None) × SameSessions a known m × Backs g p.holds known
-PlaceFits g a m p (Begins known command) = IsRunning g a command known m × Backs g p.holds known × IsWellFormed command × IsBuilt command
-PlaceFits g a m p (In known command part) = IsRunning g a command known m × Fair g a command known p.holds p.sample false part
+PlaceFits g a m p (Begins known command) = ModelRuns g a command known m × Backs g p.holds known × IsWellFormed command × IsBuilt command
+PlaceFits g a m p (In known command part) = ModelRuns g a command known m × Fair g a command known p.holds p.sample false part
 
 -- ---- an image's owner
 
@@ -116,30 +116,30 @@ Whose g rests appliances time writes seats i slot =
     (n : ℕ) (x : Issued) → IsOpen g rests appliances time writes seats (image_lease i) n x → IsOf g i x.block → (b : ℕ) → slot.owner ≡ Some b → (seats b).pending ≡ Some n
 
 -- while all claims on which an issued write rests stand, what its kind waits on holds
-abbrev pub Waits : Geometry → (rests : ℕ → List ℕ) → (appliances time : ℕ) → Device → List Issued → (ℕ → Seat) → Type 0
-Waits g rests appliances time device writes seats =
+abbrev pub WaitsAreMet : Geometry → (rests : ℕ → List ℕ) → (appliances time : ℕ) → Device → List Issued → (ℕ → Seat) → Type 0
+WaitsAreMet g rests appliances time device writes seats =
     (n : ℕ) (x : Issued) → slice_get writes n ≡ Some x → AllStand g rests appliances time writes seats n x → WaitsOn x.kind g device x.block x.bytes x.landed
 
 -- each write of a map that was issued spells a map
 abbrev pub SpellMaps : Geometry → List Issued → Type 0
-SpellMaps g writes = (n : ℕ) (x : Issued) → slice_get writes n ≡ Some x → SpellsMap g x.kind x.bytes
+SpellMaps g writes = (n : ℕ) (x : Issued) → slice_get writes n ≡ Some x → IsMapSpelled g x.kind x.bytes
 
 -- what a boot has in hand is no map's block
 abbrev pub SeatHand : Geometry → (appliance : ℕ) → Seat → Type 0
 SeatHand g a seat = HandFits g (stands_at g a seat)
 
 -- the invariant of the headline
-pub record Content (w : World) : Type 0 where
+pub record KeepsContent (w : World) : Type 0 where
   pub leased : Leased w
   pub told : starts_and_crashes w.trace ≡ events_told w.history
   pub permitted : Permitted (model_before w) w.trace
   pub undamaged : AreUndamaged w.trace
-  pub stored : (i : ℕ) → i < w.geometry.images → Keeps w.geometry w.surface.device i ((model_in w).slots i)
+  pub stored : (i : ℕ) → i < w.geometry.images → HoldsSlot w.geometry w.surface.device i ((model_in w).slots i)
   pub placed : Placed w.geometry w.rests w.appliances w.surface.time w.surface.device w.surface.writes w.seats (model_in w).slots
   pub whose : (i : ℕ) → i < w.geometry.images → Whose w.geometry w.rests w.appliances w.surface.time w.surface.writes w.seats i ((model_in w).slots i)
   pub spelled : SpellMaps w.geometry w.surface.writes
   pub maps : HasMaps w.geometry w.surface.device
   pub hands : (a : ℕ) → a < w.appliances → SeatHand w.geometry a (w.seats a)
-  pub waits : Waits w.geometry w.rests w.appliances w.surface.time w.surface.device w.surface.writes w.seats
+  pub waits : WaitsAreMet w.geometry w.rests w.appliances w.surface.time w.surface.device w.surface.writes w.seats
   pub seats : (a : ℕ) → a < w.appliances → SeatFits w.geometry (model_in w) a (w.seats a)
   pub owned : (i : ℕ) → i < w.geometry.images → (a : ℕ) → a < w.appliances → SeatOwns w.geometry w.surface.time w.surface.device w.surface.writes (model_in w) i a (w.seats a)

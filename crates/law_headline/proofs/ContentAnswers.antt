@@ -8,6 +8,7 @@ use Rattle.plx_base.specs.Payload.{bytes_of}
 use Rattle.plx_base.specs.Sectors.{Device, put, with_landed_sectors}
 use Rattle.plx_base.proofs.Devices.{put-again}
 use Rattle.plx_base.proofs.Mixed.{mixed-none}
+use Rattle.plx_base.proofs.Tests.{nat_lt-tells, and-parts}
 use Rattle.plx_base.specs.declared.lease.Claim.{Claim}
 use Rattle.plx_base.specs.declared.lease.LeaseRecord.{LeaseRecord}
 use Rattle.plx_base.specs.declared.lease.LeaseRecord.TheVariants.{Free, Claimed}
@@ -38,50 +39,38 @@ use Rattle.plx_rules.specs.Commands.{IsBuilt, IsWellFormed, attached_part, of_at
 use Rattle.plx_rules.specs.Ends.{End}
 use Rattle.plx_rules.specs.Hands.{hand_answered, hand_held}
 use Rattle.plx_rules.specs.Headline.{IsUndamaged, starts_and_crashes, events_told, model_in}
-use Rattle.plx_rules.specs.Holds.{Hold, Nothing, Seen, Wrote, Waited, Held, no_holds, after_write, holds_after_reply, after_first, session_at, hold_after_reading, hold_after_read, hold_after_reread, seen_for, seen_by, hold_after_renewal, hold_after_claim}
+use Rattle.plx_rules.specs.Holds.{Hold, Nothing, Seen, Wrote, Waited, Held, no_holds, after_write, after_first, session_at, hold_after_reading, hold_after_read, hold_after_reread, seen_for, seen_by, hold_after_renewal, hold_after_claim}
 use Rattle.plx_rules.specs.Owners.{first_landed, pending_write}
 use Rattle.plx_rules.specs.Rests.{rests_on}
 use Rattle.plx_rules.specs.Session.{Session, Known}
 use Rattle.plx_rules.specs.Settings.{Setting}
 use Rattle.plx_rules.specs.Times.{is_expired}
-use Rattle.plx_rules.specs.World.{World, IsReading, setting_at, goes_on, with_reply_of}
-use Rattle.law_lease.proofs.LawfulCommands.{first-rests, below-tested}
+use Rattle.plx_rules.specs.World.{World, IsReadingAt, setting_at, goes_on, with_reply_of}
+use Rattle.law_lease.proofs.LawfulCommands.{first-rests}
 use Rattle.law_lease.proofs.LeaseFrames.{grip-open}
 use Rattle.law_lease.proofs.LeaseGoes.{good-free}
 use Rattle.law_lease.proofs.LeaseLands.{first-set}
 use Rattle.law_lease.proofs.LeaseSteps.{not-waiting, placed-may}
 use Rattle.law_lease.proofs.Open.{IsOpen, open-elsewhere, one-waits}
-use Rattle.law_lease.proofs.Leased.{MayWrite, LawfulAt, Unlanded, Good, IsHeld, IsAskedAt, grip_while, grip_at, Leased}
-use Rattle.law_headline.proofs.Content.{appliance_no, stands_at, IsJournalled, PlaceFits, IsBegun, HasContent, OwnedAt, Grips, Minds, Content}
+use Rattle.law_lease.proofs.Leased.{MayIssue, LawfulAt, Unlanded, Good, StandsConfirmed, IsAskedAt, grip_while, grip_at, Leased}
+use Rattle.law_headline.proofs.Content.{appliance_no, stands_at, IsJournalled, PlaceFits, IsBegun, HasContent, OwnedAt, Grips, Minds, KeepsContent}
 use Rattle.law_headline.proofs.ContentGoes.{content-went, dropping-false, NoSession, went_to}
 use Rattle.law_headline.proofs.FairCommands.{fair-command}
 use Rattle.law_headline.proofs.FairParts.{backs-first}
 use Rattle.law_headline.proofs.HandFacts.{NoMap, HandFits, no-map-filter, hand-done}
 use Rattle.law_headline.proofs.Harmless.{Harmless, yields-stays}
 use Rattle.law_headline.proofs.Harmless as harmless
-use Rattle.law_headline.proofs.Held.{IsSpelled, attached_of, Regime, Without, With, IsRunning, Looks, IsOf, IsOn, HeldPart, IsBacking, Backs, IsDrop, is_below, are_below, is_some_slot, just_at, Fair}
+use Rattle.law_headline.proofs.Held.{IsSpelled, attached_of, Regime, Without, With, ModelRuns, Looks, IsOf, IsOn, HeldPart, IsBacking, Backs, IsDrop, is_below, are_below, is_some_slot, just_at, Fair}
 use Rattle.law_headline.proofs.HeldBegins.{begin-without, begin-with}
 use Rattle.law_headline.proofs.HeldCommands.{slot_no}
-use Rattle.law_headline.proofs.HeldFrames.{missing_of, held-same}
-use Rattle.law_headline.proofs.ImageWrites.{held-image, held-or, placed-cases}
+use Rattle.law_headline.proofs.HeldFrames.{missing_of, held-part-same}
+use Rattle.law_headline.proofs.ImageWrites.{held-image-write, held-or, placed-cases}
 use Rattle.law_headline.proofs.Journals.{Same}
 use Rattle.law_headline.proofs.ModelFacts.{Sound, sound-all}
-use Rattle.law_headline.proofs.Owners.{both-true}
 use Rattle.law_headline.proofs.Replied.{IsDropping, IsAmongSlots, Names}
-use Rattle.plx_rules.proofs.Holds.{first-held, timed-held}
+use Rattle.plx_rules.proofs.Holds.{first-held, part-held, timed-held}
 
 -- ---- how a lease comes to be held
-
-after-reply-held : (r : Reply) (holds : ℕ → Hold) (b : ℕ) (claim : Claim) (until : ℕ) → holds_after_reply r holds b ≡ Held claim until → holds b ≡ Held claim until
-after-reply-held (reply.Lost i u n) holds b claim until e = absurd (let P : ⊥ = cc in P)
-after-reply-held other holds b claim until e = e
-
-after-held : (part : Part End) (holds : ℕ → Hold) (b : ℕ) (claim : Claim) (until : ℕ) → after_part part holds b ≡ Held claim until → holds b ≡ Held claim until
-after-held (Ends end) holds b claim until e = after-reply-held end.reply holds b claim until e
-after-held (ReadThen block rest fault) holds b claim until e = e
-after-held (WriteThen what block bytes guard done fault missed) holds b claim until e = e
-after-held (ClockThen rest) holds b claim until e = e
-after-held (UntilThen from rest) holds b claim until e = e
 
 seen-unheld : (sample : Option ℕ) (bytes : List ℕ) (claim : Claim) (until : ℕ) → seen_for sample bytes ≡ Held claim until → ⊥
 seen-unheld None bytes claim until e = cc
@@ -117,7 +106,7 @@ undamaged-drop : (r : Reply) → IsDropping r → IsUndamaged r
 undamaged-drop (reply.Damaged block) drops = absurd (let P : ⊥ = cc in P)
 undamaged-drop other drops = tt
 
-module _ (w : World) (content : Content w) (a : ℕ) (below : a < w.appliances) where
+module _ (w : World) (content : KeepsContent w) (a : ℕ) (below : a < w.appliances) where
   abbrev g : Geometry
   g = w.geometry
 
@@ -192,17 +181,17 @@ module _ (w : World) (content : Content w) (a : ℕ) (below : a < w.appliances) 
       let P : Position → Type 0 = λ q. grip_at q.place None (lease_at (image_lease i)) (q.holds (lease_at (image_lease i))) ≡ Held claim until in
       let e : after_part part holds (lease_at (image_lease i)) ≡ Held claim until =
       sym (grip-open (place_of known command part) None (lease_at (image_lease i)) (after_part part holds (lease_at (image_lease i))) refl) ∙ subst P leads grips.0 in
-      after-held part holds (lease_at (image_lease i)) claim until e
+      part-held part holds (lease_at (image_lease i)) claim until e
 
   sound : Sound m
   sound = sound-all w.geometry.images w.appliances w.trace content.permitted
 
   -- the image is kept, as an attach of it may look at it
-  looks-without : (command : Command) (known : Known) (i : ℕ) (within : i < g.images) → command ≡ Attach (slot_no i) → IsRunning g a command known m → Looks g a i command known (Without (content.stored i within).kept (content.stored i within).writes) m
+  looks-without : (command : Command) (known : Known) (i : ℕ) (within : i < g.images) → command ≡ Attach (slot_no i) → ModelRuns g a command known m → Looks g a i command known (Without (content.stored i within).kept (content.stored i within).writes) m
   looks-without command known i within is running = record { running = running; slot = ((content.stored i within).either, sound.differs i); purpose = is }
 
   -- a reading below a lease's end is early
-  below-live : (hold : Hold) (reading : ℕ) → is_below hold reading ≡ true → IsReading reading time → (claim : Claim) × (until : ℕ) × (hold ≡ Held claim until) × (time ≤ until + 50)
+  below-live : (hold : Hold) (reading : ℕ) → is_below hold reading ≡ true → IsReadingAt reading time → (claim : Claim) × (until : ℕ) × (hold ≡ Held claim until) × (time ≤ until + 50)
   below-live (Held claim until) reading e is = (
     claim,
     until,
@@ -217,15 +206,15 @@ module _ (w : World) (content : Content w) (a : ℕ) (below : a < w.appliances) 
   below-live (Wrote c u) reading e is = absurd (let P : ⊥ = cc in P)
   below-live (Waited c u) reading e is = absurd (let P : ⊥ = cc in P)
 
-  just-of : (holds : ℕ → Hold) (reading : ℕ) → IsReading reading time → (slots : List ℕ) → (is_some_slot slots && are_below g holds reading slots) ≡ true →
+  just-of : (holds : ℕ → Hold) (reading : ℕ) → IsReadingAt reading time → (slots : List ℕ) → (is_some_slot slots && are_below g holds reading slots) ≡ true →
       (i : ℕ) × (i < g.images) × IsAmongSlots i slots × ((claim : Claim) × (until : ℕ) × (holds (lease_at (image_lease i)) ≡ Held claim until) × (time ≤ until + 50))
   just-of holds reading is [] e = absurd (let P : ⊥ = cc in P)
   just-of holds reading is (j ∷ others) e =
-      let x = both-true (nat_lt j g.images && is_below (holds (lease_at (image_lease j))) reading) (are_below g holds reading others) e in
-      let y = both-true (nat_lt j g.images) (is_below (holds (lease_at (image_lease j))) reading) x.0 in
-      (j, below-tested j g.images y.0, inl refl, below-live (holds (lease_at (image_lease j))) reading y.1 is)
+      let x = and-parts (nat_lt j g.images && is_below (holds (lease_at (image_lease j))) reading) (are_below g holds reading others) e in
+      let y = and-parts (nat_lt j g.images) (is_below (holds (lease_at (image_lease j))) reading) x.0 in
+      (j, nat_lt-tells j g.images y.0, inl refl, below-live (holds (lease_at (image_lease j))) reading y.1 is)
 
-  just-holds : (command : Command) (holds : ℕ → Hold) (reading : ℕ) → just_at g command holds reading ≡ true → IsReading reading time →
+  just-holds : (command : Command) (holds : ℕ → Hold) (reading : ℕ) → just_at g command holds reading ≡ true → IsReadingAt reading time →
       (i : ℕ) × (i < g.images) × Names command i × ((claim : Claim) × (until : ℕ) × (holds (lease_at (image_lease i)) ≡ Held claim until) × (time ≤ until + 50))
   just-holds command holds reading e is = just-of holds reading is (named_slots command) e
 
@@ -233,13 +222,13 @@ module _ (w : World) (content : Content w) (a : ℕ) (below : a < w.appliances) 
 
   -- a reading in a command that serves an image, or doesn't
   read-clock : (event : Event) (log : List Happening) (known : Known) (command : Command) (part : Part End) (reading : ℕ) (hand : List ℕ) → NoMap g hand → starts_and_crashes w.trace ≡ events_told (event ∷ w.history) →
-      (place : Place) → p.place ≡ place → ((b : ℕ) (x : Issued) → IsAskedAt place b x → ⊥) → IsReading reading time → IsRunning g a command known m →
+      (place : Place) → p.place ≡ place → ((b : ℕ) (x : Issued) → IsAskedAt place b x → ⊥) → IsReadingAt reading time → ModelRuns g a command known m →
       Leased (went_to w content a below event log known command (λ block. hold_after_reading reading (p.holds block)) (Some reading) (just_at g command (λ block. hold_after_reading reading (p.holds block)) reading) (with_reply_of (appliance_no a) part w.trace)) →
       position s log ≡ goes_to g known command (λ block. hold_after_reading reading (p.holds block)) hand (Some reading) None part →
       Fair g a command known (λ block. hold_after_reading reading (p.holds block)) (Some reading) (just_at g command (λ block. hold_after_reading reading (p.holds block)) reading) part →
       ((i : ℕ) → i < g.images → Minds g time writes m a (w.seats a) i →
       (Names command i → (regime : Regime) × Looks g a i command known regime m × HeldPart g a i command known regime part device × IsOn g i device regime) × ((Names command i → ⊥) → HasContent g a i known device m)) →
-      Content (went_to w content a below event log known command (λ block. hold_after_reading reading (p.holds block)) (Some reading) (just_at g command (λ block. hold_after_reading reading (p.holds block)) reading) (with_reply_of (appliance_no a) part w.trace))
+      KeepsContent (went_to w content a below event log known command (λ block. hold_after_reading reading (p.holds block)) (Some reading) (just_at g command (λ block. hold_after_reading reading (p.holds block)) reading) (with_reply_of (appliance_no a) part w.trace))
   read-clock event log known command part reading hand none said place here no-ask is running leased leads fair own =
       let free = free-at place here no-ask in
       let h : ℕ → Hold = λ block. hold_after_reading reading (p.holds block) in
@@ -256,9 +245,9 @@ module _ (w : World) (content : Content w) (a : ℕ) (below : a < w.appliances) 
       record { image = j.0; within = j.1; names = j.2; serves = inl ((own j.0 j.1 (inl (j.3.0, j.3.1, grips))).0 j.2); claim = j.3.0; until = j.3.1; grips = grips; free = free })
 
   module _ (known : Known) (command : Command) where
-    pub clock-content : (rest : ℕ → Part End) (reading : ℕ) → p.place ≡ In known command (ClockThen rest) → IsReading reading time →
+    pub clock-content : (rest : ℕ → Part End) (reading : ℕ) → p.place ≡ In known command (ClockThen rest) → IsReadingAt reading time →
         Leased (goes_on w (event.Reading (appliance_no a) reading) (appliance_no a) ask.Clock [] (answer.Reading reading) (rest reading)) →
-        Content (goes_on w (event.Reading (appliance_no a) reading) (appliance_no a) ask.Clock [] (answer.Reading reading) (rest reading))
+        KeepsContent (goes_on w (event.Reading (appliance_no a) reading) (appliance_no a) ask.Clock [] (answer.Reading reading) (rest reading))
     clock-content rest reading here is leased =
         let place = In known command (ClockThen rest) in
         let fits = fits-at place here in
@@ -270,9 +259,9 @@ module _ (w : World) (content : Content w) (a : ℕ) (below : a < w.appliances) 
         (λ i within minds. let mine = owned-at place here i within minds in
         ((λ names. let s = mine.0 names in (s.regime, s.looks, s.held reading, s.on)), mine.1))
 
-    pub wait-content : (from : ℕ) (rest : ℕ → Part End) (reading : ℕ) → p.place ≡ In known command (UntilThen from rest) → IsReading reading time → from ≤ reading →
+    pub wait-content : (from : ℕ) (rest : ℕ → Part End) (reading : ℕ) → p.place ≡ In known command (UntilThen from rest) → IsReadingAt reading time → from ≤ reading →
         Leased (goes_on w (event.Reading (appliance_no a) reading) (appliance_no a) (ask.Until from) [] (answer.Reading reading) (rest reading)) →
-        Content (goes_on w (event.Reading (appliance_no a) reading) (appliance_no a) (ask.Until from) [] (answer.Reading reading) (rest reading))
+        KeepsContent (goes_on w (event.Reading (appliance_no a) reading) (appliance_no a) (ask.Until from) [] (answer.Reading reading) (rest reading))
     wait-content from rest reading here is past leased =
         let place = In known command (UntilThen from rest) in
         let fits = fits-at place here in
@@ -294,7 +283,7 @@ module _ (w : World) (content : Content w) (a : ℕ) (below : a < w.appliances) 
       never e = absurd (let P : ⊥ = cc in P)
 
       pub read-content : Leased (goes_on w (event.Read (appliance_no a)) (appliance_no a) (ask.Read (record { 0 = block })) [] (answer.Bytes (device block)) (rest (device block))) →
-          Content (goes_on w (event.Read (appliance_no a)) (appliance_no a) (ask.Read (record { 0 = block })) [] (answer.Bytes (device block)) (rest (device block)))
+          KeepsContent (goes_on w (event.Read (appliance_no a)) (appliance_no a) (ask.Read (record { 0 = block })) [] (answer.Bytes (device block)) (rest (device block)))
       read-content leased =
           let bytes = device block in
           let fits = fits-at place here in
@@ -344,7 +333,7 @@ module _ (w : World) (content : Content w) (a : ℕ) (below : a < w.appliances) 
           never
 
       pub fault-content : Leased (goes_on w (event.Fault (appliance_no a)) (appliance_no a) (ask.Read (record { 0 = block })) [] answer.Fault fault) →
-          Content (goes_on w (event.Fault (appliance_no a)) (appliance_no a) (ask.Read (record { 0 = block })) [] answer.Fault fault)
+          KeepsContent (goes_on w (event.Fault (appliance_no a)) (appliance_no a) (ask.Read (record { 0 = block })) [] answer.Fault fault)
       fault-content leased =
           let fits = fits-at place here in
           let free = free-at place here (λ b x no'. no') in
@@ -384,7 +373,7 @@ module _ (w : World) (content : Content w) (a : ℕ) (below : a < w.appliances) 
       dropped event log h (UntilThen n r) drops fair i = absurd drops
 
       pub write-fault-content : Leased (goes_on w (event.Fault (appliance_no a)) (appliance_no a) (ask.Write what (record { 0 = block }) guard) bytes answer.Fault fault) →
-          Content (goes_on w (event.Fault (appliance_no a)) (appliance_no a) (ask.Write what (record { 0 = block }) guard) bytes answer.Fault fault)
+          KeepsContent (goes_on w (event.Fault (appliance_no a)) (appliance_no a) (ask.Write what (record { 0 = block }) guard) bytes answer.Fault fault)
       write-fault-content leased =
           let fits = fits-at wplace here in
           let log = Asked (ask.Write what (record { 0 = block }) guard) bytes answer.Fault ∷ (w.seats a).log in
@@ -399,7 +388,7 @@ module _ (w : World) (content : Content w) (a : ℕ) (below : a < w.appliances) 
           unjust
 
       pub miss-content : (reading : ℕ) → Leased (goes_on w (event.Miss (appliance_no a) reading) (appliance_no a) (ask.Write what (record { 0 = block }) guard) bytes (answer.Missed reading) (missed reading)) →
-          Content (goes_on w (event.Miss (appliance_no a) reading) (appliance_no a) (ask.Write what (record { 0 = block }) guard) bytes (answer.Missed reading) (missed reading))
+          KeepsContent (goes_on w (event.Miss (appliance_no a) reading) (appliance_no a) (ask.Write what (record { 0 = block }) guard) bytes (answer.Missed reading) (missed reading))
       miss-content reading leased =
           let fits = fits-at wplace here in
           let log = Asked (ask.Write what (record { 0 = block }) guard) bytes (answer.Missed reading) ∷ (w.seats a).log in
@@ -482,7 +471,7 @@ module _ (w : World) (content : Content w) (a : ℕ) (below : a < w.appliances) 
             at' b = sym (ap (λ (x : List ℕ). put device block x b) (sym is) ∙ put-again device block b)
 
         pub done-content : Leased (goes_on w (event.Done (appliance_no a)) (appliance_no a) (ask.Write what (record { 0 = block }) guard) bytes answer.Done done) →
-            Content (goes_on w (event.Done (appliance_no a)) (appliance_no a) (ask.Write what (record { 0 = block }) guard) bytes answer.Done done)
+            KeepsContent (goes_on w (event.Done (appliance_no a)) (appliance_no a) (ask.Write what (record { 0 = block }) guard) bytes answer.Done done)
         done-content leased =
             let fits = fits-at wplace here in
             let h = after_write what block bytes p.holds in
@@ -531,7 +520,7 @@ module _ (w : World) (content : Content w) (a : ℕ) (below : a < w.appliances) 
                     (λ b ne under waits'. ne (one-waits w content.leased b a k under below waits' (waited ∙ ap Some at')))
                     o.0 o.1 o.3
 
-            may : MayWrite g s.boot p.holds (rests_on g command p.holds what block bytes) what block bytes guard
+            may : MayIssue g s.boot p.holds (rests_on g command p.holds what block bytes) what block bytes guard
             may = let P : Place → Type 0 = λ q. LawfulAt g s.boot p.holds p.sample q in (subst P here (content.leased.seated a below).lawful).0
 
             full : (with_landed_sectors (missing_of landed.0.landed) landed.0.bytes (device landed.0.block) ≡ landed.0.bytes) → device block ≡ bytes
@@ -546,8 +535,8 @@ module _ (w : World) (content : Content w) (a : ℕ) (below : a < w.appliances) 
               | inl released ↦ released
               | inr of ↦ elim (placed-cases g content.leased.geometry what block bytes _ (placed-may g s.boot p.holds _ what block bytes guard may) i within) [
                 | inl mine ↦
-                    let write = held-image g a i command known regime block bytes guard done fault missed device what mine.1 held in
-                    held-same g a i command known regime done (put device block bytes) device (whole (full (fills mine.1)) i) write.follows
+                    let write = held-image-write g a i command known regime block bytes guard done fault missed device what mine.1 held in
+                    held-part-same g a i command known regime done (put device block bytes) device (whole (full (fills mine.1)) i) write.follows
                 | inr away ↦ absurd (away of)
               ]
             ]
@@ -576,11 +565,11 @@ module _ (w : World) (content : Content w) (a : ℕ) (below : a < w.appliances) 
     abbrev hand : List ℕ
     hand = hand_held g h p.hand
 
-    serves-without : (command : Command) → IsRunning g a command known m → IsBuilt command → Names command i → known.sessions i ≡ None → Serving known command (command_part s known h hand reading command) i
+    serves-without : (command : Command) → ModelRuns g a command known m → IsBuilt command → Names command i → known.sessions i ≡ None → Serving known command (command_part s known h hand reading command) i
     serves-without (Attach j) running built (inl names) is =
         let k = content.stored i within in
         let P : ℕ → Type 0 = λ n. Serving known (Attach (slot_no n)) (command_part s known h hand reading (Attach (slot_no n))) i in
-        let running' : IsRunning g a (Attach (slot_no i)) known m = (let Q : ℕ → Type 0 = λ n. IsRunning g a (Attach (slot_no n)) known m in subst Q names running) in
+        let running' : ModelRuns g a (Attach (slot_no i)) known m = (let Q : ℕ → Type 0 = λ n. ModelRuns g a (Attach (slot_no n)) known m in subst Q names running) in
         subst P (sym names) (inl (
           Without k.kept k.writes,
           looks-without (Attach (slot_no i)) known i within refl running',
@@ -604,7 +593,7 @@ module _ (w : World) (content : Content w) (a : ℕ) (below : a < w.appliances) 
     serves-without Retire running built names is = absurd names
     serves-without Reclaim running built names is = absurd names
 
-    serves : (command : Command) → IsRunning g a command known m → IsWellFormed command → IsBuilt command → Names command i → (o : Option Session) → known.sessions i ≡ o →
+    serves : (command : Command) → ModelRuns g a command known m → IsWellFormed command → IsBuilt command → Names command i → (o : Option Session) → known.sessions i ≡ o →
         ((t : Session) → known.sessions i ≡ Some t → IsBegun g a i command known t device m) → Serving known command (command_part s known h hand reading command) i
     serves command running well built names (Some t) is begun =
         let b = begun t is in
@@ -620,9 +609,9 @@ module _ (w : World) (content : Content w) (a : ℕ) (below : a < w.appliances) 
   backed-by known h backs i None e some = absurd (let P : ⊥ = cc in P)
   backed-by known h backs i (Some t) e some = backs i t e
 
-  pub begin-content : (known : Known) (command : Command) (reading : ℕ) → p.place ≡ Begins known command → IsReading reading time →
+  pub begin-content : (known : Known) (command : Command) (reading : ℕ) → p.place ≡ Begins known command → IsReadingAt reading time →
       Leased (goes_on w (event.Reading (appliance_no a) reading) (appliance_no a) ask.Clock [] (answer.Reading reading) (first_part s known reading command p)) →
-      Content (goes_on w (event.Reading (appliance_no a) reading) (appliance_no a) ask.Clock [] (answer.Reading reading) (first_part s known reading command p))
+      KeepsContent (goes_on w (event.Reading (appliance_no a) reading) (appliance_no a) ask.Clock [] (answer.Reading reading) (first_part s known reading command p))
   begin-content known command reading here is leased =
       let place = Begins known command in
       let fits = fits-at place here in
@@ -639,7 +628,7 @@ module _ (w : World) (content : Content w) (a : ℕ) (below : a < w.appliances) 
       λ i within claim until held.
       (let held' = first-held (session_at g known (lease_at (image_lease i))) reading (p.holds (lease_at (image_lease i))) claim until held in
       let G : Hold → Type 0 = λ x. Good w.rests time writes (image_lease i) (content.leased.on (image_lease i) (image-below g i within)).standing s.boot None x in
-      let good : IsHeld w.rests time writes (image_lease i) (content.leased.on (image_lease i) (image-below g i within)).standing s.boot None claim until =
+      let good : StandsConfirmed w.rests time writes (image_lease i) (content.leased.on (image_lease i) (image-below g i within)).standing s.boot None claim until =
       subst G held' (good-free g w.rests w.appliances time device writes w.seats (image_lease i) (content.leased.on (image_lease i) (image-below g i within)) a below free) in
       good.limits) in
       let own : (i : ℕ) → i < g.images → (claim : Claim) (until : ℕ) → h (lease_at (image_lease i)) ≡ Held claim until → Minds g time writes m a (w.seats a) i →

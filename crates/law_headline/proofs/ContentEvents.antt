@@ -29,14 +29,14 @@ use Rattle.law_lease.proofs.LeaseFrames.{grip-open}
 use Rattle.law_lease.proofs.LeaseSteps.{not-waiting}
 use Rattle.law_lease.proofs.Leased.{grip_at, Leased}
 use Rattle.law_lease.proofs.Open.{IsOpen, open-elsewhere, open-later}
-use Rattle.law_headline.proofs.Content.{appliance_no, stands_at, PlaceFits, HasContent, OwnedAt, Minds, Whose, SeatFits, SeatHand, SeatOwns, Placed, Waits, Content}
+use Rattle.law_headline.proofs.Content.{appliance_no, stands_at, PlaceFits, HasContent, OwnedAt, Minds, Whose, SeatFits, SeatHand, SeatOwns, Placed, WaitsAreMet, KeepsContent}
 use Rattle.law_headline.proofs.ContentFrames.{place-unmoved, owned-foreign}
 use Rattle.law_headline.proofs.Foreign.{Foreign, foreign-start, foreign-back}
-use Rattle.law_headline.proofs.Held.{IsRunning, HasImage, IsOf}
+use Rattle.law_headline.proofs.Held.{ModelRuns, HasImage, IsOf}
 use Rattle.law_headline.proofs.HeldBegins.{IsBegunChange}
 use Rattle.law_headline.proofs.HeldCommands.{slot_no}
 use Rattle.law_headline.proofs.HeldFrames.{keeps-foreign}
-use Rattle.law_headline.proofs.Journals.{Keeps}
+use Rattle.law_headline.proofs.Journals.{HoldsSlot}
 use Rattle.law_headline.proofs.ModelFacts.{Sound, sound-all, counts-all}
 use Rattle.law_headline.proofs.Owners.{owns-own, disowned-not}
 use Rattle.law_headline.proofs.PlacedByKind.{placed-moves}
@@ -44,7 +44,7 @@ use Rattle.law_headline.proofs.Replied.{Names, changed-named, named-one, Unmoved
 
 -- ---- time passes
 
-pub tick-content : (w : World) (by : ℕ) → Content w → Leased (with_surface w (event.Tick by) (after_time w.surface by)) → Content (with_surface w (event.Tick by) (after_time w.surface by))
+pub tick-content : (w : World) (by : ℕ) → KeepsContent w → Leased (with_surface w (event.Tick by) (after_time w.surface by)) → KeepsContent (with_surface w (event.Tick by) (after_time w.surface by))
 tick-content w by content leased = record {
   leased = leased;
   told = content.told;
@@ -66,13 +66,13 @@ tick-content w by content leased = record {
 
 -- ---- the model moves, and no write of the appliance is waited for
 
-module _ (w : World) (content : Content w) (a : ℕ) (below : a < w.appliances) (n : Model) (unmoved : Unmoved a (model_in w) n) (foreign : (j : ℕ) → Foreign a ((model_in w).slots j) (n.slots j)) (sound : Sound n) (seat : Seat) (free : seat.pending ≡ None) where
+module _ (w : World) (content : KeepsContent w) (a : ℕ) (below : a < w.appliances) (n : Model) (unmoved : Unmoved a (model_in w) n) (foreign : (j : ℕ) → Foreign a ((model_in w).slots j) (n.slots j)) (sound : Sound n) (seat : Seat) (free : seat.pending ≡ None) where
   -- what is open was open before
   open-before : (i k : ℕ) (x : Issued) → IsOpen w.geometry w.rests w.appliances w.surface.time w.surface.writes (at w.seats a seat) (image_lease i) k x →
       IsOpen w.geometry w.rests w.appliances w.surface.time w.surface.writes w.seats (image_lease i) k x
   open-before i = open-elsewhere w.geometry w.rests w.appliances w.surface.time w.surface.writes w.seats (image_lease i) a seat free
 
-  foreign-stored : (i : ℕ) → i < w.geometry.images → Keeps w.geometry w.surface.device i (n.slots i)
+  foreign-stored : (i : ℕ) → i < w.geometry.images → HoldsSlot w.geometry w.surface.device i (n.slots i)
   foreign-stored i within = keeps-foreign w.geometry i a w.surface.device ((model_in w).slots i) (n.slots i) (foreign i) (content.stored i within)
 
   foreign-placed : Placed w.geometry w.rests w.appliances w.surface.time w.surface.device w.surface.writes (at w.seats a seat) n.slots
@@ -81,7 +81,7 @@ module _ (w : World) (content : Content w) (a : ℕ) (below : a < w.appliances) 
       (λ keeps i within its. let old = keeps i within its in (old.0, (λ flags count. keeps-foreign w.geometry i a _ ((model_in w).slots i) (n.slots i) (foreign i) (old.1 flags count))))
       (content.placed home k x is (open-elsewhere w.geometry w.rests w.appliances w.surface.time w.surface.writes w.seats home a seat free k x op))
 
-  foreign-waits : Waits w.geometry w.rests w.appliances w.surface.time w.surface.device w.surface.writes (at w.seats a seat)
+  foreign-waits : WaitsAreMet w.geometry w.rests w.appliances w.surface.time w.surface.device w.surface.writes (at w.seats a seat)
   foreign-waits k x found all = content.waits k x found (λ lease under. open-elsewhere w.geometry w.rests w.appliances w.surface.time w.surface.writes w.seats lease a seat free k x (all lease under))
 
   foreign-seats : SeatFits w.geometry n a seat → (b : ℕ) → b < w.appliances → SeatFits w.geometry n b (at w.seats a seat b)
@@ -109,7 +109,7 @@ known-below w a below = let e = (counts-all w.geometry.images w.appliances w.tra
 
 -- ---- an appliance crashes
 
-pub crash-content : (w : World) (a : ℕ) → a < w.appliances → Content w → Leased (after_crash w (appliance_no a)) → Content (after_crash w (appliance_no a))
+pub crash-content : (w : World) (a : ℕ) → a < w.appliances → KeepsContent w → Leased (after_crash w (appliance_no a)) → KeepsContent (after_crash w (appliance_no a))
 crash-content w a below content leased =
     let m = model_in w in
     let n = model_without_sessions m a in
@@ -203,7 +203,7 @@ started-own m a i Retire names owner decided session within = absurd names
 started-own m a i Reclaim names owner decided session within = absurd names
 
 pub start-content : (w : World) (a : ℕ) (command : Command) (known : Known) → a < w.appliances → (stands_at w.geometry a (w.seats a)).place ≡ Idle known → IsWellFormed command → IsBuilt command →
-    Content w → Leased (after_start w (appliance_no a) command) → Content (after_start w (appliance_no a) command)
+    KeepsContent w → Leased (after_start w (appliance_no a) command) → KeepsContent (after_start w (appliance_no a) command)
 start-content w a command known below here well built content leased =
     let g = w.geometry in
     let m = model_in w in
@@ -217,7 +217,7 @@ start-content w a command known below here well built content leased =
     let foreign : (j : ℕ) → Foreign a (m.slots j) (n.slots j) = λ j. foreign-start m a command j sound fits.0 in
     let unmoved = unmoved-started m a command in
     let free = not-waiting g w.surface.time w.surface.writes a (w.seats a) (Idle known) (content.leased.seated a below) here (λ b x no'. no') in
-    let running : IsRunning g a command known n = record {
+    let running : ModelRuns g a command known n = record {
       placed = known-below w a below;
       images = (counts-all g.images w.appliances w.trace).0;
       runs = at-same m.running a (Some command);

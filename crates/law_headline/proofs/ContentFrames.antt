@@ -17,17 +17,17 @@ use Rattle.law_lease.proofs.Leased.{Leased}
 use Rattle.law_lease.proofs.Open.{IsOpen, grips-one, grips-only}
 use Rattle.law_headline.proofs.Content.{IsJournalled, PlaceFits, IsServing, HasContent, OwnedAt, Grips}
 use Rattle.law_headline.proofs.Foreign.{Foreign}
-use Rattle.law_headline.proofs.Held.{Regime, Without, With, IsRunning, Looks, IsOf, IsOn, HeldPart}
-use Rattle.law_headline.proofs.HeldFrames.{missing_of, same-at, held-same, has-same, has-foreign, looks-foreign}
+use Rattle.law_headline.proofs.Held.{Regime, Without, With, ModelRuns, Looks, IsOf, IsOn, HeldPart}
+use Rattle.law_headline.proofs.HeldFrames.{missing_of, same-at, held-part-same, has-same, has-foreign, looks-foreign}
 use Rattle.law_headline.proofs.JournalFacts.{IsJournal-same}
 use Rattle.law_headline.proofs.JournalOne.{shows-one}
-use Rattle.law_headline.proofs.Journals.{Same, Keeps}
+use Rattle.law_headline.proofs.Journals.{Same, HoldsSlot}
 use Rattle.law_headline.proofs.ModelFacts.{Differs}
 use Rattle.law_headline.proofs.Replied.{Names, Unmoved}
 
 -- ---- the model
 
-running-unmoved : (g : Geometry) (a h : ℕ) (command : Command) (known : Known) (m n : Model) → h ≢ a → Unmoved a m n → IsRunning g h command known m → IsRunning g h command known n
+running-unmoved : (g : Geometry) (a h : ℕ) (command : Command) (known : Known) (m n : Model) → h ≢ a → Unmoved a m n → ModelRuns g h command known m → ModelRuns g h command known n
 running-unmoved g a h command known m n ne un is = record {
   placed = (let p = is.placed in let e = un.appliances in omega (arith, p, e));
   images = un.images ∙ is.images;
@@ -69,7 +69,7 @@ module _ (g : Geometry) (a h i : ℕ) (device : Device) (writes : List Issued) (
 
 -- what another boot minds stays right where the image's owner in the model says what becomes of its change
 module _ (g : Geometry) (few : g.slots ≤ 64) (a h i : ℕ) (device : Device) (writes : List Issued) (pending : Option ℕ) (m n : Model) (ne : h ≢ a) (un : Unmoved a m n)
-    (mine : (m.slots i).owner ≡ Some a) (keeps : Keeps g device i (n.slots i)) (differs : Differs (n.slots i)) where
+    (mine : (m.slots i).owner ≡ Some a) (keeps : HoldsSlot g device i (n.slots i)) (differs : Differs (n.slots i)) where
   not-theirs : {X : Type 0} → (m.slots i).owner ≡ Some h → X
   not-theirs e = absurd (ne (let f : Some h ≡ Some a = sym e ∙ mine in cc))
 
@@ -123,7 +123,7 @@ module _ (g : Geometry) (h i : ℕ) (d e : Device) (writes now : List Issued) (p
     λ names. (let s = owned.0 names in record {
       regime = s.regime;
       looks = s.looks;
-      held = held-same g h i command known s.regime part d e same s.held;
+      held = held-part-same g h i command known s.regime part d e same s.held;
       on = on-same s.regime s.on;
       fills = λ n x waits found kind.
           (let was = old known command part refl names n x waits found kind in

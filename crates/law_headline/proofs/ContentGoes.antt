@@ -31,15 +31,15 @@ use Rattle.plx_rules.specs.Session.{Session, Known}
 use Rattle.plx_rules.specs.World.{World, Seat, setting_at, with_reply_of}
 use Rattle.law_lease.proofs.Leased.{Leased}
 use Rattle.law_lease.proofs.Open.{IsOpen, open-elsewhere}
-use Rattle.law_headline.proofs.Content.{appliance_no, stands_at, PlaceFits, HasContent, OwnedAt, Grips, Minds, Whose, SeatFits, SeatHand, SeatOwns, Placed, Waits, Content}
+use Rattle.law_headline.proofs.Content.{appliance_no, stands_at, PlaceFits, HasContent, OwnedAt, Grips, Minds, Whose, SeatFits, SeatHand, SeatOwns, Placed, WaitsAreMet, KeepsContent}
 use Rattle.law_headline.proofs.ContentFrames.{place-unmoved, owned-foreign, owned-taken, one-grip, grip-only}
 use Rattle.law_headline.proofs.Foreign.{Foreign}
 use Rattle.law_headline.proofs.HandFacts.{NoMap, FoundMap, HandFits, no-map-filter}
 use Rattle.law_headline.proofs.Harmless.{Harmless, Yields, harmless-answers, harmless-foreign, yields-answers, yields-stays, yields-foreign}
-use Rattle.law_headline.proofs.Held.{attached_of, Regime, Without, With, IsRunning, Looks, HasImage, IsOf, IsOn, HeldPart, IsDrop, IsFairEnd, Fair}
+use Rattle.law_headline.proofs.Held.{attached_of, Regime, Without, With, ModelRuns, Looks, HasImage, IsOf, IsOn, HeldPart, IsDrop, IsFairEnd, Fair}
 use Rattle.law_headline.proofs.HeldCommands.{slot_no}
 use Rattle.law_headline.proofs.HeldFrames.{keeps-foreign}
-use Rattle.law_headline.proofs.Journals.{Keeps}
+use Rattle.law_headline.proofs.Journals.{HoldsSlot}
 use Rattle.law_headline.proofs.ModelFacts.{Sound, sound-all}
 use Rattle.law_headline.proofs.Owners.{owner-cases}
 use Rattle.law_headline.proofs.PlacedByKind.{placed-moves}
@@ -91,7 +91,7 @@ dropping-or r = by_flag (ends_sessions (number_of r))
 both-ways : {X : Type 0} (r : Reply) → IsDropping r → ends_sessions (number_of r) ≡ false → X
 both-ways r drops stays = absurd (let e : true ≡ false = sym drops ∙ stays in let P : ⊥ = cc in P)
 
-module _ (w : World) (content : Content w) (a : ℕ) (below : a < w.appliances) (event : Event) (log : List Happening) (known : Known) (command : Command)
+module _ (w : World) (content : KeepsContent w) (a : ℕ) (below : a < w.appliances) (event : Event) (log : List Happening) (known : Known) (command : Command)
     (holds : ℕ → Hold) (sample : Option ℕ) (just : Bool) where
   abbrev g : Geometry
   g = w.geometry
@@ -125,12 +125,12 @@ module _ (w : World) (content : Content w) (a : ℕ) (below : a < w.appliances) 
   NoSession part i = ⊥
 
   -- what is left of the command is right for the image's owner
-  abbrev pub IsHeldBy : Part End → ℕ → Type 0
-  IsHeldBy part i = (regime : Regime) × Looks g a i command known regime m × HeldPart g a i command known regime part device × IsOn g i device regime
+  abbrev pub IsRightFor : Part End → ℕ → Type 0
+  IsRightFor part i = (regime : Regime) × Looks g a i command known regime m × HeldPart g a i command known regime part device × IsOn g i device regime
 
   -- the command serves the image, or ends for want of a session
   abbrev pub Serves : Part End → ℕ → Type 0
-  Serves part i = IsHeldBy part i ⊎ NoSession part i
+  Serves part i = IsRightFor part i ⊎ NoSession part i
 
   -- what the boot's image is, once it holds the lease
   abbrev pub Owned : Part End → Type 0
@@ -141,12 +141,12 @@ module _ (w : World) (content : Content w) (a : ℕ) (below : a < w.appliances) 
   open-before : (i k : ℕ) (x : Issued) → IsOpen g w.rests w.appliances time writes (at w.seats a seat') (image_lease i) k x → IsOpen g w.rests w.appliances time writes w.seats (image_lease i) k x
   open-before i = open-elsewhere g w.rests w.appliances time writes w.seats (image_lease i) a seat' refl
 
-  waits-stay : Waits g w.rests w.appliances time device writes (at w.seats a seat')
+  waits-stay : WaitsAreMet g w.rests w.appliances time device writes (at w.seats a seat')
   waits-stay k x found all = content.waits k x found (λ lease under. open-elsewhere g w.rests w.appliances time writes w.seats lease a seat' refl k x (all lease under))
 
   -- nothing of what the boot's appliance owns in the model is open after the answer
-  abbrev pub IsQuiet : Type 0
-  IsQuiet = (i : ℕ) → i < g.images → (k : ℕ) (x : Issued) → IsOpen g w.rests w.appliances time writes (at w.seats a seat') (image_lease i) k x → IsOf g i x.block → (m.slots i).owner ≡ Some a → ⊥
+  abbrev pub LeavesNoneOpen : Type 0
+  LeavesNoneOpen = (i : ℕ) → i < g.images → (k : ℕ) (x : Issued) → IsOpen g w.rests w.appliances time writes (at w.seats a seat') (image_lease i) k x → IsOf g i x.block → (m.slots i).owner ≡ Some a → ⊥
 
   -- directly after a reading below the end of the named image's lease
   pub record IsJust (part : Part End) : Type 0 where
@@ -159,13 +159,13 @@ module _ (w : World) (content : Content w) (a : ℕ) (below : a < w.appliances) 
     pub grips : Grips g time writes a (w.seats a) image claim until
     pub free : (w.seats a).pending ≡ None
 
-  module _ (said : starts_and_crashes w.trace ≡ events_told (event ∷ w.history)) (running : IsRunning g a command known m) where
+  module _ (said : starts_and_crashes w.trace ≡ events_told (event ∷ w.history)) (running : ModelRuns g a command known m) where
     -- the command goes on
     content-on : (part : Part End) (hand : List ℕ) (found : Option (ℕ × List ℕ)) → NoMap g hand → FoundMap g found → Leased (went_to w.trace) →
         position (setting_at g a (w.seats a).boots) log ≡ record { holds = holds; hand = hand; sample = sample; found = found; place = In known command part } → Fair g a command known holds sample false part →
         ((i : ℕ) → i < g.images → Minds g time writes m a seat' i →
-        (Names command i → IsHeldBy part i) × ((Names command i → ⊥) → HasContent g a i known device m)) → IsQuiet →
-        Content (went_to w.trace)
+        (Names command i → IsRightFor part i) × ((Names command i → ⊥) → HasContent g a i known device m)) → LeavesNoneOpen →
+        KeepsContent (went_to w.trace)
     content-on part hand found none read leased leads fair own quiet = record {
       leased = leased;
       told = said;
@@ -199,7 +199,7 @@ module _ (w : World) (content : Content w) (a : ℕ) (below : a < w.appliances) 
 
     -- the command ends
     module _ (end : End) (hand : List ℕ) (found : Option (ℕ × List ℕ)) (none : NoMap g hand) (read : FoundMap g found) (leased : Leased (went_to (entry.Reply (appliance_no a) end.reply ∷ w.trace))) (leads : position (setting_at g a (w.seats a).boots) log ≡ goes_to g known command holds hand sample found (Ends end))
-        (fair : IsFairEnd g command known holds just end) (own : Owned (Ends end)) (quiet : IsQuiet ⊎ IsDropping end.reply) (now : just ≡ true → IsJust (Ends end)) where
+        (fair : IsFairEnd g command known holds just end) (own : Owned (Ends end)) (quiet : LeavesNoneOpen ⊎ IsDropping end.reply) (now : just ≡ true → IsJust (Ends end)) where
       abbrev n : Model
       n = model_after_reply m a command end.reply
 
@@ -211,7 +211,7 @@ module _ (w : World) (content : Content w) (a : ℕ) (below : a < w.appliances) 
 
       -- every slot is as others leave it; or the reply is the owner's
       abbrev IsOwners : Type 0
-      IsOwners = (i : ℕ) × (i < g.images) × Names command i × (IsHeldBy (Ends end) i) × ((claim : Claim) × (until : ℕ) × Grips g time writes a (w.seats a) i claim until) × ((w.seats a).pending ≡ None)
+      IsOwners = (i : ℕ) × (i < g.images) × Names command i × (IsRightFor (Ends end) i) × ((claim : Claim) × (until : ℕ) × Grips g time writes a (w.seats a) i claim until) × ((w.seats a).pending ≡ None)
 
       replies-how : (Harmless g.images (attached_of known) command end.reply) ⊎ (IsOwners ⊎ Yields command end.reply)
       replies-how = elim fair.allowed [
@@ -249,14 +249,14 @@ module _ (w : World) (content : Content w) (a : ℕ) (below : a < w.appliances) 
       abbrev IsClosed : ℕ → Type 0
       IsClosed j = (k : ℕ) (x : Issued) → IsOpen g w.rests w.appliances time writes (at w.seats a seat') (image_lease j) k x → IsOf g j x.block → ⊥
 
-      foreign-or : (j : ℕ) → j < g.images → (Foreign a (m.slots j) (n.slots j)) ⊎ ((IsHeldBy (Ends end) j) × IsClosed j × (IsGripped j ⊎ ((m.slots j).owner ≡ Some a)))
+      foreign-or : (j : ℕ) → j < g.images → (Foreign a (m.slots j) (n.slots j)) ⊎ ((IsRightFor (Ends end) j) × IsClosed j × (IsGripped j ⊎ ((m.slots j).owner ≡ Some a)))
       foreign-or j within = elim replies-how [
         | inl fine ↦ inl (harmless-foreign g.images (attached_of known) m a fine sound (fun_ext running.sessions) j)
         | inr rest ↦ elim rest [
           | inl owner ↦ elim (names-or command j) [
             | inl names ↦
                 let same : owner.0 ≡ j = names-same command owner.0 j owner.2 names in
-                let P : ℕ → Type 0 = λ k. (IsHeldBy (Ends end) k) × IsGripped k in
+                let P : ℕ → Type 0 = λ k. (IsRightFor (Ends end) k) × IsGripped k in
                 let o = subst P same (owner.3, owner.4) in
                 inr (o.0, (λ k x op of. none-some k (sym owner.5 ∙ grip-only w content.leased j a within below o.1.0 o.1.1 o.1.2 k x (open-before j k x op))), inl o.1)
             | inr away ↦ inl (away-foreign m a command end.reply j away)
@@ -314,7 +314,7 @@ module _ (w : World) (content : Content w) (a : ℕ) (below : a < w.appliances) 
       ]
 
       -- what another boot minds is left to it
-      left-to : (i : ℕ) → i < g.images → (b : ℕ) → b ≢ a → b < w.appliances → IsHeldBy (Ends end) i → IsGripped i → Minds g time writes n b (w.seats b) i → Foreign a (m.slots i) (n.slots i)
+      left-to : (i : ℕ) → i < g.images → (b : ℕ) → b ≢ a → b < w.appliances → IsRightFor (Ends end) i → IsGripped i → Minds g time writes n b (w.seats b) i → Foreign a (m.slots i) (n.slots i)
       left-to i within b ne under held gripped minds = by_minds minds
         where
           by_regime : (regime : Regime) → Looks g a i command known regime m → (n.slots i).owner ≡ Some b → Foreign a (m.slots i) (n.slots i)
@@ -350,7 +350,7 @@ module _ (w : World) (content : Content w) (a : ℕ) (below : a < w.appliances) 
           still' foreign = owned-foreign g a b i device writes (w.seats b).pending m n ne (unmoved-replied m a command end.reply) foreign (sound'.differs i) _
               (content.owned i within b under (minds-back i b foreign minds))
 
-      content-replied : Content (went_to (entry.Reply (appliance_no a) end.reply ∷ w.trace))
+      content-replied : KeepsContent (went_to (entry.Reply (appliance_no a) end.reply ∷ w.trace))
       content-replied =
           record {
             leased = leased;
@@ -363,7 +363,7 @@ module _ (w : World) (content : Content w) (a : ℕ) (below : a < w.appliances) 
                 (λ under. let P : Position → Type 0 = λ q. HandFits g q in subst P (sym leads) (record { hand = no-map-filter g _ hand none; found = read }))
                 (λ b ne under. content.hands b under);
             stored = λ i within.
-                let P : Model → Type 0 = λ x. Keeps g device i (x.slots i) in
+                let P : Model → Type 0 = λ x. HoldsSlot g device i (x.slots i) in
                 subst P (sym is-model) (elim (foreign-or i within) [
                   | inl foreign ↦ keeps-foreign g i a device (m.slots i) (n.slots i) foreign (content.stored i within)
                   | inr owner ↦ (owner.0.2 m owner.0.1).1
@@ -410,17 +410,17 @@ module _ (w : World) (content : Content w) (a : ℕ) (below : a < w.appliances) 
 
     -- an ask was answered
     only-held : (part : Part End) → ((i : ℕ) → NoSession part i → ⊥) → Owned part → (i : ℕ) → i < g.images → Minds g time writes m a seat' i →
-        (Names command i → IsHeldBy part i) × ((Names command i → ⊥) → HasContent g a i known device m)
+        (Names command i → IsRightFor part i) × ((Names command i → ⊥) → HasContent g a i known device m)
     only-held part none own i within minds =
         let mine = own i within minds in (λ names. elim (mine.0 names) [ inl held ↦ held | inr no' ↦ absurd (none i no') ], mine.1)
 
-    still : IsQuiet ⊎ ⊥ → IsQuiet
+    still : LeavesNoneOpen ⊎ ⊥ → LeavesNoneOpen
     still (inl quiet) = quiet
     still (inr no') = absurd no'
 
     pub content-went : (part : Part End) (hand : List ℕ) (found : Option (ℕ × List ℕ)) → NoMap g hand → FoundMap g found → Leased (went_to (with_reply_of (appliance_no a) part w.trace)) →
         position (setting_at g a (w.seats a).boots) log ≡ goes_to g known command holds hand sample found part → Fair g a command known holds sample just part →
-        Owned part → IsQuiet ⊎ IsDrop part → (just ≡ true → IsJust part) → Content (went_to (with_reply_of (appliance_no a) part w.trace))
+        Owned part → LeavesNoneOpen ⊎ IsDrop part → (just ≡ true → IsJust part) → KeepsContent (went_to (with_reply_of (appliance_no a) part w.trace))
     content-went (Ends end) hand found none read leased leads fair own quiet now = content-replied end hand found none read leased leads fair own quiet now
     content-went (ReadThen block rest fault) hand found none read leased leads fair own quiet now =
         content-on (ReadThen block rest fault) _ found (no-map-filter g _ hand none) read leased leads fair (only-held (ReadThen block rest fault) (λ i e. e) own) (still quiet)

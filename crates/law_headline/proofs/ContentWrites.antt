@@ -33,20 +33,20 @@ use Rattle.plx_rules.specs.Session.{Known}
 use Rattle.plx_rules.specs.Settings.{boot_number}
 use Rattle.plx_rules.specs.World.{World, Seat, with_surface, after_issue}
 use Rattle.law_lease.proofs.LeaseSteps.{placed-may}
-use Rattle.law_lease.proofs.Frame.{Frame, IsNew, SameUnder, frame-all, frame-others, stood-issued, grips-before, grips-free, grips-other, grips-own, land-frame, landed-or, open-issued}
+use Rattle.law_lease.proofs.Frame.{Frame, IsNewlyOpen, SameUnder, frame-all, frame-others, stood-issued, grips-before, grips-free, grips-other, grips-own, land-frame, landed-or, open-issued}
 use Rattle.law_lease.proofs.Covers.{Covers}
 use Rattle.law_lease.proofs.Open.{GripsLease, IsOpen, open-found}
-use Rattle.law_lease.proofs.Leased.{MayWrite, LawfulAt, IsAskedAt, IsRight, Leased}
-use Rattle.law_headline.proofs.Content.{appliance_no, stands_at, IsJournalled, PlaceFits, OwnedAt, Grips, Minds, Whose, SeatFits, SpellMaps, SeatHand, SeatOwns, Placed, Waits, Content}
+use Rattle.law_lease.proofs.Leased.{MayIssue, LawfulAt, IsAskedAt, IsRight, Leased}
+use Rattle.law_headline.proofs.Content.{appliance_no, stands_at, IsJournalled, PlaceFits, OwnedAt, Grips, Minds, Whose, SeatFits, SpellMaps, SeatHand, SeatOwns, Placed, WaitsAreMet, KeepsContent}
 use Rattle.law_headline.proofs.ContentFrames.{owned-same, grip-only}
 use Rattle.law_headline.proofs.ContentGoes.{names-same}
 use Rattle.law_headline.proofs.Held.{Regime, Without, With, IsWith, IsOn, Looks, IsOf, HeldPart, IsNamed, Fair}
-use Rattle.law_headline.proofs.HeldFrames.{missing_of, missing-landed, same-refl, same-put, same-over, held-same, keeps-landed}
-use Rattle.law_headline.proofs.ImageWrites.{placed-block, placed-keeps, placed-made, named-image, use-image, held-image, image-held, image-write, of-covers, of-one, placed-cases, same-under}
+use Rattle.law_headline.proofs.HeldFrames.{missing_of, missing-landed, same-refl, same-put, same-over, held-part-same, keeps-landed}
+use Rattle.law_headline.proofs.ImageWrites.{placed-block, placed-keeps, placed-made, named-image, use-image, held-image-write, image-held, image-write, of-covers, of-one, placed-cases, same-under}
 use Rattle.law_headline.proofs.JournalFacts.{Keeps-same}
-use Rattle.law_headline.proofs.Journals.{Keeps, Same}
+use Rattle.law_headline.proofs.Journals.{HoldsSlot, Same}
 use Rattle.law_headline.proofs.BytesByKind.{OnlyBytes, only-lands}
-use Rattle.law_headline.proofs.MapFacts.{SpellsMap, map-write}
+use Rattle.law_headline.proofs.MapFacts.{IsMapSpelled, map-write}
 use Rattle.law_headline.proofs.PlacedByKind.{KeepsAll, PlacedBy, placed-moves}
 use Rattle.law_headline.proofs.Replied.{Names}
 use Rattle.law_headline.proofs.WaitsByKind.{WaitsOn, waits-asked, waits-lands, waits-others}
@@ -68,7 +68,7 @@ of-named : (g : Geometry) (command : Command) (i block : ℕ) → (j : ℕ) × (
 of-named g command i block named names = let P : ℕ → Type 0 = λ j. IsOf g j block in subst P (names-same command named.0 i named.3 names) named.2
 
 -- the frame of a landing leaves each other open write what it had
-placed-others : (w : World) (content : Content w) (other : Device) (flagged : List Issued) (number : ℕ) (write : Issued) →
+placed-others : (w : World) (content : KeepsContent w) (other : Device) (flagged : List Issued) (number : ℕ) (write : Issued) →
     Frame w.geometry w.rests w.appliances w.surface.time w.surface.device other w.surface.writes flagged w.seats number write →
     (home n : ℕ) (x : Issued) → n ≢ number → slice_get w.surface.writes n ≡ Some x → home_of (w.rests n) ≡ Some home → IsOpen w.geometry w.rests w.appliances w.surface.time flagged w.seats home n x →
     PlacedBy x.kind w.geometry other (model_in w).slots home x.block x.bytes
@@ -89,7 +89,7 @@ placed-others w content other flagged number write frame home n x ne found is op
           let same = same-under g i device other below (subst (λ (l : ℕ). SameUnder g l device other) at'' left.1) in (
             old.0,
             λ flags count.
-                let P : List ℕ → Type 0 = λ y. Keeps g (put other x.block (with_landed_sectors flags x.bytes y)) i (slots i) in
+                let P : List ℕ → Type 0 = λ y. HoldsSlot g (put other x.block (with_landed_sectors flags x.bytes y)) i (slots i) in
                 subst P (sym at')
                 (Keeps-same g (put device x.block (with_landed_sectors flags x.bytes (device x.block))) (put other x.block (with_landed_sectors flags x.bytes (device x.block))) i (slots i)
                 (same-put g i x.block (with_landed_sectors flags x.bytes (device x.block)) device other same) (old.1 flags count)),
@@ -97,7 +97,7 @@ placed-others w content other flagged number write frame home n x ne found is op
           (content.placed home n x is left.0)
     ]
 
-module _ (w : World) (content : Content w) where
+module _ (w : World) (content : KeepsContent w) where
   abbrev g : Geometry
   g = w.geometry
 
@@ -163,7 +163,7 @@ module _ (w : World) (content : Content w) where
     abbrev leases : List ℕ
     leases = rests_on g command (p a).holds what block bytes
 
-    may : MayWrite g boot (p a).holds leases what block bytes guard
+    may : MayIssue g boot (p a).holds leases what block bytes guard
     may = let P : Place → Type 0 = λ q. LawfulAt g boot (p a).holds (p a).sample q in (subst P here (content.leased.seated a below).lawful).0
 
     -- of its block only its own bytes differ, its image is kept, and it is the appliance's in the model
@@ -180,7 +180,7 @@ module _ (w : World) (content : Content w) where
             | inr held ↦ held
           ] in
           let s = (serving i within (inl grips)).0 names in
-          let write = held-image g a i command known s.regime block bytes guard done fault missed device what mine.1 s.held in
+          let write = held-image-write g a i command known s.regime block bytes guard done fault missed device what mine.1 s.held in
           (write.only, (λ flags count. write.keeps flags count m s.looks), with-owner i s.regime s.looks write.changes)
       | inr away ↦ absurd (away of)
     ]
@@ -193,10 +193,10 @@ module _ (w : World) (content : Content w) where
 
     -- what is open once the write is issued was open before, or is the new one
     opened : (i n : ℕ) (x : Issued) → IsOpen g since w.appliances time now (at w.seats a seat') (image_lease i) n x →
-        (IsOpen g w.rests w.appliances time writes w.seats (image_lease i) n x) ⊎ IsNew w content.leased a below free leases what block bytes guard (image_lease i) n x
+        (IsOpen g w.rests w.appliances time writes w.seats (image_lease i) n x) ⊎ IsNewlyOpen w content.leased a below free leases what block bytes guard (image_lease i) n x
     opened i = open-issued w content.leased a below free leases what block bytes guard (image_lease i)
 
-    pub issue-content : Leased (after_issue w (appliance_no a) command what block bytes guard) → Content (after_issue w (appliance_no a) command what block bytes guard)
+    pub issue-content : Leased (after_issue w (appliance_no a) command what block bytes guard) → KeepsContent (after_issue w (appliance_no a) command what block bytes guard)
     issue-content leased = record {
       leased = leased;
       told = content.told;
@@ -205,7 +205,7 @@ module _ (w : World) (content : Content w) where
       stored = content.stored;
       spelled = λ n x found. elim (push-cases writes fresh x n found) [
         | inl old ↦ content.spelled n x old
-        | inr is ↦ (let P : Issued → Type 0 = λ y. SpellsMap g y.kind y.bytes in subst P is.1 fits.1.0.spells)
+        | inr is ↦ (let P : Issued → Type 0 = λ y. IsMapSpelled g y.kind y.bytes in subst P is.1 fits.1.0.spells)
       ];
       maps = content.maps;
       hands = at-all (λ b s. b < w.appliances → SeatHand g b s) w.seats a seat' (λ under. content.hands a below) (λ b ne under. content.hands b under);
@@ -306,13 +306,13 @@ module _ (w : World) (content : Content w) where
     frame : Frame g w.rests w.appliances time device after writes now' w.seats number write
     frame = land-frame w content.leased number sector write may
 
-    keeps-after : (i : ℕ) → (slot : Slot) → ((flags : List Bool) → length flags ≡ 8 → Keeps g (put device write.block (with_landed_sectors flags write.bytes (device write.block))) i slot) → Keeps g after i slot
+    keeps-after : (i : ℕ) → (slot : Slot) → ((flags : List Bool) → length flags ≡ 8 → HoldsSlot g (put device write.block (with_landed_sectors flags write.bytes (device write.block))) i slot) → HoldsSlot g after i slot
     keeps-after i slot keeps =
         let one : List Bool = slice_set no_sectors sector true in
         let none : with_landed_sectors no_sectors write.bytes (device write.block) ≡ device write.block = mixed-none 8 write.bytes (device write.block) in
         let is : with_landed_sector sector write.bytes (device write.block) ≡ with_landed_sectors one write.bytes (device write.block) =
         ap (with_landed_sector sector write.bytes) (sym none) ∙ mixed-landed no_sectors write.bytes (device write.block) sector false (no-sector sector below-8) bytes-long (content.leased.long write.block) in
-        let P : List ℕ → Type 0 = λ x. Keeps g (put device write.block x) i slot in
+        let P : List ℕ → Type 0 = λ x. HoldsSlot g (put device write.block x) i slot in
         subst P (sym is) (keeps one (length-set no_sectors sector true))
       where
         no-sector : (k : ℕ) → k < 8 → slice_get no_sectors k ≡ Some false
@@ -334,7 +334,7 @@ module _ (w : World) (content : Content w) where
       | inr away ↦ inr ((λ of. away.uncovered (of-covers g i write.block within of)), same-under g i device after within away.same)
     ]
 
-    stored-after : (i : ℕ) → i < g.images → Keeps g after i (m.slots i)
+    stored-after : (i : ℕ) → i < g.images → HoldsSlot g after i (m.slots i)
     stored-after i within = elim (cases i within) [
       | inl mine ↦ keeps-after i (m.slots i) (placed-keeps write.kind g device m.slots (image_lease i) write.block write.bytes mine.1 (content.placed (image_lease i) number write mine.3 mine.2) i within refl).1
       | inr no' ↦ Keeps-same g device after i (m.slots i) no'.1 (content.stored i within)
@@ -357,7 +357,7 @@ module _ (w : World) (content : Content w) where
 
     spelled-after : SpellMaps g now'
     spelled-after n x found = elim (landed-or w content.leased number sector write may n x found) [
-      | inl here' ↦ (let P : Issued → Type 0 = λ y. SpellsMap g y.kind y.bytes in subst P (sym here'.1) (content.spelled number write may.found))
+      | inl here' ↦ (let P : Issued → Type 0 = λ y. IsMapSpelled g y.kind y.bytes in subst P (sym here'.1) (content.spelled number write may.found))
       | inr away ↦ content.spelled n x away.1
     ]
 
@@ -397,12 +397,12 @@ module _ (w : World) (content : Content w) where
         by_kind : (k : WriteKind) → IsJournalled k → length bytes ≡ 4096 → HeldPart g b i command known regime (WriteThen k block bytes guard done fault missed) device →
             HeldPart g b i command known regime (WriteThen k block bytes guard done fault missed) (put device block (with_landed_sector sector bytes (device block)))
         by_kind k is long held =
-            let write' = held-image g b i command known regime block bytes guard done fault missed device k is held in
+            let write' = held-image-write g b i command known regime block bytes guard done fault missed device k is held in
             let made = put device block (with_landed_sector sector bytes (device block)) in
             image-held g b i command known regime block bytes guard done fault missed made k is (record {
               of = write'.of;
               keeps = λ flags count x looks. keeps-landed g i block sector bytes device (x.slots i) below-8 long (content.leased.long block) (λ f c. write'.keeps f c x looks) flags count;
-              follows = held-same g b i command known regime done (put device block bytes) (put made block bytes) (same-over g i block bytes (with_landed_sector sector bytes (device block)) device) write'.follows;
+              follows = held-part-same g b i command known regime done (put device block bytes) (put made block bytes) (same-over g i block bytes (with_landed_sector sector bytes (device block)) device) write'.follows;
               changes = write'.changes;
               only = (let O : List ℕ → Type 0 = λ y. OnlyBytes k bytes y in
                   subst O (sym (put-same device block (with_landed_sector sector bytes (device block)))) (only-lands k sector bytes (device block) write'.only));
@@ -416,7 +416,7 @@ module _ (w : World) (content : Content w) where
     held-with : (b i : ℕ) (command : Command) (known : Known) (regime : Regime) (part : Part End) (boot : ℕ) → IsAskedAt (In known command part) boot write → IsJournalled write.kind →
         HeldPart g b i command known regime part device → IsWith regime
     held-with b i command known regime (WriteThen what block bytes guard done fault missed) number_of_boot asked journalled held =
-        let K : WriteKind → Type 0 = λ k. IsJournalled k in (held-image g b i command known regime block bytes guard done fault missed device what (subst K asked.0 journalled) held).changes
+        let K : WriteKind → Type 0 = λ k. IsJournalled k in (held-image-write g b i command known regime block bytes guard done fault missed device what (subst K asked.0 journalled) held).changes
     held-with b i command known regime (Ends end) number_of_boot asked journalled held = absurd asked
     held-with b i command known regime (ReadThen block rest fault) number_of_boot asked journalled held = absurd asked
     held-with b i command known regime (ClockThen rest) number_of_boot asked journalled held = absurd asked
@@ -484,7 +484,7 @@ module _ (w : World) (content : Content w) where
               λ away. absurd (away names),
             )
 
-    waits-after : Waits g w.rests w.appliances time after now' w.seats
+    waits-after : WaitsAreMet g w.rests w.appliances time after now' w.seats
     waits-after n x found all = elim (landed-or w content.leased number sector write may n x found) [
       | inl here' ↦
           let U : ℕ → Type 0 = λ k. (lease : ℕ) → IsUnder w.rests k lease → IsOpen g w.rests w.appliances time now' w.seats lease k x in
@@ -498,7 +498,7 @@ module _ (w : World) (content : Content w) where
     ]
 
     pub land-content : (a back : ℕ) → Leased (with_surface w (event.Land (appliance_no a) back sector) (after_landing w.surface number write sector)) →
-        Content (with_surface w (event.Land (appliance_no a) back sector) (after_landing w.surface number write sector))
+        KeepsContent (with_surface w (event.Land (appliance_no a) back sector) (after_landing w.surface number write sector))
     land-content a back leased = record {
       leased = leased;
       told = content.told;

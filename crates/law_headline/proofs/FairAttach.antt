@@ -37,7 +37,7 @@ use Rattle.law_headline.proofs.FairParts.{read-stays-held, lease-image, backs-re
 use Rattle.law_headline.proofs.Harmless.{Harmless}
 use Rattle.law_headline.proofs.Harmless as harmless
 use Rattle.law_headline.proofs.Held.{IsSpelled, Without, attached_of, HeldPart, Backs, just_at}
-use Rattle.law_headline.proofs.HeldCommands.{slot_no, held-image}
+use Rattle.law_headline.proofs.HeldCommands.{slot_no, load-attaches}
 use Rattle.plx_gate.proofs.Leases.{lease-back, length-lease}
 use Rattle.law_headline.proofs.Journals.{IsJournal}
 
@@ -190,7 +190,7 @@ module _ (s : Setting) (geometry : IsGeometry s.geometry) (a : ℕ) (small : s.b
                   let next : List ℕ → Part End = λ bytes. followed_by (reread_by (bytes_eq bytes own) uses claim (read_lease bytes)) (after_claim s (knowing n) i) in
                   let P : Bool → Type 0 = λ b. HeldPart s.geometry a i attaches known (Without kept writes) (followed_by (reread_by b uses claim (read_lease own)) (after_claim s (knowing n) i)) device in
                   let here : P (bytes_eq own own) =
-                  subst P (sym ((bytes_eq-Decides own own).1 refl)) (held-image s a i within geometry.slots_high known device kept writes
+                  subst P (sym ((bytes_eq-Decides own own).1 refl)) (load-attaches s a i within geometry.slots_high known device kept writes
                   (let J : ℕ → Type 0 = λ x. IsJournal s.geometry device x kept writes in subst J (sym same) journal) none (knowing n) (end_of_term claim) none) in
                   let R : LeaseRecord → Type 0 = λ r. HeldPart s.geometry a i attaches known (Without kept writes) (next (lease_bytes r)) device in
                   let Q : ℕ → Type 0 = λ x. HeldPart s.geometry a x attaches known (Without kept writes) (next (lease_bytes (Claimed c u))) device in

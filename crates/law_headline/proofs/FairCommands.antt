@@ -27,7 +27,7 @@ use Rattle.plx_gate.specs.declared.image.ImageRecord.TheVariants as image_is
 use Rattle.plx_gate.proofs.Descriptors.{length-descriptor}
 use Rattle.plx_geom.specs.Geometry.{IsGeometry, lease_count, image_lease, lease_at, record_at}
 use Rattle.plx_geom.proofs.Places.{lease-lease}
-use Rattle.plx_base.proofs.Tests.{nat_lt-true}
+use Rattle.plx_base.proofs.Tests.{nat_lt-true, nat_le-past}
 use Rattle.plx_rules.specs.Part.{Part}
 use Rattle.plx_rules.specs.Attaching.{image_use, attach_part}
 use Rattle.plx_rules.specs.Commands.{IsBuilt, IsWellFormed, unless, attached_part, of_attached, detach_part, record_part, create_part, delete_part, read_part, next_write, next_slot, journal_part, write_part, later_of, renewal, renew_part, attached_uses, command_part}
@@ -37,6 +37,7 @@ use Rattle.plx_rules.specs.Records.{is_live, generation_of, size_of, made_record
 use Rattle.plx_rules.specs.Session.{Session, Known, with_session, new_session, write_count, content, with_write}
 use Rattle.plx_rules.specs.Settings.{Setting}
 use Rattle.plx_rules.specs.Times.{term}
+use Rattle.plx_rules.proofs.Holds.{later-below, later-least}
 use Rattle.law_headline.proofs.FairAttach.{fair-unattached}
 use Rattle.law_headline.proofs.FairParts.{lease-image, backs-timed, backs-with, replaced, unreached-tells, just-one, names-by-list, IsFair, fair-lost, fair-write_failed, fair-in-time, fair-ends}
 use Rattle.law_headline.proofs.FairSpace.{fair-reserve, fair-retire}
@@ -44,7 +45,7 @@ use Rattle.law_headline.proofs.HandFacts.{NoMap}
 use Rattle.law_headline.proofs.Harmless.{Harmless}
 use Rattle.law_headline.proofs.Harmless as harmless
 use Rattle.law_headline.proofs.Held.{attached_of, Backs, is_below, just_at, Fair}
-use Rattle.law_headline.proofs.HeldCommands.{slot_no, size-tells, not-le-tells}
+use Rattle.law_headline.proofs.HeldCommands.{slot_no, size-tells}
 use Rattle.plx_gate.proofs.Leases.{lease-back, length-lease}
 use Rattle.law_lease.proofs.LawfulCommands.{IsRest, length-labelled}
 use Rattle.law_headline.proofs.Replied.{Names, sessions_after}
@@ -211,7 +212,7 @@ module _ (s : Setting) (geometry : IsGeometry s.geometry) (a : ℕ) (known : Kno
       by_tests t claim until within is held just false false false ey ez =
           let new = made_record (generation_of t.image + 1) size label in
           let sizes = size-tells size ey in
-          let young = not-le-tells last_generation (generation_of t.image) ez in
+          let young = nat_le-past last_generation (generation_of t.image) ez in
           let limits : IsImage new = record {
             generation_low = omega arith;
             generation_high = omega (arith, young);
@@ -266,12 +267,6 @@ module _ (s : Setting) (geometry : IsGeometry s.geometry) (a : ℕ) (known : Kno
       by_session None is = by_within (nat_lt i s.geometry.images) refl is
 
 -- ---- the renewals
-
-later-least : (a b : ℕ) → a ≤ later_of a b
-later-least a b = elim (leb_tells a b) [ inl below ↦ rw below.0 below.1 | inr not' ↦ rw not'.0 (omega arith) ]
-
-later-below : (a b m : ℕ) → a < m → b < m → later_of a b < m
-later-below a b m one other = elim (leb_tells a b) [ inl below ↦ rw below.0 other | inr not' ↦ rw not'.0 one ]
 
 module _ (s : Setting) (a : ℕ) (known : Known) (holds0 : ℕ → Hold) (reading : ℕ) (early : reading < 2 ^ 48) where
   abbrev Renews : (ℕ → Hold) → Option ℕ → Part End → Type 0

@@ -280,11 +280,11 @@ module _ (s : Setting) (geometry : IsGeometry s.geometry) (a : ℕ) (command : C
   -- ---- a retire
 
   -- the replies of a give are among the command's
-  pub record Gives : Type 0 where
+  pub record ListsGiveFaults : Type 0 where
     pub read_fault : is_in 10 (row command) ≡ true
     pub write_fault : is_in 11 (row command) ≡ true
 
-  module _ (gives : Gives) where
+  module _ (gives : ListsGiveFaults) where
     -- what is left goes on fairly
     abbrev StaysFair : Part End → Type 0
     StaysFair rest = (holds : ℕ → Hold) (sample : Option ℕ) (just : Bool) → Backs s.geometry holds known → Fairly holds sample just rest

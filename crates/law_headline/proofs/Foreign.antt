@@ -1,5 +1,6 @@
 -- What an entry of one appliance leaves of a slot for the others.
 use Rattle.std.proofs.Common.{◌≡◌, ◌≢◌, ℕ, ◌⊎◌, inl, inr, Bool, true, false, Option, Some, None, refl, sym, subst, ◌∙◌}
+use Rattle.plx_base.proofs.Tests.{and-parts}
 use Rattle.plx_commands.specs.Facts.{refusals, is_none}
 use Rattle.plx_commands.specs.Images.{Image}
 use Rattle.plx_commands.specs.Model.{Model, Slot, images_in, owns_all}
@@ -9,7 +10,7 @@ use Rattle.plx_commands.specs.Slots.{named_slots, changed_slot, image_after}
 use Rattle.plx_commands.specs.declared.command.Command.{Command}
 use Rattle.plx_commands.proofs.Places.{at-all}
 use Rattle.law_headline.proofs.ModelFacts.{Sound}
-use Rattle.law_headline.proofs.Owners.{both-true, owner-cases, disowned-other, disowned-stranger, changed-owned}
+use Rattle.law_headline.proofs.Owners.{owner-cases, disowned-other, disowned-stranger, changed-owned}
 
 -- the image stays, a change may come where there was none, what another appliance owns stays whole, and no other appliance becomes the owner
 pub record Foreign (a : ℕ) (s t : Slot) : Type 0 where
@@ -40,7 +41,7 @@ foreign-start m a command j sound idle = by_slot (changed_slot command) refl
         Foreign a (m.slots j) (where_owned x m.slots slot (under_way (m.slots slot) (image_after (images_in m) slot command)) j)
     by_test slot is false e = foreign-same a (m.slots j)
     by_test slot is true e =
-        let mine = changed-owned m a command slot is (both-true (owns_all m a (named_slots command)) (is_none (refusals m a command)) e).0 in
+        let mine = changed-owned m a command slot is (and-parts (owns_all m a (named_slots command)) (is_none (refusals m a command)) e).0 in
         at-all (λ k t. Foreign a (m.slots k) t) m.slots slot (under_way (m.slots slot) (image_after (images_in m) slot command))
         (record { image = refl; change = inr (no_change (m.slots slot).change refl mine); others = λ ne. absurd (ne mine); owner = λ c e. e })
         (λ k ne. foreign-same a (m.slots k)) j

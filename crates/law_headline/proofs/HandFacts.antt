@@ -1,8 +1,8 @@
 -- What a boot has in hand is no map's block, and a map's block that it read last spells a map.
 use Rattle.std.proofs.Common.{◌≡◌, ◌≢◌, ℕ, suc, ◌+◌, ◌*◌, ◌≤◌, ◌<◌, ◌⊎◌, inl, inr, List, [], ◌∷◌, ◌++◌, length, Bool, true, false, Option, Some, None, refl, sym, subst, ◌∙◌, arith}
-use Rattle.std.specs.Prelude.{filter, not, ◌&&◌, ◌||◌, ◌==◌, if◌then◌else◌, slice_get}
+use Rattle.std.specs.Prelude.{filter, not, ◌&&◌, ◌==◌, if◌then◌else◌, slice_get}
 use Rattle.std.proofs.lemmas.Bool.Decides.{eqb_tells, leb_tells}
-use Rattle.plx_base.proofs.Tests.{eqb-false}
+use Rattle.plx_base.proofs.Tests.{eqb-false, or-parts}
 use Rattle.plx_base.specs.declared.write_kind.WriteKind.{WriteKind}
 use Rattle.plx_base.specs.declared.write_kind.WriteKind.TheVariants as kind
 use Rattle.plx_commands.specs.Replies.{is_in}
@@ -29,14 +29,10 @@ pub record HandFits (g : Geometry) (p : Position) : Type 0 where
 
 -- ---- lists of blocks
 
-neither : (a b : Bool) → (a || b) ≡ false → (a ≡ false) × (b ≡ false)
-neither false b e = (refl, e)
-neither true b e = absurd (let P : ⊥ = cc in P)
-
 pub out-filter : (test : ℕ → Bool) (b : ℕ) (blocks : List ℕ) → is_in b blocks ≡ false → is_in b (filter test blocks) ≡ false
 out-filter test b [] e = refl
 out-filter test b (block ∷ blocks) e =
-    let out = neither (b == block) (is_in b blocks) e in
+    let out = or-parts (b == block) (is_in b blocks) e in
     by_test (test block) out.0 (out-filter test b blocks out.1)
   where
     by_test : (t : Bool) → (b == block) ≡ false → is_in b (filter test blocks) ≡ false → is_in b (if t then block ∷ filter test blocks else filter test blocks) ≡ false
@@ -45,7 +41,7 @@ out-filter test b (block ∷ blocks) e =
 
 out-both : (b : ℕ) (some more : List ℕ) → is_in b some ≡ false → is_in b more ≡ false → is_in b (some ++ more) ≡ false
 out-both b [] more e f = f
-out-both b (block ∷ some) more e f = let out = neither (b == block) (is_in b some) e in rw (out.0, out-both b some more out.1 f) refl
+out-both b (block ∷ some) more e f = let out = or-parts (b == block) (is_in b some) e in rw (out.0, out-both b some more out.1 f) refl
 
 pub no-map-filter : (g : Geometry) (test : ℕ → Bool) (blocks : List ℕ) → NoMap g blocks → NoMap g (filter test blocks)
 no-map-filter g test blocks none extent below = out-filter test (map_at g extent) blocks (none extent below)

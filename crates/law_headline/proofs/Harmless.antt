@@ -46,8 +46,8 @@ yields-answers m a (worn {command = command} listed claims) = founded-answers m 
     by_claims (fact ∷ others) = inr (by_claims others)
 
 -- the refusal of a command that names a slot without a session
-unattached : (m : Model) (a : ℕ) (command : Command) → is_in 1 (row command) ≡ true → has_all (m.sessions a) (named_slots command) ≡ false → IsAmong NotAttached (of_sessions (m.sessions a) command)
-unattached m a command listed none = by_command command listed none
+unattached-among : (m : Model) (a : ℕ) (command : Command) → is_in 1 (row command) ≡ true → has_all (m.sessions a) (named_slots command) ≡ false → IsAmong NotAttached (of_sessions (m.sessions a) command)
+unattached-among m a command listed none = by_command command listed none
   where
     among : (b : Bool) → b ≡ false → IsAmong NotAttached (where_holds (not b) NotAttached)
     among false e = inl refl
@@ -85,7 +85,7 @@ harmless-answers images sessions m a (ending {command = command} {reply = reply}
 harmless-answers images sessions m a (without {command = command} listed none) same counts =
     founded-answers m a command NotAttached listed refl
     (among-more NotAttached (refusals m a command) (of_claims command) (among-more NotAttached (of_sessions (m.sessions a) command) (of_images m command)
-    (unattached m a command listed (ap (λ (f : ℕ → Bool). has_all f (named_slots command)) same ∙ none))))
+    (unattached-among m a command listed (ap (λ (f : ℕ → Bool). has_all f (named_slots command)) same ∙ none))))
 harmless-answers images sessions m a (with_session {slot = slot} some) same counts =
     founded-answers m a (Attach slot) AlreadyAttached refl refl
     (among-more AlreadyAttached (refusals m a (Attach slot)) (of_claims (Attach slot)) (among-more AlreadyAttached (of_sessions (m.sessions a) (Attach slot)) (of_images m (Attach slot))

@@ -17,15 +17,15 @@ use Rattle.plx_rules.specs.World.{World, Step, Reached, first_seat, first_world}
 use Rattle.law_lease.proofs.LeaseSteps.{keeps-leases, first-leased}
 use Rattle.law_lease.proofs.Leased.{Leased}
 use Rattle.law_lease.proofs.Open.{open-found}
-use Rattle.law_headline.proofs.Content.{Content}
+use Rattle.law_headline.proofs.Content.{KeepsContent}
 use Rattle.law_headline.proofs.ContentAnswers.{begin-content, clock-content, wait-content, read-content, fault-content, write-fault-content, miss-content, done-content}
 use Rattle.law_headline.proofs.ContentEvents.{tick-content, crash-content, start-content}
 use Rattle.law_headline.proofs.ContentWrites.{issue-content, land-content}
-use Rattle.law_headline.proofs.Journals.{Keeps}
+use Rattle.law_headline.proofs.Journals.{HoldsSlot}
 use Rattle.law_headline.proofs.MapFacts.{map-empty}
 use Rattle.law_headline.proofs.StoredFacts.{stores-kept}
 
-keeps-step : {w v : World} {event : Event} → Step w event v → Leased v → Content w → Content v
+keeps-step : {w v : World} {event : Event} → Step w event v → Leased v → KeepsContent w → KeepsContent v
 keeps-step (world.ticks {w = w} {by = by} room) leased content = tick-content w by content leased
 keeps-step (world.starts {w = w} {appliance = a} {command = command} known below here well built) leased content = start-content w a.0 command known below here well built content leased
 keeps-step (world.begins {w = w} {appliance = a} {reading = reading} known command below here is) leased content = begin-content w content a.0 below known command reading here is leased
@@ -47,7 +47,7 @@ keeps-step (world.crashes {w = w} {appliance = a} below room) leased content = c
 
 -- ---- the first world
 
-keeps-first : (g : Geometry) (device : Device) → IsFormatted g device → (i : ℕ) → i < g.images → Keeps g device i first_slot
+keeps-first : (g : Geometry) (device : Device) → IsFormatted g device → (i : ℕ) → i < g.images → HoldsSlot g device i first_slot
 keeps-first g device formatted i within = record {
   kept = Free 0;
   writes = [];
@@ -68,7 +68,7 @@ keeps-first g device formatted i within = record {
   either = inl (record { live = refl; generation = refl; size = refl; label = refl; count = refl; blocks = λ vblock. refl; frozen = refl });
 }
 
-first-content : (g : Geometry) (appliances : ℕ) (device : Device) → IsGeometry g → appliances ≤ 8 → IsFormatted g device → Content (first_world g appliances device)
+first-content : (g : Geometry) (appliances : ℕ) (device : Device) → IsGeometry g → appliances ≤ 8 → IsFormatted g device → KeepsContent (first_world g appliances device)
 first-content g appliances device geometry few formatted = record {
   leased = first-leased g appliances device geometry few formatted;
   told = refl;
@@ -86,7 +86,7 @@ first-content g appliances device geometry few formatted = record {
   owned = λ i within a below minds. elim minds [ inl grips ↦ absurd (let e = grips.2.0 in let P : ⊥ = cc in P) | inr mine ↦ absurd (let P : ⊥ = cc in P) ];
 }
 
-pub reached-content : {w : World} → Reached w → Content w
+pub reached-content : {w : World} → Reached w → KeepsContent w
 reached-content (world.first {g = g} {appliances = appliances} {device = device} geometry some few formatted) = first-content g appliances device geometry few formatted
 reached-content (world.later reached step) = let content = reached-content reached in keeps-step step (keeps-leases step content.leased) content
 

@@ -27,8 +27,8 @@ use Rattle.plx_rules.specs.Headline.{IsUndamaged}
 use Rattle.plx_rules.specs.Holds.{Hold, Waited, Held, no_holds, after_answer, after_write, holds_after_reply, hold_after_reading}
 use Rattle.plx_rules.specs.Session.{Session, Known}
 use Rattle.law_headline.proofs.Harmless.{Harmless, Yields}
-use Rattle.law_headline.proofs.Journals.{IsJournal, IsShown, ShowEither, Keeps}
-use Rattle.law_headline.proofs.MapFacts.{SpellsMap}
+use Rattle.law_headline.proofs.Journals.{IsJournal, IsShown, ShowEither, HoldsSlot}
+use Rattle.law_headline.proofs.MapFacts.{IsMapSpelled}
 use Rattle.law_headline.proofs.ModelFacts.{Differs}
 use Rattle.law_headline.proofs.BytesByKind.{OnlyBytes}
 use Rattle.law_headline.proofs.Replied.{Names, IsDropping, sessions_after}
@@ -62,7 +62,7 @@ IsFor (Without kept writes) command i = command ≡ Attach (record { 0 = i })
 IsFor (With image change) command i = Unit {0}
 
 -- the model has the appliance in this command, with these sessions
-pub record IsRunning (g : Geometry) (a : ℕ) (command : Command) (known : Known) (m : Model) : Type 0 where
+pub record ModelRuns (g : Geometry) (a : ℕ) (command : Command) (known : Known) (m : Model) : Type 0 where
   pub placed : a < m.appliances
   pub images : m.images ≡ g.images
   pub runs : m.running a ≡ Some command
@@ -75,7 +75,7 @@ LooksSlot a (With image change) slot = (slot.owner ≡ Some a) × (slot.image �
 
 -- how the model looks to the owner of an image while this command of it runs
 pub record Looks (g : Geometry) (a i : ℕ) (command : Command) (known : Known) (regime : Regime) (m : Model) : Type 0 where
-  pub running : IsRunning g a command known m
+  pub running : ModelRuns g a command known m
   pub slot : LooksSlot a regime (m.slots i)
   pub purpose : IsFor regime command i
 
@@ -94,7 +94,7 @@ IsOf g i block = (block ≡ record_at g i) ⊎ ((slot : ℕ) × (slot < g.slots)
 abbrev pub HeldEnd : Geometry → ℕ → ℕ → Command → Known → Regime → End → Device → Type 0
 HeldEnd g a i command known regime end device =
     (m : Model) → Looks g a i command known regime m →
-    Answers m a command end.reply × Keeps g device i ((model_after_reply m a command end.reply).slots i)
+    Answers m a command end.reply × HoldsSlot g device i ((model_after_reply m a command end.reply).slots i)
     × ((s : Session) → end.known.sessions i ≡ Some s → HasImage g i a s device ((model_after_reply m a command end.reply).slots i)) × IsUndamaged end.reply
 
 -- the rest of a command is right while its boot owns the image: after a failed write, or once the release is asked, it doesn't
@@ -103,10 +103,10 @@ HeldPart g a i command known regime (Ends end) device = HeldEnd g a i command kn
 HeldPart g a i command known regime (ReadThen block rest fault) device =
     IsOf g i block × HeldPart g a i command known regime (rest (device block)) device × HeldPart g a i command known regime fault device
 HeldPart g a i command known regime (WriteThen kind.Release block bytes guard done fault missed) device =
-    ((m : Model) → Looks g a i command known regime m → Keeps g device i (m.slots i)) × HeldPart g a i command known regime done device
+    ((m : Model) → Looks g a i command known regime m → HoldsSlot g device i (m.slots i)) × HeldPart g a i command known regime done device
 HeldPart g a i command known regime (WriteThen what block bytes guard done fault missed) device =
     IsOf g i block
-    × ((flags : List Bool) → length flags ≡ 8 → (m : Model) → Looks g a i command known regime m → Keeps g (put device block (with_landed_sectors flags bytes (device block))) i (m.slots i))
+    × ((flags : List Bool) → length flags ≡ 8 → (m : Model) → Looks g a i command known regime m → HoldsSlot g (put device block (with_landed_sectors flags bytes (device block))) i (m.slots i))
     × HeldPart g a i command known regime done (put device block bytes)
     × IsWith regime
     × OnlyBytes what bytes (device block)
@@ -176,7 +176,7 @@ IsNamed g command other block = Unit {0}
 -- a write of a command is of an image that it names, where it is of one, and spells a map where it is of one
 pub record IsFairWrite (g : Geometry) (command : Command) (what : WriteKind) (block : ℕ) (bytes : List ℕ) : Type 0 where
   pub named : IsNamed g command what block
-  pub spells : SpellsMap g what bytes
+  pub spells : IsMapSpelled g what bytes
 
 -- what stands in a lease's block is a lease, and in a map's a map
 pub record IsSpelled (g : Geometry) (block : ℕ) (bytes : List ℕ) : Type 0 where

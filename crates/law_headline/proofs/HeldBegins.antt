@@ -21,7 +21,7 @@ use Rattle.plx_rules.specs.Holds.{Hold, Held}
 use Rattle.plx_rules.specs.Session.{Session, Known}
 use Rattle.plx_rules.specs.Settings.{Setting}
 use Rattle.law_headline.proofs.Held.{Without, With, HeldPart}
-use Rattle.law_headline.proofs.HeldCommands.{slot_no, held-in-time, held-image}
+use Rattle.law_headline.proofs.HeldCommands.{slot_no, held-in-time, load-attaches}
 use Rattle.law_headline.proofs.HeldSessions.{keeps-with, held-detach, held-attach, held-read, held-write, held-create, held-delete}
 use Rattle.law_headline.proofs.Journals.{IsJournal, IsShown}
 use Rattle.law_headline.proofs.Replied.{Names}
@@ -53,7 +53,7 @@ module _ (s : Setting) (geometry : IsGeometry s.geometry) (a i : ℕ) (within : 
       let P : Option Session → Bool → Hold → Type 0 = λ o b h. HeldPart s.geometry a i (Attach (slot_no i)) known (Without kept writes) (attach_part s known i o b h) device in
       subst (λ (o : Option Session). P o (nat_lt i s.geometry.images) (holds (lease_at (image_lease i)))) (sym none)
       (subst (λ (b : Bool). P None b (holds (lease_at (image_lease i)))) (sym (nat_lt-true i s.geometry.images within))
-      (subst (P None true) (sym held) (held-image s a i within few known device kept writes journal none known until none)))
+      (subst (P None true) (sym held) (load-attaches s a i within few known device kept writes journal none known until none)))
 
   module _ (image : Image) (left : IsShown kept writes image) (has : known.sessions i ≡ Some (record { image = kept; writes = writes })) where
     -- a command of a session

@@ -1,7 +1,6 @@
 -- The commands of an image whose lease is held.
 use Rattle.std.proofs.Common.{◌≡◌, ℕ, zero, suc, ◌+◌, ◌^◌, ◌≤◌, ◌<◌, inl, inr, List, [], ◌∷◌, ◌++◌, take, length, Bool, true, false, Option, Some, None, refl, ap, sym, subst, ◌∙◌, arith, length-append}
 use Rattle.std.specs.Prelude.{slice_get, is_some, ◌==◌, if◌then◌else◌, nat_lt, nat_le, unwrap_or, not}
-use Rattle.std.proofs.lemmas.Bool.Decides.{leb_tells}
 use Rattle.std.proofs.lemmas.List.{take_all, take_more}
 use Rattle.std.proofs.lemmas.Option.{slice_get_cases}
 use Rattle.plx_base.specs.Blocks.{zeros}
@@ -25,7 +24,7 @@ use Rattle.plx_gate.specs.Images.{read_image}
 use Rattle.plx_gate.specs.declared.descriptor.Descriptor.{Descriptor}
 use Rattle.plx_gate.specs.declared.image.ImageRecord.{ImageRecord}
 use Rattle.plx_geom.specs.Geometry.{record_at, descriptor_at, data_at}
-use Rattle.plx_base.proofs.Tests.{eqb-true, nat_lt-false, nat_le-false, nat_le-tells}
+use Rattle.plx_base.proofs.Tests.{eqb-true, nat_lt-false, nat_lt-tells, nat_le-false, nat_le-tells, not-false, and-parts}
 use Rattle.plx_rules.specs.Part.{Part}
 use Rattle.plx_rules.specs.declared.journaled.Journaled.{Journaled}
 use Rattle.plx_rules.specs.Attaching.{image_use, attach_ends, after_load, load_journal, after_record, load_image}
@@ -37,13 +36,11 @@ use Rattle.plx_rules.specs.Parts.{followed_by}
 use Rattle.plx_rules.specs.Records.{is_live, is_plain, taken_of, applied_of, plain_record, attached_record}
 use Rattle.plx_rules.specs.Session.{Session, Known, with_session, with_write_by_number, first_gap, session_report}
 use Rattle.plx_rules.specs.Settings.{Setting}
-use Rattle.law_lease.proofs.LawfulCommands.{below-tested}
 use Rattle.law_headline.proofs.Held.{Regime, Without, Looks, HasImage, HeldPart}
 use Rattle.plx_gate.proofs.Images.{image-back}
 use Rattle.law_headline.proofs.JournalFacts.{finding-commit}
-use Rattle.law_headline.proofs.Journals.{IsJournal, IsShown, ShowEither, Keeps}
+use Rattle.law_headline.proofs.Journals.{IsJournal, IsShown, ShowEither, HoldsSlot}
 use Rattle.law_headline.proofs.ModelFacts.{Differs}
-use Rattle.law_headline.proofs.Owners.{both-true}
 use Rattle.law_lease.proofs.Latest.{latest-push}
 use Rattle.law_headline.proofs.StoredFacts.{plain-taken}
 
@@ -66,7 +63,7 @@ lost-listed Retire = refl
 lost-listed Reclaim = refl
 
 module _ (s : Setting) (a i : ℕ) (command : Command) (known : Known) (regime : Regime) (device : Device)
-    (keeps : (m : Model) → Looks s.geometry a i command known regime m → Keeps s.geometry device i (m.slots i)) where
+    (keeps : (m : Model) → Looks s.geometry a i command known regime m → HoldsSlot s.geometry device i (m.slots i)) where
   -- the end of a lease is reached
   pub held-lost : (k : Known) (due : InUse) (reading : ℕ) → HeldPart s.geometry a i command known regime (lost s k due reading) device
   held-lost k due reading = λ m looks. (let kept = keeps m looks in (
@@ -185,15 +182,8 @@ take-below (suc n) (y ∷ xs) zero x e = omega arith
 take-below (suc n) (y ∷ xs) (suc k) x e = let b = take-below n xs k x e in omega (arith, b)
 
 -- what tests tell
-pub not-le-tells : (x y : ℕ) → nat_le x y ≡ false → y < x
-not-le-tells x y e = elim (leb_tells x y) [ inl less ↦ absurd (let f : true ≡ false = sym less.0 ∙ e in let P : ⊥ = cc in P) | inr more ↦ omega (arith, more.1) ]
-
 pub size-tells : (size : ℕ) → not (is_size size) ≡ false → (0 < size) × (size ≤ 2 ^ 27)
-size-tells size e = let b = both-true (nat_lt 0 size) (nat_le size (2 ^ 27)) (positive (is_size size) e) in (below-tested 0 size b.0, nat_le-tells size (2 ^ 27) b.1)
-  where
-    positive : (x : Bool) → not x ≡ false → x ≡ true
-    positive true e' = refl
-    positive false e' = absurd (let P : ⊥ = cc in P)
+size-tells size e = let b = and-parts (nat_lt 0 size) (nat_le size (2 ^ 27)) (not-false (is_size size) e) in (nat_lt-tells 0 size b.0, nat_le-tells size (2 ^ 27) b.1)
 
 module _ (s : Setting) (a i : ℕ) (within : i < s.geometry.images) (few : s.geometry.slots ≤ 64) (known : Known) where
   -- ---- an attach
@@ -202,7 +192,7 @@ module _ (s : Setting) (a i : ℕ) (within : i < s.geometry.images) (few : s.geo
     abbrev Attaches : Part End → Type 0
     Attaches part = HeldPart s.geometry a i (Attach (slot_no i)) known (Without kept writes) part device
 
-    keeps-without : (m : Model) → Looks s.geometry a i (Attach (slot_no i)) known (Without kept writes) m → Keeps s.geometry device i (m.slots i)
+    keeps-without : (m : Model) → Looks s.geometry a i (Attach (slot_no i)) known (Without kept writes) m → HoldsSlot s.geometry device i (m.slots i)
     keeps-without m looks = record { kept = kept; writes = writes; journal = journal; either = looks.slot.0 }
 
     unrefused : (m : Model) → Looks s.geometry a i (Attach (slot_no i)) known (Without kept writes) m → refusals m a (Attach (slot_no i)) ≡ []
@@ -220,7 +210,7 @@ module _ (s : Setting) (a i : ℕ) (within : i < s.geometry.images) (few : s.geo
         let slot = slot_after_attach (m.slots i) a report in
         let is : at m.slots i slot i ≡ slot = at-same m.slots i slot in
         let left : IsShown kept writes slot.image = report-decides kept writes (m.slots i) journal.plain looks.slot.1 looks.slot.0 in
-        let K : Slot → Type 0 = λ t. Keeps s.geometry device i t in
+        let K : Slot → Type 0 = λ t. HoldsSlot s.geometry device i t in
         let H : Slot → Type 0 = λ t. HasImage s.geometry i a session device t in (
           ok-answers m a (Attach (slot_no i)) (Attached report) refl refl refl
               ((let e = looks.running.images in omega (arith, e)), report-is-own kept writes (m.slots i) journal.plain looks.slot.0) (unrefused m looks),
@@ -288,8 +278,8 @@ module _ (s : Setting) (a i : ℕ) (within : i < s.geometry.images) (few : s.geo
             held-fault k (descriptor_at s.geometry i place) none',
           )
 
-    pub held-image : (k : Known) (until : ℕ) → k.sessions i ≡ None → Attaches (load_image s k i until)
-    held-image k until none' = (
+    pub load-attaches : (k : Known) (until : ℕ) → k.sessions i ≡ None → Attaches (load_image s k i until)
+    load-attaches k until none' = (
       inl refl,
       (let P : Option ImageRecord → Type 0 = λ o. Attaches (after_record s k i until o) in
           let is : attached_record (device (record_at s.geometry i)) ≡ Some kept =

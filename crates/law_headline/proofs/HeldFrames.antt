@@ -20,7 +20,7 @@ use Rattle.law_headline.proofs.BytesByKind.{OnlyBytes}
 use Rattle.law_headline.proofs.Foreign.{Foreign}
 use Rattle.law_headline.proofs.Held.{Regime, Without, With, LooksSlot, Looks, HasImage, IsOf, HeldPart}
 use Rattle.law_headline.proofs.JournalFacts.{IsJournal-same, Keeps-same}
-use Rattle.law_headline.proofs.Journals.{IsShown, ShowEither, Keeps, Same}
+use Rattle.law_headline.proofs.Journals.{IsShown, ShowEither, HoldsSlot, Same}
 use Rattle.law_headline.proofs.ModelFacts.{Differs}
 
 -- ---- what a journal shows of a slot that another appliance's entry left
@@ -137,16 +137,16 @@ has-same g i a s d e slot same has = record {
 
 module _ (g : Geometry) (a i : ℕ) (command : Command) (known : Known) (regime : Regime) where
   -- on a device that holds the same of the image
-  pub held-same : (part : Part End) (d e : Device) → Same g i d e → HeldPart g a i command known regime part d → HeldPart g a i command known regime part e
-  held-same (Ends end) d e same held = λ m looks. (let h = held m looks in
+  pub held-part-same : (part : Part End) (d e : Device) → Same g i d e → HeldPart g a i command known regime part d → HeldPart g a i command known regime part e
+  held-part-same (Ends end) d e same held = λ m looks. (let h = held m looks in
       (h.0, Keeps-same g d e i _ same h.1, λ s is. has-same g i a s d e _ same (h.2 s is), h.3))
-  held-same (ReadThen block rest fault) d e same held = (
+  held-part-same (ReadThen block rest fault) d e same held = (
     held.0,
-    (let P : List ℕ → Type 0 = λ x. HeldPart g a i command known regime (rest x) e in subst P (sym (same-at g i block d e held.0 same)) (held-same (rest (d block)) d e same held.1)),
-    held-same fault d e same held.2,
+    (let P : List ℕ → Type 0 = λ x. HeldPart g a i command known regime (rest x) e in subst P (sym (same-at g i block d e held.0 same)) (held-part-same (rest (d block)) d e same held.1)),
+    held-part-same fault d e same held.2,
   )
-  held-same (WriteThen what block bytes guard done fault missed) d e same held =
-      by_kind what held (λ h. held-same done (put d block bytes) (put e block bytes) (same-put g i block bytes d e same) h) (λ h. held-same done d e same h)
+  held-part-same (WriteThen what block bytes guard done fault missed) d e same held =
+      by_kind what held (λ h. held-part-same done (put d block bytes) (put e block bytes) (same-put g i block bytes d e same) h) (λ h. held-part-same done d e same h)
     where
       by_kind : (k : WriteKind) → HeldPart g a i command known regime (WriteThen k block bytes guard done fault missed) d →
           (HeldPart g a i command known regime done (put d block bytes) → HeldPart g a i command known regime done (put e block bytes)) →
@@ -157,26 +157,26 @@ module _ (g : Geometry) (a i : ℕ) (command : Command) (known : Known) (regime 
         held.0,
         (λ flags count m looks.
             let old : e block ≡ d block = same-at g i block d e held.0 same in
-            let P : List ℕ → Type 0 = λ x. Keeps g (put e block (with_landed_sectors flags bytes x)) i (m.slots i) in
+            let P : List ℕ → Type 0 = λ x. HoldsSlot g (put e block (with_landed_sectors flags bytes x)) i (m.slots i) in
             subst P (sym old) (Keeps-same g (put d block (with_landed_sectors flags bytes (d block))) (put e block (with_landed_sectors flags bytes (d block))) i (m.slots i)
             (same-put g i block (with_landed_sectors flags bytes (d block)) d e same) (held.1 flags count m looks))),
         next held.2,
         held.3,
         (let O : List ℕ → Type 0 = λ x. OnlyBytes other bytes x in subst O (sym (same-at g i block d e held.0 same)) held.4),
       )
-  held-same (ClockThen rest) d e same held = λ reading. held-same (rest reading) d e same (held reading)
-  held-same (UntilThen from rest) d e same held = λ reading. held-same (rest reading) d e same (held reading)
+  held-part-same (ClockThen rest) d e same held = λ reading. held-part-same (rest reading) d e same (held reading)
+  held-part-same (UntilThen from rest) d e same held = λ reading. held-part-same (rest reading) d e same (held reading)
 
 -- a landing of the write that is asked
 pub keeps-landed : (g : Geometry) (i block k : ℕ) (bytes : List ℕ) (d : Device) (slot : Slot) → k < 8 → length bytes ≡ 4096 → length (d block) ≡ 4096 →
-    ((flags : List Bool) → length flags ≡ 8 → Keeps g (put d block (with_landed_sectors flags bytes (d block))) i slot) →
+    ((flags : List Bool) → length flags ≡ 8 → HoldsSlot g (put d block (with_landed_sectors flags bytes (d block))) i slot) →
     (flags : List Bool) → length flags ≡ 8 →
-    Keeps g (put (put d block (with_landed_sector k bytes (d block))) block (with_landed_sectors flags bytes (put d block (with_landed_sector k bytes (d block)) block))) i slot
+    HoldsSlot g (put (put d block (with_landed_sector k bytes (d block))) block (with_landed_sectors flags bytes (put d block (with_landed_sector k bytes (d block)) block))) i slot
 keeps-landed g i block k bytes d slot below long old keeps flags count =
     let x = with_landed_sector k bytes (d block) in
     let at : put d block x block ≡ x = put-same d block x in
     let over : with_landed_sectors flags bytes x ≡ with_landed_sectors (slice_set flags k true) bytes (d block) = mixed-over flags bytes (d block) k (omega arith) (rw count long) (rw count old) in
-    let P : List ℕ → Type 0 = λ y. Keeps g (put (put d block x) block y) i slot in
+    let P : List ℕ → Type 0 = λ y. HoldsSlot g (put (put d block x) block y) i slot in
     subst P (sym (ap (with_landed_sectors flags bytes) at ∙ over))
     (Keeps-same g (put d block (with_landed_sectors (slice_set flags k true) bytes (d block))) (put (put d block x) block (with_landed_sectors (slice_set flags k true) bytes (d block))) i slot
     (same-over g i block (with_landed_sectors (slice_set flags k true) bytes (d block)) x d)
@@ -205,7 +205,7 @@ looks-foreign g h i a command known regime m n ne foreign differs images applian
         let P : Slot → Type 0 = λ s. LooksSlot h (With image change) s in
         subst P (sym same) is
 
-pub keeps-foreign : (g : Geometry) (i a : ℕ) (d : Device) (s t : Slot) → Foreign a s t → Keeps g d i s → Keeps g d i t
+pub keeps-foreign : (g : Geometry) (i a : ℕ) (d : Device) (s t : Slot) → Foreign a s t → HoldsSlot g d i s → HoldsSlot g d i t
 keeps-foreign g i a d s t foreign k = record { kept = k.kept; writes = k.writes; journal = k.journal; either = show-foreign a s t foreign k.either }
 
 pub has-foreign : (g : Geometry) (i h a : ℕ) (session : Session) (d : Device) (s t : Slot) → h ≢ a → Foreign a s t → HasImage g i h session d s → HasImage g i h session d t

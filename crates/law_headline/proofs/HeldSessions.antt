@@ -33,7 +33,7 @@ use Rattle.plx_gate.specs.declared.image.ImageRecord.TheVariants as image_is
 use Rattle.plx_gate.proofs.Descriptors.{descriptor-back}
 use Rattle.plx_geom.specs.Geometry.{record_at, descriptor_at, data_at}
 use Rattle.law_headline.proofs.JournalFacts.{journal_slot-next}
-use Rattle.plx_base.proofs.Tests.{nat_lt-true, not-false}
+use Rattle.plx_base.proofs.Tests.{nat_lt-true, not-false, nat_le-past}
 use Rattle.plx_rules.specs.Part.{Part}
 use Rattle.plx_rules.specs.declared.journaled.Journaled.{Journaled}
 use Rattle.plx_rules.specs.Attaching.{image_use}
@@ -48,10 +48,10 @@ use Rattle.law_headline.proofs.Held.{With, Looks, HasImage, HeldPart}
 use Rattle.law_headline.proofs.HeldFrames.{same-all}
 use Rattle.law_headline.proofs.ImageFacts.{image-drop}
 use Rattle.law_headline.proofs.JournalFacts.{IsJournal-data, IsJournal-same, IsJournal-more, IsJournal-made, kept-limits}
-use Rattle.law_headline.proofs.Journals.{IsJournal, IsShown, Keeps}
+use Rattle.law_headline.proofs.Journals.{IsJournal, IsShown, HoldsSlot}
 use Rattle.law_headline.proofs.Owners.{owns-own}
 use Rattle.law_headline.proofs.Replied.{refused-given}
-use Rattle.law_headline.proofs.HeldCommands.{slot_no, held-ends, shown-more, not-le-tells, size-tells}
+use Rattle.law_headline.proofs.HeldCommands.{slot_no, held-ends, shown-more, size-tells}
 
 -- the change that a command gives up is this slot's, or it has none
 abbrev pub IsChangeOf : Command → Option Image → ℕ → Type 0
@@ -83,7 +83,7 @@ module _ (s : Setting) (a i : ℕ) (within : i < s.geometry.images) (few : s.geo
   is-session t is = let f : Some session ≡ Some t = sym has ∙ is in cc
 
   abbrev Stays : Slot → Type 0
-  Stays t = Keeps s.geometry device i t × ((x : Session) → known.sessions i ≡ Some x → HasImage s.geometry i a x device t)
+  Stays t = HoldsSlot s.geometry device i t × ((x : Session) → known.sessions i ≡ Some x → HasImage s.geometry i a x device t)
 
   -- a reply that leaves the image, in a slot that is decided
   still : (command : Command) (change : Option Image) (m : Model) → Sees command change m → (t : Slot) → t.owner ≡ Some a → t.change ≡ None → t.image ≡ (m.slots i).image → Stays t
@@ -95,7 +95,7 @@ module _ (s : Setting) (a i : ℕ) (within : i < s.geometry.images) (few : s.geo
             subst P (is-session x is) (record { owner = owner; decided = decided; journal = journal; left = l }),
       )
 
-  pub keeps-with : (command : Command) (change : Option Image) (m : Model) → Sees command change m → Keeps s.geometry device i (m.slots i)
+  pub keeps-with : (command : Command) (change : Option Image) (m : Model) → Sees command change m → HoldsSlot s.geometry device i (m.slots i)
   keeps-with command change m looks = record { kept = kept; writes = writes; journal = journal; either = inl (subst (λ (x : Image). IsShown kept writes x) (sym looks.slot.1) left) }
 
   -- the slot once the owner's change is given up
@@ -130,7 +130,7 @@ module _ (s : Setting) (a i : ℕ) (within : i < s.geometry.images) (few : s.geo
   pub held-detach : (change : Option Image) → Sits (Detach (slot_no i)) change (ends Detached (with_session known i None))
   held-detach change = λ m looks.
       let k = keeps-with (Detach (slot_no i)) change m looks in
-      let K : Slot → Type 0 = λ t. Keeps s.geometry device i t in (
+      let K : Slot → Type 0 = λ t. HoldsSlot s.geometry device i t in (
         ok-answers m a (Detach (slot_no i)) Detached refl refl refl tt (rw (attached-in (Detach (slot_no i)) change m looks) refl),
         subst K (sym (at-same m.slots i (slot_without_owner (m.slots i) a))) (record { kept = k.kept; writes = k.writes; journal = k.journal; either = k.either }),
         λ x is. absurd (let e : None ≡ Some x = sym (at-same known.sessions i None) ∙ is in let P : ⊥ = cc in P),
@@ -216,9 +216,9 @@ module _ (s : Setting) (a i : ℕ) (within : i < s.geometry.images) (few : s.geo
         let journal' : IsJournal s.geometry filled i kept writes = IsJournal-data s.geometry device i kept writes n bytes within journal (omega arith) in
         let committed : Device = put filled (descriptor_at s.geometry i n) (descriptor_bytes d) in
         let commit : IsJournal s.geometry committed i kept (writes ++ write ∷ []) =
-        IsJournal-more s.geometry filled i kept writes write within few journal' (not-false (is_live kept) lives) room refl (not-le-tells (size_of kept) vblock less) (put-same device (data_at s.geometry i n) bytes) in
+        IsJournal-more s.geometry filled i kept writes write within few journal' (not-false (is_live kept) lives) room refl (nat_le-past (size_of kept) vblock less) (put-same device (data_at s.geometry i n) bytes) in
         let left' : IsShown kept (writes ++ write ∷ []) (image_after_write image vblock bytes) = shown-more kept writes image write left in
-        let keeps' : (m : Model) → Sees writes_block change m → Keeps s.geometry committed i (m.slots i) =
+        let keeps' : (m : Model) → Sees writes_block change m → HoldsSlot s.geometry committed i (m.slots i) =
         λ m looks. record { kept = kept; writes = writes ++ write ∷ []; journal = commit; either = inr (image_after_write image vblock bytes, looks.slot.2 ∙ is-change, left') } in
         let rest : drop 512 (descriptor_bytes d) ≡ drop 512 (filled (descriptor_at s.geometry i n)) = elim (journal'.old n room) [
           | inl empty ↦ descriptor-back d ∙ ap (drop 512) (sym empty)
@@ -235,10 +235,10 @@ module _ (s : Setting) (a i : ℕ) (within : i < s.geometry.images) (few : s.geo
             inr (n, room, inl refl),
             λ flags count m looks. elim (mixed-first_sector flags (descriptor_bytes d) (filled (descriptor_at s.geometry i n)) rest) [
               | inl new ↦
-                  let P : List ℕ → Type 0 = λ x. Keeps s.geometry (put filled (descriptor_at s.geometry i n) x) i (m.slots i) in
+                  let P : List ℕ → Type 0 = λ x. HoldsSlot s.geometry (put filled (descriptor_at s.geometry i n) x) i (m.slots i) in
                   subst P (sym new) (keeps' m looks)
               | inr old ↦
-                  let P : List ℕ → Type 0 = λ x. Keeps s.geometry (put filled (descriptor_at s.geometry i n) x) i (m.slots i) in
+                  let P : List ℕ → Type 0 = λ x. HoldsSlot s.geometry (put filled (descriptor_at s.geometry i n) x) i (m.slots i) in
                   subst P (sym old) (record {
                     kept = kept;
                     writes = writes;
@@ -253,7 +253,7 @@ module _ (s : Setting) (a i : ℕ) (within : i < s.geometry.images) (few : s.geo
                 let is : at m.slots i slot i ≡ slot = at-same m.slots i slot in
                 let image' : slot.image ≡ image_after_write image vblock bytes = ap (λ (c : Option Image). unwrap_or c (m.slots i).image) (looks.slot.2 ∙ is-change) in
                 let l : IsShown kept (writes ++ write ∷ []) slot.image = subst (λ (x : Image). IsShown kept (writes ++ write ∷ []) x) (sym image') left' in
-                let K : Slot → Type 0 = λ t. Keeps s.geometry committed i t in
+                let K : Slot → Type 0 = λ t. HoldsSlot s.geometry committed i t in
                 let session' = with_write session write in
                 let H : Slot → Type 0 = λ t. HasImage s.geometry i a session' committed t in
                 let unapplied = journal.unapplied in (
@@ -294,7 +294,7 @@ module _ (s : Setting) (a i : ℕ) (within : i < s.geometry.images) (few : s.geo
             ap (journal_slot s.geometry.slots) counts ∙ journal_slot-next s.geometry.slots (length writes) room' in
             let P : ℕ → ℕ → Type 0 = λ k n. Sits writes_block change (writing_at vblock (bytes_of payload) until k n) in
             subst (λ (k : ℕ). P k (write_count session + 1)) (sym place) (subst (P (length writes)) (sym counts)
-            (held-writing (is-change (not-false (is_live kept) lives) (not-le-tells (size_of kept) vblock less) young) lives less young room'))
+            (held-writing (is-change (not-false (is_live kept) lives) (nat_le-past (size_of kept) vblock less) young) lives less young room'))
 
         by_tests : (x y z f : Bool) → not (is_live kept) ≡ x → nat_le (size_of kept) vblock ≡ y → is_worn last_write (write_count session) ≡ z → (length writes == s.geometry.slots) ≡ f →
             Sits writes_block change (unless x NoImage known (unless y (OutOfRange (size_of kept)) known (unless z (WornOut last_write) known (unless f Full known
@@ -320,16 +320,16 @@ module _ (s : Setting) (a i : ℕ) (within : i < s.geometry.images) (few : s.geo
       let session' = new_session new in
       let written' : Device = put device block (image_bytes new) in
       let journal' : IsJournal s.geometry written' i new [] = IsJournal-made s.geometry device i kept new writes within journal limits plain unapplied later fresh in
-      let keeps' : (m : Model) → Sees command change m → Keeps s.geometry written' i (m.slots i) =
+      let keeps' : (m : Model) → Sees command change m → HoldsSlot s.geometry written' i (m.slots i) =
       λ m looks. record { kept = new; writes = []; journal = journal'; either = inr (image', looks.slot.2 ∙ is-change, shown) } in
       let rest : drop 512 (image_bytes new) ≡ drop 512 (device block) = image-drop new kept limits journal.limits ∙ ap (drop 512) (sym journal.recorded) in (
         inl refl,
         λ flags count m looks. elim (mixed-first_sector flags (image_bytes new) (device block) rest) [
           | inl whole ↦
-              let P : List ℕ → Type 0 = λ x. Keeps s.geometry (put device block x) i (m.slots i) in
+              let P : List ℕ → Type 0 = λ x. HoldsSlot s.geometry (put device block x) i (m.slots i) in
               subst P (sym whole) (keeps' m looks)
           | inr old ↦
-              let P : List ℕ → Type 0 = λ x. Keeps s.geometry (put device block x) i (m.slots i) in
+              let P : List ℕ → Type 0 = λ x. HoldsSlot s.geometry (put device block x) i (m.slots i) in
               subst P (sym old) (record {
                 kept = kept;
                 writes = writes;
@@ -343,7 +343,7 @@ module _ (s : Setting) (a i : ℕ) (within : i < s.geometry.images) (few : s.geo
             let is : (model_after_reply m a command done').slots i ≡ slot = slots m ∙ at-same m.slots i slot in
             let image-is : slot.image ≡ image' = ap (λ (c : Option Image). unwrap_or c (m.slots i).image) (looks.slot.2 ∙ is-change) in
             let l : IsShown new [] slot.image = subst (λ (x : Image). IsShown new [] x) (sym image-is) shown in
-            let K : Slot → Type 0 = λ t. Keeps s.geometry written' i t in
+            let K : Slot → Type 0 = λ t. HoldsSlot s.geometry written' i t in
             let H : Session → Slot → Type 0 = λ x t. HasImage s.geometry i a x written' t in (
               answers m looks,
               subst K (sym is) (record { kept = new; writes = []; journal = journal'; either = inl l }),
@@ -405,7 +405,7 @@ module _ (s : Setting) (a i : ℕ) (within : i < s.geometry.images) (few : s.geo
           (λ m looks. let P : List Reply → Type 0 = λ l. IsAmong (WornOut last_generation) l in subst P (sym (facts m looks false false true ex ey ez)) (inl refl))
       by_tests false false false ex ey ez =
           let sizes = size-tells size ey in
-          let young = not-le-tells last_generation (generation_of kept) ez in
+          let young = nat_le-past last_generation (generation_of kept) ez in
           held-record (Create (slot_no i) size label) change (made_record (generation_of kept + 1) size label) (new_image (image.generation + 1) size label) until Created tt (is-change ex ey ez)
           (record { live = refl; generation = ap (λ n. n + 1) left.generation; size = refl; label = refl; count = refl; blocks = λ v. refl; frozen = refl })
           (record { generation_low = omega arith; generation_high = omega (arith, young); size_low = omega (arith, sizes.0); size_high = sizes.1; taken_high = omega arith; root_pointer = inl refl; applied_high = omega arith; label_is = is-label })

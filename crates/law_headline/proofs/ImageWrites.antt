@@ -17,11 +17,11 @@ use Rattle.plx_rules.specs.Rests.{home_of}
 use Rattle.plx_rules.specs.Session.{Known}
 use Rattle.law_lease.proofs.Covers.{Covers, one-cover, lease-uncovered, home-covers, write-covered}
 use Rattle.law_lease.proofs.Frame.{SameUnder}
-use Rattle.law_lease.proofs.Leased.{MayWrite, MayUse, IsPlaced}
+use Rattle.law_lease.proofs.Leased.{MayIssue, MayUse, IsPlaced}
 use Rattle.law_lease.proofs.Rests.{home-in}
 use Rattle.law_headline.proofs.Content.{IsJournalled}
 use Rattle.law_headline.proofs.Held.{Regime, IsWith, Looks, IsOf, HeldPart, IsNamed}
-use Rattle.law_headline.proofs.Journals.{Keeps, Same}
+use Rattle.law_headline.proofs.Journals.{HoldsSlot, Same}
 use Rattle.law_headline.proofs.BytesByKind.{OnlyBytes}
 use Rattle.law_headline.proofs.PlacedByKind.{KeepsImage, PlacedBy}
 use Rattle.law_headline.proofs.Replied.{Names}
@@ -56,7 +56,7 @@ named-image g command block other is named = absurd is
 
 -- it uses leases that are held
 pub use-image : (g : Geometry) (boot : ℕ) (holds : ℕ → Hold) (rests : List ℕ) (block : ℕ) (bytes : List ℕ) (guard : ℕ) (k : WriteKind) → IsJournalled k →
-    MayWrite g boot holds rests k block bytes guard → MayUse g holds rests k block bytes guard
+    MayIssue g boot holds rests k block bytes guard → MayUse g holds rests k block bytes guard
 use-image g boot holds rests block bytes guard kind.Record is may = may
 use-image g boot holds rests block bytes guard kind.JData is may = may
 use-image g boot holds rests block bytes guard kind.JCommit is may = may
@@ -95,16 +95,16 @@ module _ (g : Geometry) (a i : ℕ) (command : Command) (known : Known) (regime 
   -- what an owner owes where it asks for a write of its image: whatever of it lands the image is kept, and what follows is right on the device with all of it landed
   pub record IsImageWrite (k : WriteKind) : Type 0 where
     pub of : IsOf g i block
-    pub keeps : (flags : List Bool) → length flags ≡ 8 → (m : Model) → Looks g a i command known regime m → Keeps g (put device block (with_landed_sectors flags bytes (device block))) i (m.slots i)
+    pub keeps : (flags : List Bool) → length flags ≡ 8 → (m : Model) → Looks g a i command known regime m → HoldsSlot g (put device block (with_landed_sectors flags bytes (device block))) i (m.slots i)
     pub follows : HeldPart g a i command known regime done (put device block bytes)
     pub changes : IsWith regime
     pub only : OnlyBytes k bytes (device block)
 
-  pub held-image : (k : WriteKind) → IsJournalled k → HeldPart g a i command known regime (WriteThen k block bytes guard done fault missed) device → IsImageWrite k
-  held-image kind.Record is held = record { of = held.0; keeps = held.1; follows = held.2; changes = held.3; only = held.4 }
-  held-image kind.JData is held = record { of = held.0; keeps = held.1; follows = held.2; changes = held.3; only = held.4 }
-  held-image kind.JCommit is held = record { of = held.0; keeps = held.1; follows = held.2; changes = held.3; only = held.4 }
-  held-image other is held = absurd is
+  pub held-image-write : (k : WriteKind) → IsJournalled k → HeldPart g a i command known regime (WriteThen k block bytes guard done fault missed) device → IsImageWrite k
+  held-image-write kind.Record is held = record { of = held.0; keeps = held.1; follows = held.2; changes = held.3; only = held.4 }
+  held-image-write kind.JData is held = record { of = held.0; keeps = held.1; follows = held.2; changes = held.3; only = held.4 }
+  held-image-write kind.JCommit is held = record { of = held.0; keeps = held.1; follows = held.2; changes = held.3; only = held.4 }
+  held-image-write other is held = absurd is
 
   pub image-held : (k : WriteKind) → IsJournalled k → IsImageWrite k → HeldPart g a i command known regime (WriteThen k block bytes guard done fault missed) device
   image-held kind.Record is write = (write.of, write.keeps, write.follows, write.changes, write.only)

@@ -17,11 +17,10 @@ use Rattle.plx_geom.specs.Geometry.{Geometry, record_at, descriptor_at, data_at}
 use Rattle.plx_geom.proofs.Places.{record-data, record-descriptor}
 use Rattle.plx_rules.specs.declared.journaled.Journaled.{Journaled}
 use Rattle.law_lease.proofs.Lists.{push-cases}
-use Rattle.plx_base.proofs.Tests.{eqb-true, eqb-false, nat_lt-true}
+use Rattle.plx_base.proofs.Tests.{eqb-true, eqb-false, nat_lt-true, and-parts}
 use Rattle.plx_rules.specs.Journal.{journal_slot, is_unapplied, is_placed, counted_descriptor, counted_of, Outside, Unused, Counts, finding, finding_of, descriptor_of}
 use Rattle.plx_rules.specs.Records.{is_live, is_plain, generation_of, size_of, applied_of}
-use Rattle.law_headline.proofs.Owners.{both-true}
-use Rattle.law_headline.proofs.Journals.{IsOld, IsJournal, Keeps, Same}
+use Rattle.law_headline.proofs.Journals.{IsOld, IsJournal, HoldsSlot, Same}
 
 -- the write after so many stands in the slot of that number
 pub journal_slot-next : (slots n : ℕ) → n < slots → journal_slot slots (n + 1) ≡ n
@@ -85,7 +84,7 @@ IsJournal-same g d e image kept writes same j = record {
       subst P (sym (same.descriptors k within)) (j.old k within);
 }
 
-pub Keeps-same : (g : Geometry) (d e : Device) (image : ℕ) (slot : Slot) → Same g image d e → Keeps g d image slot → Keeps g e image slot
+pub Keeps-same : (g : Geometry) (d e : Device) (image : ℕ) (slot : Slot) → Same g image d e → HoldsSlot g d image slot → HoldsSlot g e image slot
 Keeps-same g d e image slot same k = record { kept = k.kept; writes = k.writes; journal = IsJournal-same g d e image k.kept k.writes same k.journal; either = k.either }
 
 -- the commit of one more write of a live image, whose data is there
@@ -195,7 +194,7 @@ pub finding-commit : (g : Geometry) (device : Device) (image : ℕ) (kept : Imag
     slice_get writes k ≡ Some write → finding kept g.slots k (device (descriptor_at g image k)) ≡ Counts (descriptor_of kept write)
 finding-commit g device image kept writes j few k write at =
     let d = descriptor_of kept write in
-    let tests = both-true (is_unapplied kept d) (is_placed g.slots k d) (commit-test g device image kept writes j k write at) in
+    let tests = and-parts (is_unapplied kept d) (is_placed g.slots k d) (commit-test g device image kept writes j k write at) in
     ap (finding_of kept g.slots k) (read-commit g device image kept writes j few k write at)
     ∙ (ap (λ test. if test then (if is_placed g.slots k d && nat_lt d.vblock (size_of kept) then Counts d else Outside) else Unused) tests.0
     ∙ (ap (λ test. if test && nat_lt d.vblock (size_of kept) then Counts d else Outside) tests.1

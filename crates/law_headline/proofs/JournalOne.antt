@@ -1,5 +1,5 @@
 -- A device spells at most one record and journal of an image.
-use Rattle.std.proofs.Common.{◌≡◌, ℕ, zero, suc, ◌≤◌, ◌<◌, inl, inr, List, [], ◌∷◌, length, Bool, true, false, Some, None, refl, ap, sym, subst, ◌∙◌, arith}
+use Rattle.std.proofs.Common.{◌≡◌, ℕ, suc, ◌≤◌, ◌<◌, inl, inr, List, [], ◌∷◌, length, Bool, true, false, Some, None, refl, ap, sym, subst, ◌∙◌, arith}
 use Rattle.std.specs.Prelude.{slice_get}
 use Rattle.std.proofs.lemmas.Bool.Decides.{leb_tells}
 use Rattle.plx_base.specs.Sectors.{Device}
@@ -14,6 +14,7 @@ use Rattle.law_headline.proofs.Journals.{IsJournal, ShowEither}
 use Rattle.plx_gate.proofs.Images.{image-back}
 use Rattle.plx_commands.specs.Model.{Slot}
 use Rattle.plx_rules.specs.Journal.{descriptor_of}
+use Rattle.law_lease.proofs.Lists.{get-there}
 
 same-entries : {X : Type 0} (xs ys : List X) → length xs ≡ length ys → ((k : ℕ) (x y : X) → slice_get xs k ≡ Some x → slice_get ys k ≡ Some y → x ≡ y) → xs ≡ ys
 same-entries [] [] e same = refl
@@ -23,11 +24,6 @@ same-entries (x ∷ xs) (y ∷ ys) e same =
     let head : x ≡ y = same 0 x y refl refl in
     let tail : xs ≡ ys = same-entries xs ys (omega (arith, e)) (λ k a b p q. same (suc k) a b p q) in
     λ j. head j ∷ tail j
-
-get-there : {X : Type 0} (xs : List X) (k : ℕ) → k < length xs → (x : X) × (slice_get xs k ≡ Some x)
-get-there [] k less = absurd (omega (arith, less))
-get-there (x ∷ xs) zero less = (x, refl)
-get-there (x ∷ xs) (suc k) less = get-there xs k (omega (arith, less))
 
 module _ (g : Geometry) (few : g.slots ≤ 64) (device : Device) (image : ℕ) where
   no-longer : (kept : ImageRecord) (writes others : List Journaled) → IsJournal g device image kept writes → IsJournal g device image kept others → is_live kept ≡ true → length writes < length others → ⊥

@@ -49,7 +49,7 @@ abbrev pub ShowEither : ImageRecord → List Journaled → Slot → Type 0
 ShowEither kept writes slot = IsShown kept writes slot.image ⊎ ((i : Image) × (slot.change ≡ Some i) × IsShown kept writes i)
 
 -- the device holds the slot's image, without its change or with it
-pub record Keeps (g : Geometry) (device : Device) (image : ℕ) (slot : Slot) : Type 0 where
+pub record HoldsSlot (g : Geometry) (device : Device) (image : ℕ) (slot : Slot) : Type 0 where
   pub kept : ImageRecord
   pub writes : List Journaled
   pub journal : IsJournal g device image kept writes

@@ -1,5 +1,5 @@
 -- Blocks that spell maps: they are read back, spell maps where bits are set or cleared, and no other kind of write is written there.
-use Rattle.std.proofs.Common.{◌≡◌, ℕ, suc, ◌+◌, ◌≤◌, List, [], ◌∷◌, length, replicate, Bool, true, false, Some, refl, ap, sym, ◌∙◌}
+use Rattle.std.proofs.Common.{◌≡◌, ℕ, ◌≤◌, List, [], ◌∷◌, replicate, Bool, true, false, Some, refl, ap, sym, ◌∙◌}
 use Rattle.std.specs.Prelude.{slice_get, ◌||◌}
 use Rattle.plx_base.proofs.Spelling.{read-some}
 use Rattle.plx_base.specs.declared.write_kind.WriteKind.{WriteKind}
@@ -13,7 +13,7 @@ use Rattle.plx_geom.specs.Geometry.{Geometry, map_at}
 use Rattle.plx_rules.specs.Formatted.{empty_map}
 use Rattle.plx_rules.specs.Space.{is_own_set, read_map, with_set, with_clear}
 use Rattle.law_lease.proofs.Leased.{IsPlaced}
-use Rattle.plx_rules.proofs.Maps.{length-with_set, own-set}
+use Rattle.plx_rules.proofs.Maps.{length-with_clear, length-with_set, own-set}
 
 -- ---- a block that spells a map
 
@@ -28,10 +28,6 @@ unfolding empty_map
 map-empty blocks some most = holds-map blocks (empty_bits blocks) (1 ∷ replicate 4095 0) most (is_map-empty blocks some) (sym (map_bytes-empty blocks some))
 
 -- ---- bits of a map are set, or cleared
-
-length-clear : (blocks : List ℕ) (block : ℕ) (bits : List Bool) → length (with_clear blocks block bits) ≡ length bits
-length-clear blocks block [] = refl
-length-clear blocks block (bit ∷ bits) = ap suc (length-clear blocks (block + 1) bits)
 
 own-stays-set : (blocks : List ℕ) (block : ℕ) (bits : List Bool) → slice_get bits 0 ≡ Some true → slice_get (with_set blocks block bits) 0 ≡ Some true
 own-stays-set blocks block [] e = e
@@ -48,28 +44,28 @@ set-spelled size blocks block bits most is =
 -- none but the map's own
 pub clear-spelled : (size : ℕ) (blocks : List ℕ) (block : ℕ) (bits : List Bool) → size ≤ 32768 → is_in block blocks ≡ false → IsMap size bits → HoldsMap size (map_bytes (with_clear blocks block bits))
 clear-spelled size blocks block bits most out is =
-    holds-map size (with_clear blocks block bits) (map_bytes (with_clear blocks block bits)) most (record { long = length-clear blocks block bits ∙ is.long; own = own-stays-clear blocks block bits out is.own }) refl
+    holds-map size (with_clear blocks block bits) (map_bytes (with_clear blocks block bits)) most (record { long = length-with_clear blocks block bits ∙ is.long; own = own-stays-clear blocks block bits out is.own }) refl
 
 -- ---- writes of maps
 
 -- what is written in a map's block spells a map, by kind
-abbrev pub SpellsMap : Geometry → WriteKind → (bytes : List ℕ) → Type 0
-SpellsMap g kind.Claim bytes = Unit {0}
-SpellsMap g kind.Renew bytes = Unit {0}
-SpellsMap g kind.Release bytes = Unit {0}
-SpellsMap g kind.Take bytes = HoldsMap g.extent_blocks bytes
-SpellsMap g kind.Give bytes = HoldsMap g.extent_blocks bytes
-SpellsMap g kind.Sweep bytes = HoldsMap g.extent_blocks bytes
-SpellsMap g kind.Fresh bytes = Unit {0}
-SpellsMap g kind.Link bytes = Unit {0}
-SpellsMap g kind.Overwrite bytes = Unit {0}
-SpellsMap g kind.Record bytes = Unit {0}
-SpellsMap g kind.Log bytes = Unit {0}
-SpellsMap g kind.JData bytes = Unit {0}
-SpellsMap g kind.JCommit bytes = Unit {0}
+abbrev pub IsMapSpelled : Geometry → WriteKind → (bytes : List ℕ) → Type 0
+IsMapSpelled g kind.Claim bytes = Unit {0}
+IsMapSpelled g kind.Renew bytes = Unit {0}
+IsMapSpelled g kind.Release bytes = Unit {0}
+IsMapSpelled g kind.Take bytes = HoldsMap g.extent_blocks bytes
+IsMapSpelled g kind.Give bytes = HoldsMap g.extent_blocks bytes
+IsMapSpelled g kind.Sweep bytes = HoldsMap g.extent_blocks bytes
+IsMapSpelled g kind.Fresh bytes = Unit {0}
+IsMapSpelled g kind.Link bytes = Unit {0}
+IsMapSpelled g kind.Overwrite bytes = Unit {0}
+IsMapSpelled g kind.Record bytes = Unit {0}
+IsMapSpelled g kind.Log bytes = Unit {0}
+IsMapSpelled g kind.JData bytes = Unit {0}
+IsMapSpelled g kind.JCommit bytes = Unit {0}
 
 -- no other kind is written there
-pub map-write : (g : Geometry) (extent : ℕ) (k : WriteKind) (block : ℕ) (bytes rests : List ℕ) → IsPlaced g k block bytes rests → map_at g extent ≡ block → SpellsMap g k bytes → HoldsMap g.extent_blocks bytes
+pub map-write : (g : Geometry) (extent : ℕ) (k : WriteKind) (block : ℕ) (bytes rests : List ℕ) → IsPlaced g k block bytes rests → map_at g extent ≡ block → IsMapSpelled g k bytes → HoldsMap g.extent_blocks bytes
 map-write g extent kind.Claim block bytes rests placed here spells = absurd (lease-map g placed.0 extent placed.1 (sym (here ∙ placed.2)))
 map-write g extent kind.Renew block bytes rests placed here spells = absurd (lease-map g placed.0 extent placed.1 (sym (here ∙ placed.2)))
 map-write g extent kind.Release block bytes rests placed here spells = absurd (lease-map g placed.0 extent placed.1 (sym (here ∙ placed.2)))

@@ -21,8 +21,8 @@ use Rattle.plx_commands.specs.declared.entry.Entry.{Entry}
 use Rattle.plx_commands.specs.declared.entry.Entry.TheVariants as entry
 use Rattle.plx_commands.proofs.Accepted.{Answers, answers-of}
 use Rattle.plx_commands.proofs.Places.{at-same, at-other, at-all}
-use Rattle.plx_base.proofs.Tests.{eqb-false, nat_lt-true, and-no}
-use Rattle.law_headline.proofs.Owners.{both-true, owner-cases, disowned-not, disowned-other, changed-owned}
+use Rattle.plx_base.proofs.Tests.{eqb-false, nat_lt-true, and-no, and-parts}
+use Rattle.law_headline.proofs.Owners.{owner-cases, disowned-not, disowned-other, changed-owned}
 
 -- a change under way is reported otherwise than its image
 abbrev pub Differs : Slot → Type 0
@@ -264,7 +264,7 @@ sound-started m a command sound idle = by_slot (changed_slot command) refl
     by_test : (slot : ℕ) → changed_slot command ≡ Some slot → (x : Bool) → begins_change m a command ≡ x →
         Sound (with_slots m a command (where_owned x m.slots slot (under_way (m.slots slot) (image_after (images_in m) slot command))))
     by_test slot changes true e =
-        let b = both-true (owns_all m a (named_slots command)) (is_none (refusals m a command)) e in
+        let b = and-parts (owns_all m a (named_slots command)) (is_none (refusals m a command)) e in
         begun slot changes (changed-owned m a command slot changes b.0) b.1
     by_test slot changes false e = still
 

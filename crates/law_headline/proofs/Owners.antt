@@ -1,16 +1,12 @@
 -- Who owns a slot.
 use Rattle.std.proofs.Common.{◌≡◌, ◌≢◌, ℕ, ◌⊎◌, inl, inr, [], ◌∷◌, Bool, true, false, Option, Some, None, refl, ap, sym, ◌∙◌}
-use Rattle.std.specs.Prelude.{◌&&◌, if◌then◌else◌}
+use Rattle.std.specs.Prelude.{if◌then◌else◌}
 use Rattle.std.proofs.lemmas.Bool.Decides.{eqb_tells}
+use Rattle.plx_base.proofs.Tests.{and-parts}
 use Rattle.plx_commands.specs.Model.{Model, owns, owns_all, owner_without}
 use Rattle.plx_commands.specs.Slots.{named_slots, changed_slot}
 use Rattle.plx_commands.specs.declared.command.Command.{Command}
 use Rattle.plx_commands.specs.declared.command.Command.TheVariants.{Attach, Detach, Create, Delete, Read, Write, Flush, Reserve, Renew, Retire, Reclaim}
-
-pub both-true : (x y : Bool) → (x && y) ≡ true → (x ≡ true) × (y ≡ true)
-both-true true true e = (refl, refl)
-both-true true false e = absurd (let P : ⊥ = cc in P)
-both-true false y e = absurd (let P : ⊥ = cc in P)
 
 pub owns-is : (o : Option ℕ) (a : ℕ) → owns o a ≡ true → o ≡ Some a
 owns-is None a e = absurd (let P : ⊥ = cc in P)
@@ -45,7 +41,7 @@ changed-owned m a command slot changes owned = by_command command changes owned
     first : (k : ℕ) → owns_all m a (k ∷ []) ≡ true → Some k ≡ Some slot → (m.slots slot).owner ≡ Some a
     first k all is =
         let same : k ≡ slot = cc in
-        ap (λ (n : ℕ). (m.slots n).owner) (sym same) ∙ owns-is (m.slots k).owner a (both-true (owns (m.slots k).owner a) true all).0
+        ap (λ (n : ℕ). (m.slots n).owner) (sym same) ∙ owns-is (m.slots k).owner a (and-parts (owns (m.slots k).owner a) true all).0
 
     by_command : (c : Command) → changed_slot c ≡ Some slot → owns_all m a (named_slots c) ≡ true → (m.slots slot).owner ≡ Some a
     by_command (Create k size label) is all = first k.0 all is

@@ -7,11 +7,11 @@ use Rattle.plx_commands.specs.Model.{Slot}
 use Rattle.plx_geom.specs.Geometry.{Geometry, image_lease}
 use Rattle.law_headline.proofs.BytesByKind.{OnlyBytes}
 use Rattle.law_headline.proofs.Held.{IsOf}
-use Rattle.law_headline.proofs.Journals.{Keeps}
+use Rattle.law_headline.proofs.Journals.{HoldsSlot}
 
 -- whatever of the write lands, the image is kept
 abbrev pub KeepsAll : Geometry → Device → (image : ℕ) → Slot → (block : ℕ) → (bytes : List ℕ) → Type 0
-KeepsAll g device i slot block bytes = (flags : List Bool) → length flags ≡ 8 → Keeps g (put device block (with_landed_sectors flags bytes (device block))) i slot
+KeepsAll g device i slot block bytes = (flags : List Bool) → length flags ≡ 8 → HoldsSlot g (put device block (with_landed_sectors flags bytes (device block))) i slot
 
 -- where the home is an image's lease the block is one of that image, which is kept whatever lands
 abbrev pub KeepsImage : Geometry → Device → (slots : ℕ → Slot) → (home block : ℕ) → (bytes : List ℕ) → Type 0

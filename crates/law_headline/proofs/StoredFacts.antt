@@ -5,6 +5,7 @@ use Rattle.std.proofs.lemmas.Bool.Decides.{eqb_tells}
 use Rattle.std.proofs.lemmas.Option.{slice_get_within, slice_get_cases}
 use Rattle.plx_base.specs.Blocks.{zeros}
 use Rattle.plx_base.specs.Sectors.{Device}
+use Rattle.plx_base.proofs.Tests.{and-parts}
 use Rattle.plx_commands.specs.Images.{Image}
 use Rattle.plx_commands.specs.Model.{Slot}
 use Rattle.plx_gate.specs.Images.{read_image}
@@ -18,8 +19,7 @@ use Rattle.plx_rules.specs.Stored.{all_of, Holds, StoredImage, IsCounted, IsWrit
 use Rattle.plx_gate.proofs.Images.{image-back}
 use Rattle.law_lease.proofs.Latest.{IsLast, IsLatest, last-of, latest-is}
 use Rattle.law_headline.proofs.JournalFacts.{counted-commit, unused-uncounted}
-use Rattle.law_headline.proofs.Journals.{IsJournal, IsShown, Keeps}
-use Rattle.law_headline.proofs.Owners.{both-true}
+use Rattle.law_headline.proofs.Journals.{IsJournal, IsShown, HoldsSlot}
 use Rattle.plx_rules.specs.Journal.{descriptor_of}
 
 -- a plain record has no snapshots and no tree
@@ -27,10 +27,10 @@ zero-tells : (n : ℕ) → (n == 0) ≡ true → n ≡ 0
 zero-tells n e = elim (eqb_tells n 0) [ inl same ↦ same.1 | inr other ↦ absurd (let f : true ≡ false = sym e ∙ other.0 in let P : ⊥ = cc in P) ]
 
 pub plain-root : (kept : ImageRecord) → is_plain kept ≡ true → root_of kept ≡ 0
-plain-root kept plain = zero-tells (root_of kept) (both-true (taken_of kept == 0) (root_of kept == 0) plain).1
+plain-root kept plain = zero-tells (root_of kept) (and-parts (taken_of kept == 0) (root_of kept == 0) plain).1
 
 pub plain-taken : (kept : ImageRecord) → is_plain kept ≡ true → taken_of kept ≡ 0
-plain-taken kept plain = zero-tells (taken_of kept) (both-true (taken_of kept == 0) (root_of kept == 0) plain).0
+plain-taken kept plain = zero-tells (taken_of kept) (and-parts (taken_of kept == 0) (root_of kept == 0) plain).0
 
 module _ (g : Geometry) (image : ℕ) (most : g.slots ≤ 64) (device : Device) (kept : ImageRecord) (writes : List Journaled) (journal : IsJournal g device image kept writes) where
   -- the slot of a write counts, with the write's descriptor
@@ -132,7 +132,7 @@ module _ (g : Geometry) (image : ℕ) (most : g.slots ≤ 64) (device : Device) 
   agrees-left i = record { live = refl; generation = refl; size = refl; label = refl; writes = refl; content = λ vblock. refl; taken = refl }
 
 -- a device that keeps the image stores it
-pub stores-kept : (g : Geometry) (image : ℕ) (device : Device) (slot : Slot) → g.slots ≤ 64 → Keeps g device image slot → StoresEither g device image slot
+pub stores-kept : (g : Geometry) (image : ℕ) (device : Device) (slot : Slot) → g.slots ≤ 64 → HoldsSlot g device image slot → StoresEither g device image slot
 stores-kept g image device slot most keeps = elim keeps.either [
   | inl left ↦ (
     _,

@@ -9,7 +9,7 @@ use Rattle.plx_disk.specs.Writes.{no_sectors}
 use Rattle.plx_geom.specs.Geometry.{Geometry}
 use Rattle.plx_rules.specs.Holds.{Hold}
 use Rattle.law_lease.proofs.Frame.{SameUnder}
-use Rattle.law_lease.proofs.Leased.{MayWrite}
+use Rattle.law_lease.proofs.Leased.{MayIssue}
 
 -- a lease, a map, a record, a log and a journal wait on nothing but their claims; no kind of trees is asked for yet
 abbrev pub WaitsOn : WriteKind → Geometry → Device → (block : ℕ) → (bytes : List ℕ) → (flags : List Bool) → Type 0
@@ -29,7 +29,7 @@ WaitsOn kind.JCommit g device block bytes flags = Unit {0}
 
 -- as it is asked
 pub waits-asked : (k : WriteKind) (g : Geometry) (boot : ℕ) (holds : ℕ → Hold) (rests : List ℕ) (device : Device) (block : ℕ) (bytes : List ℕ) (guard : ℕ) →
-    MayWrite g boot holds rests k block bytes guard → WaitsOn k g device block bytes no_sectors
+    MayIssue g boot holds rests k block bytes guard → WaitsOn k g device block bytes no_sectors
 waits-asked kind.Claim g boot holds rests device block bytes guard may = tt
 waits-asked kind.Renew g boot holds rests device block bytes guard may = tt
 waits-asked kind.Release g boot holds rests device block bytes guard may = tt

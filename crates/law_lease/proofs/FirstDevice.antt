@@ -1,9 +1,9 @@
 -- A formatted device, of any geometry.
-use Rattle.std.proofs.Common.{◌≡◌, ◌≢◌, ℕ, suc, ◌+◌, ◌-◌, ◌*◌, ◌%◌, ◌≤◌, ◌<◌, List, length, Bool, true, false, refl, ap, ◌∙◌, arith, inl, inr}
+use Rattle.std.proofs.Common.{◌≡◌, ℕ, suc, ◌+◌, ◌-◌, ◌*◌, ◌%◌, ◌≤◌, ◌<◌, List, length, Bool, true, false, refl, ap, ◌∙◌, arith}
 use Rattle.std.specs.Prelude.{◌==◌, ◌&&◌, nat_lt, nat_le}
-use Rattle.std.proofs.lemmas.Bool.Decides.{eqb_tells, leb_tells}
 use Rattle.std.proofs.lemmas.Nat.{mod-mul-add}
 use Rattle.plx_base.proofs.Spelling.{length-zeros}
+use Rattle.plx_base.proofs.Tests.{eqb-false, nat_le-false, nat_le-true}
 use Rattle.plx_base.specs.Blocks.{zeros}
 use Rattle.plx_base.specs.Sectors.{Device}
 use Rattle.plx_base.specs.declared.lease.LeaseRecord.TheVariants as lease_is
@@ -46,43 +46,30 @@ length-tests g false false true map = length-image (image_is.Free 0) (omega arit
 length-tests g false false false true = length-map
 length-tests g false false false false = length-zeros
 
--- what the tests tell
-eqb-on : (a b : ℕ) → a ≡ b → (a == b) ≡ true
-eqb-on a b e = elim (eqb_tells a b) [ inl same ↦ same.0 | inr off ↦ absurd (off.1 e) ]
-
-eqb-off : (a b : ℕ) → a ≢ b → (a == b) ≡ false
-eqb-off a b ne = elim (eqb_tells a b) [ inl same ↦ absurd (ne same.1) | inr off ↦ off.0 ]
-
-least-on : (a b : ℕ) → a ≤ b → nat_le a b ≡ true
-least-on a b under = elim (leb_tells a b) [ inl on ↦ on.0 | inr off ↦ absurd (omega (arith, off.1, under)) ]
-
-least-off : (a b : ℕ) → b < a → nat_le a b ≡ false
-least-off a b past = elim (leb_tells a b) [ inl on ↦ absurd (omega (arith, on.1, past)) | inr off ↦ off.0 ]
-
 module _ (g : Geometry) (geometry : IsGeometry g) where
   at-lease : (b : ℕ) → 1 ≤ b → b < record_at g 0 → formatted_device g b ≡ lease_bytes lease_is.Free
-  at-lease b some under = λ i. by_tests g (eqb-off b 0 (λ e. omega (arith, e, some)) i) (least-on (suc b) (record_at g 0) under i) (nat_lt b (log_at g 0)) (begins_extent g b)
+  at-lease b some under = λ i. by_tests g (eqb-false b 0 (λ e. omega (arith, e, some)) i) (nat_le-true (suc b) (record_at g 0) under i) (nat_lt b (log_at g 0)) (begins_extent g b)
 
   at-record : (b : ℕ) → record_at g 0 ≤ b → b < log_at g 0 → formatted_device g b ≡ image_bytes (image_is.Free 0)
   at-record b past under =
-      λ i. by_tests g (eqb-off b 0 (λ e. omega (arith, e, past)) i) (least-off (suc b) (record_at g 0) (omega (arith, past)) i) (least-on (suc b) (log_at g 0) under i) (begins_extent g b)
+      λ i. by_tests g (eqb-false b 0 (λ e. omega (arith, e, past)) i) (nat_le-false (suc b) (record_at g 0) (omega (arith, past)) i) (nat_le-true (suc b) (log_at g 0) under i) (begins_extent g b)
 
   -- past the records the map's test decides
   at-rest : (b : ℕ) → log_at g 0 ≤ b → formatted_device g b ≡ by_tests g false false false (begins_extent g b)
   at-rest b past =
-      λ i. by_tests g (eqb-off b 0 (λ e. omega (arith, e, past)) i) (least-off (suc b) (record_at g 0) (omega (arith, past)) i) (least-off (suc b) (log_at g 0) (omega (arith, past)) i) (begins_extent g b)
+      λ i. by_tests g (eqb-false b 0 (λ e. omega (arith, e, past)) i) (nat_le-false (suc b) (record_at g 0) (omega (arith, past)) i) (nat_le-false (suc b) (log_at g 0) (omega (arith, past)) i) (begins_extent g b)
 
   -- below the extents there are zeros
   at-zeros : (b : ℕ) → log_at g 0 ≤ b → b < extents_start g → formatted_device g b ≡ zeros
   at-zeros b past under =
-      at-rest b past ∙ ap (λ (low : Bool). by_tests g false false false (low && ((b - extents_start g) % g.extent_blocks == 0))) (least-off (extents_start g) b under)
+      at-rest b past ∙ ap (λ (low : Bool). by_tests g false false false (low && ((b - extents_start g) % g.extent_blocks == 0))) (nat_le-false (extents_start g) b under)
 
   -- a block of an extent
   in-extent : (d bit : ℕ) → bit < g.extent_blocks → begins_extent g (pool_at g d bit) ≡ (bit == 0)
   in-extent d bit below =
       let back : pool_at g d bit - extents_start g ≡ d * g.extent_blocks + bit = omega arith in
       let rest : (pool_at g d bit - extents_start g) % g.extent_blocks ≡ bit = ap (λ n. n % g.extent_blocks) back ∙ mod-mul-add d g.extent_blocks bit below in
-      λ i. least-on (extents_start g) (pool_at g d bit) (omega arith) i && (rest i == 0)
+      λ i. nat_le-true (extents_start g) (pool_at g d bit) (omega arith) i && (rest i == 0)
 
   at-extent : (d bit : ℕ) → bit < g.extent_blocks → formatted_device g (pool_at g d bit) ≡ by_tests g false false false (bit == 0)
   at-extent d bit below = at-rest (pool_at g d bit) (omega arith) ∙ ap (by_tests g false false false) (in-extent d bit below)
@@ -100,7 +87,7 @@ module _ (g : Geometry) (geometry : IsGeometry g) where
       let some : 0 < g.extent_blocks = (let low = geometry.blocks_low in omega arith) in
       let e : map_at g extent.0 ≡ pool_at g extent.0 0 = omega arith in
       ap (formatted_device g) e ∙ at-extent extent.0 0 some
-  at-place (Pool extent bit) is = at-extent extent.0 bit is.2 ∙ ap (by_tests g false false false) (eqb-off bit 0 (λ e. let some = is.1 in omega (arith, e, some)))
+  at-place (Pool extent bit) is = at-extent extent.0 bit is.2 ∙ ap (by_tests g false false false) (eqb-false bit 0 (λ e. let some = is.1 in omega (arith, e, some)))
 
   -- it is formatted
   pub formatted-is : IsFormatted g (formatted_device g)

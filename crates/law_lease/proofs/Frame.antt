@@ -37,7 +37,7 @@ abbrev pub SameUnder : Geometry → (lease : ℕ) → (device other : Device) �
 SameUnder g lease device other = (block : ℕ) → Covers g lease block → other block ≡ device block
 
 -- the write is written under the lease: the lease is its home, and it is open there
-pub record IsOwn (g : Geometry) (rests : ℕ → List ℕ) (appliances time : ℕ) (writes : List Issued) (seats : ℕ → Seat) (number : ℕ) (write : Issued) (lease : ℕ) : Type 0 where
+pub record IsAtHome (g : Geometry) (rests : ℕ → List ℕ) (appliances time : ℕ) (writes : List Issued) (seats : ℕ → Seat) (number : ℕ) (write : Issued) (lease : ℕ) : Type 0 where
   pub covers : Covers g lease write.block
   pub home : home_of (rests number) ≡ Some lease
   pub opens : IsOpen g rests appliances time writes seats lease number write
@@ -49,7 +49,7 @@ pub record IsAway (g : Geometry) (device after : Device) (block lease : ℕ) : T
 
 -- the frame of a landing: each lease sees it as its own, or as away; every other write that is open after it was open before, and so was the one that lands
 pub record Frame (g : Geometry) (rests : ℕ → List ℕ) (appliances time : ℕ) (device after : Device) (writes now : List Issued) (seats : ℕ → Seat) (number : ℕ) (write : Issued) : Type 0 where
-  pub each : (lease : ℕ) → lease < lease_count g → (IsOwn g rests appliances time writes seats number write lease) ⊎ (IsAway g device after write.block lease)
+  pub each : (lease : ℕ) → lease < lease_count g → (IsAtHome g rests appliances time writes seats number write lease) ⊎ (IsAway g device after write.block lease)
   pub before : (lease n : ℕ) (x : Issued) → n ≢ number → IsOpen g rests appliances time now seats lease n x → IsOpen g rests appliances time writes seats lease n x
   pub still : (lease : ℕ) (x : Issued) → IsOpen g rests appliances time now seats lease number x → IsOpen g rests appliances time writes seats lease number write
 
@@ -130,7 +130,7 @@ module _ (w : World) (leased : Leased w) (a : ℕ) (below : a < w.appliances) (f
       (subst G (pending-before b under (w.seats b).pending refl) grips.0, grips.1)
 
   -- the new write is the last, rests on the lease, and isn't too late to land or has a boot that holds the lease in time
-  pub record IsNew (lease n : ℕ) (x : Issued) : Type 0 where
+  pub record IsNewlyOpen (lease n : ℕ) (x : Issued) : Type 0 where
     pub last : n ≡ length w.surface.writes
     pub is : issued ≡ x
     pub under : is_in lease leases ≡ true
@@ -138,7 +138,7 @@ module _ (w : World) (leased : Leased w) (a : ℕ) (below : a < w.appliances) (f
 
   -- what is open once the write is issued was open before, or is the new one
   pub open-issued : (lease n : ℕ) (x : Issued) → IsOpen w.geometry since w.appliances w.surface.time longer (at w.seats a waiting) lease n x →
-      (IsOpen w.geometry w.rests w.appliances w.surface.time w.surface.writes w.seats lease n x) ⊎ IsNew lease n x
+      (IsOpen w.geometry w.rests w.appliances w.surface.time w.surface.writes w.seats lease n x) ⊎ IsNewlyOpen lease n x
   open-issued lease n x (inl op) = elim (push-cases w.surface.writes issued x n op.found) [
     | inl old ↦ inl (inl (record { found = old; needs = needs-before w.rests w.surface.writes leases n x lease old op.needs; missing = op.missing; live = op.live }))
     | inr is ↦ inr (record {
@@ -160,7 +160,7 @@ module _ (w : World) (leased : Leased w) (a : ℕ) (below : a < w.appliances) (f
     | inr is ↦
         let needs = needs-last w.rests w.surface.writes leases n lease is.0 o.5 in
         at-all (λ b s. b < w.appliances → ((claim : Claim) × (until : ℕ) × GripsLease w.geometry w.surface.time longer b s lease claim until) → s.pending ≡ Some n →
-        (IsOpen w.geometry w.rests w.appliances w.surface.time w.surface.writes w.seats lease n x) ⊎ IsNew lease n x)
+        (IsOpen w.geometry w.rests w.appliances w.surface.time w.surface.writes w.seats lease n x) ⊎ IsNewlyOpen lease n x)
         w.seats a waiting
         (λ under grips waits. inr (record { last = is.0; is = is.1; under = needs; live = inr (grips.0, grips.1, grips-own lease grips.0 grips.1 grips.2) }))
         (λ b ne under grips waits.
@@ -313,7 +313,7 @@ module _ (w : World) (leased : Leased w) (number sector : ℕ) (write : Issued) 
   open-landed lease n x ne found (inr o) = inr (o.0, o.1, grips-before lease o.0 o.1 o.2.0 o.2.1 o.2.2, o.3, found, o.5)
 
   -- it is its home alone that covers its block
-  sees : (lease : ℕ) → lease < lease_count g → (IsOwn g w.rests w.appliances time writes w.seats number write lease) ⊎ (IsAway g device after write.block lease)
+  sees : (lease : ℕ) → lease < lease_count g → (IsAtHome g w.rests w.appliances time writes w.seats number write lease) ⊎ (IsAway g device after write.block lease)
   sees lease within = elim (home-covers g write.kind write.block write.bytes (w.rests number) right.placed) [
     | inl at ↦ inr (is-away (lease-uncovered g lease write.block at.0 at.1 at.2))
     | inr home ↦ elim (eqb_tells home.0 lease) [

@@ -68,20 +68,3 @@ pub latest-push : (before : List ℕ) (vblock : ℕ) (writes : List Journaled) (
     latest before vblock (writes ++ write ∷ []) ≡ (if vblock == write.vblock then write.block else latest before vblock writes)
 latest-push before vblock [] write = refl
 latest-push before vblock (first ∷ writes) write = latest-push (if vblock == first.vblock then first.block else before) vblock writes write
-
--- what stands at a place of a list with one more element, and the newest element
-pub at_push : {X : Type 0} (xs : List X) (x y : X) (k : ℕ) → slice_get (xs ++ x ∷ []) k ≡ Some y →
-    (slice_get xs k ≡ Some y) ⊎ ((k ≡ length xs) × (x ≡ y))
-at_push [] x y zero h = inr (refl, cc)
-at_push [] x y (suc k) h = cc
-at_push (z ∷ xs) x y zero h = inl h
-at_push (z ∷ xs) x y (suc k) h = elim (at_push xs x y k h) [ inl e ↦ inl e | inr e ↦ inr (ap suc e.0, e.1) ]
-
-pub get-push : {X : Type 0} (xs : List X) (x : X) → slice_get (xs ++ x ∷ []) (length xs) ≡ Some x
-get-push [] x = refl
-get-push (y ∷ xs) x = get-push xs x
-
-pub get-old : {X : Type 0} (xs : List X) (x y : X) (k : ℕ) → slice_get xs k ≡ Some y → slice_get (xs ++ x ∷ []) k ≡ Some y
-get-old [] x y k h = cc
-get-old (z ∷ xs) x y zero h = h
-get-old (z ∷ xs) x y (suc k) h = get-old xs x y k h

@@ -1,10 +1,10 @@
 -- Each write that a command asks is allowed by what its boot holds.
-use Rattle.std.proofs.Common.{◌≡◌, ℕ, zero, suc, ◌+◌, ◌-◌, ◌^◌, ◌≤◌, ◌<◌, inl, inr, List, [], ◌∷◌, Bool, true, false, Option, Some, None, refl, ap, sym, ◌∙◌, arith, length}
+use Rattle.std.proofs.Common.{◌≡◌, ℕ, zero, suc, ◌+◌, ◌-◌, ◌^◌, ◌≤◌, ◌<◌, List, [], ◌∷◌, Bool, true, false, Option, Some, None, refl, ap, ◌∙◌, arith, length}
 use Rattle.std.proofs.Math.Nat.{mod-lt}
-use Rattle.std.proofs.lemmas.Bool.Decides.{leb_tells}
 use Rattle.std.specs.Prelude.{if◌then◌else◌, nat_le, nat_lt, ◌==◌, not}
 use Rattle.std.specs.Str.{bytes_eq}
 use Rattle.plx_base.proofs.Spelling.{length-spelled}
+use Rattle.plx_base.proofs.Tests.{nat_lt-tells}
 use Rattle.plx_base.specs.Labels.{IsLabel}
 use Rattle.plx_base.specs.declared.lease.Claim.{Claim}
 use Rattle.plx_base.specs.declared.lease.LeaseRecord.{LeaseRecord}
@@ -38,6 +38,7 @@ use Rattle.plx_rules.specs.Session.{Session, Known, with_claim, with_session, ne
 use Rattle.plx_rules.specs.Settings.{Setting}
 use Rattle.plx_rules.specs.Times.{is_expired, term}
 use Rattle.plx_gate.proofs.Leases.{length-lease}
+use Rattle.plx_rules.proofs.Holds.{later-below, later-least}
 use Rattle.law_lease.proofs.Leased.{IsGranted, Lawful, LawfulRest}
 use Rattle.law_lease.proofs.Rests.{one-in, lease-place-found, record-found, data-found, descriptor-place-found}
 
@@ -64,10 +65,6 @@ first-rests (Some session) reading Nothing = tt
 first-rests (Some session) reading (Seen sample) = tt
 first-rests (Some session) reading (Wrote claim until) = tt
 first-rests (Some session) reading (Waited claim until) = tt
-
--- what a test of numbers tells
-pub below-tested : (a b : ℕ) → nat_lt a b ≡ true → a < b
-below-tested a b e = elim (leb_tells (suc a) b) [ inl below ↦ below.1 | inr not' ↦ absurd (let f : true ≡ false = sym e ∙ not'.0 in let P : ⊥ = cc in P) ]
 
 -- a record is a block of 4,096 bytes, where its label is one
 pub length-labelled : (kept : ImageRecord) → length (label_of kept) ≤ 32 → length (image_bytes kept) ≡ 4096
@@ -230,7 +227,7 @@ module _ (s : Setting) (command : Command) where
       holds (lease_at (image_lease image)) ≡ Nothing → Right holds sample (claim_image enough s known image)
   right-claim false known image holds sample e within is = tt
   right-claim true known image holds sample e within is =
-      let few = below-tested known.claims last_claim e in
+      let few = nat_lt-tells known.claims last_claim e in
       lawful-followed s.geometry s.boot command (λ end held last. Unit {0}) (λ end held last. Unit {0}) (claim_part s.boot [] (image_lease image) known.claims) (after_claim s (with_claim known) image) holds sample
       (lawful-claim s.geometry s.boot command [] (image_lease image) known.claims holds sample (image-below s.geometry image within) (omega (arith, few)) is)
       (λ end h l any. right-claimed (with_claim known) image end h l)
@@ -241,7 +238,7 @@ module _ (s : Setting) (command : Command) where
   right-attach known image holds sample None false hold e is rests = tt
   right-attach known image holds sample None true (Held claim until) e is rests = right-image known image until holds sample
   right-attach known image holds sample None true Nothing e is rests =
-      right-claim (nat_lt known.claims last_claim) known image holds sample refl (below-tested image s.geometry.images e) is
+      right-claim (nat_lt known.claims last_claim) known image holds sample refl (nat_lt-tells image s.geometry.images e) is
   right-attach known image holds sample None true (Seen l) e is rests = absurd rests
   right-attach known image holds sample None true (Wrote claim until) e is rests = absurd rests
   right-attach known image holds sample None true (Waited claim until) e is rests = absurd rests
@@ -255,7 +252,7 @@ module _ (s : Setting) (command : Command) where
   right-attached known image reading holds sample None within hold rest e is right = tt
   right-attached known image reading holds sample (Some session) false hold rest e is right = tt
   right-attached known image reading holds sample (Some session) true (Held claim until) rest e is right =
-      right-in_time known (image_use image until) reading (rest session until) holds sample (right session claim until (below-tested image s.geometry.images e) is)
+      right-in_time known (image_use image until) reading (rest session until) holds sample (right session claim until (nat_lt-tells image s.geometry.images e) is)
   right-attached known image reading holds sample (Some session) true Nothing rest e is right = tt
   right-attached known image reading holds sample (Some session) true (Seen l) rest e is right = tt
   right-attached known image reading holds sample (Some session) true (Wrote claim until) rest e is right = tt
@@ -339,12 +336,6 @@ module _ (s : Setting) (command : Command) where
         (right-journaled vblock bytes session some long))))
 
   -- ---- renew
-
-  later-least : (a b : ℕ) → a ≤ later_of a b
-  later-least a b = elim (leb_tells a b) [ inl below ↦ rw below.0 below.1 | inr not' ↦ rw not'.0 (omega arith) ]
-
-  later-below : (a b m : ℕ) → a < m → b < m → later_of a b < m
-  later-below a b m one other = elim (leb_tells a b) [ inl below ↦ rw below.0 other | inr not' ↦ rw not'.0 one ]
 
   pub right-renew : (known : Known) (holds0 : ℕ → Hold) (reading left lease : ℕ) (holds : ℕ → Hold) (sample : Option ℕ) → reading < 2 ^ 48 → left + lease ≡ lease_count s.geometry →
       ((j : ℕ) → lease ≤ j → holds (lease_at j) ≡ holds0 (lease_at j)) → Right holds sample (renew_part s known holds0 reading left lease)

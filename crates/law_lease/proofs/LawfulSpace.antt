@@ -27,7 +27,8 @@ use Rattle.plx_rules.specs.Session.{Session, Known}
 use Rattle.plx_rules.specs.Settings.{Setting}
 use Rattle.plx_rules.specs.Space.{Taking, with_claim_begun, with_claimed, with_taken, with_busy, first_taking, extent_use, if_needed, set_part, take_found, take_here, take_if_held, take_held, after_extent_claim, claim_extent, claim_if_free, other_found, take_if_other, take_others, shortage_part, taken_part, reserve_part, release_then, in_extent, give_found, give_part, retire_extent, retire_extents, retire_lease, retire_images, retire_part, read_map, free_from, with_set, with_clear}
 use Rattle.plx_rules.specs.Times.{is_expired, term, wait}
-use Rattle.law_lease.proofs.LawfulCommands.{IsRest, below-tested, lawful-followed, right-ends}
+use Rattle.plx_base.proofs.Tests.{nat_lt-tells}
+use Rattle.law_lease.proofs.LawfulCommands.{IsRest, lawful-followed, right-ends}
 use Rattle.law_lease.proofs.Leased.{IsGranted, Lawful, LawfulRest}
 use Rattle.law_lease.proofs.Rests.{one-in, lease-place-found, map-found}
 
@@ -40,7 +41,7 @@ timed-rests reading (Wrote claim until) rests = absurd rests
 timed-rests reading (Waited claim until) rests = absurd rests
 
 -- where a reading has reached no lease in use, it hasn't reached the first
-unreached : (one : InUse) (others : List InUse) (reading : ℕ) → first_reached (one ∷ others) reading ≡ None → reading < one.until
+pub unreached : (one : InUse) (others : List InUse) (reading : ℕ) → first_reached (one ∷ others) reading ≡ None → reading < one.until
 unreached one others reading none = elim (leb_tells one.until reading) [
   | inl past ↦ absurd (let P : Bool → Type 0 = λ b. (if b then Some (earlier one (first_reached others reading)) else first_reached others reading) ≡ None in let e : Some (earlier one (first_reached others reading)) ≡ None = subst P past.0 none in let Q : ⊥ = cc in Q)
   | inr below ↦ omega (arith, below.1)
@@ -253,7 +254,7 @@ module _ (s : Setting) (geometry : IsGeometry s.geometry) (small : s.boot < 2 ^ 
       SpaceRight holds sample (claim_extent enough s count extent rest t)
   right-claim_extent false count extent below first rest t holds sample e rests none same right = tt
   right-claim_extent true count extent below first rest t holds sample e rests none same right =
-      let few = below-tested t.known.claims last_claim e in
+      let few = nat_lt-tells t.known.claims last_claim e in
       lawful-followed s.geometry s.boot command (ClaimLeaves (extent_lease s.geometry extent) holds) (λ end held last. Unit {0}) (claim_part s.boot t.claimed (extent_lease s.geometry extent) t.known.claims)
       (after_extent_claim s count extent rest (with_claim_begun t)) holds sample
       (leaves-claim s.geometry s.boot small command (extent_lease s.geometry extent) (extent-below s.geometry extent below) holds t.claimed t.known.claims holds sample (omega (arith, few)) (λ j ne r. refl) none)

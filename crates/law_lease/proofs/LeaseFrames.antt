@@ -12,12 +12,12 @@ use Rattle.plx_rules.specs.Boot.{Place, Idle, Begins, In}
 use Rattle.plx_rules.specs.Holds.{Hold, Nothing, Seen, Wrote, Waited, Held}
 use Rattle.plx_rules.specs.Owners.{first_landed}
 use Rattle.plx_rules.specs.Times.{window}
-use Rattle.law_lease.proofs.Leased.{IsLive, NoneLive, LiveOnly, Clear, Waits, Mine, IsWritten, Good, grip_while, grip_at}
+use Rattle.law_lease.proofs.Leased.{IsLiveWrite, NoneLive, LiveOnly, SparesLease, Waits, Mine, IsWritten, Good, grip_while, grip_at}
 
 -- every write that is live later was live before
 abbrev pub Shrinks : (rests since : ℕ → List ℕ) → ℕ → ℕ → List Issued → List Issued → ℕ → Type 0
 Shrinks rests since time later writes now lease =
-    (n : ℕ) (x : Issued) → IsLive since later now lease n x → (y : Issued) × IsLive rests time writes lease n y
+    (n : ℕ) (x : Issued) → IsLiveWrite since later now lease n x → (y : Issued) × IsLiveWrite rests time writes lease n y
 
 pub none-shrinks : (rests since : ℕ → List ℕ) (time later : ℕ) (writes now : List Issued) (lease : ℕ) → Shrinks rests since time later writes now lease →
     NoneLive rests time writes lease → NoneLive since later now lease
@@ -53,7 +53,7 @@ module _ (rests since : ℕ → List ℕ) (time later : ℕ) (writes now : List 
   }
 
 module _ (rests : ℕ → List ℕ) (time : ℕ) (writes now : List Issued) (lease : ℕ) (standing changed : LeaseRecord) (boot : ℕ) (pending : Option ℕ)
-    (none : NoneLive rests time now lease) (clears : (sample : ℕ) → sample ≤ time + 50 → Clear standing sample → Clear changed sample) where
+    (none : NoneLive rests time now lease) (clears : (sample : ℕ) → sample ≤ time + 50 → SparesLease standing sample → SparesLease changed sample) where
   -- the record changes, where no other boot holds the lease
   pub good-changed : ((claim : Claim) (until : ℕ) → claim.sample + 551 ≤ time → time ≤ until + 50 → standing ≡ Claimed claim until → LiveOnly rests time writes lease pending → ⊥) →
       (hold : Hold) → Good rests time writes lease standing boot pending hold → Good rests time now lease changed boot pending hold
@@ -75,23 +75,23 @@ module _ (rests : ℕ → List ℕ) (time : ℕ) (writes now : List Issued) (lea
 -- a claim that may land meets no lease that still stands
 pub claim-alone : (time : ℕ) (standing : LeaseRecord) (sample : ℕ) → time ≤ (sample + window) + 50 → Waits time standing sample → (claim : Claim) (until : ℕ) →
     claim.sample + 551 ≤ time → time ≤ until + 50 → standing ≡ Claimed claim until → ⊥
-claim-alone time standing sample early waits claim until waited live there = no (subst (λ (r : LeaseRecord). Clear r sample) there waits.clear)
+claim-alone time standing sample early waits claim until waited live there = no (subst (λ (r : LeaseRecord). SparesLease r sample) there waits.clear)
   where
-    no : Clear (Claimed claim until) sample → ⊥
+    no : SparesLease (Claimed claim until) sample → ⊥
     no (inl past) = let s = waits.sampled in omega (arith, past, s, live)
     no (inr near) = omega (arith, near, waited, early)
 
 -- after it, every other claim that may land has a sample near it
 pub claim-clears : (time sample other : ℕ) (standing : LeaseRecord) (claim : Claim) (until : ℕ) → claim.sample ≡ sample → time ≤ (sample + window) + 50 → other ≤ time + 50 →
-    Clear standing other → Clear (Claimed claim until) other
+    SparesLease standing other → SparesLease (Claimed claim until) other
 claim-clears time sample other standing claim until is early sampled clear = inr (omega (arith, is, early, sampled))
 
 -- a renewal in time makes no expired lease of the record
 pub renew-clears : (time : ℕ) (standing : LeaseRecord) (claim : Claim) (until next sample : ℕ) → standing ≡ Claimed claim until → time ≤ until + 50 → sample ≤ time + 50 →
-    Clear standing sample → Clear (Claimed claim next) sample
-renew-clears time standing claim until next sample there live sampled clear = go (subst (λ (r : LeaseRecord). Clear r sample) there clear)
+    SparesLease standing sample → SparesLease (Claimed claim next) sample
+renew-clears time standing claim until next sample there live sampled clear = go (subst (λ (r : LeaseRecord). SparesLease r sample) there clear)
   where
-    go : Clear (Claimed claim until) sample → Clear (Claimed claim next) sample
+    go : SparesLease (Claimed claim until) sample → SparesLease (Claimed claim next) sample
     go (inl past) = absurd (omega (arith, past, live, sampled))
     go (inr near) = inr near
 

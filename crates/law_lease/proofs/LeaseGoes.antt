@@ -31,7 +31,7 @@ use Rattle.plx_rules.specs.World.{Seat, setting_at}
 use Rattle.plx_gate.proofs.Leases.{lease-back, lease-same}
 use Rattle.law_lease.proofs.LeaseFrames.{grip-open}
 use Rattle.law_lease.proofs.LeaseLands.{asked-may, grip-asked, first-set}
-use Rattle.law_lease.proofs.Leased.{MayWrite, LawfulAt, IsLive, Unlanded, Clear, Good, grip_while, grip_at, GoodSeat, LeaseOn, IsAskedAt}
+use Rattle.law_lease.proofs.Leased.{MayIssue, LawfulAt, IsLiveWrite, Unlanded, SparesLease, Good, grip_while, grip_at, GoodSeat, LeaseOn, IsAskedAt}
 use Rattle.plx_geom.proofs.Places.{lease-lease}
 
 module _ (rests : ℕ → List ℕ) (time : ℕ) (writes : List Issued) (lease : ℕ) (standing : LeaseRecord) (boot : ℕ) where
@@ -90,7 +90,7 @@ module _ (rests : ℕ → List ℕ) (time : ℕ) (writes : List Issued) (lease :
     good-seen None sampled = tt
     good-seen (Some s) sampled = subst (λ (r : Option LeaseRecord). Good rests time writes lease standing boot None (seen_by r s)) (sym (lease-back standing limits)) (by_lease standing refl limits)
       where
-        by_test : (r : LeaseRecord) → standing ≡ r → IsLease r → (a : Bool) → is_expired r s ≡ a → Clear standing s ⊎ (a ≡ false) →
+        by_test : (r : LeaseRecord) → standing ≡ r → IsLease r → (a : Bool) → is_expired r s ≡ a → SparesLease standing s ⊎ (a ≡ false) →
             ((c : Claim) (u : ℕ) → standing ≡ Claimed c u → c.sample ≡ s → ⊥) ⊎ (a ≡ false) → Good rests time writes lease standing boot None (if a then Seen s else Nothing)
         by_test r is l false e clear never = tt
         by_test r is l true e (inl clear) (inl never) = record {
@@ -101,10 +101,10 @@ module _ (rests : ℕ → List ℕ) (time : ℕ) (writes : List Issued) (lease :
         by_test r is l true e clear (inr no') = cc
 
         by_lease : (r : LeaseRecord) → standing ≡ r → IsLease r → Good rests time writes lease standing boot None (if is_expired r s then Seen s else Nothing)
-        by_lease Free is l = by_test Free is l true refl (inl (subst (λ (x : LeaseRecord). Clear x s) (sym is) tt))
+        by_lease Free is l = by_test Free is l true refl (inl (subst (λ (x : LeaseRecord). SparesLease x s) (sym is) tt))
             (inl (λ c u there same. let e : Free ≡ Claimed c u = sym is ∙ there in let P : ⊥ = cc in P))
         by_lease (Claimed c u) is l = elim (leb_tells (suc (u + 100)) s) [
-          | inl past ↦ by_test (Claimed c u) is l (nat_lt (u + 100) s) refl (inl (subst (λ (x : LeaseRecord). Clear x s) (sym is) (inl (omega (arith, past.1)))))
+          | inl past ↦ by_test (Claimed c u) is l (nat_lt (u + 100) s) refl (inl (subst (λ (x : LeaseRecord). SparesLease x s) (sym is) (inl (omega (arith, past.1)))))
               (inl (λ d v there same. let e : Claimed c u ≡ Claimed d v = sym is ∙ there in let f : c ≡ d = cc in
               let low = l.low in let q : c.sample ≡ s = ap (λ (x : Claim). x.sample) f ∙ same in omega (arith, low, q, past.1)))
           | inr not ↦ by_test (Claimed c u) is l (nat_lt (u + 100) s) refl (inr not.0) (inr not.0)
@@ -132,7 +132,7 @@ module _ (rests : ℕ → List ℕ) (time : ℕ) (writes : List Issued) (lease :
 
 -- a write that has landed whole isn't live
 pub whole-closed : (rests : ℕ → List ℕ) (time : ℕ) (writes : List Issued) (lease n : ℕ) (write : Issued) → slice_get writes n ≡ Some write → write.landed ≡ all_sectors →
-    (x : Issued) → IsLive rests time writes lease n x → ⊥
+    (x : Issued) → IsLiveWrite rests time writes lease n x → ⊥
 whole-closed rests time writes lease n write found all x is =
     let same : x ≡ write = (let e : Some x ≡ Some write = sym is.found ∙ found in cc) in
     no' x.kind x.landed (ap (λ (y : Issued). y.landed) same ∙ all) is.missing
@@ -142,7 +142,7 @@ whole-closed rests time writes lease n write found all x is =
     no' kind.Release flags whole missing = let e : Some true ≡ Some false = sym (ap (λ (l : List Bool). slice_get l 0) whole) ∙ missing in let P : ⊥ = cc in P
     no' other flags whole missing = missing whole
 
-pub good-done : (rests : ℕ → List ℕ) (time : ℕ) (writes : List Issued) (lease : ℕ) (standing : LeaseRecord) (boot n : ℕ) → ((x : Issued) → IsLive rests time writes lease n x → ⊥) → (hold : Hold) →
+pub good-done : (rests : ℕ → List ℕ) (time : ℕ) (writes : List Issued) (lease : ℕ) (standing : LeaseRecord) (boot n : ℕ) → ((x : Issued) → IsLiveWrite rests time writes lease n x → ⊥) → (hold : Hold) →
     Good rests time writes lease standing boot (Some n) hold → Good rests time writes lease standing boot None hold
 good-done rests time writes lease standing boot n closed Nothing is = tt
 good-done rests time writes lease standing boot n closed (Seen sample) is = is
@@ -154,7 +154,7 @@ good-done rests time writes lease standing boot n closed (Held claim until) is =
   waited = is.waited;
   there = is.there;
   only = λ live m x op. absurd (let e : Some n ≡ Some m = is.only live m x op in
-      let f : n ≡ m = cc in closed x (let P : ℕ → Type 0 = λ k. IsLive rests time writes lease k x in subst P (sym f) op));
+      let f : n ≡ m = cc in closed x (let P : ℕ → Type 0 = λ k. IsLiveWrite rests time writes lease k x in subst P (sym f) op));
 }
 
 -- ---- an appliance's boot goes on
@@ -180,9 +180,9 @@ module _ (g : Geometry) (rests : ℕ → List ℕ) (appliances time : ℕ) (devi
   p = position (setting_at g a (seats a).boots) (seats a).log
 
   -- a log that leads to some position, where no write is issued
-  pub lease-log : (log : List Happening) (q : Position) → position (setting_at g a (seats a).boots) log ≡ q → Good rests time writes lease on.standing boot None (q.holds (lease_at lease)) →
+  pub lease-at-log : (log : List Happening) (q : Position) → position (setting_at g a (seats a).boots) log ≡ q → Good rests time writes lease on.standing boot None (q.holds (lease_at lease)) →
       LeaseOn g rests appliances time device writes (at seats a (record { boots = (seats a).boots; log = log; pending = None })) lease
-  lease-log log q leads good =
+  lease-at-log log q leads good =
       lease-seat (record { boots = (seats a).boots; log = log; pending = None })
       (let P : Position → Type 0 = λ r. Good rests time writes lease on.standing boot None (grip_at r.place None (lease_at lease) (r.holds (lease_at lease))) in
       let H : Hold → Type 0 = λ h. Good rests time writes lease on.standing boot None h in
@@ -227,7 +227,7 @@ module _ (g : Geometry) (rests : ℕ → List ℕ) (appliances time : ℕ) (devi
         let P : Hold → Type 0 = λ h. Good rests time writes lease on.standing boot (Some n) h in
         good-done rests time writes lease on.standing boot n (whole-closed rests time writes lease n write found all) _ (subst P e (subst G waited (on.each a below)))
 
-    done-of : (k : WriteKind) → (leases : List ℕ) → MayWrite g boot p.holds leases k write.block write.bytes write.guard →
+    done-of : (k : WriteKind) → (leases : List ℕ) → MayIssue g boot p.holds leases k write.block write.bytes write.guard →
         Good rests time writes lease on.standing boot None (grip_while k (lease_at lease == write.block) true write.bytes hold) →
         Good rests time writes lease on.standing boot None (after_write k write.block write.bytes p.holds (lease_at lease))
     done-of kind.Claim leases may good = elim (eqb_tells (lease_at lease) write.block) [

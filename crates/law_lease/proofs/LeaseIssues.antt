@@ -24,7 +24,7 @@ use Rattle.law_lease.proofs.Rests.{rests-or, rests-home, needs-before, needs-las
 use Rattle.plx_rules.specs.Settings.{boot_number}
 use Rattle.plx_rules.specs.World.{Seat, setting_at}
 use Rattle.law_lease.proofs.LeaseFrames.{Shrinks, good-shrinks, one-claim, grip-open}
-use Rattle.law_lease.proofs.Leased.{MayWrite, MayUse, IsLive, NoneLive, LiveOnly, IsBacked, IsOfKind, IsClaiming, Good, grip_at, GoodSeat, LeaseOn}
+use Rattle.law_lease.proofs.Leased.{MayIssue, MayUse, IsLiveWrite, NoneLive, LiveOnly, IsBacked, IsOfKind, IsClaimWrite, Good, grip_at, GoodSeat, LeaseOn}
 use Rattle.plx_geom.proofs.Places.{lease-lease}
 
 -- boots of two appliances have two numbers
@@ -106,20 +106,20 @@ module _ (g : Geometry) (rests : ℕ → List ℕ) (appliances time : ℕ) (devi
           same b ne under (Some h) is = kept b (Some h) ne under h is
 
   module _ (kept : (b : ℕ) (q : Option ℕ) → b ≢ a → b < appliances → (h : ℕ) → (seats b).pending ≡ Some h → pending_write now (Some h) ≡ pending_write writes (Some h)) where
-    claims-now : (what ≡ kind.Claim → block ≡ lease_at lease → IsClaiming time on.standing write) →
-        (m : ℕ) (x : Issued) → slice_get now m ≡ Some x → x.kind ≡ kind.Claim → x.block ≡ lease_at lease → IsClaiming time on.standing x
+    claims-now : (what ≡ kind.Claim → block ≡ lease_at lease → IsClaimWrite time on.standing write) →
+        (m : ℕ) (x : Issued) → slice_get now m ≡ Some x → x.kind ≡ kind.Claim → x.block ≡ lease_at lease → IsClaimWrite time on.standing x
     claims-now new m x there is here = elim (push-cases writes write x m there) [
       | inl old ↦ on.claims m x old is here
       | inr fresh ↦
-          let P : Issued → Type 0 = λ y. IsClaiming time on.standing y in
+          let P : Issued → Type 0 = λ y. IsClaimWrite time on.standing y in
           subst P fresh.1 (new (ap (λ (y : Issued). y.kind) fresh.1 ∙ is) (ap (λ (y : Issued). y.block) fresh.1 ∙ here))
     ]
 
     -- the write doesn't need the lease
-    issue-still : (is_in lease leases ≡ true → ⊥) → (what ≡ kind.Claim → block ≡ lease_at lease → IsClaiming time on.standing write) →
+    issue-still : (is_in lease leases ≡ true → ⊥) → (what ≡ kind.Claim → block ≡ lease_at lease → IsClaimWrite time on.standing write) →
         LeaseOn g since appliances time device now seats' lease
     issue-still unneeded new =
-        let old : (m : ℕ) (x : Issued) → IsLive since time now lease m x → IsLive rests time writes lease m x =
+        let old : (m : ℕ) (x : Issued) → IsLiveWrite since time now lease m x → IsLiveWrite rests time writes lease m x =
         λ m x is. elim (push-cases writes write x m is.found) [
           | inl there ↦ record { found = there; needs = needs-before rests writes leases m x lease there is.needs; missing = is.missing; live = is.live }
           | inr fresh ↦ absurd (unneeded (needs-last rests writes leases m lease fresh.0 is.needs))
@@ -144,8 +144,8 @@ module _ (g : Geometry) (rests : ℕ → List ℕ) (appliances time : ℕ) (devi
     issue-needed claim until is guarded of_kind unclaimed =
         let H : Hold → Type 0 = λ h. Good rests time writes lease on.standing boot None h in
         let held = subst H is good-before in
-        let split : (m : ℕ) (x : Issued) → IsLive since time now lease m x →
-        (IsLive rests time writes lease m x) ⊎ ((m ≡ length writes) × (write ≡ x) × (time ≤ until + 50)) =
+        let split : (m : ℕ) (x : Issued) → IsLiveWrite since time now lease m x →
+        (IsLiveWrite rests time writes lease m x) ⊎ ((m ≡ length writes) × (write ≡ x) × (time ≤ until + 50)) =
         λ m x is'. elim (push-cases writes write x m is'.found) [
           | inl there ↦ inl (record { found = there; needs = needs-before rests writes leases m x lease there is'.needs; missing = is'.missing; live = is'.live })
           | inr fresh ↦ inr (fresh.0, fresh.1, (let e = is'.live in let f : x.guard ≡ guard = ap (λ (y : Issued). y.guard) (sym fresh.1) in omega (arith, e, f, guarded)))
@@ -190,7 +190,7 @@ module _ (g : Geometry) (rests : ℕ → List ℕ) (appliances time : ℕ) (devi
       where
         others : (b : ℕ) → b < appliances → b ≢ a → (h : Hold) →
             (time ≤ until + 50 → (c : Claim) (u : ℕ) → on.standing ≡ Claimed c u → c.boot.0 ≡ boot_number b (seats b).boots → ⊥) →
-            ((m : ℕ) (x : Issued) → IsLive since time now lease m x → (IsLive rests time writes lease m x) ⊎ ((m ≡ length writes) × (write ≡ x) × (time ≤ until + 50))) →
+            ((m : ℕ) (x : Issued) → IsLiveWrite since time now lease m x → (IsLiveWrite rests time writes lease m x) ⊎ ((m ≡ length writes) × (write ≡ x) × (time ≤ until + 50))) →
             Good rests time writes lease on.standing (boot_number b (seats b).boots) (seats b).pending h →
             Good since time now lease on.standing (boot_number b (seats b).boots) (seats b).pending h
         others b under ne Nothing foreign split good = tt
@@ -233,7 +233,7 @@ module _ (g : Geometry) (rests : ℕ → List ℕ) (appliances time : ℕ) (devi
       | inr no' ↦ issue-still no' (λ c. absurd (unclaimed (sym is ∙ c)))
     ]
 
-    issue-of : (k : WriteKind) → what ≡ k → MayWrite g boot p.holds leases k block bytes guard → LeaseOn g since appliances time device now seats' lease
+    issue-of : (k : WriteKind) → what ≡ k → MayIssue g boot p.holds leases k block bytes guard → LeaseOn g since appliances time device now seats' lease
     issue-of kind.Claim is may = issue-still (λ need. let e : false ≡ true = subst (λ (l : List ℕ). is_in lease l ≡ true) may.alone need in let P : ⊥ = cc in P)
         (λ k here.
         let same : lease ≡ may.lease = lease-lease lease may.lease (sym here ∙ may.at_lease) in
@@ -281,5 +281,5 @@ module _ (g : Geometry) (rests : ℕ → List ℕ) (appliances time : ℕ) (devi
     issue-of kind.JCommit is may = issue-use kind.JCommit is may (λ k. let P : ⊥ = cc in P) (λ c u limits. tt)
     issue-of other is may = absurd may
 
-    pub lease-issued : MayWrite g boot p.holds leases what block bytes guard → LeaseOn g since appliances time device now seats' lease
+    pub lease-issued : MayIssue g boot p.holds leases what block bytes guard → LeaseOn g since appliances time device now seats' lease
     lease-issued may = issue-of what refl may

@@ -8,6 +8,7 @@ use Rattle.plx_base.specs.declared.lease.LeaseRecord.{LeaseRecord}
 use Rattle.plx_base.specs.declared.lease.LeaseRecord.TheVariants.{Free, Claimed}
 use Rattle.plx_base.specs.declared.write_kind.WriteKind.{WriteKind}
 use Rattle.plx_base.specs.declared.write_kind.WriteKind.TheVariants as kind
+use Rattle.plx_base.proofs.Tests.{eqb-true, eqb-false}
 use Rattle.plx_disk.specs.Writes.{Issued, with_sector, all_sectors}
 use Rattle.plx_rules.specs.Part.{Ends, ReadThen, WriteThen, ClockThen, UntilThen}
 use Rattle.plx_disk.proofs.Lists.{set-same, set-other}
@@ -26,7 +27,7 @@ use Rattle.plx_rules.specs.World.{Seat, setting_at}
 use Rattle.plx_gate.proofs.Leases.{lease-back, lease-same}
 use Rattle.law_lease.proofs.LeaseSectors.{sector-first, sector-past}
 use Rattle.law_lease.proofs.LeaseFrames.{Shrinks, good-shrinks, good-changed, claim-alone, claim-clears, renew-clears, grip_while-open, grip_while-away}
-use Rattle.law_lease.proofs.Leased.{MayWrite, LawfulAt, Unlanded, IsLive, NoneLive, IsBacked, IsOfKind, Clear, IsClaiming, Good, grip_while, grip_at, GoodSeat, LeaseOn, IsPlaced, IsRight, IsAskedAt, IsSeat}
+use Rattle.law_lease.proofs.Leased.{MayIssue, LawfulAt, Unlanded, IsLiveWrite, NoneLive, IsBacked, IsOfKind, SparesLease, IsClaimWrite, Good, grip_while, grip_at, GoodSeat, LeaseOn, IsPlaced, IsRight, IsAskedAt, IsLawfulSeat}
 use Rattle.plx_geom.proofs.Places.{lease-lease, lease-data, lease-descriptor, lease-map, lease-record}
 
 -- a missing flag of a write on which one more sector has landed was missing before
@@ -54,7 +55,7 @@ first-set write flag e = ap is_set e
 
 -- it may be asked, whatever it rests on
 abbrev pub MayBeAsked : Geometry → ℕ → (ℕ → Hold) → WriteKind → ℕ → List ℕ → ℕ → Type 0
-MayBeAsked g boot holds kind block bytes guard = (rests : List ℕ) × MayWrite g boot holds rests kind block bytes guard
+MayBeAsked g boot holds kind block bytes guard = (rests : List ℕ) × MayIssue g boot holds rests kind block bytes guard
 
 pub asked-may : (g : Geometry) (boot : ℕ) (holds : ℕ → Hold) (sample : Option ℕ) (place : Place) (write : Issued) → IsAskedAt place boot write →
     LawfulAt g boot holds sample place → MayBeAsked g boot holds write.kind write.block write.bytes write.guard
@@ -83,12 +84,6 @@ pub pending-other : (writes : List Issued) (number : ℕ) (write : Issued) (pend
 pending-other writes number write None ne = refl
 pending-other writes number write (Some m) ne = set-other writes number m write (λ e. ne (ap Some e))
 
-eqb-self : (a b : ℕ) → a ≡ b → (a == b) ≡ true
-eqb-self a b e = elim (eqb_tells a b) [ inl same ↦ same.0 | inr other ↦ absurd (other.1 e) ]
-
-eqb-other : (a b : ℕ) → a ≢ b → (a == b) ≡ false
-eqb-other a b e = elim (eqb_tells a b) [ inl same ↦ absurd (e same.1) | inr other ↦ other.0 ]
-
 -- one lease's hold, and two spellings of the same bytes
 same-hold : (holds : ℕ → Hold) (lease other : ℕ) (hold held : Hold) → holds (lease_at lease) ≡ hold → lease ≡ other → holds (lease_at other) ≡ held → hold ≡ held
 same-hold holds lease other hold held same is there = sym same ∙ (ap (λ (n : ℕ). holds (lease_at n)) is ∙ there)
@@ -99,7 +94,7 @@ two-spellings bytes one other e f = sym e ∙ f
 -- ---- a landing
 
 module _ (g : Geometry) (rests : ℕ → List ℕ) (appliances time : ℕ) (device : Device) (writes : List Issued) (seats : ℕ → Seat) (lease : ℕ) (within : lease < lease_count g)
-    (on : LeaseOn g rests appliances time device writes seats lease) (seated : (a : ℕ) → a < appliances → IsSeat g time writes a (seats a))
+    (on : LeaseOn g rests appliances time device writes seats lease) (seated : (a : ℕ) → a < appliances → IsLawfulSeat g time writes a (seats a))
     (number sector : ℕ) (write : Issued) (found : slice_get writes number ≡ Some write) (missing : slice_get write.landed sector ≡ Some false)
     (early : time ≤ write.guard + 50) where
   abbrev now : List Issued
@@ -121,12 +116,12 @@ module _ (g : Geometry) (rests : ℕ → List ℕ) (appliances time : ℕ) (devi
     | inr away ↦ inr (away.1, sym (set-other writes number m (with_sector write sector) away.1) ∙ there)
   ]
 
-  open-landed : (m : ℕ) (x : Issued) → IsLive rests time now lease m x →
-      ((m ≡ number) × (x ≡ with_sector write sector) × IsLive rests time writes lease number write) ⊎ ((m ≢ number) × IsLive rests time writes lease m x)
+  open-landed : (m : ℕ) (x : Issued) → IsLiveWrite rests time now lease m x →
+      ((m ≡ number) × (x ≡ with_sector write sector) × IsLiveWrite rests time writes lease number write) ⊎ ((m ≢ number) × IsLiveWrite rests time writes lease m x)
   open-landed m x is = elim (landed-is m x is.found) [
     | inl here ↦
-        let P : Issued → Type 0 = λ y. IsLive rests time now lease m y in
-        let is' : IsLive rests time now lease m (with_sector write sector) = subst P here.1 is in
+        let P : Issued → Type 0 = λ y. IsLiveWrite rests time now lease m y in
+        let is' : IsLiveWrite rests time now lease m (with_sector write sector) = subst P here.1 is in
         let needs : IsUnder rests number lease = (let Q : ℕ → Type 0 = λ k. IsUnder rests k lease in subst Q here.0 is'.needs) in
         inl (here.0, here.1, record { found = found; needs = needs; missing = unlanded-before write.kind write.landed sector missing is'.missing; live = early })
     | inr away ↦ inr (away.0, record { found = away.1; needs = is.needs; missing = is.missing; live = is.live })
@@ -134,15 +129,15 @@ module _ (g : Geometry) (rests : ℕ → List ℕ) (appliances time : ℕ) (devi
 
   shrinks : Shrinks rests rests time time writes now lease
   shrinks m x is = elim (open-landed m x is) [
-    | inl here ↦ (write, (let P : ℕ → Type 0 = λ k. IsLive rests time writes lease k write in subst P (sym here.0) here.2))
+    | inl here ↦ (write, (let P : ℕ → Type 0 = λ k. IsLiveWrite rests time writes lease k write in subst P (sym here.0) here.2))
     | inr away ↦ (x, away.1)
   ]
 
-  claims-landed : (changed : LeaseRecord) → ((sample : ℕ) → sample ≤ time + 50 → Clear on.standing sample → Clear changed sample) →
-      (m : ℕ) (x : Issued) → slice_get now m ≡ Some x → x.kind ≡ kind.Claim → x.block ≡ lease_at lease → IsClaiming time changed x
+  claims-landed : (changed : LeaseRecord) → ((sample : ℕ) → sample ≤ time + 50 → SparesLease on.standing sample → SparesLease changed sample) →
+      (m : ℕ) (x : Issued) → slice_get now m ≡ Some x → x.kind ≡ kind.Claim → x.block ≡ lease_at lease → IsClaimWrite time changed x
   claims-landed changed clears m x there is at = elim (landed-is m x there) [
     | inl here ↦
-        let P : Issued → Type 0 = λ y. IsClaiming time changed y in
+        let P : Issued → Type 0 = λ y. IsClaimWrite time changed y in
         let was = on.claims number write found (ap (λ (y : Issued). y.kind) (sym here.1) ∙ is) (ap (λ (y : Issued). y.block) (sym here.1) ∙ at) in
         subst P (sym here.1) (record {
           claim = was.claim;
@@ -234,7 +229,7 @@ module _ (g : Geometry) (rests : ℕ → List ℕ) (appliances time : ℕ) (devi
   -- the block isn't the lease's
   land-away : lease_at lease ≢ write.block → LeaseOn g rests appliances time after now seats lease
   land-away ne =
-      let e = eqb-other (lease_at lease) write.block ne in
+      let e = eqb-false (lease_at lease) write.block ne in
       land-still (put-other device write.block (with_landed_sector sector write.bytes (device write.block)) (lease_at lease) ne)
       (λ hold. ap (λ (b : Bool). grip_while write.kind b (first_landed (Some (with_sector write sector))) write.bytes hold) e
       ∙ (grip_while-away write.kind (first_landed (Some (with_sector write sector))) write.bytes hold
@@ -267,7 +262,7 @@ module _ (g : Geometry) (rests : ℕ → List ℕ) (appliances time : ℕ) (devi
 
   -- where the record changes no write is live
   land-changed : (changed : LeaseRecord) → IsLease changed → after (lease_at lease) ≡ lease_bytes changed → NoneLive rests time now lease →
-      ((sample : ℕ) → sample ≤ time + 50 → Clear on.standing sample → Clear changed sample) →
+      ((sample : ℕ) → sample ≤ time + 50 → SparesLease on.standing sample → SparesLease changed sample) →
       ((a : ℕ) → a < appliances → GoodSeat g rests time now lease changed a (seats a)) → LeaseOn g rests appliances time after now seats lease
   land-changed changed limits spells none clears each = record {
     standing = changed;
@@ -294,7 +289,7 @@ module _ (g : Geometry) (rests : ℕ → List ℕ) (appliances time : ℕ) (devi
       claim-alone time on.standing s live waits b.claim b.until b.waited (omega (arith, e, h)) b.there) in
       let none' : NoneLive rests time now lease = λ m x op. (let w = shrinks m x op in none m w.0 w.1) in
       let changed = Claimed claim (s + term) in
-      let clears : (sample : ℕ) → sample ≤ time + 50 → Clear on.standing sample → Clear changed sample =
+      let clears : (sample : ℕ) → sample ≤ time + 50 → SparesLease on.standing sample → SparesLease changed sample =
       λ sample sampled clear. claim-clears time s sample on.standing claim (s + term) refl live sampled clear in
       land-changed changed claiming.limits (first-lands here first changed claiming.spells) none' clears
       (λ a below. seat-landed changed a below
@@ -317,7 +312,7 @@ module _ (g : Geometry) (rests : ℕ → List ℕ) (appliances time : ℕ) (devi
   -- the first sector of a write that needs the lease
   module _ (here : lease_at lease ≡ write.block) (first : sector ≡ 0) (needs : IsUnder rests number lease) (unlanded : Unlanded write.kind write.landed)
       (landed-now : Unlanded write.kind (slice_set write.landed sector true) → ⊥) where
-    this-open : IsLive rests time writes lease number write
+    this-open : IsLiveWrite rests time writes lease number write
     this-open = record { found = found; needs = needs; missing = unlanded; live = early }
 
     none-now : NoneLive rests time now lease
@@ -327,7 +322,7 @@ module _ (g : Geometry) (rests : ℕ → List ℕ) (appliances time : ℕ) (devi
     ]
 
     -- of a seat that waits for another write, or for this one
-    needed-seats : (changed : LeaseRecord) → ((sample : ℕ) → sample ≤ time + 50 → Clear on.standing sample → Clear changed sample) →
+    needed-seats : (changed : LeaseRecord) → ((sample : ℕ) → sample ≤ time + 50 → SparesLease on.standing sample → SparesLease changed sample) →
         ((a : ℕ) → (seats a).pending ≡ Some number → (hold : Hold) → MayBeAsked g (boot_number a (seats a).boots) (position (setting_at g a (seats a).boots) (seats a).log).holds write.kind write.block write.bytes write.guard →
         (position (setting_at g a (seats a).boots) (seats a).log).holds (lease_at lease) ≡ hold →
         Good rests time writes lease on.standing (boot_number a (seats a).boots) (seats a).pending hold →
@@ -349,7 +344,7 @@ module _ (g : Geometry) (rests : ℕ → List ℕ) (appliances time : ℕ) (devi
         subst P (ap (λ (b : Bool). grip_while write.kind (lease_at lease == write.block) b write.bytes hold) before
         ∙ grip_while-open write.kind (lease_at lease == write.block) write.bytes hold) good in
         let Q : Bool → Bool → Type 0 = λ b flag. Good rests time now lease changed boot (seats a).pending (grip_while write.kind b flag write.bytes hold) in
-        subst (λ (b : Bool). Q b (first_landed (Some (with_sector write sector)))) (sym (eqb-self (lease_at lease) write.block here))
+        subst (λ (b : Bool). Q b (first_landed (Some (with_sector write sector)))) (sym (eqb-true (lease_at lease) write.block here))
         (subst (Q true) (sym now') (mine a pending hold may same old)))
 
   not-set : (slice_get (slice_set write.landed sector true) 0 ≡ Some false) → sector ≡ 0 → ⊥
@@ -373,7 +368,7 @@ module _ (g : Geometry) (rests : ℕ → List ℕ) (appliances time : ℕ) (devi
       let spells : write.bytes ≡ lease_bytes (Claimed backed.claim next) = of_kind.1.1 in
       let limits : IsClaimed backed.claim next = of_kind.1.3 in
       let changed = Claimed backed.claim next in
-      let clears : (sample : ℕ) → sample ≤ time + 50 → Clear on.standing sample → Clear changed sample =
+      let clears : (sample : ℕ) → sample ≤ time + 50 → SparesLease on.standing sample → SparesLease changed sample =
       λ sample sampled clear. renew-clears time on.standing backed.claim backed.until next sample backed.there (omega (arith, early, of_kind.0)) sampled clear in
       land-changed changed limits (first-lands here first changed spells) (none-now here first needs unlanded landed-now) clears
       (needed-seats here first needs unlanded landed-now changed clears
@@ -415,7 +410,7 @@ module _ (g : Geometry) (rests : ℕ → List ℕ) (appliances time : ℕ) (devi
       let backed = on.backed number write (record { found = found; needs = needs; missing = unlanded; live = early }) in
       let K : WriteKind → Type 0 = λ k. IsOfKind k backed.claim backed.until write.guard write.bytes in
       let of_kind : IsOfKind kind.Release backed.claim backed.until write.guard write.bytes = subst K is backed.of_kind in
-      let clears : (sample : ℕ) → sample ≤ time + 50 → Clear on.standing sample → Clear Free sample = λ sample sampled clear. tt in
+      let clears : (sample : ℕ) → sample ≤ time + 50 → SparesLease on.standing sample → SparesLease Free sample = λ sample sampled clear. tt in
       land-changed Free tt (first-lands here first Free of_kind.1) (none-now here first needs unlanded landed-now) clears
       (needed-seats here first needs unlanded landed-now Free clears
       (λ a pending hold may same good.

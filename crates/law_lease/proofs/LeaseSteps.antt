@@ -36,14 +36,14 @@ use Rattle.plx_rules.specs.Rests.{rests_on}
 use Rattle.plx_rules.specs.Session.{Known}
 use Rattle.plx_rules.specs.Settings.{Setting, boot_number}
 use Rattle.plx_rules.specs.World as world
-use Rattle.plx_rules.specs.World.{World, Seat, Step, Reached, IsReading, first_world, setting_at}
+use Rattle.plx_rules.specs.World.{World, Seat, Step, Reached, IsReadingAt, first_world, setting_at}
 use Rattle.plx_rules.specs.Times.{term}
 use Rattle.law_lease.proofs.EachCommand.{lawful-command}
 use Rattle.law_lease.proofs.LeaseFrames.{Shrinks, good-shrinks}
-use Rattle.law_lease.proofs.LeaseGoes.{good-part, good-timed, good-first, lease-log, good-free, good-read, good-written}
+use Rattle.law_lease.proofs.LeaseGoes.{good-part, good-timed, good-first, lease-at-log, good-free, good-read, good-written}
 use Rattle.law_lease.proofs.LeaseIssues.{lease-issued}
 use Rattle.law_lease.proofs.LeaseLands.{lease-lands}
-use Rattle.law_lease.proofs.Leased.{MayWrite, LawfulRest, LawfulAt, IsLive, Good, GoodSeat, LeaseOn, IsPlaced, IsRight, IsAskedAt, IsSeat, Leased}
+use Rattle.law_lease.proofs.Leased.{MayIssue, LawfulRest, LawfulAt, IsLiveWrite, Good, GoodSeat, LeaseOn, IsPlaced, IsRight, IsAskedAt, IsLawfulSeat, Leased}
 use Rattle.law_lease.proofs.Lists.{push-cases, none-some}
 
 -- ---- time passes
@@ -51,7 +51,7 @@ use Rattle.law_lease.proofs.Lists.{push-cases, none-some}
 lease-ticks : (g : Geometry) (rests : ℕ → List ℕ) (appliances time later : ℕ) (device : Device) (writes : List Issued) (seats : ℕ → Seat) (lease : ℕ) → time ≤ later →
     LeaseOn g rests appliances time device writes seats lease → LeaseOn g rests appliances later device writes seats lease
 lease-ticks g rests appliances time later device writes seats lease passed on =
-    let old : (m : ℕ) (x : Issued) → IsLive rests later writes lease m x → IsLive rests time writes lease m x =
+    let old : (m : ℕ) (x : Issued) → IsLiveWrite rests later writes lease m x → IsLiveWrite rests time writes lease m x =
     λ m x is. record { found = is.found; needs = is.needs; missing = is.missing; live = (let l = is.live in omega arith) } in
     let shrinks : Shrinks rests rests time later writes writes lease = λ m x is. (x, old m x is) in
     record {
@@ -75,7 +75,7 @@ lease-ticks g rests appliances time later device writes seats lease passed on =
 -- ---- an appliance goes on
 
 -- only a write waits for one that is issued
-pub not-waiting : (g : Geometry) (time : ℕ) (writes : List Issued) (a : ℕ) (seat : Seat) (place : Place) → IsSeat g time writes a seat →
+pub not-waiting : (g : Geometry) (time : ℕ) (writes : List Issued) (a : ℕ) (seat : Seat) (place : Place) → IsLawfulSeat g time writes a seat →
     (position (setting_at g a seat.boots) seat.log).place ≡ place → ((boot : ℕ) (x : Issued) → IsAskedAt place boot x → ⊥) → seat.pending ≡ None
 not-waiting g time writes a seat place is here no-ask = by_pending seat.pending refl
   where
@@ -130,7 +130,7 @@ module _ (w : World) (leased : Leased w) (a : ℕ) (below : a < w.appliances) (t
     early = leased.early;
     long = leased.long;
     right = leased.right;
-    seated = at-all (λ b s. b < w.appliances → IsSeat g time writes b s) w.seats a _
+    seated = at-all (λ b s. b < w.appliances → IsLawfulSeat g time writes b s) w.seats a _
         (λ below'. record {
           boots = (leased.seated a below).boots;
           lawful = (let P : Position → Type 0 = λ r. LawfulAt g boot r.holds r.sample r.place in subst P (sym leads) lawful);
@@ -138,7 +138,7 @@ module _ (w : World) (leased : Leased w) (a : ℕ) (below : a < w.appliances) (t
           asked = λ n e. absurd (none-some n e);
         })
         (λ b ne below'. leased.seated b below');
-    on = λ lease within. lease-log g w.rests w.appliances time w.surface.device writes w.seats lease (leased.on lease within) a log q leads (good lease within);
+    on = λ lease within. lease-at-log g w.rests w.appliances time w.surface.device writes w.seats lease (leased.on lease within) a log q leads (good lease within);
   }
 
   -- an ask was answered
@@ -166,13 +166,13 @@ module _ (w : World) (leased : Leased w) (a : ℕ) (below : a < w.appliances) (t
       (λ s e. absurd (none-some s e))
 
   -- a reading is below 2 ^ 48
-  soon : (reading : ℕ) → IsReading reading time → reading < 2 ^ 48
+  soon : (reading : ℕ) → IsReadingAt reading time → reading < 2 ^ 48
   soon reading is = let e = is.early in let t = leased.early in omega arith
 
   some-same : (x y : ℕ) → Some x ≡ Some y → x ≡ y
   some-same x y e = cc
 
-  pub begin-leased : (known : Known) (command : Command) (reading : ℕ) → p.place ≡ Begins known command → IsReading reading time →
+  pub begin-leased : (known : Known) (command : Command) (reading : ℕ) → p.place ≡ Begins known command → IsReadingAt reading time →
       Leased (with-log (Asked ask.Clock [] (answer.Reading reading) ∷ seat.log))
   begin-leased known command reading here is =
       let free = not-waiting g time writes a seat (Begins known command) (leased.seated a below) here (λ b x no'. no') in
@@ -207,7 +207,7 @@ module _ (w : World) (leased : Leased w) (a : ℕ) (below : a < w.appliances) (t
         (lawful-at (In known command (ReadThen block rest fault)) here).1
         (λ s e. absurd (none-some s e))
 
-    pub clock-leased : (rest : ℕ → Part End) (reading : ℕ) → p.place ≡ In known command (ClockThen rest) → IsReading reading time →
+    pub clock-leased : (rest : ℕ → Part End) (reading : ℕ) → p.place ≡ In known command (ClockThen rest) → IsReadingAt reading time →
         Leased (with-log (Asked ask.Clock [] (answer.Reading reading) ∷ seat.log))
     clock-leased rest reading here is =
         let free = not-waiting g time writes a seat _ (leased.seated a below) here (λ b x no'. no') in
@@ -218,7 +218,7 @@ module _ (w : World) (leased : Leased w) (a : ℕ) (below : a < w.appliances) (t
         (lawful-at (In known command (ClockThen rest)) here reading (soon reading is))
         (λ s e. let f = some-same reading s e in let l = is.early in omega (arith, f, l))
 
-    pub wait-leased : (from : ℕ) (rest : ℕ → Part End) (reading : ℕ) → p.place ≡ In known command (UntilThen from rest) → IsReading reading time → from ≤ reading →
+    pub wait-leased : (from : ℕ) (rest : ℕ → Part End) (reading : ℕ) → p.place ≡ In known command (UntilThen from rest) → IsReadingAt reading time → from ≤ reading →
         Leased (with-log (Asked (ask.Until from) [] (answer.Reading reading) ∷ seat.log))
     wait-leased from rest reading here is past =
         let free = not-waiting g time writes a seat _ (leased.seated a below) here (λ b x no'. no') in
@@ -265,7 +265,7 @@ module _ (w : World) (leased : Leased w) (a : ℕ) (below : a < w.appliances) (t
 
 -- ---- a write is issued, or a sector of one lands
 
-pub placed-may : (g : Geometry) (b : ℕ) (holds : ℕ → Hold) (rests : List ℕ) (k : WriteKind) (block : ℕ) (bytes : List ℕ) (guard : ℕ) → MayWrite g b holds rests k block bytes guard → IsPlaced g k block bytes rests
+pub placed-may : (g : Geometry) (b : ℕ) (holds : ℕ → Hold) (rests : List ℕ) (k : WriteKind) (block : ℕ) (bytes : List ℕ) (guard : ℕ) → MayIssue g b holds rests k block bytes guard → IsPlaced g k block bytes rests
 placed-may g b holds rests kind.Claim block bytes guard may =
     (may.lease, may.within, may.at_lease, (Claimed (claim_of b may.number may.sample) (may.sample + term), may.spells), may.alone)
 placed-may g b holds rests kind.Renew block bytes guard may = (may.lease, may.within, may.at_lease, (Claimed may.claim may.next, may.spells), may.alone)
@@ -334,7 +334,7 @@ keeps-leases (world.issues {w = w} {appliance = a} known command what block byte
     let p = position (setting_at w.geometry a.0 (w.seats a.0).boots) (w.seats a.0).log in
     let leases = rests_on w.geometry command p.holds what block bytes in
     let P : Place → Type 0 = λ q. LawfulAt w.geometry boot p.holds p.sample q in
-    let may : MayWrite w.geometry boot p.holds leases what block bytes guard = (subst P here (leased.seated a.0 below).lawful).0 in
+    let may : MayIssue w.geometry boot p.holds leases what block bytes guard = (subst P here (leased.seated a.0 below).lawful).0 in
     let long : length bytes ≡ 4096 = (subst P here (leased.seated a.0 below).lawful).4 in
     let write = fresh_write boot what block bytes guard in
     record {
@@ -352,7 +352,7 @@ keeps-leases (world.issues {w = w} {appliance = a} known command what block byte
             (subst (λ (l : List ℕ). IsRight w.geometry l write) (sym same)
             (record { placed = placed-may w.geometry boot p.holds leases what block bytes guard may; flags = refl; long = long; uncancelled = refl }))
       ];
-      seated = at-all (λ b s. b < w.appliances → IsSeat w.geometry w.surface.time (w.surface.writes ++ write ∷ []) b s) w.seats a.0 _
+      seated = at-all (λ b s. b < w.appliances → IsLawfulSeat w.geometry w.surface.time (w.surface.writes ++ write ∷ []) b s) w.seats a.0 _
           (λ below'. let s = leased.seated a.0 below in record {
             boots = s.boots;
             lawful = s.lawful;
@@ -409,7 +409,7 @@ keeps-leases (world.crashes {w = w} {appliance = a} below room) leased = record 
   early = leased.early;
   long = leased.long;
   right = leased.right;
-  seated = at-all (λ b s. b < w.appliances → IsSeat w.geometry w.surface.time w.surface.writes b s) w.seats a.0 _
+  seated = at-all (λ b s. b < w.appliances → IsLawfulSeat w.geometry w.surface.time w.surface.writes b s) w.seats a.0 _
       (λ below'. record { boots = room; lawful = tt; sampled = λ n e. absurd (none-some n e); asked = λ n e. absurd (none-some n e) })
       (λ b ne below'. leased.seated b below');
   on = λ lease within. (let on = leased.on lease within in record {

@@ -99,17 +99,17 @@ pub record MayUse (g : Geometry) (holds : ℕ → Hold) (rests : List ℕ) (kind
   pub grants : (lease : ℕ) → is_in lease rests ≡ true → IsGranted holds lease guard
 
 -- a write that rests on these leases is allowed, by its kind
-abbrev pub MayWrite : Geometry → ℕ → (ℕ → Hold) → (rests : List ℕ) → WriteKind → ℕ → List ℕ → ℕ → Type 0
-MayWrite g boot holds rests kind.Claim block bytes guard = MayClaim g boot holds rests block bytes guard
-MayWrite g boot holds rests kind.Renew block bytes guard = MayRenew g holds rests block bytes guard
-MayWrite g boot holds rests kind.Release block bytes guard = MayRelease g holds rests block bytes guard
-MayWrite g boot holds rests kind.Take block bytes guard = MayUse g holds rests kind.Take block bytes guard
-MayWrite g boot holds rests kind.Give block bytes guard = MayUse g holds rests kind.Give block bytes guard
-MayWrite g boot holds rests kind.Sweep block bytes guard = MayUse g holds rests kind.Sweep block bytes guard
-MayWrite g boot holds rests kind.Record block bytes guard = MayUse g holds rests kind.Record block bytes guard
-MayWrite g boot holds rests kind.JData block bytes guard = MayUse g holds rests kind.JData block bytes guard
-MayWrite g boot holds rests kind.JCommit block bytes guard = MayUse g holds rests kind.JCommit block bytes guard
-MayWrite g boot holds rests other block bytes guard = ⊥
+abbrev pub MayIssue : Geometry → ℕ → (ℕ → Hold) → (rests : List ℕ) → WriteKind → ℕ → List ℕ → ℕ → Type 0
+MayIssue g boot holds rests kind.Claim block bytes guard = MayClaim g boot holds rests block bytes guard
+MayIssue g boot holds rests kind.Renew block bytes guard = MayRenew g holds rests block bytes guard
+MayIssue g boot holds rests kind.Release block bytes guard = MayRelease g holds rests block bytes guard
+MayIssue g boot holds rests kind.Take block bytes guard = MayUse g holds rests kind.Take block bytes guard
+MayIssue g boot holds rests kind.Give block bytes guard = MayUse g holds rests kind.Give block bytes guard
+MayIssue g boot holds rests kind.Sweep block bytes guard = MayUse g holds rests kind.Sweep block bytes guard
+MayIssue g boot holds rests kind.Record block bytes guard = MayUse g holds rests kind.Record block bytes guard
+MayIssue g boot holds rests kind.JData block bytes guard = MayUse g holds rests kind.JData block bytes guard
+MayIssue g boot holds rests kind.JCommit block bytes guard = MayUse g holds rests kind.JCommit block bytes guard
+MayIssue g boot holds rests other block bytes guard = ⊥
 
 -- however a rest of a command is answered, each write that it asks is allowed and is a block; `At` holds at each end, of what is held there
 abbrev pub Lawful : {E : Type 0} → (At : E → (ℕ → Hold) → Option ℕ → Type 0) → Geometry → ℕ → Command → (ℕ → Hold) → Option ℕ → Part E → Type 0
@@ -118,7 +118,7 @@ Lawful At g boot command holds sample (ReadThen block rest fault) =
     ((bytes : List ℕ) → Lawful At g boot command (after_answer sample (ask.Read (record { 0 = block })) [] (answer.Bytes bytes) holds) None (rest bytes))
     × Lawful At g boot command holds None fault
 Lawful At g boot command holds sample (WriteThen kind block bytes guard done fault missed) =
-    MayWrite g boot holds (rests_on g command holds kind block bytes) kind block bytes guard × Lawful At g boot command (after_write kind block bytes holds) None done × Lawful At g boot command no_holds None fault
+    MayIssue g boot holds (rests_on g command holds kind block bytes) kind block bytes guard × Lawful At g boot command (after_write kind block bytes holds) None done × Lawful At g boot command no_holds None fault
     × ((reading : ℕ) → Lawful At g boot command no_holds None (missed reading)) × (length bytes ≡ 4096)
 Lawful At g boot command holds sample (ClockThen rest) =
     (reading : ℕ) → reading < 2 ^ 48 → Lawful At g boot command (λ block. hold_after_reading reading (holds block)) (Some reading) (rest reading)
@@ -144,7 +144,7 @@ Unlanded kind.Release landed = slice_get landed 0 ≡ Some false
 Unlanded other landed = landed ≢ all_sectors
 
 -- a live write: it rests on the lease, may still change something, and isn't too late to land
-pub record IsLive (rests : ℕ → List ℕ) (time : ℕ) (writes : List Issued) (lease number : ℕ) (write : Issued) : Type 0 where
+pub record IsLiveWrite (rests : ℕ → List ℕ) (time : ℕ) (writes : List Issued) (lease number : ℕ) (write : Issued) : Type 0 where
   pub found : slice_get writes number ≡ Some write
   pub needs : IsUnder rests number lease
   pub missing : Unlanded write.kind write.landed
@@ -152,11 +152,11 @@ pub record IsLive (rests : ℕ → List ℕ) (time : ℕ) (writes : List Issued)
 
 -- no write is live
 abbrev pub NoneLive : (rests : ℕ → List ℕ) → ℕ → List Issued → ℕ → Type 0
-NoneLive rests time writes lease = (number : ℕ) (write : Issued) → IsLive rests time writes lease number write → ⊥
+NoneLive rests time writes lease = (number : ℕ) (write : Issued) → IsLiveWrite rests time writes lease number write → ⊥
 
 -- only the write that a boot waits for is live
 abbrev pub LiveOnly : (rests : ℕ → List ℕ) → ℕ → List Issued → ℕ → Option ℕ → Type 0
-LiveOnly rests time writes lease pending = (number : ℕ) (write : Issued) → IsLive rests time writes lease number write → pending ≡ Some number
+LiveOnly rests time writes lease pending = (number : ℕ) (write : Issued) → IsLiveWrite rests time writes lease number write → pending ≡ Some number
 
 -- what the record says where a live write stands
 abbrev pub IsOfKind : WriteKind → Claim → ℕ → ℕ → List ℕ → Type 0
@@ -177,17 +177,17 @@ pub record IsBacked (time : ℕ) (standing : LeaseRecord) (write : Issued) : Typ
 -- ---- claims
 
 -- a claim with this sample, if it lands now, takes no confirmed and unexpired lease away
-abbrev pub Clear : LeaseRecord → ℕ → Type 0
-Clear Free sample = Unit {0}
-Clear (Claimed claim until) sample = (until + 100 < sample) ⊎ (sample ≤ claim.sample + 300)
+abbrev pub SparesLease : LeaseRecord → ℕ → Type 0
+SparesLease Free sample = Unit {0}
+SparesLease (Claimed claim until) sample = (until + 100 < sample) ⊎ (sample ≤ claim.sample + 300)
 
 -- a claim with this sample may still be written, or land
 pub record Waits (time : ℕ) (standing : LeaseRecord) (sample : ℕ) : Type 0 where
   pub sampled : sample ≤ time + 50
-  pub clear : Clear standing sample
+  pub clear : SparesLease standing sample
 
 -- a write that is a claim
-pub record IsClaiming (time : ℕ) (standing : LeaseRecord) (write : Issued) : Type 0 where
+pub record IsClaimWrite (time : ℕ) (standing : LeaseRecord) (write : Issued) : Type 0 where
   pub claim : Claim
   pub spells : write.bytes ≡ lease_bytes (Claimed claim (claim.sample + term))
   pub limits : IsClaimed claim (claim.sample + term)
@@ -215,7 +215,7 @@ pub record IsWritten (rests : ℕ → List ℕ) (time : ℕ) (writes : List Issu
   pub mine : Mine rests time writes lease standing boot claim.sample
 
 -- a confirmed lease's record stands on the device until it has run out, and nothing rests on it but what its boot waits for
-pub record IsHeld (rests : ℕ → List ℕ) (time : ℕ) (writes : List Issued) (lease : ℕ) (standing : LeaseRecord) (boot : ℕ) (pending : Option ℕ) (claim : Claim) (until : ℕ) : Type 0 where
+pub record StandsConfirmed (rests : ℕ → List ℕ) (time : ℕ) (writes : List Issued) (lease : ℕ) (standing : LeaseRecord) (boot : ℕ) (pending : Option ℕ) (claim : Claim) (until : ℕ) : Type 0 where
   pub own : claim.boot.0 ≡ boot
   pub limits : IsClaimed claim until
   pub waited : claim.sample + 551 ≤ time
@@ -228,7 +228,7 @@ Good rests time writes lease standing boot pending Nothing = Unit {0}
 Good rests time writes lease standing boot pending (Seen sample) = IsSeen rests time writes lease standing boot sample
 Good rests time writes lease standing boot pending (Wrote claim until) = IsWritten rests time writes lease standing boot claim until
 Good rests time writes lease standing boot pending (Waited claim until) = IsWritten rests time writes lease standing boot claim until × (claim.sample + 551 ≤ time)
-Good rests time writes lease standing boot pending (Held claim until) = IsHeld rests time writes lease standing boot pending claim until
+Good rests time writes lease standing boot pending (Held claim until) = StandsConfirmed rests time writes lease standing boot pending claim until
 
 -- what a boot holds while a write of it is asked, once its first sector has landed
 abbrev pub grip_while : WriteKind → Bool → Bool → List ℕ → Hold → Hold
@@ -257,9 +257,9 @@ pub record LeaseOn (g : Geometry) (rests : ℕ → List ℕ) (appliances time : 
   pub standing : LeaseRecord
   pub limits : IsLease standing
   pub spells : device (lease_at lease) ≡ lease_bytes standing
-  pub alone : (m n : ℕ) (x y : Issued) → IsLive rests time writes lease m x → IsLive rests time writes lease n y → m ≡ n
-  pub backed : (n : ℕ) (x : Issued) → IsLive rests time writes lease n x → IsBacked time standing x
-  pub claims : (n : ℕ) (x : Issued) → slice_get writes n ≡ Some x → x.kind ≡ kind.Claim → x.block ≡ lease_at lease → IsClaiming time standing x
+  pub alone : (m n : ℕ) (x y : Issued) → IsLiveWrite rests time writes lease m x → IsLiveWrite rests time writes lease n y → m ≡ n
+  pub backed : (n : ℕ) (x : Issued) → IsLiveWrite rests time writes lease n x → IsBacked time standing x
+  pub claims : (n : ℕ) (x : Issued) → slice_get writes n ≡ Some x → x.kind ≡ kind.Claim → x.block ≡ lease_at lease → IsClaimWrite time standing x
   pub each : (a : ℕ) → a < appliances → GoodSeat g rests time writes lease standing a (seats a)
 
 -- ---- what holds of each write and each boot
@@ -278,7 +278,7 @@ IsAskedAt (In known command (WriteThen kind block bytes guard done fault missed)
 IsAskedAt other boot write = ⊥
 
 -- an appliance
-pub record IsSeat (g : Geometry) (time : ℕ) (writes : List Issued) (appliance : ℕ) (seat : Seat) : Type 0 where
+pub record IsLawfulSeat (g : Geometry) (time : ℕ) (writes : List Issued) (appliance : ℕ) (seat : Seat) : Type 0 where
   pub boots : seat.boots < 2 ^ 32
   pub lawful : LawfulAt g (boot_number appliance seat.boots) (position (setting_at g appliance seat.boots) seat.log).holds
       (position (setting_at g appliance seat.boots) seat.log).sample (position (setting_at g appliance seat.boots) seat.log).place
@@ -293,5 +293,5 @@ pub record Leased (w : World) : Type 0 where
   pub early : w.surface.time < 2 ^ 47
   pub long : (block : ℕ) → length (w.surface.device block) ≡ 4096
   pub right : (n : ℕ) (x : Issued) → slice_get w.surface.writes n ≡ Some x → IsRight w.geometry (w.rests n) x
-  pub seated : (a : ℕ) → a < w.appliances → IsSeat w.geometry w.surface.time w.surface.writes a (w.seats a)
+  pub seated : (a : ℕ) → a < w.appliances → IsLawfulSeat w.geometry w.surface.time w.surface.writes a (w.seats a)
   pub on : (lease : ℕ) → lease < lease_count w.geometry → LeaseOn w.geometry w.rests w.appliances w.surface.time w.surface.device w.surface.writes w.seats lease

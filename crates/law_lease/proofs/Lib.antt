@@ -17,5 +17,6 @@ pub mod Owners
 pub mod Rests
 pub mod Runs
 pub mod Stages
+pub mod ClaimStages
 pub mod FirstDevice
 pub mod Witness

@@ -1,5 +1,5 @@
 -- Elements of lists that grew, and the write that an appliance waits for.
-use Rattle.std.proofs.Common.{◌≡◌, ◌≢◌, ℕ, zero, suc, List, [], ◌∷◌, ◌++◌, length, Option, Some, None, refl, ap, inl, inr, ◌⊎◌, false}
+use Rattle.std.proofs.Common.{◌≡◌, ◌≢◌, ℕ, zero, suc, List, [], ◌∷◌, ◌++◌, ◌<◌, length, arith, Option, Some, None, refl, ap, inl, inr, ◌⊎◌, false}
 use Rattle.std.specs.Prelude.{slice_get}
 use Rattle.std.proofs.lemmas.Bool.Decides.{eqb_tells}
 use Rattle.plx_disk.specs.Writes.{all_sectors}
@@ -12,6 +12,12 @@ push-cases [] x y zero h = inr (refl, cc)
 push-cases [] x y (suc k) h = cc
 push-cases (z ∷ xs) x y zero h = inl h
 push-cases (z ∷ xs) x y (suc k) h = elim (push-cases xs x y k h) [ inl e ↦ inl e | inr e ↦ inr (ap suc e.0, e.1) ]
+
+-- what stands at a place of a list that is long enough
+pub get-there : {X : Type 0} (xs : List X) (k : ℕ) → k < length xs → (x : X) × (slice_get xs k ≡ Some x)
+get-there [] k less = absurd (omega (arith, less))
+get-there (x ∷ xs) zero less = (x, refl)
+get-there (x ∷ xs) (suc k) less = get-there xs k (omega (arith, less))
 
 -- nothing is no number
 pub none-some : (n : ℕ) → None ≢ Some n

@@ -16,7 +16,7 @@ use Rattle.plx_rules.specs.Settings.{boot_number}
 use Rattle.plx_rules.specs.World.{World, Seat, setting_at}
 use Rattle.law_lease.proofs.LeaseFrames.{one-claim}
 use Rattle.law_lease.proofs.LeaseIssues.{boots-apart}
-use Rattle.law_lease.proofs.Leased.{IsLive, Unlanded, IsHeld, Good, IsAskedAt, grip_at, Leased}
+use Rattle.law_lease.proofs.Leased.{IsLiveWrite, Unlanded, StandsConfirmed, Good, IsAskedAt, grip_at, Leased}
 use Rattle.plx_base.proofs.Tests.{same-some}
 
 -- an appliance's boot holds a lease, in time
@@ -34,7 +34,7 @@ IsAwaited g rests appliances time writes seats lease number write =
 -- a write is open under a lease: a sector of it may still land, or it is awaited
 abbrev pub IsOpen : Geometry → (rests : ℕ → List ℕ) → (appliances time : ℕ) → List Issued → (ℕ → Seat) → (lease number : ℕ) → Issued → Type 0
 IsOpen g rests appliances time writes seats lease number write =
-    IsLive rests time writes lease number write ⊎ IsAwaited g rests appliances time writes seats lease number write
+    IsLiveWrite rests time writes lease number write ⊎ IsAwaited g rests appliances time writes seats lease number write
 
 -- it is an issued write
 pub open-found : (g : Geometry) (rests : ℕ → List ℕ) (appliances time : ℕ) (writes : List Issued) (seats : ℕ → Seat) (lease n : ℕ) (x : Issued) →
@@ -93,7 +93,7 @@ module _ (w : World) (leased : Leased w) where
   module _ (lease : ℕ) (within : lease < lease_count w.geometry) where
     -- what a boot holds in time is right
     grips-held : (a : ℕ) → a < w.appliances → (claim : Claim) (until : ℕ) → GripsLease w.geometry w.surface.time w.surface.writes a (w.seats a) lease claim until →
-        IsHeld w.rests w.surface.time w.surface.writes lease (leased.on lease within).standing (boot_number a (w.seats a).boots) (w.seats a).pending claim until
+        StandsConfirmed w.rests w.surface.time w.surface.writes lease (leased.on lease within).standing (boot_number a (w.seats a).boots) (w.seats a).pending claim until
     grips-held a below claim until grips =
         let on = leased.on lease within in
         let P : Hold → Type 0 = λ h. Good w.rests w.surface.time w.surface.writes lease on.standing (boot_number a (w.seats a).boots) (w.seats a).pending h in

@@ -24,7 +24,7 @@ use Rattle.law_lease.proofs.LeaseFrames.{one-claim}
 use Rattle.law_lease.proofs.LeaseIssues.{boots-apart}
 use Rattle.law_lease.proofs.LeaseLands.{not-whole}
 use Rattle.law_lease.proofs.LeaseSteps.{reached-leased}
-use Rattle.law_lease.proofs.Leased.{IsLive, Unlanded, Good, IsHeld, grip_while, grip_at, IsPlaced, Leased}
+use Rattle.law_lease.proofs.Leased.{IsLiveWrite, Unlanded, Good, StandsConfirmed, grip_while, grip_at, IsPlaced, Leased}
 
 -- what a boot owns is what it holds
 grip_while-held : (k : WriteKind) (here landed : Bool) (bytes : List ℕ) (hold : Hold) (claim : Claim) (until : ℕ) → held_while k here landed bytes hold ≡ Held claim until →
@@ -49,7 +49,7 @@ grip-held (In known command (UntilThen from rest)) pending lease hold claim unti
 
 -- an owner's lease is right
 pub owner-held : (w : World) (leased : Leased w) (a lease : ℕ) (within : lease < lease_count w.geometry) → a < w.appliances → (owns : Owns w a lease) →
-    IsHeld w.rests w.surface.time w.surface.writes lease (leased.on lease within).standing ((setting_of w a).boot) (w.seats a).pending owns.claim owns.until
+    StandsConfirmed w.rests w.surface.time w.surface.writes lease (leased.on lease within).standing ((setting_of w a).boot) (w.seats a).pending owns.claim owns.until
 owner-held w leased a lease within below owns =
     let P : Hold → Type 0 = λ h. Good w.rests w.surface.time w.surface.writes lease (leased.on lease within).standing ((setting_of w a).boot) (w.seats a).pending h in
     subst P (grip-held (stands w a).place (pending_write w.surface.writes (w.seats a).pending) (lease_at lease) ((stands w a).holds (lease_at lease))
@@ -81,13 +81,13 @@ guarding w reached number sector write lease b within needs may below owns apart
     leased : Leased w
     leased = reached-leased reached
 
-    its : IsHeld w.rests w.surface.time w.surface.writes lease (leased.on lease within).standing ((setting_of w b).boot) (w.seats b).pending owns.claim owns.until
+    its : StandsConfirmed w.rests w.surface.time w.surface.writes lease (leased.on lease within).standing ((setting_of w b).boot) (w.seats b).pending owns.claim owns.until
     its = owner-held w leased b lease within below owns
 
     -- a live write is the owner's
     closed : Unlanded write.kind write.landed → ⊥
     closed unlanded =
-        let op : IsLive w.rests w.surface.time w.surface.writes lease number write = record { found = may.found; needs = needs; missing = unlanded; live = may.early } in
+        let op : IsLiveWrite w.rests w.surface.time w.surface.writes lease number write = record { found = may.found; needs = needs; missing = unlanded; live = may.early } in
         let backed = (leased.on lease within).backed number write op in
         apart (sym its.own ∙ (ap (λ (c : Claim). c.boot.0)
         (one-claim (leased.on lease within).standing owns.claim backed.claim owns.until backed.until (its.there owns.time) backed.there).0 ∙ backed.owner))

@@ -1,8 +1,8 @@
 -- Each boot's log is a run; a run of an appliance goes on as long as it has a next event; and what is played is reached.
-use Rattle.std.proofs.Common.{◌≡◌, ℕ, zero, suc, ◌+◌, ◌*◌, ◌-◌, ◌%◌, ◌^◌, ◌≤◌, ◌<◌, List, [], ◌∷◌, length, Bool, true, false, Option, Some, None, refl, ap, sym, subst, ◌∙◌, arith, inl, inr}
+use Rattle.std.proofs.Common.{◌≡◌, ℕ, zero, suc, ◌+◌, ◌*◌, ◌-◌, ◌%◌, ◌^◌, ◌<◌, List, [], ◌∷◌, length, Bool, true, false, Option, Some, None, refl, ap, sym, subst, ◌∙◌, arith, inl, inr}
 use Rattle.std.specs.Prelude.{slice_get, if◌then◌else◌, nat_le, ◌==◌, drop}
 use Rattle.std.proofs.lemmas.Nat.{mod-mul-add}
-use Rattle.std.proofs.lemmas.Bool.Decides.{eqb_tells, leb_tells}
+use Rattle.std.proofs.lemmas.Bool.Decides.{eqb_tells}
 use Rattle.plx_base.specs.declared.numbers.ApplianceNo.{ApplianceNo}
 use Rattle.plx_base.specs.declared.write_kind.WriteKind.{WriteKind}
 use Rattle.plx_commands.proofs.Places.{at-all}
@@ -22,15 +22,15 @@ use Rattle.plx_rules.specs.Sequences.{missing, next_sector, landing, next_landin
 use Rattle.plx_rules.specs.Session.{Known}
 use Rattle.plx_rules.specs.Settings.{boot_number}
 use Rattle.plx_rules.specs.World as world
-use Rattle.plx_rules.specs.World.{World, Seat, Step, Reached, BootsRun, IsReading, IsBack, setting_at, setting_of, stands, is_boot_of, issued_by}
+use Rattle.plx_rules.specs.World.{World, Seat, Step, Reached, BootsRun, IsReadingAt, IsBack, setting_at, setting_of, stands, is_boot_of, issued_by}
 use Rattle.law_lease.proofs.LeaseSteps.{reached-leased}
 use Rattle.law_lease.proofs.Leased.{IsAskedAt, Leased}
-use Rattle.plx_base.proofs.Tests.{same-some}
+use Rattle.plx_base.proofs.Tests.{nat_le-past, nat_le-tells, same-some}
 
 -- ---- each boot's log is a run
 
 -- a reading is below 2 ^ 48
-soon : (w : World) → Leased w → (reading : ℕ) → IsReading reading w.surface.time → reading < 2 ^ 48
+soon : (w : World) → Leased w → (reading : ℕ) → IsReadingAt reading w.surface.time → reading < 2 ^ 48
 soon w leased reading is = let e = is.early in let t = leased.early in omega arith
 
 -- the log of one appliance changes
@@ -98,13 +98,6 @@ missing-none (true ∷ flags) e (suc k) below = by_rest (λ none. missing-none f
     by_rest ih None is more = ih is
     by_rest ih (Some j) is more = cc
 
--- what a test of two numbers tells
-at-most : (a b : ℕ) → nat_le a b ≡ true → a ≤ b
-at-most a b e = elim (leb_tells a b) [ inl under ↦ under.1 | inr past ↦ absurd (let f : true ≡ false = sym e ∙ past.0 in let P : ⊥ = cc in P) ]
-
-above : (a b : ℕ) → nat_le a b ≡ false → b < a
-above a b e = elim (leb_tells a b) [ inl under ↦ absurd (let f : true ≡ false = sym under.0 ∙ e in let P : ⊥ = cc in P) | inr past ↦ omega (arith, past.1) ]
-
 -- the boot of an appliance is its own
 pub own-boot : (a boots : ℕ) → a < 8 → is_boot_of a (boot_number a boots) ≡ true
 own-boot a boots below =
@@ -121,7 +114,7 @@ module _ (w : World) (leased : Leased w) (appliance : ApplianceNo) (below : appl
   Possible one = (v : World) × Step w one v
 
   -- the time is a reading
-  now : IsReading w.surface.time w.surface.time
+  now : IsReadingAt w.surface.time w.surface.time
   now = record { early = omega arith; late = omega arith }
 
   module _ (known : Known) (command : Command) (kind : WriteKind) (block : ℕ) (bytes : List ℕ) (guard : ℕ) (done fault : Part End) (missed : ℕ → Part End)
@@ -133,7 +126,7 @@ module _ (w : World) (leased : Leased w) (appliance : ApplianceNo) (below : appl
     issuing-possible free false is = (
       _,
       world.misses {reading = w.surface.time} known command kind block bytes guard done fault missed below here free
-          (above w.surface.time guard is) now,
+          (nat_le-past w.surface.time guard is) now,
     )
 
     -- a write that is issued
@@ -158,7 +151,7 @@ module _ (w : World) (leased : Leased w) (appliance : ApplianceNo) (below : appl
           found = found;
           open_yet = (leased.right number write found).uncancelled;
           missing = missing-there write.landed sector is;
-          early = at-most w.surface.time (write.guard + 50) early;
+          early = nat_le-tells w.surface.time (write.guard + 50) early;
         }),
       )
       landing-possible sector is false late = (_, world.write_faults known command kind block bytes guard done fault missed below here)
@@ -202,7 +195,7 @@ module _ (w : World) (leased : Leased w) (appliance : ApplianceNo) (below : appl
       by_test true is next' = same-possible one (event.Reading appliance w.surface.time) next' (
         _,
         world.waits {reading = w.surface.time} known command from rest below here now
-            (at-most from w.surface.time is),
+            (nat_le-tells from w.surface.time is),
       )
 
   place-possible : (place : Place) → (stands w appliance.0).place ≡ place → (one : Event) → next_at w appliance place ≡ Some one → Possible one

@@ -34,7 +34,7 @@ use Rattle.plx_rules.specs.Session.{Known}
 use Rattle.plx_rules.specs.Settings.{boot_number}
 use Rattle.plx_rules.specs.World as world
 use Rattle.plx_rules.specs.Rests.{rests_on}
-use Rattle.plx_rules.specs.World.{World, Seat, Step, Reached, IsReading, IsBack, setting_at, setting_of, stands, with_reply_of, with_happening, goes_on, with_surface, after_start, after_issue, issued_by, is_boot_of}
+use Rattle.plx_rules.specs.World.{World, Seat, Step, Reached, IsReadingAt, IsBack, setting_at, setting_of, stands, with_reply_of, with_happening, goes_on, with_surface, after_start, after_issue, issued_by, is_boot_of}
 use Rattle.law_lease.proofs.LeaseSteps.{reached-leased}
 use Rattle.law_lease.proofs.Runs.{own-boot}
 
@@ -149,6 +149,21 @@ module _ (g : Geometry) (appliances : ℕ) (few : appliances ≤ 8) (lease : ℕ
     pub free : (b : ℕ) → (seats b).pending ≡ None
     pub boots : (b : ℕ) → (seats b).boots ≡ 0
 
+  -- it doesn't matter how the places are said
+  pub same-places : {t : ℕ} {d : Device} {p : ℕ → Spot} {tr : List Entry} → Stage t d p tr → (q : ℕ → Spot) → ((b : ℕ) → p b ≡ q b) → Stage t d q tr
+  same-places st q same = record {
+    device = st.device;
+    writes = st.writes;
+    rests = st.rests;
+    seats = st.seats;
+    history = st.history;
+    reached = st.reached;
+    same = st.same;
+    places = λ b. subst (IsSpot lease (place_in b (st.seats b))) (same b) (st.places b);
+    free = st.free;
+    boots = st.boots;
+  }
+
   -- time passes
   pub ticked : {t : ℕ} {d : Device} {p : ℕ → Spot} {tr : List Entry} → Stage t d p tr → (by : ℕ) → t + by < 2 ^ 47 → Stage (t + by) d p tr
   ticked st by soon = record {
@@ -171,7 +186,7 @@ module _ (g : Geometry) (appliances : ℕ) (few : appliances ≤ 8) (lease : ℕ
     abbrev r : Spot
     r = p a.0
 
-    now : IsReading t t
+    now : IsReadingAt t t
     now = record { early = omega arith; late = omega arith }
 
     stands-at : (place : Place) → r.place ≡ place → (stands w a.0).place ≡ place

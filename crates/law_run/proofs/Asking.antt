@@ -31,8 +31,8 @@ use Rattle.law_run.proofs.Meets.{exchange}
 use Rattle.law_run.proofs.OnImage.{NamesOne, names-own, names-only, lease-name, by-time}
 use Rattle.law_run.proofs.Passed.{Passed, passed-all}
 use Rattle.law_run.proofs.Rests.{rests-lost, written-none, rests-failed}
-use Rattle.law_run.proofs.Right.{clock, Rests, finish, log_on, Right}
-use Rattle.law_run.proofs.Tests.{lt-cases}
+use Rattle.law_run.proofs.Right.{clock, Rests, finish, log_on, Shows, Right}
+use Rattle.plx_base.proofs.Tests.{lt-cases}
 
 -- a lease has one end
 pub one-until : (claim : Claim) (until other : ℕ) (hold : Hold) → hold ≡ Held claim until → IsUntil other hold → until ≡ other
@@ -57,6 +57,32 @@ pub replied-fine : (s : Setting) (before : List Finished) (command : Command) (r
     Comes s (log_on before command done) r → IsReplied s (log_on before command done) r
 replied-fine s before command reading fine done first r comes = worked (passed-all s (log_on before command done) (fine done first)) comes
 
+-- a write that fails ends the command
+pub unwritten-shows : (s : Setting) (before : List Finished) (known : Known) (command : Command) (reading : ℕ) → IsFine s before command reading →
+    (done : List Exchange) (until : ℕ) (k : WriteKind) (block : ℕ) (bytes : List ℕ) → first_reading done ≡ Some reading →
+    known.claims ≡ claims_in s.geometry (exchange (ask.Write k (record { 0 = block }) until) bytes answer.Fault ∷ done) + claims_begun s.geometry before →
+    Shows s before command (exchange (ask.Write k (record { 0 = block }) until) bytes answer.Fault ∷ done) (record { reply = reply.WriteFault (record { 0 = block }); known = nothing_known known.claims })
+unwritten-shows s before known command reading fine done until k block bytes first claims =
+    let x = exchange (ask.Write k (record { 0 = block }) until) bytes answer.Fault in (
+      replied-fine s before command reading fine (x ∷ done) (rw first refl) (reply.WriteFault (record { 0 = block })) (k, until, bytes, (done, refl)),
+      rests-failed s before command (x ∷ done) (record { 0 = block }) known.claims claims,
+    )
+
+-- so does one that is missed
+pub missed-shows : (s : Setting) (before : List Finished) (known : Known) (command : Command) (reading : ℕ) → IsFine s before command reading →
+    (done : List Exchange) (lease until : ℕ) (k : WriteKind) (block : ℕ) (bytes : List ℕ) (last : ℕ) → first_reading done ≡ Some reading →
+    known.claims ≡ claims_in s.geometry (exchange (ask.Write k (record { 0 = block }) until) bytes (answer.Missed last) ∷ done) + claims_begun s.geometry before →
+    lease < lease_count s.geometry → Needs s.geometry k block lease →
+    Shows s before command (exchange (ask.Write k (record { 0 = block }) until) bytes (answer.Missed last) ∷ done)
+    (record { reply = reply.Lost (lease_name s.geometry lease) until last; known = nothing_known known.claims })
+missed-shows s before known command reading fine done lease until k block bytes last first claims within needs =
+    let x = exchange (ask.Write k (record { 0 = block }) until) bytes (answer.Missed last) in (
+      replied-fine s before command reading fine (x ∷ done) (rw first refl) (reply.Lost (lease_name s.geometry lease) until last)
+          (replies.missed k (record { 0 = block }) bytes (done, refl)
+          (of_need (subst (λ l. Needs s.geometry k block l) (sym (number-name s.geometry lease within)) needs))),
+      rests-lost s before command (x ∷ done) (lease_name s.geometry lease) until last known.claims (written-none s.geometry (lease_name s.geometry lease) until last x done refl) claims,
+    )
+
 -- a write, which rests on a lease
 pub asks-write : (s : Setting) (before : List Finished) (known : Known) (command : Command) (reading : ℕ) → IsFine s before command reading →
     (done : List Exchange) (lease until : ℕ) (k : WriteKind) (block : ℕ) (bytes : List ℕ) (then_done : Part End) (n : ℕ) →
@@ -68,16 +94,10 @@ pub asks-write : (s : Setting) (before : List Finished) (known : Known) (command
 asks-write s before known command reading fine done lease until k block bytes then_done n first claims more within needs went may right = (
   (went, may),
   right,
-  (let x = exchange (ask.Write k (record { 0 = block }) until) bytes answer.Fault in (
-    replied-fine s before command reading fine (x ∷ done) (rw first refl) (reply.WriteFault (record { 0 = block })) (k, until, bytes, (done, refl)),
-    rests-failed s before command (x ∷ done) (record { 0 = block }) known.claims (let m = more x refl in omega arith),
-  )),
-  λ reading' past small. (let x = exchange (ask.Write k (record { 0 = block }) until) bytes (answer.Missed reading') in (
-    replied-fine s before command reading fine (x ∷ done) (rw first refl) (reply.Lost (lease_name s.geometry lease) until reading')
-        (replies.missed k (record { 0 = block }) bytes (done, refl)
-        (of_need (subst (λ l. Needs s.geometry k block l) (sym (number-name s.geometry lease within)) needs))),
-    rests-lost s before command (x ∷ done) (lease_name s.geometry lease) until reading' known.claims (written-none s.geometry (lease_name s.geometry lease) until reading' x done refl) (let m = more x refl in omega arith),
-  )),
+  unwritten-shows s before known command reading fine done until k block bytes first
+      (let m = more (exchange (ask.Write k (record { 0 = block }) until) bytes answer.Fault) refl in omega arith),
+  λ last past small. missed-shows s before known command reading fine done lease until k block bytes last first
+      (let m = more (exchange (ask.Write k (record { 0 = block }) until) bytes (answer.Missed last)) refl in omega arith) within needs,
 )
 
 -- a command of one image, along which its lease is held

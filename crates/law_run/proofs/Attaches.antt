@@ -1,7 +1,6 @@
 -- Attaches, from the first reading on.
-use Rattle.std.proofs.Common.{◌≡◌, ℕ, suc, ◌+◌, ◌*◌, ◌≤◌, ◌<◌, ◌^◌, List, [], ◌∷◌, Bool, true, false, Option, Some, None, refl, sym, subst, ◌∙◌, arith, inl, inr}
+use Rattle.std.proofs.Common.{◌≡◌, ℕ, suc, ◌+◌, ◌*◌, ◌≤◌, ◌<◌, ◌^◌, List, [], ◌∷◌, Bool, true, false, Option, Some, None, refl, ap, sym, subst, ◌∙◌, arith, inl, inr}
 use Rattle.std.specs.Prelude.{nat_lt}
-use Rattle.plx_base.specs.declared.lease.Claim.{Claim}
 use Rattle.plx_base.specs.declared.numbers.SlotNo.{SlotNo}
 use Rattle.plx_commands.specs.Limits.{last_claim}
 use Rattle.plx_commands.specs.declared.command.Command.TheVariants.{Attach}
@@ -11,11 +10,12 @@ use Rattle.plx_rules.specs.Part.{Part}
 use Rattle.plx_rules.specs.Attaching.{claim_image, attach_held, attach_part}
 use Rattle.plx_rules.specs.Commands.{command_part}
 use Rattle.plx_rules.specs.Ends.{End}
+use Rattle.plx_rules.specs.Hands.{is_held}
 use Rattle.plx_rules.specs.Holds.{Hold, Nothing, Seen, Wrote, Waited, Held}
 use Rattle.plx_rules.specs.Session.{Session, Known}
 use Rattle.plx_rules.specs.Settings.{Setting}
 use Rattle.law_run.specs.CommandLogs.{Finished}
-use Rattle.law_run.specs.Holdings.{at_first, holds_after, hold_by_log}
+use Rattle.law_run.specs.Holdings.{at_first, holds_after, hold_by_log, IsNotHeld}
 use Rattle.law_run.specs.Refusals.{already_attached, no_slot, claims}
 use Rattle.law_run.specs.Replies.{refused}
 use Rattle.law_run.specs.Sessions.{is_attached}
@@ -27,7 +27,7 @@ use Rattle.law_run.proofs.Passed.{passed-at-most}
 use Rattle.law_run.proofs.Rests.{rests-by, own-still}
 use Rattle.law_run.proofs.Right.{clock, FitsAt, Rests, log_on, Right}
 use Rattle.law_run.proofs.Runs.{start, hand_start}
-use Rattle.law_run.proofs.Tests.{lt-cases, lt-is, lt-isn't}
+use Rattle.plx_base.proofs.Tests.{nat_lt-tells, clash, lt-cases, lt-isn't}
 use Rattle.law_run.proofs.Claiming.{attach-passed, right-claim}
 
 -- at most so many asks are answered after the first reading
@@ -36,20 +36,20 @@ Within s before slot reading part = (left : ℕ) × (left ≤ 8 + 2 * s.geometry
 
 module _ (s : Setting) (boot_small : s.boot < 2 ^ 128) (before : List Finished) (known : Known) (slot : SlotNo) (reading : ℕ) (rests : Rests s before known) where
   -- the lease isn't held
-  by-claims : (hold : Hold) → hold_by_log s before (clock reading ∷ []) (image_lease slot.0) ≡ hold → ((claim : Claim) (until : ℕ) → ¬ (hold ≡ Held claim until)) → slot.0 < s.geometry.images →
+  by-claims : (hold : Hold) → hold_by_log s before (clock reading ∷ []) (image_lease slot.0) ≡ hold → IsNotHeld hold → slot.0 < s.geometry.images →
       is_attached before slot.0 ≡ false → Within s before slot reading (claim_image (nat_lt known.claims last_claim) s known slot.0)
   by-claims hold is none within missing = elim (lt-cases known.claims last_claim) [
     | inl few ↦ rw few.0 (
       suc (suc (suc (suc (suc (suc (suc (twice s.geometry.slots))))))),
       (let t = twice-is s.geometry.slots in omega arith),
-      right-claim s boot_small before known slot reading within missing rests few.1 (λ claim until e. none claim until (sym is ∙ e)),
+      right-claim s boot_small before known slot reading within missing rests few.1 (ap is_held is ∙ none),
     )
     | inr worn ↦ rw worn.0 (
       0,
       omega arith,
       (
         refused 9 (reading, refl)
-            (claims slot refl (reading, refl, λ claim until e. none claim until (sym is ∙ (first-hold s before reading slot.0 within ∙ e))) (let c = rests.claims in omega (arith, worn.1)))
+            (claims slot refl (reading, refl, ap is_held (sym (first-hold s before reading slot.0 within) ∙ is) ∙ none) (let c = rests.claims in omega (arith, worn.1)))
             (λ p other refuses. passed-at-most s (log_on before (Attach slot) (clock reading ∷ [])) 9 p other
             (attach-passed s before slot (clock reading ∷ []) 9 (λ lt. missing) (λ lt. within) (λ lt. absurd (omega arith))) refuses),
         unattached-by s before known known slot missing (λ image. refl) rests (clock reading ∷ []) (reply.WornOut last_claim) (λ other b. refl) (λ h. refl) (spared-first s before reading slot.0)
@@ -66,22 +66,22 @@ module _ (s : Setting) (boot_small : s.boot < 2 ^ 128) (before : List Finished) 
       (λ lt needed. absurd (
       let e : Some reading ≡ Some needed.0 = sym first ∙ needed.1 in
       let same : reading ≡ needed.0 = cc in
-      needed.2 claim until
+      clash _ (ap is_held
       (subst (λ r. at_first (is_attached before slot.0) r (holds_after s.geometry before (lease_at (image_lease slot.0))) ≡ Held claim until) same
-      (sym (first-hold s before reading slot.0 within) ∙ is)))) in (
+      (sym (first-hold s before reading slot.0 within) ∙ is))) needed.2)) in (
         suc (suc (twice s.geometry.slots)),
         (let t = twice-is s.geometry.slots in omega arith),
         right-load s before known known slot c within missing fine (let k = rests.claims in omega arith) (λ image. refl) rests (clock reading ∷ [])
             (going-first s before slot.0 claim until reading is) (λ place. refl) (λ kept. (tt, tt)),
       )
-  by-hold Nothing is within missing = by-claims Nothing is (λ claim until e. (let P : ⊥ = cc in P)) within missing
-  by-hold (Seen sample) is within missing = by-claims (Seen sample) is (λ claim until e. (let P : ⊥ = cc in P)) within missing
-  by-hold (Wrote c u) is within missing = by-claims (Wrote c u) is (λ claim until e. (let P : ⊥ = cc in P)) within missing
-  by-hold (Waited c u) is within missing = by-claims (Waited c u) is (λ claim until e. (let P : ⊥ = cc in P)) within missing
+  by-hold Nothing is within missing = by-claims Nothing is refl within missing
+  by-hold (Seen sample) is within missing = by-claims (Seen sample) is refl within missing
+  by-hold (Wrote c u) is within missing = by-claims (Wrote c u) is refl within missing
+  by-hold (Waited c u) is within missing = by-claims (Waited c u) is refl within missing
 
   by-slot : (test : Bool) → nat_lt slot.0 s.geometry.images ≡ test → is_attached before slot.0 ≡ false →
       Within s before slot reading (attach_part s known slot.0 None test (start s before reading (lease_at (image_lease slot.0))))
-  by-slot true is missing = by-hold (start s before reading (lease_at (image_lease slot.0))) refl (lt-is slot.0 s.geometry.images is) missing
+  by-slot true is missing = by-hold (start s before reading (lease_at (image_lease slot.0))) refl (nat_lt-tells slot.0 s.geometry.images is) missing
   by-slot false is missing = (
     0,
     omega arith,

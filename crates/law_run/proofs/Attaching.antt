@@ -41,9 +41,8 @@ use Rattle.law_run.proofs.Loading.{Says, says, Loading, loads-first, loads-none,
 use Rattle.law_run.proofs.Meets.{exchange, meets-more}
 use Rattle.law_run.proofs.OnImage.{NamesOne, names-own, names-other}
 use Rattle.law_run.proofs.Rests.{KeepsHolds, rests-by}
-use Rattle.law_run.proofs.Right.{read_of, clock, Fits, FitsAt, Rests, finish, log_on, May, Shows, Right}
-use Rattle.plx_base.proofs.Tests.{nat_le-true, nat_le-false}
-use Rattle.law_run.proofs.Tests.{lt-cases, clash, eqb-isn't}
+use Rattle.law_run.proofs.Right.{read_of, clock, FitsSession, FitsAt, Rests, finish, log_on, May, Shows, Right}
+use Rattle.plx_base.proofs.Tests.{nat_le-true, nat_le-false, lt-cases, clash, eqb-isn't}
 use Rattle.plx_commands.proofs.Places.{at-other, at-same}
 
 -- two asks a slot
@@ -171,7 +170,7 @@ module _ (s : Setting) (before : List Finished) (known next : Known) (slot : Slo
       ))
 
   -- the attach ends with a session
-  right-ends : (done : List Exchange) (session : Session) → Going s before done slot.0 c → AllInside s.geometry slot.0 session.image done → Fits s.geometry (told_now done) slot.0 session → (n : ℕ) →
+  right-ends : (done : List Exchange) (session : Session) → Going s before done slot.0 c → AllInside s.geometry slot.0 session.image done → FitsSession s.geometry (told_now done) slot.0 session → (n : ℕ) →
       Right s before (Attach slot) done (attach_ends s next slot.0 c.until session) (suc n)
   right-ends done session going inside fits n =
       let r = reply.Attached (session_report session) in
@@ -196,7 +195,7 @@ module _ (s : Setting) (before : List Finished) (known next : Known) (slot : Slo
             (λ other apart. at-other next.sessions slot.0 other (Some session) apart ∙ same other) (λ other b apart. rw (names-other (Attach slot) slot.0 (attach-one slot) other apart) refl) (λ h. refl)
             after.spared
             (subst (λ o. FitsAt s (finish (Attach slot) (clock reading ∷ done) r ∷ before) slot.0 o) (sym (at-same next.sessions slot.0 (Some session)))
-            (rw (names-own (Attach slot) slot.0 (attach-one slot)) refl, subst (λ (g : Given). Fits s.geometry g slot.0 session) (sym here) fits, (c.claim, c.until, after.held)))
+            (rw (names-own (Attach slot) slot.0 (attach-one slot)) refl, subst (λ (g : Given). FitsSession s.geometry g slot.0 session) (sym here) fits, (c.claim, c.until, after.held)))
             (let b = after.begun in omega arith) rests,
       ))
 

@@ -21,17 +21,17 @@ use Rattle.plx_rules.specs.Times.{is_expired}
 use Rattle.law_lease.proofs.LawfulCommands.{IsRest}
 use Rattle.law_lease.proofs.LawfulSpace.{timed-rests}
 use Rattle.law_run.specs.AllowedAsks.{GoesOn, WentOn}
-use Rattle.law_run.specs.Busy.{IsBusy, unexpired, taken, FirstBusy}
-use Rattle.law_run.specs.CommandLogs.{Exchange, Finished, CommandLog, IsIn, first_reading, with_exchanges}
+use Rattle.law_run.specs.Busy.{IsBusy, unexpired, taken}
+use Rattle.law_run.specs.CommandLogs.{Exchange, CommandLog, IsIn, older_than, with_exchanges}
 use Rattle.law_run.specs.Holdings.{holds_along, holds_after, last_found, hand_by_log, hold_by_log}
 use Rattle.law_run.specs.KnownBytes.{nothing_given, given_after_exchange, given_after_exchanges}
+use Rattle.law_run.specs.Machines.{with_work}
 use Rattle.law_run.specs.Sessions.{is_attached}
 use Rattle.law_run.proofs.Grown.{with-other}
 use Rattle.law_run.proofs.Hands.{HasBlock, filter-all, hand-more, hand-is-held, told-quiet}
-use Rattle.law_run.proofs.Holding.{first-more}
 use Rattle.law_run.proofs.Meets.{exchange}
 use Rattle.law_run.proofs.Runs.{HasFirst, last_sample, along-more}
-use Rattle.law_run.proofs.Tests.{clash}
+use Rattle.plx_base.proofs.Tests.{clash}
 
 -- an exchange is one of a claim of this lease: a reading, a read of the lease, or its claim that is done
 abbrev pub IsOfClaim : (lease : ℕ) → Ask → Answer → Type 0
@@ -91,29 +91,29 @@ of-claimed lease (ask.Read block) (answer.Bytes found) of = inl refl
 of-claimed lease (ask.Write kind.Claim block guard) answer.Done of = inr of
 of-claimed lease a x of = absurd of
 
--- what such exchanges leave, from these on
-pub record Beside (s : Setting) (before : List Finished) (log : CommandLog) (lease : ℕ) (from done : List Exchange) : Type 0 where
-  pub has : HasFirst done
-  pub first : (reading : ℕ) → first_reading from ≡ Some reading → first_reading done ≡ Some reading
-  pub went : WentOn from → WentOn done
-  pub others : (l : ℕ) → l ≢ lease → IsRest (hold_by_log s before from l) → hold_by_log s before done l ≡ hold_by_log s before from l
-  pub hand : hand_by_log s before done ≡ hand_by_log s before from
+-- the exchanges of a command after those of some work that began at the end of its first log
+abbrev pub after_work : (first : CommandLog) → (own : List Exchange) → List Exchange
+after_work first own = (with_work first own).exchanges
+
+-- what such exchanges leave, from these on, in work that began after the exchanges of a first log
+pub record Beside (s : Setting) (first : CommandLog) (lease : ℕ) (from done : List Exchange) : Type 0 where
+  pub has : HasFirst (after_work first done)
+  pub went : WentOn (after_work first from) → WentOn (after_work first done)
+  pub others : (l : ℕ) → l ≢ lease → IsRest (hold_by_log s first.before (after_work first from) l) → hold_by_log s first.before (after_work first done) l ≡ hold_by_log s first.before (after_work first from) l
+  pub hand : hand_by_log s first.before (after_work first done) ≡ hand_by_log s first.before (after_work first from)
   pub older : (x : Exchange) → IsIn x from → IsIn x done
   pub told : (extent : ℕ) → given_after_exchanges done nothing_given (map_at s.geometry extent) ≡ given_after_exchanges from nothing_given (map_at s.geometry extent)
-  pub busy : (l : ℕ) (seen : LeaseRecord) → FirstBusy s log l seen from → FirstBusy s log l seen done
   pub claims : (l guard : ℕ) (bytes : List ℕ) → l ≢ lease → IsIn (exchange (ask.Write kind.Claim (record { 0 = lease_at l }) guard) bytes answer.Done) done →
       IsIn (exchange (ask.Write kind.Claim (record { 0 = lease_at l }) guard) bytes answer.Done) from
 
-pub beside-none : (s : Setting) (before : List Finished) (log : CommandLog) (lease : ℕ) (from : List Exchange) → HasFirst from → Beside s before log lease from from
-beside-none s before log lease from has = record {
+pub beside-none : (s : Setting) (first : CommandLog) (lease : ℕ) (from : List Exchange) → HasFirst (after_work first from) → Beside s first lease from from
+beside-none s first lease from has = record {
   has = has;
-  first = λ reading is. is;
   went = λ went. went;
   others = λ l apart rests. refl;
   hand = refl;
   older = λ x is. is;
   told = λ extent. refl;
-  busy = λ l seen is. is;
   claims = λ l guard bytes apart is. is;
 }
 
@@ -124,36 +124,34 @@ rest-held (Seen sample) is = absurd (let P : ⊥ = cc in P)
 rest-held (Wrote claim until) is = absurd (let P : ⊥ = cc in P)
 rest-held (Waited claim until) is = absurd (let P : ⊥ = cc in P)
 
-pub beside-more : (s : Setting) (before : List Finished) (log : CommandLog) (lease : ℕ) (from done : List Exchange) (x : Exchange) → HasFirst from → lease < lease_count s.geometry →
-    is_held (hold_by_log s before from lease) ≡ false → IsOfClaim lease x.ask x.answer → Beside s before log lease from done → Beside s before log lease from (x ∷ done)
-beside-more s before log lease from done x has-from below unheld of b = record {
+pub beside-more : (s : Setting) (first : CommandLog) (lease : ℕ) (from done : List Exchange) (x : Exchange) → HasFirst (after_work first from) → lease < lease_count s.geometry →
+    is_held (hold_by_log s first.before (after_work first from) lease) ≡ false → IsOfClaim lease x.ask x.answer → Beside s first lease from done → Beside s first lease from (x ∷ done)
+beside-more s first lease from done x has-from below unheld of b = record {
   has = tt;
-  first = λ reading is. first-more done x reading (b.first reading is);
   went = λ went. (of-goes lease x.ask x.answer of, b.went went);
   others = others;
-  hand = hand-more s before x done b.has
-      ∙ (ap (hand_held s.geometry H) (of-quiet s.geometry (last_found done) lease x.ask x.bytes x.answer (hand_by_log s before done) of)
-      ∙ (filter-all (λ c. is_held (H (lease_at (extent_lease s.geometry (extent_of s.geometry c))))) (hand_by_log s before done) still ∙ b.hand));
+  hand = hand-more s first.before x (after_work first done) b.has
+      ∙ (ap (hand_held s.geometry H) (of-quiet s.geometry (last_found (after_work first done)) lease x.ask x.bytes x.answer (hand_by_log s first.before (after_work first done)) of)
+      ∙ (filter-all (λ c. is_held (H (lease_at (extent_lease s.geometry (extent_of s.geometry c))))) (hand_by_log s first.before (after_work first done)) still ∙ b.hand));
   older = λ y is. inr (b.older y is);
   told = λ extent. of-told s.geometry lease done x extent below of ∙ b.told extent;
-  busy = λ l seen is. inr (b.busy l seen is);
   claims = claims;
 }
   where
     H : ℕ → Hold
-    H = holds_along s.geometry (is_attached before) (holds_after s.geometry before) (x ∷ done)
+    H = holds_along s.geometry (is_attached first.before) (holds_after s.geometry first.before) (after_work first (x ∷ done))
 
-    others : (l : ℕ) → l ≢ lease → IsRest (hold_by_log s before from l) → hold_by_log s before (x ∷ done) l ≡ hold_by_log s before from l
+    others : (l : ℕ) → l ≢ lease → IsRest (hold_by_log s first.before (after_work first from) l) → hold_by_log s first.before (after_work first (x ∷ done)) l ≡ hold_by_log s first.before (after_work first from) l
     others l apart rests =
         let old = b.others l apart rests in
-        ap (λ (h : ℕ → Hold). h (lease_at l)) (along-more s.geometry (is_attached before) (holds_after s.geometry before) x done b.has)
-        ∙ (other-stays (last_sample done) x.ask x.bytes x.answer (holds_along s.geometry (is_attached before) (holds_after s.geometry before) done) lease l apart of (subst IsRest (sym old) rests) ∙ old)
+        ap (λ (h : ℕ → Hold). h (lease_at l)) (along-more s.geometry (is_attached first.before) (holds_after s.geometry first.before) x (after_work first done) b.has)
+        ∙ (other-stays (last_sample (after_work first done)) x.ask x.bytes x.answer (holds_along s.geometry (is_attached first.before) (holds_after s.geometry first.before) (after_work first done)) lease l apart of (subst IsRest (sym old) rests) ∙ old)
 
-    still : (c : ℕ) → HasBlock (hand_by_log s before done) c → is_held (H (lease_at (extent_lease s.geometry (extent_of s.geometry c)))) ≡ true
+    still : (c : ℕ) → HasBlock (hand_by_log s first.before (after_work first done)) c → is_held (H (lease_at (extent_lease s.geometry (extent_of s.geometry c)))) ≡ true
     still c in_hand =
         let l = extent_lease s.geometry (extent_of s.geometry c) in
-        let was : is_held (hold_by_log s before from l) ≡ true = hand-is-held s before from c has-from (subst (λ (h : List ℕ). HasBlock h c) b.hand in_hand) in
-        ap is_held (others l (λ e. clash (is_held (hold_by_log s before from l)) was (ap (λ n. is_held (hold_by_log s before from n)) e ∙ unheld)) (rest-held _ was)) ∙ was
+        let was : is_held (hold_by_log s first.before (after_work first from) l) ≡ true = hand-is-held s first.before (after_work first from) c has-from (subst (λ (h : List ℕ). HasBlock h c) b.hand in_hand) in
+        ap is_held (others l (λ e. clash (is_held (hold_by_log s first.before (after_work first from) l)) was (ap (λ n. is_held (hold_by_log s first.before (after_work first from) n)) e ∙ unheld)) (rest-held _ was)) ∙ was
 
     claims : (l guard : ℕ) (bytes : List ℕ) → l ≢ lease → IsIn (exchange (ask.Write kind.Claim (record { 0 = lease_at l }) guard) bytes answer.Done) (x ∷ done) →
         IsIn (exchange (ask.Write kind.Claim (record { 0 = lease_at l }) guard) bytes answer.Done) from
@@ -163,11 +161,6 @@ beside-more s before log lease from done x has-from below unheld of b = record {
     claims l guard bytes apart (inr there) = b.claims l guard bytes apart there
 
 -- ---- where no claim has ended Busy
-
--- the exchanges before the newest one
-abbrev pub older_than : List Exchange → List Exchange
-older_than [] = []
-older_than (x ∷ older) = older
 
 -- whether the one before the newest asked for the clock
 abbrev pub is_clock_ask : Ask → Bool

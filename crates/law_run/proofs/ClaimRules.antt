@@ -1,9 +1,8 @@
 -- Claims keep the rules.
-use Rattle.std.proofs.Common.{◌≡◌, ◌≢◌, ℕ, suc, ◌+◌, ◌≤◌, ◌<◌, ◌^◌, List, ◌∷◌, drop, Bool, true, false, Option, Some, None, refl, ap, sym, subst, ◌∙◌, arith, inl, inr}
-use Rattle.std.specs.Prelude.{if◌then◌else◌}
+use Rattle.std.proofs.Common.{◌≡◌, ◌≢◌, ℕ, suc, ◌+◌, ◌≤◌, ◌<◌, ◌^◌, List, ◌∷◌, drop, Bool, true, false, Option, Some, None, refl, ap, sym, subst, ◌∙◌, inl, inr}
 use Rattle.std.specs.Str.{bytes_eq}
-use Rattle.std.proofs.lemmas.Bool.Decides.{leb_tells}
 use Rattle.std.proofs.lemmas.Slice.Eq.{bytes_eq-Decides}
+use Rattle.law_lease.proofs.LawfulSpace.{unreached}
 use Rattle.plx_base.specs.declared.lease.LeaseRecord.{LeaseRecord}
 use Rattle.plx_disk.specs.declared.ask.Ask.{Ask}
 use Rattle.plx_disk.specs.declared.ask.Answer.TheVariants as answer
@@ -12,21 +11,23 @@ use Rattle.plx_gate.proofs.Leases.{lease-only}
 use Rattle.plx_geom.specs.Geometry.{lease_at}
 use Rattle.plx_rules.specs.Part.{Part, Ends, standing}
 use Rattle.plx_rules.specs.Claims.{ClaimEnd, ClaimLost, ClaimDamaged, claim_of, own_record, own_use, claim_in_time, claim_damaged, reread_by, reread_part, written_part, if_expired, seen_part, claim_part}
+use Rattle.plx_rules.specs.Hands.{is_held}
 use Rattle.plx_rules.specs.Holds.{Held, hold_after_reread}
-use Rattle.plx_rules.specs.InUse.{InUse, earlier, first_reached, unless_reached}
+use Rattle.plx_rules.specs.InUse.{InUse, first_reached, unless_reached}
 use Rattle.plx_rules.specs.Settings.{Setting}
 use Rattle.plx_rules.specs.Times.{window, wait, term, is_expired}
 use Rattle.law_run.specs.AllowedAsks.{WentOn, claim_of_lease}
 use Rattle.law_run.specs.Busy.{unexpired, taken}
 use Rattle.law_run.specs.ClaimEnds.{AreInUse, beside, with_own, missed, reached, ShowsClaim, claim_bound, MayBeginClaim, IsClaimAsk, IsClaimEnd, ClaimsKeepRules}
 use Rattle.law_run.specs.CommandLogs.{Exchange, CommandLog, IsIn, with_exchanges}
+use Rattle.law_run.specs.Machines.{IsOfBlock}
 use Rattle.law_run.specs.Replies.{of_clock, of_wait}
 use Rattle.law_run.proofs.ClaimSteps.{read_of_lease, after_sight, after_claiming, after_waiting, after_rereading, held-sight, held-claiming, held-waiting, held-rereading}
 use Rattle.law_run.proofs.Machines.{MeetsWork, meets-keeps}
 use Rattle.law_run.proofs.Right.{clock}
 use Rattle.law_run.proofs.Runs.{HasFirst}
 use Rattle.law_run.proofs.Spelled.{lease-rest}
-use Rattle.law_run.proofs.Tests.{clash}
+use Rattle.plx_base.proofs.Tests.{clash}
 
 -- the rest by the leases that a reading has reached
 by-reached : (P : Part ClaimEnd → Type 0) (uses : List InUse) (reading : ℕ) (rest : Part ClaimEnd) → ((due : InUse) → first_reached uses reading ≡ Some due → P (Ends (ClaimLost due reading))) →
@@ -37,19 +38,12 @@ by-reached P uses reading rest late early = go (first_reached uses reading) refl
     go None is = early is
     go (Some due) is = late due is
 
--- a reading that has reached no lease is below the end of the first one
-below-first : (one : InUse) (others : List InUse) (reading : ℕ) → first_reached (one ∷ others) reading ≡ None → reading < one.until
-below-first one others reading none = elim (leb_tells one.until reading) [
-  | inl past ↦ absurd (let e = ap (λ t. if t then Some (earlier one (first_reached others reading)) else first_reached others reading) (sym past.0) ∙ none in let P : ⊥ = cc in P)
-  | inr early ↦ omega (arith, early.1)
-]
-
 pub bytes-other : (a b : List ℕ) → bytes_eq a b ≡ false → a ≢ b
 bytes-other a b differ same = clash (bytes_eq a b) ((bytes_eq-Decides a b).1 same) differ
 
 module _ (s : Setting) (boot_small : s.boot < 2 ^ 128) (log : CommandLog) (others : List InUse) (lease number : ℕ) (may : MayBeginClaim s log lease number) (has : HasFirst log.exchanges) where
   abbrev Claims : List Exchange → Part ClaimEnd → ℕ → Type 0
-  Claims done part n = MeetsWork s log (lease_at lease) (ShowsClaim s others lease) done part n
+  Claims done part n = MeetsWork s log (IsOfBlock (lease_at lease)) (ShowsClaim s others lease) done part n
 
   -- bytes that are no lease end it after one more reading
   ends-damaged : (done : List Exchange) (bytes : List ℕ) (uses : List InUse) (n : ℕ) → WentOn done → IsIn (read_of_lease lease (answer.Bytes bytes)) done → read_lease bytes ≡ None →
@@ -93,7 +87,7 @@ module _ (s : Setting) (boot_small : s.boot < 2 ^ 128) (log : CommandLog) (other
             (
               (
                 (tt, (tt, may.went)),
-                claim_of_lease lease own seen bytes log.exchanges may.within refl (λ c u e. (let P : ⊥ = cc in P)) refl sees is refl may.counted refl
+                claim_of_lease lease own seen bytes log.exchanges may.within refl (ap is_held held) refl sees is refl may.counted refl
                     (lease-rest (own_record own) ∙ sym (ap (drop 512) (lease-only bytes seen sees).1 ∙ lease-rest seen)) refl,
               ),
               refl,
@@ -117,7 +111,7 @@ module _ (s : Setting) (boot_small : s.boot < 2 ^ 128) (log : CommandLog) (other
                   (λ due e. reached (own_use lease own ∷ others) (with_own own (inr (inl refl))) (of_wait (sample + wait) (after_claiming log.exchanges s.boot lease number sample bytes, refl)) e)
                   (λ e. (
                     (((tt, (tt, (tt, (tt, may.went)))), tt), refl),
-                    λ again long. after-again sample small bytes seen sees reading past (below-first (own_use lease own) others reading e) again (bytes_eq again (lease_bytes (own_record own))) refl (read_lease again) refl,
+                    λ again long. after-again sample small bytes seen sees reading past (unreached (own_use lease own) others reading e) again (bytes_eq again (lease_bytes (own_record own))) refl (read_lease again) refl,
                     (after_waiting log.exchanges s.boot lease number sample bytes reading, refl),
                   )),
             ),
@@ -142,7 +136,7 @@ begun-first done older x is = subst HasFirst (sym is) tt
 
 pub claims-keep-rules : ClaimsKeepRules
 claims-keep-rules s log others lease number is may =
-    meets-keeps s log (lease_at lease) (ShowsClaim s others lease) (claim_part s.boot others lease number) claim_bound
+    meets-keeps s log (IsOfBlock (lease_at lease)) (ShowsClaim s others lease) (claim_part s.boot others lease number) claim_bound
     (claim-meets s is.boot log others lease number may (begun-first log.exchanges may.others may.first may.begun))
 
 -- so does each claim by where it stands

@@ -24,6 +24,7 @@ use Rattle.plx_rules.specs.Part.{Part, Ends}
 use Rattle.plx_rules.specs.Attaching.{load_image, after_claim, claim_image}
 use Rattle.plx_rules.specs.Claims.{ClaimEnd, ClaimReadFault, ClaimDamaged, claim_of, own_record, own_use, claim_in_time, reread_by, reread_part, written_part, if_expired, seen_part}
 use Rattle.plx_rules.specs.Ends.{End, ends, lost}
+use Rattle.plx_rules.specs.Hands.{is_held}
 use Rattle.plx_rules.specs.Holds.{Hold, Nothing, Seen, Wrote, Waited, Held, hold_after_reread, hold_after_reading}
 use Rattle.plx_rules.specs.Parts.{followed_by}
 use Rattle.plx_rules.specs.Session.{Known, with_claim, nothing_known}
@@ -32,12 +33,12 @@ use Rattle.plx_rules.specs.Times.{window, wait, term, is_expired}
 use Rattle.law_run.specs.AllowedAsks.{WentOn, claim_of_lease}
 use Rattle.law_run.specs.CommandLogs.{Exchange, Finished, first_reading}
 use Rattle.law_run.specs.Holdings as holdings
-use Rattle.law_run.specs.Holdings.{at_first, holds_along, holds_after, hold_by_log, IsUntil, is_lease_read, is_clock, claims_in, claims_begun, IsNotHeld}
+use Rattle.law_run.specs.Holdings.{at_first, holds_after, hold_by_log, IsUntil, is_clock, claims_in, claims_begun, IsNotHeld}
 use Rattle.law_run.specs.KnownBytes.{nothing_given, given_with, given_after_command}
 use Rattle.law_run.specs.Outside.{no_lease}
 use Rattle.law_run.specs.Refusals.{IsNamedFirst, NeedsClaim, NamesBlock, of_read, of_write, NeedsImage, of_delete, of_block}
 use Rattle.law_run.specs.Busy.{unexpired, taken}
-use Rattle.law_run.specs.Replies.{IsInUse, going, unread, of_clock, of_wait, of_claim, ReadRestsOn, of_record, of_log, of_descriptor, of_data, of_image, in_image, refused}
+use Rattle.law_run.specs.Replies.{IsInUse, going, unread, of_clock, of_wait, of_claim, ReadRestsOn, of_record, of_log, of_descriptor, of_data, of_image, in_image}
 use Rattle.law_run.specs.Replies as replies
 use Rattle.law_run.specs.Sessions.{attached_by, is_attached}
 use Rattle.law_run.proofs.Asking.{IsFine, replied-fine}
@@ -52,7 +53,7 @@ use Rattle.law_run.proofs.Rests.{KeepsHolds, rests-lost, rests-failed}
 use Rattle.law_run.proofs.Right.{clock, Rests, finish, log_on, Right}
 use Rattle.law_run.proofs.Runs.{HasFirst}
 use Rattle.law_run.proofs.Spelled.{lease-rest}
-use Rattle.law_run.proofs.Tests.{clash}
+use Rattle.plx_base.proofs.Tests.{clash}
 use Rattle.law_run.proofs.ClaimRules.{bytes-other}
 use Rattle.law_run.proofs.ClaimSteps.{read_of_lease, claim_write, claim_wait, after_sight, after_claiming, after_waiting, after_rereading, counts-sight, counts-claiming, counts-waiting, counts-rereading, own-back, held-sight, held-claiming, held-waiting, held-late, held-rereading}
 
@@ -95,7 +96,8 @@ abbrev ends_by_clock : List Exchange → Bool
 ends_by_clock [] = false
 ends_by_clock (x ∷ older) = is_clock x.ask
 
-nothing-used : (until : ℕ) (hold : Hold) → hold ≡ Nothing → ¬ IsUntil until hold
+-- a lease of which nothing is held is held until no moment
+pub nothing-used : (until : ℕ) (hold : Hold) → hold ≡ Nothing → ¬ IsUntil until hold
 nothing-used until hold is (holdings.wrote c e) = let P : ⊥ = cc in P
 nothing-used until hold is (holdings.waited c e) = let P : ⊥ = cc in P
 nothing-used until hold is (holdings.held c e) = let P : ⊥ = cc in P
@@ -111,7 +113,7 @@ unheld-at-first true reading Nothing none = refl
 unheld-at-first true reading (Seen sample) none = refl
 unheld-at-first true reading (Wrote c u) none = refl
 unheld-at-first true reading (Waited c u) none = refl
-unheld-at-first true reading (Held c u) none = absurd (none c u refl)
+unheld-at-first true reading (Held c u) none = absurd (let P : ⊥ = cc in P)
 unheld-at-first false reading Nothing none = refl
 unheld-at-first false reading (Seen sample) none = refl
 unheld-at-first false reading (Wrote c u) none = refl
@@ -119,8 +121,8 @@ unheld-at-first false reading (Waited c u) none = refl
 unheld-at-first false reading (Held c u) none = by-flag (nat_le u reading) none
   where
     by-flag : (test : Bool) → IsNotHeld (if test then Nothing else Held c u) → (if test then Nothing else Held c u) ≡ Nothing
-    by-flag true some = refl
-    by-flag false some = absurd (some c u refl)
+    by-flag true none' = refl
+    by-flag false none' = absurd (let P : ⊥ = cc in P)
 
 -- ---- a claim of the lease of the image
 
@@ -218,7 +220,7 @@ module _ (s : Setting) (boot_small : s.boot < 2 ^ 128) (before : List Finished) 
   nothing-held : hold_by_log s before d0 (image_lease slot.0) ≡ Nothing
   nothing-held =
       let first = first-hold s before reading slot.0 within in
-      first ∙ unheld-at-first (is_attached before slot.0) reading (holds_after s.geometry before (lease_at (image_lease slot.0))) (λ c u e. not_held c u (first ∙ e))
+      first ∙ unheld-at-first (is_attached before slot.0) reading (holds_after s.geometry before (lease_at (image_lease slot.0))) (ap is_held (sym first) ∙ not_held)
 
   seen2 : (sample : ℕ) → sample < 2 ^ 48 → (bytes : List ℕ) (seen : LeaseRecord) → read_lease bytes ≡ Some seen → is_expired seen sample ≡ true →
       hold_by_log s before (d2 sample bytes) (image_lease slot.0) ≡ Seen sample
@@ -435,7 +437,7 @@ module _ (s : Setting) (boot_small : s.boot < 2 ^ 128) (before : List Finished) 
           let n = suc (suc (suc (suc (twice s.geometry.slots)))) in (
             (
               went2 sample bytes,
-              claim_of_lease (image_lease slot.0) own' seen bytes d0 lease-within refl (λ c u e. (let was = seen2 sample small bytes seen sees is in let P : ⊥ = cc in P)) refl sees is refl (let c = rests.claims in omega arith) refl
+              claim_of_lease (image_lease slot.0) own' seen bytes d0 lease-within refl (ap is_held (seen2 sample small bytes seen sees is)) refl sees is refl (let c = rests.claims in omega arith) refl
                   (lease-rest (own_record own') ∙ sym (ap (drop 512) (lease-only bytes seen sees).1 ∙ lease-rest seen)) refl,
             ),
             (

@@ -8,8 +8,7 @@ use Rattle.plx_geom.specs.Geometry.{Geometry, descriptor_at}
 use Rattle.plx_rules.specs.Journal.{journal_slot, is_unapplied, is_placed, counted_descriptor, counted_of}
 use Rattle.plx_rules.specs.Records.{is_live, generation_of, applied_of}
 use Rattle.plx_rules.specs.Stored.{Given, counted_in, IsCounted}
-use Rattle.plx_base.proofs.Tests.{eqb-true, nat_lt-true}
-use Rattle.law_run.proofs.Tests.{and-parts, eqb-is, lt-is}
+use Rattle.plx_base.proofs.Tests.{eqb-true, nat_lt-true, nat_lt-tells, and-parts, eqb-is}
 
 -- a descriptor that counts in a slot: the image is live, the generation is its own, the number is above the last one applied, and it stands in the slot of its number
 pub record TellsFirst (kept : ImageRecord) (slots slot : ℕ) (d : Descriptor) : Type 0 where
@@ -23,7 +22,7 @@ tells-test kept slots slot d e =
     let one = and-parts (is_unapplied kept d) (is_placed slots slot d) e in
     let two = and-parts (is_live kept) ((d.generation == generation_of kept) && nat_lt (applied_of kept) d.number) one.0 in
     let three = and-parts (d.generation == generation_of kept) (nat_lt (applied_of kept) d.number) two.1 in
-    record { live = two.0; generation = eqb-is d.generation (generation_of kept) three.0; above = lt-is (applied_of kept) d.number three.1; place = eqb-is (journal_slot slots d.number) slot one.1 }
+    record { live = two.0; generation = eqb-is d.generation (generation_of kept) three.0; above = nat_lt-tells (applied_of kept) d.number three.1; place = eqb-is (journal_slot slots d.number) slot one.1 }
 
 some-by-test : (test : Bool) (d e : Descriptor) → (if test then Some e else None) ≡ Some d → (test ≡ true) × (e ≡ d)
 some-by-test true d e h = (refl, cc)

@@ -15,9 +15,9 @@ use Rattle.plx_rules.specs.Session.{Session, write_count, latest, content}
 use Rattle.plx_rules.specs.Stored.{Given, Holds, standing_in, leads_to, digits_of, StoredImage, record_in, record_on, IsCounted, IsWriteCount, IsNewest, IsContent, journalled, unwritten, Stores}
 use Rattle.law_run.proofs.Counted.{counts-tells}
 use Rattle.law_lease.proofs.Latest.{last-of, IsLast, IsLatest, latest-is}
-use Rattle.law_run.proofs.Right.{Fits}
+use Rattle.law_run.proofs.Right.{FitsSession}
 use Rattle.law_run.proofs.Slots.{slot-apart}
-use Rattle.law_run.proofs.Tests.{and-parts, eqb-is}
+use Rattle.plx_base.proofs.Tests.{and-parts, eqb-is}
 
 -- the image of a session
 abbrev pub stored_by_session : Session → StoredImage
@@ -45,7 +45,7 @@ pub record-spelled : (g : Geometry) (given : Given) (image : ℕ) (kept : ImageR
     (bytes : List ℕ) × (given (record_at g image) ≡ Some bytes) × (read_image bytes ≡ Some kept)
 record-spelled g given image kept found = record-bytes (given (record_at g image)) kept found
 
-module _ (g : Geometry) (given : Given) (image : ℕ) (session : Session) (fits : Fits g given image session) where
+module _ (g : Geometry) (given : Given) (image : ℕ) (session : Session) (fits : FitsSession g given image session) where
   -- the record is within its limits
   pub limits : IsImage session.image
   limits = let r = record-spelled g given image session.image fits.found in (image-only r.0 session.image r.2).0

@@ -2,6 +2,7 @@
 use Rattle.std.proofs.Common.{◌≡◌, ◌≢◌, ℕ, ◌+◌, ◌≤◌, ◌<◌, List, [], length, drop, refl, ap, sym, subst, ◌∙◌, Some, None, arith, inl, inr, length-append, true}
 use Rattle.std.specs.Prelude.{slice_get}
 use Rattle.std.proofs.lemmas.Bool.Decides.{eqb_tells}
+use Rattle.plx_disk.proofs.Lists.{push-last, push-before}
 use Rattle.plx_base.specs.Blocks.{zeros}
 use Rattle.plx_gate.specs.Descriptors.{descriptor_bytes, IsDescriptor}
 use Rattle.plx_gate.specs.declared.descriptor.Descriptor.{Descriptor}
@@ -18,8 +19,8 @@ use Rattle.law_run.specs.AllowedAsks.{last_known}
 use Rattle.law_run.specs.KnownBytes.{given_with}
 use Rattle.law_run.proofs.Counted.{counts-spelled, no-count}
 use Rattle.law_run.proofs.Facts.{place-apart}
-use Rattle.law_lease.proofs.Latest.{at_push, get-push, get-old}
-use Rattle.law_run.proofs.Right.{Fits}
+use Rattle.law_lease.proofs.Lists.{push-cases}
+use Rattle.law_run.proofs.Right.{FitsSession}
 use Rattle.law_run.proofs.Slots.{slot-below}
 use Rattle.plx_base.proofs.Tests.{eqb-true, eqb-false}
 
@@ -38,7 +39,7 @@ counts-same g given more image kept slot d same counts = record { within = count
 -- a session goes by its image's record and journal blocks alone
 pub fits-along : (g : Geometry) (given more : Given) (image : ℕ) (session : Session) → more (record_at g image) ≡ given (record_at g image) →
     ((slot : ℕ) → more (descriptor_at g image slot) ≡ given (descriptor_at g image slot)) →
-    ((slot : ℕ) → more (data_at g image slot) ≡ given (data_at g image slot)) → Fits g given image session → Fits g more image session
+    ((slot : ℕ) → more (data_at g image slot) ≡ given (data_at g image slot)) → FitsSession g given image session → FitsSession g more image session
 fits-along g given more image session same descriptors blocks fits = record {
   within = fits.within;
   found = ap record_in same ∙ fits.found;
@@ -54,7 +55,7 @@ fits-along g given more image session same descriptors blocks fits = record {
 
 -- an image whose journal isn't known, with no writes
 pub fits-empty : (g : Geometry) (given : Given) (image : ℕ) (kept : ImageRecord) → image < g.images → record_on g given image ≡ Some kept → is_plain kept ≡ true →
-    ((slot : ℕ) → given (descriptor_at g image slot) ≡ None) → Fits g given image (record { image = kept; writes = [] })
+    ((slot : ℕ) → given (descriptor_at g image slot) ≡ None) → FitsSession g given image (record { image = kept; writes = [] })
 fits-empty g given image kept within found plain unknown = record {
   within = within;
   found = found;
@@ -75,8 +76,8 @@ pub descriptor-one : (g : Geometry) (image s t : ℕ) → descriptor_at g image 
 descriptor-one g image s t same = omega (arith, same)
 
 -- data in a slot that holds no write
-pub fits-data : (g : Geometry) (given : Given) (image : ℕ) (session : Session) (bytes : List ℕ) → Fits g given image session → length session.writes < g.slots →
-    Fits g (given_with given (data_at g image (journal_slot g.slots (write_count session + 1))) bytes) image session
+pub fits-data : (g : Geometry) (given : Given) (image : ℕ) (session : Session) (bytes : List ℕ) → FitsSession g given image session → length session.writes < g.slots →
+    FitsSession g (given_with given (data_at g image (journal_slot g.slots (write_count session + 1))) bytes) image session
 fits-data g given image session bytes fits room =
     let slot = journal_slot g.slots (write_count session + 1) in
     let more = given_with given (data_at g image slot) bytes in
@@ -97,7 +98,7 @@ fits-data g given image session bytes fits room =
     }
 
 -- the commit of one more write, whose data is there
-module _ (g : Geometry) (given : Given) (image : ℕ) (session : Session) (write : Journaled) (fits : Fits g given image session) (limits : IsDescriptor (descriptor_of session.image write))
+module _ (g : Geometry) (given : Given) (image : ℕ) (session : Session) (write : Journaled) (fits : FitsSession g given image session) (limits : IsDescriptor (descriptor_of session.image write))
     (live : is_live session.image ≡ true) (some : 1 ≤ g.slots) (room : length session.writes < g.slots) (number : write.number ≡ write_count session + 1)
     (held : given (data_at g image (journal_slot g.slots write.number)) ≡ Some write.block) where
   apart : (k : ℕ) (w : Journaled) → slice_get session.writes k ≡ Some w → journal_slot g.slots w.number ≢ journal_slot g.slots write.number
@@ -126,23 +127,23 @@ module _ (g : Geometry) (given : Given) (image : ℕ) (session : Session) (write
   new-counts : IsCounted g Grown image session.image (journal_slot g.slots write.number) (descriptor_of session.image write)
   new-counts = record { within = slot-below g.slots write.number some; found = ap (counted_in session.image g.slots (journal_slot g.slots write.number)) at_here ∙ spelled }
 
-  pub fits-more : Fits g (given_with given (descriptor_at g image (journal_slot g.slots write.number)) (descriptor_bytes (descriptor_of session.image write))) image (with_write session write)
+  pub fits-more : FitsSession g (given_with given (descriptor_at g image (journal_slot g.slots write.number)) (descriptor_bytes (descriptor_of session.image write))) image (with_write session write)
   fits-more = record {
     within = fits.within;
     found = ap record_in (with-other given (descriptor_at g image (journal_slot g.slots write.number)) (descriptor_bytes (descriptor_of session.image write)) (record_at g image)
         (record-descriptor g image image (journal_slot g.slots write.number) fits.within)) ∙ fits.found;
     plain = fits.plain;
     room = simp length-append (omega arith);
-    numbers = λ k w found. elim (at_push session.writes write w k found) [
+    numbers = λ k w found. elim (push-cases session.writes write w k found) [
       | inl old ↦ fits.numbers k w old
       | inr new ↦ rw new.0 (ap (λ (x : Journaled). x.number) (sym new.1) ∙ (number ∙ (omega arith)))
     ];
-    counts = λ k w found. elim (at_push session.writes write w k found) [
+    counts = λ k w found. elim (push-cases session.writes write w k found) [
       | inl old ↦ counts-same g given Grown image session.image (journal_slot g.slots w.number) (descriptor_of session.image w)
           (elsewhere (journal_slot g.slots w.number) (apart k w old)) (fits.counts k w old)
       | inr new ↦ subst (λ (x : Journaled). IsCounted g Grown image session.image (journal_slot g.slots x.number) (descriptor_of session.image x)) new.1 new-counts
     ];
-    blocks = λ k w found. elim (at_push session.writes write w k found) [
+    blocks = λ k w found. elim (push-cases session.writes write w k found) [
       | inl old ↦ beside (journal_slot g.slots w.number) ∙ fits.blocks k w old
       | inr new ↦ subst (λ (x : Journaled). Grown (data_at g image (journal_slot g.slots x.number)) ≡ Some x.block) new.1 (beside (journal_slot g.slots write.number) ∙ held)
     ];
@@ -152,10 +153,10 @@ module _ (g : Geometry) (given : Given) (image : ℕ) (session : Session) (write
           let moved : counted_in session.image g.slots (journal_slot g.slots write.number) (Grown (descriptor_at g image (journal_slot g.slots write.number))) ≡ Some d =
           subst (λ n. counted_in session.image g.slots n (Grown (descriptor_at g image n)) ≡ Some d) same.1 found in
           let mine = new-counts.found in
-          (length session.writes, write, get-push session.writes write, (let e : Some (descriptor_of session.image write) ≡ Some d = sym mine ∙ moved in let f : d ≡ descriptor_of session.image write = cc in f))
+          (length session.writes, write, push-last session.writes write, (let e : Some (descriptor_of session.image write) ≡ Some d = sym mine ∙ moved in let f : d ≡ descriptor_of session.image write = cc in f))
       | inr other ↦
           let old = fits.only s d (counts-same g Grown given image session.image s d (sym (elsewhere s other.1)) counts) in
-          (old.0, old.1, get-old session.writes write old.1 old.0 old.2, old.3)
+          (old.0, old.1, push-before session.writes write old.1 old.0 old.2, old.3)
     ];
     whole = λ s within. elim (eqb_tells s (journal_slot g.slots write.number)) [
       | inl same ↦ subst (λ n. drop 512 (last_known (Grown (descriptor_at g image n))) ≡ drop 512 zeros) (sym same.1)

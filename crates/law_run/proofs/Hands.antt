@@ -291,6 +291,14 @@ kept-within s (finished ∷ before) kept b has =
     held-within s.geometry (holds_after s.geometry (finished ∷ before)) _
     (along-within s before finished.command finished.exchanges kept.0.allowed (kept-within s before kept.1)) b has
 
+-- and along one that keeps them
+pub hand-in-extents : (s : Setting) (before : List Finished) (command : Command) (done : List Exchange) → AllKept s before → AllAllowed s before command done →
+    IsWithinExtents s.geometry (hand_by_log s before done)
+hand-in-extents s before command [] kept allowed = kept-within s before kept
+hand-in-extents s before command (x ∷ done) kept allowed =
+    held-within s.geometry (holds_along s.geometry (is_attached before) (holds_after s.geometry before) (x ∷ done)) _
+    (along-within s before command (x ∷ done) allowed (kept-within s before kept))
+
 -- ---- one more exchange, by blocks
 
 pub hand-keeps : (s : Setting) (before : List Finished) (x : Exchange) (done : List Exchange) (b : ℕ) → HasFirst done →

@@ -1,6 +1,6 @@
 -- Bytes that an attach read and that are within the format.
-use Rattle.std.proofs.Common.{◌≡◌, ◌≢◌, ℕ, zero, suc, ◌-◌, ◌<◌, List, [], ◌∷◌, length, true, Option, Some, None, refl, ap, sym, subst, ◌∙◌, arith, inl, inr}
-use Rattle.std.specs.Prelude.{slice_get, nat_lt}
+use Rattle.std.proofs.Common.{◌≡◌, ◌≢◌, ℕ, ◌-◌, ◌<◌, List, [], ◌∷◌, length, true, Option, Some, None, ap, sym, subst, ◌∙◌, arith, inl, inr}
+use Rattle.std.specs.Prelude.{nat_lt}
 use Rattle.plx_disk.specs.declared.ask.Ask.{Ask}
 use Rattle.plx_disk.specs.declared.ask.Ask.TheVariants as ask
 use Rattle.plx_disk.specs.declared.ask.Answer.{Answer}
@@ -16,13 +16,14 @@ use Rattle.plx_rules.specs.Journal.{journal_slot, is_unapplied, is_placed, descr
 use Rattle.plx_rules.specs.Records.{is_plain, size_of, applied_of}
 use Rattle.plx_rules.specs.Session.{Session}
 use Rattle.plx_rules.specs.Stored.{Given, IsCounted}
+use Rattle.law_lease.proofs.Lists.{get-there}
 use Rattle.law_run.specs.CommandLogs.{Exchange, IsIn}
-use Rattle.law_run.specs.Outside.{IsMissing, IsOutside, no_lease, no_record, not_plain, no_descriptor, misplaced, past_size, past_gap}
+use Rattle.law_run.specs.Outside.{IsMissingNumber, IsOutside, no_lease, no_record, not_plain, no_descriptor, misplaced, past_size, past_gap}
 use Rattle.law_run.proofs.Facts.{counts-number}
 use Rattle.law_run.proofs.Grown.{descriptor-one}
 use Rattle.law_run.proofs.Meets.{exchange}
-use Rattle.law_run.proofs.Right.{Fits}
-use Rattle.law_run.proofs.Tests.{clash, eqb-is, lt-is}
+use Rattle.law_run.proofs.Right.{FitsSession}
+use Rattle.plx_base.proofs.Tests.{nat_lt-tells, clash, eqb-is}
 
 -- what a slot's block says is within the format
 abbrev pub IsSound : ImageRecord → (slots slot : ℕ) → Option (Option Descriptor) → Type 0
@@ -82,25 +83,20 @@ inside-data g image kept slot bytes within = record {
 
 -- ---- no gap
 
-there-at : {X : Type 0} (xs : List X) (k : ℕ) → k < length xs → (x : X) × (slice_get xs k ≡ Some x)
-there-at [] k below = absurd (omega arith)
-there-at (x ∷ xs) zero below = (x, refl)
-there-at (x ∷ xs) (suc k) below = there-at xs k (omega (arith, below))
-
 -- a session that fits has no missing number below one of its own
-no-gap : (g : Geometry) (given : Given) (image : ℕ) (session : Session) → Fits g given image session → (slot : ℕ) (d : Descriptor) (missing : ℕ) → IsCounted g given image session.image slot d → IsMissing g given image session.image missing →
+no-gap : (g : Geometry) (given : Given) (image : ℕ) (session : Session) → FitsSession g given image session → (slot : ℕ) (d : Descriptor) (missing : ℕ) → IsCounted g given image session.image slot d → IsMissingNumber g given image session.image missing →
     missing < d.number → ⊥
 no-gap g given image session fits slot d missing counts gone below =
     let n = counts-number g given image session fits slot d counts in
     let above = gone.above in
     let k : ℕ = missing - applied_of session.image - 1 in
     let within : missing - applied_of session.image - 1 < length session.writes = omega (arith, n.4, n.5) in
-    let w = there-at session.writes (missing - applied_of session.image - 1) within in
+    let w = get-there session.writes (missing - applied_of session.image - 1) within in
     gone.absent (journal_slot g.slots w.0.number) (descriptor_of session.image w.0) (fits.counts (missing - applied_of session.image - 1) w.0 w.1)
     (fits.numbers (missing - applied_of session.image - 1) w.0 w.1 ∙ (omega (arith, above)))
 
 -- bytes within the format aren't outside it
-pub not-outside : (g : Geometry) (given : Given) (image : ℕ) (session : Session) (block : ℕ) (bytes : List ℕ) → Fits g given image session → IsInside g image session.image block bytes →
+pub not-outside : (g : Geometry) (given : Given) (image : ℕ) (session : Session) (block : ℕ) (bytes : List ℕ) → FitsSession g given image session → IsInside g image session.image block bytes →
     ¬ IsOutside g given image block bytes
 not-outside g given image session block bytes fits inside (no_lease lease less same none) = inside.leases lease less same none
 not-outside g given image session block bytes fits inside (no_record same none) = let e = inside.records same in let P : ⊥ = cc in P
@@ -116,11 +112,11 @@ not-outside g given image session block bytes fits inside (misplaced kept slot d
 not-outside g given image session block bytes fits inside (past_size kept slot d less same found is unapplied past) =
     let e : Some session.image ≡ Some kept = sym fits.found ∙ found in
     let k : kept ≡ session.image = cc in
-    let below = lt-is d.vblock (size_of session.image) ((inside.descriptors slot less same).1 d is (ap (λ (r : ImageRecord). is_unapplied r d) (sym k) ∙ unapplied)).1 in
+    let below = nat_lt-tells d.vblock (size_of session.image) ((inside.descriptors slot less same).1 d is (ap (λ (r : ImageRecord). is_unapplied r d) (sym k) ∙ unapplied)).1 in
     let size = ap size_of k in
     omega arith
 not-outside g given image session block bytes fits inside (past_gap kept slot d missing same found counts gone below least) =
     let e : Some session.image ≡ Some kept = sym fits.found ∙ found in
     let k : kept ≡ session.image = cc in
     no-gap g given image session fits slot d missing (subst (λ (r : ImageRecord). IsCounted g given image r slot d) k counts)
-    (subst (λ (r : ImageRecord). IsMissing g given image r missing) k gone) below
+    (subst (λ (r : ImageRecord). IsMissingNumber g given image r missing) k gone) below

@@ -1,4 +1,3 @@
-pub mod Tests
 pub mod Inserted
 pub mod Meets
 pub mod Then
@@ -30,11 +29,16 @@ pub mod Attaching
 pub mod Claiming
 pub mod Hands
 pub mod OnExtent
-pub mod Retiring
 pub mod FreeBlocks
+pub mod OnHand
+pub mod OneGive
+pub mod GivingUp
+pub mod OnHandEnds
+pub mod Retiring
 pub mod Beside
 pub mod Taking
 pub mod TakeClaims
+pub mod TakeRules
 pub mod Reserving
 pub mod Begun
 pub mod Worlds
@@ -45,3 +49,4 @@ pub mod ClaimSteps
 pub mod ClaimRules
 pub mod RenewalRules
 pub mod ReleaseRules
+pub mod RetireRules

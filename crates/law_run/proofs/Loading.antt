@@ -21,8 +21,8 @@ use Rattle.law_run.proofs.Counted.{TellsFirst, counted-tells, no-count}
 use Rattle.law_run.proofs.Grown.{with-block-same, with-other, counts-same, data-one, descriptor-one}
 use Rattle.law_run.proofs.Inside.{IsSound, AllInside, inside-descriptor, inside-data}
 use Rattle.law_run.proofs.Inserted.{HasWrite, has-inserted, inserted-new, inserted-old, length-inserted, Ascending, ascending-inserted, numbered}
-use Rattle.law_run.proofs.Right.{read_of, Fits}
-use Rattle.law_run.proofs.Tests.{clash}
+use Rattle.law_run.proofs.Right.{read_of, FitsSession}
+use Rattle.plx_base.proofs.Tests.{clash}
 
 -- ---- what is found in a slot
 
@@ -105,7 +105,7 @@ loads-first g given image kept done found unknown inside = record {
 
 -- all slots were read, and no number is missing
 pub loaded-fits : (g : Geometry) (given : Given) (image : ℕ) (kept : ImageRecord) (writes : List Journaled) (done : List Exchange) → image < g.images → is_plain kept ≡ true →
-    Loading g given image kept g.slots writes done → first_gap (applied_of kept) writes ≡ None → Fits g given image (record { image = kept; writes = writes })
+    Loading g given image kept g.slots writes done → first_gap (applied_of kept) writes ≡ None → FitsSession g given image (record { image = kept; writes = writes })
 loaded-fits g given image kept writes done within plain l follows = record {
   within = within;
   found = l.found;

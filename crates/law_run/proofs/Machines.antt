@@ -6,9 +6,9 @@ use Rattle.plx_rules.specs.Part.{Part, answered, bytes_out}
 use Rattle.plx_rules.specs.Settings.{Setting}
 use Rattle.law_run.specs.AllowedAsks.{MayAsk}
 use Rattle.law_run.specs.CommandLogs.{Exchange, CommandLog, with_exchanges}
-use Rattle.law_run.specs.Machines.{HasCome, MovesOn, begins, goes_on, IsOfBlock, Keeps}
+use Rattle.law_run.specs.Machines.{HasCome, MovesOn, begins, goes_on, Keeps}
 use Rattle.law_run.specs.Rules.{AllAllowed}
-use Rattle.law_run.proofs.Meets.{Meets, answers, exchange}
+use Rattle.law_run.proofs.Meets.{Meets, meets-next, exchange}
 
 -- a machine that begins has no exchanges yet
 pub comes-first : {E : Type 0} (start rest : Part E) → rest ≡ start → HasCome start [] rest
@@ -18,9 +18,9 @@ comes-first start rest is = subst (λ (p : Part _). HasCome start [] p) (sym is)
 pub moves-on : {E : Type 0} (old : Part E) (x : Answer) (new : Part E) → new ≡ answered old x → MovesOn old x new
 moves-on old x new is start own a come stands fits = subst (λ (p : Part _). HasCome start (exchange a (bytes_out old) x ∷ own) p) (sym is) (goes_on a x come stands fits)
 
-module _ {E : Type 0} (s : Setting) (log : CommandLog) (block : ℕ) (Shows : CommandLog → E → Type 0) where
+module _ {E : Type 0} (s : Setting) (log : CommandLog) (Place : Ask → Type 0) (Shows : CommandLog → E → Type 0) where
   abbrev MayWork : List Exchange → Ask → List ℕ → Type 0
-  MayWork done a bytes = MayAsk s (with_exchanges log done) a bytes × IsOfBlock block a
+  MayWork done a bytes = MayAsk s (with_exchanges log done) a bytes × Place a
 
   abbrev ShowsWork : List Exchange → E → Type 0
   ShowsWork done end = Shows (with_exchanges log done) end
@@ -38,15 +38,15 @@ module _ {E : Type 0} (s : Setting) (log : CommandLog) (block : ℕ) (Shows : Co
   meets-come start n meets begins = (n, omega arith, λ older. older, meets)
   meets-come start n meets (goes_on {own = own} {rest = rest} a x come stands fits) =
       let before = meets-come start n meets come in
-      let next = answers MayWork ShowsWork rest (own ++ log.exchanges) a before.0 before.3 stands in
+      let next = meets-next MayWork ShowsWork rest (own ++ log.exchanges) a before.0 before.3 stands in
       (next.left, (let sum = before.1 in let fewer = next.fewer in omega arith), λ older. (next.allowed.0, before.2 older), next.follows x fits)
 
   -- so each ask is allowed, there are so many at most, and each end shows its cause
-  pub meets-keeps : (start : Part E) (n : ℕ) → MeetsWork log.exchanges start n → Keeps s log block n Shows start
+  pub meets-keeps : (start : Part E) (n : ℕ) → MeetsWork log.exchanges start n → Keeps s log Place n Shows start
   meets-keeps start n meets = record {
     asks = λ {own} {rest} come a stands. (
         let at = meets-come start n meets come in
-        let next = answers MayWork ShowsWork rest (own ++ log.exchanges) a at.0 at.3 stands in
+        let next = meets-next MayWork ShowsWork rest (own ++ log.exchanges) a at.0 at.3 stands in
         record { allowed = next.allowed.0; place = next.allowed.1; bounded = (let sum = at.1 in let fewer = next.fewer in omega arith) });
     ends = λ {own} {rest} come end is. (
         let at = meets-come start n meets come in

@@ -42,11 +42,10 @@ use Rattle.law_run.proofs.Meets.{exchange}
 use Rattle.law_run.proofs.OnImage.{OnImage, names-own, names-other, still, on-image, Ready}
 use Rattle.law_run.proofs.Passed.{Passed, passed-at-most}
 use Rattle.law_run.proofs.Rests.{KeepsHolds, held-after, rests-by}
-use Rattle.law_run.proofs.Right.{clock, Fits, FitsAt, Rests, finish, log_on, Right}
+use Rattle.law_run.proofs.Right.{clock, FitsSession, FitsAt, Rests, finish, log_on, Right}
 use Rattle.law_run.proofs.Runs.{start, hand_start}
 use Rattle.law_run.proofs.Spelled.{image-rest}
-use Rattle.plx_base.proofs.Tests.{eqb-true, nat_le-true, nat_le-false}
-use Rattle.law_run.proofs.Tests.{and-parts, le-is, le-isn't, lt-is, opposite-false, opposite-true}
+use Rattle.plx_base.proofs.Tests.{eqb-true, nat_le-true, nat_le-false, nat_le-tells, nat_le-past, nat_lt-tells, not-false, and-parts, opposite-true}
 use Rattle.law_run.proofs.Unwritten.{unwritten-quiet}
 use Rattle.plx_commands.proofs.Places.{at-other, at-same}
 
@@ -62,7 +61,7 @@ journal-gone g image slot made given = rw (nat_le-true (journal_start g) (descri
 
 -- the session of an image that was just made fits
 fits-made : (g : Geometry) (image : ℕ) (made : ImageRecord) (given : Given) → image < g.images → IsImage made → is_plain made ≡ true →
-    Fits g (made_known g image made given) image (new_session made)
+    FitsSession g (made_known g image made given) image (new_session made)
 fits-made g image made given within is plain =
     fits-empty g (made_known g image made given) image made within (ap record_in (record-there g image made given within) ∙ image-back made is) plain
     (λ slot. journal-gone g image slot made given)
@@ -121,7 +120,7 @@ module _ (s : Setting) (before : List Finished) (known : Known) (command : Comma
             (λ other b apart. none other b) keeps going.spared
             (subst (λ o. FitsAt s (finish command done r ∷ before) slot.0 o) (sym (at-same known.sessions slot.0 (Some (new_session made)))) (
               none slot.0 _ ∙ ready.attached,
-              subst (λ (g : Given). Fits s.geometry g slot.0 (new_session made)) (sym same) fits,
+              subst (λ (g : Given). FitsSession s.geometry g slot.0 (new_session made)) (sym same) fits,
               (claim, until, held-after s before command done r (image_lease slot.0) keeps ∙ going.held),
             ))
             (let a = rests.claims in let b = going.begun in omega arith) rests,
@@ -157,7 +156,7 @@ free-is (image_is.Free generation) dead = refl
 free-is (image_is.Live generation size taken root applied label) dead = cc
 
 size-parts : (size : ℕ) → is_size size ≡ true → (0 < size) × (size ≤ greatest_size)
-size-parts size is = let both = and-parts (nat_lt 0 size) (nat_le size greatest_size) is in (lt-is 0 size both.0, le-is size greatest_size both.1)
+size-parts size is = let both = and-parts (nat_lt 0 size) (nat_le size greatest_size) is in (nat_lt-tells 0 size both.0, nat_le-tells size greatest_size both.1)
 
 right-create : (s : Setting) (before : List Finished) (known : Known) (slot : SlotNo) (size : ℕ) (label : Label) (reading : ℕ) (rests : Rests s before known) → IsLabel label →
     (session : Session) (claim : Claim) (until : ℕ) → Ready s before known (Create slot size label) slot reading (on-create slot size label) rests session claim until →
@@ -188,13 +187,13 @@ right-create s before known slot size label reading rests labelled session claim
     ))
     (λ sized. by-unless (λ part. Right s before command (clock reading ∷ []) part 2) (is_worn last_generation generation) (reply.WornOut last_generation) known _
     (λ worn. (
-      refused 9 (reading, refl) (generations slot size label session.image refl found (le-is last_generation generation worn))
-          (λ p other refuses. passed-at-most s log 9 p other (place 9 (λ lt. free) (λ lt. opposite-false (is_size size) sized) (λ lt. absurd (omega arith)) (clock reading ∷ []) refl) refuses),
+      refused 9 (reading, refl) (generations slot size label session.image refl found (nat_le-tells last_generation generation worn))
+          (λ p other refuses. passed-at-most s log 9 p other (place 9 (λ lt. free) (λ lt. not-false (is_size size) sized) (λ lt. absurd (omega arith)) (clock reading ∷ []) refl) refuses),
       still s before known command slot reading on rests (reply.WornOut last_generation) (λ other b. refl) (λ h. refl),
     ))
     (λ fresh.
-    let below = le-isn't last_generation generation fresh in
-    let good = opposite-false (is_size size) sized in
+    let below = nat_le-past last_generation generation fresh in
+    let good = not-false (is_size size) sized in
     let sizes = size-parts size good in
     let made = made_record (generation + 1) size label in
     let is : IsImage made = record {
@@ -274,7 +273,7 @@ right-delete s before known slot reading rests session claim until ready =
       still s before known command slot reading on rests reply.NoImage (λ other b. refl) (λ h. refl),
     ))
     (λ alive.
-    let live = opposite-false (is_live session.image) alive in
+    let live = not-false (is_live session.image) alive in
     let is = limits s.geometry (given_after s.geometry before slot.0) slot.0 session ready.fits in
     let made = image_is.Free (generation_of session.image) in
     let made_is : IsImage made = generation-below session.image is in

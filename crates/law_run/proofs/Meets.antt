@@ -1,5 +1,6 @@
 -- The rest of some work meets rules, however it is answered.
-use Rattle.std.proofs.Common.{◌≡◌, ℕ, zero, suc, ◌^◌, ◌≤◌, ◌<◌, List, [], ◌∷◌, length, Some, refl, subst}
+use Rattle.std.proofs.Common.{◌≡◌, ℕ, zero, suc, ◌^◌, ◌≤◌, ◌<◌, List, [], ◌∷◌, length, Some, refl, subst, arith, inl, inr}
+use Rattle.std.proofs.lemmas.Bool.Decides.{leb_tells}
 use Rattle.plx_base.specs.declared.write_kind.WriteKind.{WriteKind}
 use Rattle.plx_disk.specs.declared.ask.Ask.{Ask}
 use Rattle.plx_disk.specs.declared.ask.Ask.TheVariants as ask
@@ -48,15 +49,22 @@ module _ {E : Type 0} (May : List Exchange → Ask → List ℕ → Type 0) (Sho
   meets-more (UntilThen from rest) done zero meets = absurd meets
   meets-more (UntilThen from rest) done (suc n) meets = (meets.0, λ reading past small. meets-more (rest reading) _ n (meets.1 reading past small))
 
+  pub meets-within : (part : Part E) (done : List Exchange) (n most : ℕ) → n ≤ most → Meets done part n → Meets done part most
+  meets-within part done n zero below meets = let same : n ≡ 0 = omega (arith, below) in subst (λ m. Meets done part m) same meets
+  meets-within part done n (suc most) below meets = elim (leb_tells n most) [
+    | inl less ↦ meets-more part done most (meets-within part done n most less.1 meets)
+    | inr all ↦ (let same : n ≡ suc most = omega (arith, below, all.1) in subst (λ m. Meets done part m) same meets)
+  ]
+
   -- the ask that stands is allowed, and what follows a fitting answer to it meets the rules with one answer fewer
-  pub record Answers (done : List Exchange) (part : Part E) (a : Ask) (n : ℕ) : Type 0 where
+  pub record MeetsNext (done : List Exchange) (part : Part E) (a : Ask) (n : ℕ) : Type 0 where
     pub allowed : May done a (bytes_out part)
     pub left : ℕ
     pub fewer : n ≡ suc left
     pub follows : (x : Answer) → Fits a x → Meets (exchange a (bytes_out part) x ∷ done) (answered part x) left
 
-  on-standing : (done : List Exchange) (part : Part E) (a b : Ask) (n : ℕ) → Some a ≡ Some b → Answers done part a n → Answers done part b n
-  on-standing done part a b n e answers = let same : a ≡ b = cc in subst (λ (c : Ask). Answers done part c n) same answers
+  on-standing : (done : List Exchange) (part : Part E) (a b : Ask) (n : ℕ) → Some a ≡ Some b → MeetsNext done part a n → MeetsNext done part b n
+  on-standing done part a b n e answers = let same : a ≡ b = cc in subst (λ (c : Ask). MeetsNext done part c n) same answers
 
   after-read : (done : List Exchange) (block : ℕ) (rest : List ℕ → Part E) (fault : Part E) (n : ℕ) → Meets done (ReadThen block rest fault) (suc n) → (x : Answer) →
       Fits (ask.Read (record { 0 = block })) x → Meets (exchange (ask.Read (record { 0 = block })) [] x ∷ done) (answered (ReadThen block rest fault) x) n
@@ -82,19 +90,19 @@ module _ {E : Type 0} (May : List Exchange → Ask → List ℕ → Type 0) (Sho
   after-until done from rest n meets (answer.Reading reading) fits = meets.1 reading fits.0 fits.1
   after-until done from rest n meets x fits = absurd fits
 
-  pub answers : (part : Part E) (done : List Exchange) (a : Ask) (n : ℕ) → Meets done part n → standing part ≡ Some a → Answers done part a n
-  answers (Ends end) done a n meets stands = absurd (let P : ⊥ = cc in P)
-  answers (ReadThen block rest fault) done a zero meets stands = absurd meets
-  answers (ReadThen block rest fault) done a (suc n) meets stands =
+  pub meets-next : (part : Part E) (done : List Exchange) (a : Ask) (n : ℕ) → Meets done part n → standing part ≡ Some a → MeetsNext done part a n
+  meets-next (Ends end) done a n meets stands = absurd (let P : ⊥ = cc in P)
+  meets-next (ReadThen block rest fault) done a zero meets stands = absurd meets
+  meets-next (ReadThen block rest fault) done a (suc n) meets stands =
       on-standing done (ReadThen block rest fault) (ask.Read (record { 0 = block })) a (suc n) stands
       (record { allowed = meets.0; left = n; fewer = refl; follows = after-read done block rest fault n meets })
-  answers (WriteThen kind block bytes guard then_done fault missed) done a zero meets stands = absurd meets
-  answers (WriteThen kind block bytes guard then_done fault missed) done a (suc n) meets stands =
+  meets-next (WriteThen kind block bytes guard then_done fault missed) done a zero meets stands = absurd meets
+  meets-next (WriteThen kind block bytes guard then_done fault missed) done a (suc n) meets stands =
       on-standing done (WriteThen kind block bytes guard then_done fault missed) (ask.Write kind (record { 0 = block }) guard) a (suc n) stands
       (record { allowed = meets.0; left = n; fewer = refl; follows = after-write done kind block bytes guard then_done fault missed n meets })
-  answers (ClockThen rest) done a zero meets stands = absurd meets
-  answers (ClockThen rest) done a (suc n) meets stands =
+  meets-next (ClockThen rest) done a zero meets stands = absurd meets
+  meets-next (ClockThen rest) done a (suc n) meets stands =
       on-standing done (ClockThen rest) ask.Clock a (suc n) stands (record { allowed = meets.0; left = n; fewer = refl; follows = after-clock done rest n meets })
-  answers (UntilThen from rest) done a zero meets stands = absurd meets
-  answers (UntilThen from rest) done a (suc n) meets stands =
+  meets-next (UntilThen from rest) done a zero meets stands = absurd meets
+  meets-next (UntilThen from rest) done a (suc n) meets stands =
       on-standing done (UntilThen from rest) (ask.Until from) a (suc n) stands (record { allowed = meets.0; left = n; fewer = refl; follows = after-until done from rest n meets })

@@ -28,10 +28,9 @@ use Rattle.law_run.specs.Sessions.{names, uses, needs, attached_by, is_attached}
 use Rattle.law_run.proofs.Holding.{spared-first, hold-after-first}
 use Rattle.law_run.proofs.Passed.{Passed, passed-at-most}
 use Rattle.law_run.proofs.Rests.{KeepsHolds, rests-by, own-still, rests-lost}
-use Rattle.law_run.proofs.Right.{clock, IsHeld, Fits, FitsAt, Rests, finish, log_on, Right}
+use Rattle.law_run.proofs.Right.{clock, IsHeld, FitsSession, FitsAt, Rests, finish, log_on, Right}
 use Rattle.law_run.proofs.Runs.{start}
-use Rattle.plx_base.proofs.Tests.{eqb-true, eqb-false, nat_lt-true}
-use Rattle.law_run.proofs.Tests.{clash}
+use Rattle.plx_base.proofs.Tests.{eqb-true, eqb-false, nat_lt-true, clash}
 
 -- a command names one image, and needs its session
 pub record OnImage (command : Command) (image : ℕ) : Type 0 where
@@ -170,7 +169,7 @@ module _ (s : Setting) (before : List Finished) (known : Known) (command : Comma
   -- the image has a session, and its lease is held at the first reading
   pub record Ready (session : Session) (claim : Claim) (until : ℕ) : Type 0 where
     pub attached : is_attached before slot.0 ≡ true
-    pub fits : Fits s.geometry (given_after s.geometry before slot.0) slot.0 session
+    pub fits : FitsSession s.geometry (given_after s.geometry before slot.0) slot.0 session
     pub held : holds_after s.geometry before (lease_at (image_lease slot.0)) ≡ Held claim until
     pub now : hold_by_log s before (clock reading ∷ []) (image_lease slot.0) ≡ Held claim until
     pub below : reading < until

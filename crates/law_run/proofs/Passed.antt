@@ -17,7 +17,7 @@ use Rattle.law_run.specs.Holdings.{claims_begun}
 use Rattle.law_run.specs.KnownBytes.{known_from, record_known}
 use Rattle.law_run.specs.Refusals.{IsExpired, NeedsClaim, NamesBlock, NeedsImage, Refuses, not_attached, already_attached, expired, no_slot, no_image, exists, out_of_range, out_of_limits, generations, writes, claims, full}
 use Rattle.law_run.specs.Sessions.{needs, is_attached}
-use Rattle.law_run.proofs.Tests.{clash}
+use Rattle.plx_base.proofs.Tests.{clash}
 
 -- no fact of a refusal before this place holds
 pub record Passed (s : Setting) (log : CommandLog) (n : ℕ) : Type 0 where

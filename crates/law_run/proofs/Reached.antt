@@ -7,7 +7,7 @@ use Rattle.plx_rules.specs.Commands.{session_use, attached_uses}
 use Rattle.plx_rules.specs.Holds.{Hold, Nothing, Seen, Wrote, Waited, Held}
 use Rattle.plx_rules.specs.InUse.{InUse, is_before, earlier, first_reached}
 use Rattle.plx_rules.specs.Session.{Session, Known}
-use Rattle.law_run.proofs.Tests.{lt-cases}
+use Rattle.plx_base.proofs.Tests.{lt-cases}
 
 -- a lease is among those
 abbrev pub IsUse : InUse → List InUse → Type 0
@@ -19,15 +19,15 @@ abbrev pub NotAfter : InUse → InUse → Type 0
 NotAfter one other = (one.until < other.until) ⊎ ((one.until ≡ other.until) × (one.lease ≤ other.lease))
 
 -- it is the one to be named of those that the reading has reached
-pub record IsFirst (uses : List InUse) (reading : ℕ) (due : InUse) : Type 0 where
+pub record IsFirstDue (uses : List InUse) (reading : ℕ) (due : InUse) : Type 0 where
   pub among : IsUse due uses
   pub past : due.until ≤ reading
   pub first : (other : InUse) → IsUse other uses → other.until ≤ reading → NotAfter due other
 
 -- what the reading says of them
-abbrev pub TellsFirst : List InUse → ℕ → Option InUse → Type 0
-TellsFirst uses reading None = (other : InUse) → IsUse other uses → reading < other.until
-TellsFirst uses reading (Some due) = IsFirst uses reading due
+abbrev pub TellsFirstDue : List InUse → ℕ → Option InUse → Type 0
+TellsFirstDue uses reading None = (other : InUse) → IsUse other uses → reading < other.until
+TellsFirstDue uses reading (Some due) = IsFirstDue uses reading due
 
 after-trans : (a b c : InUse) → NotAfter a b → NotAfter b c → NotAfter a c
 after-trans a b c (inl x) (inl y) = inl (omega arith)
@@ -48,7 +48,7 @@ before-cases one other = elim (lt-cases one.until other.until) [
   ]
 ]
 
-by-earlier : (one : InUse) (others : List InUse) (reading : ℕ) (rest : Option InUse) → one.until ≤ reading → TellsFirst others reading rest → IsFirst (one ∷ others) reading (earlier one rest)
+by-earlier : (one : InUse) (others : List InUse) (reading : ℕ) (rest : Option InUse) → one.until ≤ reading → TellsFirstDue others reading rest → IsFirstDue (one ∷ others) reading (earlier one rest)
 by-earlier one others reading None past tells = record {
   among = inl refl;
   past = past;
@@ -71,7 +71,7 @@ by-earlier one others reading (Some due) past tells = elim (before-cases due one
     one-first other (inl same) late order = inr (sym (ap (λ (u : InUse). u.until) same), (let e = ap (λ (u : InUse). u.lease) same in omega arith))
     one-first other (inr there) late order = after-trans one due other order (tells.first other there late)
 
-passes-by : (one : InUse) (others : List InUse) (reading : ℕ) (rest : Option InUse) → reading < one.until → TellsFirst others reading rest → TellsFirst (one ∷ others) reading rest
+passes-by : (one : InUse) (others : List InUse) (reading : ℕ) (rest : Option InUse) → reading < one.until → TellsFirstDue others reading rest → TellsFirstDue (one ∷ others) reading rest
 passes-by one others reading None early tells = go
   where
     go : (other : InUse) → IsUse other (one ∷ others) → reading < other.until
@@ -83,7 +83,7 @@ passes-by one others reading (Some due) early tells = record { among = inr tells
     go other (inl same) late = absurd (let e = ap (λ (u : InUse). u.until) same in omega arith)
     go other (inr there) late = tells.first other there late
 
-pub first-tells : (uses : List InUse) (reading : ℕ) → TellsFirst uses reading (first_reached uses reading)
+pub first-tells : (uses : List InUse) (reading : ℕ) → TellsFirstDue uses reading (first_reached uses reading)
 first-tells [] reading = λ other is. absurd is
 first-tells (one ∷ others) reading = elim (leb_tells one.until reading) [
   | inl past ↦ rw past.0 (by-earlier one others reading (first_reached others reading) past.1 (first-tells others reading))

@@ -25,7 +25,7 @@ use Rattle.law_run.proofs.OnImage.{OnImage, names-own, still, on-image, Ready}
 use Rattle.law_run.proofs.Passed.{Passed, passed-at-most}
 use Rattle.law_run.proofs.Right.{clock, Rests, log_on, Right}
 use Rattle.law_run.proofs.Runs.{start, hand_start}
-use Rattle.law_run.proofs.Tests.{le-is, le-isn't, opposite-false, opposite-true}
+use Rattle.plx_base.proofs.Tests.{nat_le-tells, nat_le-past, not-false, opposite-true}
 
 pub on-read : (slot : SlotNo) (vblock : ℕ) → OnImage (Read slot vblock) slot.0
 on-read slot vblock = record { named = λ other. refl; used = λ other. refl; needed = λ other. refl; no_attach = λ other is. (let P : ⊥ = cc in P) }
@@ -68,13 +68,13 @@ module _ (s : Setting) (before : List Finished) (known : Known) (slot : SlotNo) 
       ))
       (λ live. by-unless (λ part. Right s before command (clock reading ∷ []) part 1) (nat_le (size_of session.image) vblock) (reply.OutOfRange (size_of session.image)) known _
       (λ past. (
-        refused 6 (reading, refl) (out_of_range slot.0 vblock session.image (of_read slot refl refl) record' refl (le-is (size_of session.image) vblock past))
-            (λ p other refuses. passed-at-most s log 6 p other (place 6 (λ lt. opposite-false (is_live session.image) live) (λ lt. absurd (omega arith)) (clock reading ∷ []) refl) refuses),
+        refused 6 (reading, refl) (out_of_range slot.0 vblock session.image (of_read slot refl refl) record' refl (nat_le-tells (size_of session.image) vblock past))
+            (λ p other refuses. passed-at-most s log 6 p other (place 6 (λ lt. not-false (is_live session.image) live) (λ lt. absurd (omega arith)) (clock reading ∷ []) refl) refuses),
         still s before known command slot reading on rests (reply.OutOfRange (size_of session.image)) (λ other b. refl) (λ h. refl),
       ))
       (λ below.
       let c : Course = record { reading = reading; claim = claim; until = until; begun = 0 } in
-      let fine = place 11 (λ lt. opposite-false (is_live session.image) live) (λ lt. le-isn't (size_of session.image) vblock below) in
+      let fine = place 11 (λ lt. not-false (is_live session.image) live) (λ lt. nat_le-past (size_of session.image) vblock below) in
       asks-confirm s before known command slot c on.named ready.fits.within (λ done first. fine done first) (let a = rests.claims in omega arith)
       (clock reading ∷ []) (reply.Data (payload_of (content session vblock))) known 0 (going-first s before slot.0 claim until reading ready.now)
       (λ reading' early going confirmed.

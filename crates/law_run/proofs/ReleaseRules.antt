@@ -17,6 +17,7 @@ use Rattle.law_run.specs.Holdings.{hold_by_log, holds_along, holds_after}
 use Rattle.law_run.specs.Releases.{ReleaseEnd, release_part, ShowsRelease, IsReleaseAsk, IsReleaseEnd, ReleasesKeepRules}
 use Rattle.law_run.specs.Sessions.{is_attached}
 use Rattle.law_run.proofs.ClaimRules.{begun-first}
+use Rattle.law_run.specs.Machines.{IsOfBlock}
 use Rattle.law_run.proofs.Machines.{meets-keeps}
 use Rattle.law_run.proofs.Meets.{exchange}
 use Rattle.law_run.proofs.Runs.{HasFirst, along-more}
@@ -33,7 +34,7 @@ held-none s log lease until has =
 
 pub releases-keep-rules : ReleasesKeepRules
 releases-keep-rules s log lease until may =
-    meets-keeps s log (lease_at lease) (ShowsRelease s lease until) (release_part lease until) 1 (
+    meets-keeps s log (IsOfBlock (lease_at lease)) (ShowsRelease s lease until) (release_part lease until) 1 (
       ((may.went, release_of_lease lease may.claim may.within refl may.held refl), refl),
       ((lease_bytes Free, (log.exchanges, refl)), held-none s log lease until (begun-first log.exchanges may.others may.first may.begun)),
       (lease_bytes Free, (log.exchanges, refl)),

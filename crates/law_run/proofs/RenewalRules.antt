@@ -8,6 +8,7 @@ use Rattle.plx_rules.specs.Part.{Part, Ends, standing}
 use Rattle.law_run.specs.AllowedAsks.{renewal_of_lease}
 use Rattle.law_run.specs.CommandLogs.{Exchange, first_reading}
 use Rattle.law_run.specs.Renewals.{RenewalEnd, renewal_part, renewal_until, ShowsRenewal, IsRenewalAsk, IsRenewalEnd, RenewalsKeepRules}
+use Rattle.law_run.specs.Machines.{IsOfBlock}
 use Rattle.law_run.proofs.Machines.{meets-keeps}
 use Rattle.law_run.proofs.Renewing.{held-later}
 use Rattle.law_run.proofs.Runs.{HasFirst}
@@ -19,7 +20,7 @@ read-first (x ∷ older) reading is = tt
 pub renewals-keep-rules : RenewalsKeepRules
 renewals-keep-rules s log lease claim until reading may =
     let bytes = lease_bytes (Claimed claim (renewal_until until reading)) in
-    meets-keeps s log (lease_at lease) (ShowsRenewal s lease claim until reading) (renewal_part lease claim until (renewal_until until reading)) 1 (
+    meets-keeps s log (IsOfBlock (lease_at lease)) (ShowsRenewal s lease claim until reading) (renewal_part lease claim until (renewal_until until reading)) 1 (
       ((may.went, renewal_of_lease lease claim reading may.within refl may.held may.first refl), refl),
       ((bytes, (log.exchanges, refl)), held-later s log.before log.exchanges lease claim until reading may.timely may.held (read-first log.exchanges reading may.first)),
       (bytes, (log.exchanges, refl)),

@@ -1,7 +1,7 @@
 -- Renewals.
 use Rattle.std.proofs.Common.{◌≡◌, ◌≢◌, ℕ, zero, suc, ◌+◌, ◌≤◌, ◌<◌, ◌^◌, List, [], ◌∷◌, Bool, true, false, Option, Some, None, refl, ap, sym, subst, ◌∙◌, arith, inl, inr}
 use Rattle.std.specs.Prelude.{nat_le, if◌then◌else◌}
-use Rattle.std.proofs.lemmas.Bool.Decides.{eqb_tells, leb_tells}
+use Rattle.std.proofs.lemmas.Bool.Decides.{eqb_tells}
 use Rattle.plx_base.specs.declared.lease.Claim.{Claim}
 use Rattle.plx_base.specs.declared.lease.LeaseName.{LeaseName}
 use Rattle.plx_base.specs.declared.lease.LeaseName.TheVariants as lease
@@ -29,17 +29,18 @@ use Rattle.law_run.specs.Holdings.{at_first, holds_along, holds_after, hold_by_l
 use Rattle.law_run.specs.Refusals.{IsExpired, IsNamedFirst, NamesBlock, of_read, of_write, NeedsImage, of_delete, of_block, expired}
 use Rattle.law_run.specs.Replies.{refused}
 use Rattle.law_run.specs.Sessions.{is_attached}
+use Rattle.plx_rules.proofs.Holds.{later-below, later-least}
 use Rattle.law_run.proofs.Asking.{IsFine, replied-fine, asks-write}
 use Rattle.law_run.proofs.Holding.{hold-after-first, first-more, claims-more}
 use Rattle.law_run.proofs.Limits.{Limited, limited}
 use Rattle.law_run.proofs.Meets.{exchange}
 use Rattle.law_run.proofs.OnImage.{passed-sessions, lease-name}
 use Rattle.law_run.proofs.Passed.{Passed, passed-at-most}
-use Rattle.law_run.proofs.Reached.{IsUse, NotAfter, IsFirst, TellsFirst, first-tells, OfSession, of-session, session-use}
+use Rattle.law_run.proofs.Reached.{IsUse, NotAfter, IsFirstDue, TellsFirstDue, first-tells, OfSession, of-session, session-use}
 use Rattle.law_run.proofs.Rests.{rests-by, rests-lost}
 use Rattle.law_run.proofs.Right.{clock, IsHeld, FitsAt, Rests, finish, log_on, Right}
 use Rattle.law_run.proofs.Runs.{HasFirst, along-more, start, hand_start}
-use Rattle.law_run.proofs.Tests.{clash}
+use Rattle.plx_base.proofs.Tests.{clash}
 use Rattle.plx_commands.proofs.Places.{at-other, at-same}
 
 -- ---- no other refusal's fact holds of a renewal
@@ -126,18 +127,6 @@ record Renewing (s : Setting) (before : List Finished) (done : List Exchange) (r
       (guard : ℕ) × IsIn (exchange (ask.Write kind.Renew (record { 0 = lease_at l }) guard) (lease_bytes (lease_is.Claimed claim until)) answer.Done) done
   kept : (l : ℕ) → IsHeld (start s before reading (lease_at l)) → IsHeld (hold_by_log s before done l)
 
-later-low : (until other : ℕ) → until ≤ later_of until other
-later-low until other = elim (leb_tells until other) [
-  | inl le ↦ rw le.0 le.1
-  | inr more ↦ rw more.0 (omega arith)
-]
-
-later-high : (until other bound : ℕ) → until < bound → other < bound → later_of until other < bound
-later-high until other bound one two = elim (leb_tells until other) [
-  | inl le ↦ rw le.0 two
-  | inr more ↦ rw more.0 one
-]
-
 lease-one : (l m : ℕ) → l ≢ m → lease_at l ≢ lease_at m
 lease-one l m apart same = apart (omega (arith, same))
 
@@ -155,8 +144,8 @@ module _ (s : Setting) (before : List Finished) (done : List Exchange) (lease : 
         boot = old.boot;
         number = old.number;
         sample = old.sample;
-        low = (let a = old.low in let b = later-low until (reading + term) in omega arith);
-        high = later-high until (reading + term) (2 ^ 49) old.high (omega (arith, small));
+        low = (let a = old.low in let b = later-least until (reading + term) in omega arith);
+        high = later-below until (reading + term) (2 ^ 49) old.high (omega (arith, small));
       }
 
   -- and from there on the lease is held up to the later moment
@@ -274,7 +263,7 @@ module _ (s : Setting) (before : List Finished) (known : Known) (reading : ℕ) 
       (hold-after-first s before reading image is.claim until a.2 is.attached is.held)
 
   -- what the one to be named tells
-  due-expired : (due : InUse) → IsFirst (attached_uses known (start s before reading) s.geometry.images 0) reading due → (left : ℕ) →
+  due-expired : (due : InUse) → IsFirstDue (attached_uses known (start s before reading) s.geometry.images 0) reading due → (left : ℕ) →
       Right s before Renew (clock reading ∷ []) (lost s known due reading) left
   due-expired due f left =
       let o = of-session known (start s before reading) s.geometry.images 0 due f.among in
@@ -312,7 +301,7 @@ module _ (s : Setting) (before : List Finished) (known : Known) (reading : ℕ) 
       let past = is.reached in
       omega arith))
 
-  by-due : reading < 2 ^ 48 → (found : Option InUse) → TellsFirst (attached_uses known (start s before reading) s.geometry.images 0) reading found →
+  by-due : reading < 2 ^ 48 → (found : Option InUse) → TellsFirstDue (attached_uses known (start s before reading) s.geometry.images 0) reading found →
       Right s before Renew (clock reading ∷ [])
       (unless_reached found (λ due. lost s known due reading) (renew_part s known (start s before reading) reading (lease_count s.geometry) 0))
       (renewals (start s before reading) (lease_count s.geometry) 0)

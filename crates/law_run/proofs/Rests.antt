@@ -18,7 +18,7 @@ use Rattle.law_run.specs.Holdings.{holds_along, holds_after, hold_by_log, last_f
 use Rattle.law_run.specs.KnownBytes.{nothing_given, given_after_command, given_after, known_from, known_in}
 use Rattle.law_run.specs.Sessions.{names, attached_by, is_attached}
 use Rattle.law_run.proofs.Holding.{Spared}
-use Rattle.law_run.proofs.Right.{IsHeld, Fits, FitsAt, Rests, finish, log_on}
+use Rattle.law_run.proofs.Right.{IsHeld, FitsSession, FitsAt, Rests, finish, log_on}
 
 -- what is known of an image that the command names
 pub named-known : (g : Geometry) (before : List Finished) (command : Command) (done : List Exchange) (image : ℕ) → names command image ≡ true →
@@ -69,7 +69,7 @@ rests-by s before command done r known next image only same none keeps spared ow
         let kept : given_after s.geometry (finish command done r ∷ before) other ≡ given_after s.geometry before other = rw (only other apart) refl in
         let held = spared other apart fits.1.within fits.0 fits.2 in (
           none other (is_attached before other) apart ∙ fits.0,
-          subst (λ (g : Given). Fits s.geometry g other session) (sym kept) fits.1,
+          subst (λ (g : Given). FitsSession s.geometry g other session) (sym kept) fits.1,
           (held.0, held.1, held-after s before command done r (image_lease other) keeps ∙ held.2),
         )
 
@@ -82,7 +82,7 @@ own-still s before command done r image None none keeps fits still held = none (
 own-still s before command done r image (Some session) none keeps fits still held =
     let h = held fits.0 in (
       none (is_attached before image) ∙ fits.0,
-      subst (λ (g : Given). Fits s.geometry g image session) (sym (still fits.0)) fits.1,
+      subst (λ (g : Given). FitsSession s.geometry g image session) (sym (still fits.0)) fits.1,
       (h.0, h.1, held-after s before command done r (image_lease image) keeps ∙ h.2),
     )
 

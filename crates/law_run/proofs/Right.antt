@@ -35,7 +35,7 @@ abbrev pub read_of : (block : ℕ) → List ℕ → Exchange
 read_of block bytes = exchange (ask.Read (record { 0 = block })) [] (answer.Bytes bytes)
 
 -- a session is what its image's known bytes store: its writes are those that count, numbered without a gap
-pub record Fits (g : Geometry) (given : Given) (image : ℕ) (session : Session) : Type 0 where
+pub record FitsSession (g : Geometry) (given : Given) (image : ℕ) (session : Session) : Type 0 where
   pub within : image < g.images
   pub found : record_on g given image ≡ Some session.image
   pub plain : is_plain session.image ≡ true
@@ -57,7 +57,7 @@ IsHeld hold = (claim : Claim) × (until : ℕ) × (hold ≡ Held claim until)
 abbrev pub FitsAt : Setting → List Finished → ℕ → Option Session → Type 0
 FitsAt s before image None = is_attached before image ≡ false
 FitsAt s before image (Some session) =
-    (is_attached before image ≡ true) × Fits s.geometry (given_after s.geometry before image) image session
+    (is_attached before image ≡ true) × FitsSession s.geometry (given_after s.geometry before image) image session
     × IsHeld (holds_after s.geometry before (lease_at (image_lease image)))
 
 -- what is known between commands fits them

@@ -9,7 +9,7 @@ use Rattle.plx_disk.specs.declared.ask.Answer.TheVariants as answer
 use Rattle.plx_geom.specs.Geometry.{Geometry}
 use Rattle.plx_rules.specs.Part.{Part, Ends, ReadThen, WriteThen, ClockThen, UntilThen, answered, standing, bytes_out}
 use Rattle.plx_rules.specs.Boot as boot
-use Rattle.plx_rules.specs.Boot.{Happening, Place, Idle, Begins, In, Position, position, place_of, after_part, goes_to, place_after_begin, first_read, went_on, asks, writes_out, reply_of, replies_at, Fits, IsRun}
+use Rattle.plx_rules.specs.Boot.{Happening, Place, Idle, Begins, In, Position, position, goes_to, place_after_begin, went_on, asks, writes_out, reply_of, replies_at, Fits, IsRun}
 use Rattle.plx_rules.specs.Commands.{IsBuilt, IsWellFormed, command_part}
 use Rattle.plx_rules.specs.Ends.{End}
 use Rattle.plx_rules.specs.Hands.{found_by, hand_answered, hand_held}
@@ -23,7 +23,7 @@ use Rattle.law_run.specs.Holdings.{at_first, after_first_answer, holds_along, ho
 use Rattle.law_run.specs.Positions.{known_at, IsByCommands, PositionsAgree}
 use Rattle.law_run.specs.Rules.{AllAllowed, AllKept, KeepsRules, IsSetting, RunsKeepRules}
 use Rattle.law_run.specs.Sessions.{is_attached}
-use Rattle.law_run.proofs.Meets.{exchange, answers}
+use Rattle.law_run.proofs.Meets.{exchange, meets-next}
 use Rattle.law_run.proofs.Right.{clock, FitsAt, Rests, May, Shows, Right}
 
 -- what is held after the first reading of a command
@@ -97,7 +97,7 @@ told-more g attached before hand x (y ∷ older) has = refl
 -- ---- where a boot stands
 
 -- a command runs of which this is the rest
-pub record Runs (s : Setting) (log : CommandLog) (part : Part End) : Type 0 where
+pub record RunsWithRest (s : Setting) (log : CommandLog) (part : Part End) : Type 0 where
   pub older : AllKept s log.before
   pub allowed : AllAllowed s log.before log.command log.exchanges
   pub left : ℕ
@@ -121,7 +121,7 @@ abbrev pub Agree : Setting → (ℕ → Hold) → List ℕ → Option ℕ → Op
 Agree s holds hand sample found (Idle known) (Between before) = AllKept s before × Rests s before known × (holds ≡ holds_after s.geometry before) × (hand ≡ hand_after s.geometry before)
 Agree s holds hand sample found (Begins known command) (Within log) = Begun s known command log × (holds ≡ holds_after s.geometry log.before) × (hand ≡ hand_after s.geometry log.before)
 Agree s holds hand sample found (In known command part) (Within log) =
-    Runs s log part × (holds ≡ held_in s log) × (sample ≡ last_sample log.exchanges) × HasFirst log.exchanges × Rests s log.before known
+    RunsWithRest s log part × (holds ≡ held_in s log) × (sample ≡ last_sample log.exchanges) × HasFirst log.exchanges × Rests s log.before known
     × (hand ≡ hand_by_log s log.before log.exchanges) × (found ≡ last_found log.exchanges)
 Agree s holds hand sample found place commands = ⊥
 
@@ -153,7 +153,7 @@ follows : (s : Setting) (log : CommandLog) (known : Known) (command : Command) (
     (following (exchange a (bytes_out part) x) (reply_of (answered part x)) (Within log))
 follows s log known command holds hand sample found part a x agree stands fits =
     let r = agree.0 in
-    let next = answers (May s log.before log.command) (Shows s log.before log.command) part log.exchanges a r.left r.right stands in
+    let next = meets-next (May s log.before log.command) (Shows s log.before log.command) part log.exchanges a r.left r.right stands in
     along s log (exchange a (bytes_out part) x) known command (after_answer sample a (bytes_out part) x holds) (hand_answered s.geometry found a (bytes_out part) x hand) (answered part x) next.left r.older agree.4 r.allowed next.allowed
     (next.follows x fits) (let within = r.bounded in let fewer = next.fewer in omega arith)
     (ap (λ h. after_answer sample a (bytes_out part) x h) agree.1
@@ -250,9 +250,9 @@ kept s holds hand sample found (In known command part) (Within log) least agree 
     let r = agree.0 in record {
       older = r.older;
       allowed = r.allowed;
-      stands = λ a stands. (answers (May s log.before log.command) (Shows s log.before log.command) part log.exchanges a r.left r.right stands).allowed;
+      stands = λ a stands. (meets-next (May s log.before log.command) (Shows s log.before log.command) part log.exchanges a r.left r.right stands).allowed;
       bounded = λ a stands. (
-          let fewer = (answers (May s log.before log.command) (Shows s log.before log.command) part log.exchanges a r.left r.right stands).fewer in
+          let fewer = (meets-next (May s log.before log.command) (Shows s log.before log.command) part log.exchanges a r.left r.right stands).fewer in
           let within = r.bounded in omega arith);
     }
 

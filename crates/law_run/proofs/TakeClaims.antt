@@ -5,21 +5,18 @@ use Rattle.std.specs.Str.{bytes_eq}
 use Rattle.std.proofs.lemmas.Bool.Decides.{eqb_tells}
 use Rattle.std.proofs.lemmas.Slice.Eq.{bytes_eq-Decides}
 use Rattle.plx_base.specs.declared.lease.Claim.{Claim}
-use Rattle.plx_base.specs.declared.lease.LeaseName.{LeaseName}
 use Rattle.plx_base.specs.declared.lease.LeaseName.TheVariants as lease
 use Rattle.plx_base.specs.declared.lease.LeaseRecord.{LeaseRecord}
 use Rattle.plx_base.specs.declared.write_kind.WriteKind.TheVariants as kind
 use Rattle.plx_commands.proofs.Places.{at-same}
 use Rattle.plx_commands.specs.Limits.{last_claim}
-use Rattle.plx_commands.specs.declared.command.Command.TheVariants.{Reserve}
-use Rattle.plx_commands.specs.declared.reply.Reply.{Reply}
 use Rattle.plx_commands.specs.declared.reply.Reply.TheVariants as reply
 use Rattle.plx_disk.specs.declared.ask.Answer.{Answer}
 use Rattle.plx_disk.specs.declared.ask.Answer.TheVariants as answer
 use Rattle.plx_gate.proofs.Leases.{lease-only}
 use Rattle.plx_gate.specs.Leases.{lease_bytes, read_lease}
-use Rattle.plx_geom.proofs.Places.{lease-lease, lease-map, extent-extent, image-extent, extent-below}
-use Rattle.plx_geom.specs.Geometry.{IsGeometry, lease_count, image_lease, extent_lease, lease_at, map_at}
+use Rattle.plx_geom.proofs.Places.{lease-lease, lease-map, extent-extent, extent-below}
+use Rattle.plx_geom.specs.Geometry.{IsGeometry, lease_count, extent_lease, lease_at, map_at}
 use Rattle.plx_rules.specs.Part.{Part, Ends}
 use Rattle.plx_rules.specs.Parts.{followed_by}
 use Rattle.plx_rules.specs.Claims.{ClaimEnd, ClaimLost, ClaimDamaged, claim_of, own_record, own_use, claim_in_time, reread_by, reread_part, written_part, if_expired, seen_part, claim_part}
@@ -27,33 +24,36 @@ use Rattle.plx_rules.specs.Ends.{End, ends, lost}
 use Rattle.plx_rules.specs.Hands.{is_held}
 use Rattle.plx_rules.specs.Holds.{Hold, Nothing, Seen, Wrote, Waited, Held, seen_by, hold_after_read, hold_after_reading, hold_after_reread}
 use Rattle.plx_rules.specs.InUse.{InUse, first_reached, unless_reached}
-use Rattle.plx_rules.specs.Session.{Known, nothing_known, with_claim}
+use Rattle.plx_rules.specs.Session.{Known, with_claim}
 use Rattle.plx_rules.specs.Settings.{Setting}
 use Rattle.plx_rules.specs.Space.{Taking, with_claim_begun, with_claimed, with_busy, first_busy, extent_use, read_map, after_extent_claim}
 use Rattle.plx_rules.specs.Times.{window, wait, term, is_expired}
 use Rattle.law_lease.proofs.LawfulCommands.{IsRest}
 use Rattle.law_run.specs.AllowedAsks.{claim_of_lease}
 use Rattle.law_run.specs.Busy.{IsBusy, unexpired, taken}
-use Rattle.law_run.specs.CommandLogs.{Exchange, Finished, IsIn, with_exchanges}
+use Rattle.law_run.specs.CommandLogs.{Exchange, CommandLog, IsIn, older_than}
 use Rattle.law_run.specs.Holdings as holdings
-use Rattle.law_run.specs.Holdings.{at_first, holds_along, holds_after, hold_by_log, hand_by_log, last_found, is_clock, IsUntil, claims_in, lost_claim, claims_begun}
-use Rattle.law_run.specs.Replies.{IsLastReading, of_clock, of_wait, for_space, in_lease, of_claim}
-use Rattle.law_run.specs.Replies as replies
-use Rattle.law_run.specs.Sessions.{attached_by, is_attached}
+use Rattle.law_run.specs.Holdings.{holds_along, holds_after, hold_by_log, last_found, is_clock, IsUntil, claims_in, lost_claim, claims_begun}
+use Rattle.law_run.specs.Machines.{with_work}
+use Rattle.law_run.specs.Replies.{IsLastReading, of_clock, of_wait, of_claim}
+use Rattle.law_run.specs.Sessions.{is_attached}
 use Rattle.law_run.specs.Space.{IsExtentInUse, going, unread, rested}
-use Rattle.law_run.proofs.Asking.{one-until, replied-fine}
-use Rattle.law_run.proofs.Beside.{IsOfClaim, Beside, beside-none, beside-more, older_than, bytes_found, unread-unbusy, sight-unbusy, reread-unbusy}
+use Rattle.law_run.specs.Takes as takes
+use Rattle.law_run.specs.Takes.{HoldsOthers}
+use Rattle.law_run.proofs.Asking.{one-until}
+use Rattle.law_run.proofs.Beside.{IsOfClaim, after_work, Beside, beside-none, beside-more, bytes_found, unread-unbusy, sight-unbusy, reread-unbusy}
 use Rattle.law_run.proofs.ClaimRules.{bytes-other}
 use Rattle.law_run.proofs.ClaimSteps.{read_of_lease, claim_write, claim_wait, after_sight, after_claiming, after_waiting, after_rereading, counts-sight, counts-claiming, counts-waiting, counts-rereading, own-back, held-claiming, held-waiting, held-rereading}
-use Rattle.law_run.proofs.Holding.{Spared, spared-more, first-more, claims-more}
-use Rattle.law_run.proofs.OnExtent.{block_second, reserve-fine, extent-name, no-map, map-is-found, rests-still}
-use Rattle.law_run.proofs.Reached.{IsUse, TellsFirst, first-tells}
-use Rattle.law_run.proofs.Rests.{KeepsHolds, rests-lost, rests-lost-claim, rests-failed, written-none, unfound-none}
-use Rattle.law_run.proofs.Right.{clock, read_of, Rests, finish, log_on, Right}
+use Rattle.law_run.proofs.Holding.{claims-more}
+use Rattle.law_run.proofs.OnExtent.{block_second, no-map, map-is-found}
+use Rattle.law_run.proofs.Reached.{IsUse, TellsFirstDue, first-tells}
+use Rattle.law_run.proofs.Rests.{written-none, unfound-none}
+use Rattle.law_run.proofs.Right.{clock, read_of}
 use Rattle.law_run.proofs.Runs.{along-more}
 use Rattle.law_run.proofs.Spelled.{lease-rest}
-use Rattle.law_run.proofs.Taking.{claim_done, Claimed, BusyIs, Taken, some-blocks, busy-more, claimed-use, lost-reading, Goes, more, right-here, extended}
-use Rattle.law_run.proofs.Tests.{clash}
+use Rattle.law_run.proofs.Taking.{WorkRules, claim_done, Claimed, BusyIs, HasTaken, some-blocks, busy-more, Keeping, refuses, write-missed, write-failed, claimed-use, lost-reading, MeetsTaking, more, right-here, extended}
+use Rattle.plx_base.proofs.Tests.{clash}
+use Rattle.law_run.proofs.Claiming.{nothing-used}
 
 -- a claim that was written ends where it said
 until-timed : (last : ℕ) (claim : Claim) (until : ℕ) → IsUntil until (hold_after_reading last (Wrote claim until))
@@ -74,12 +74,6 @@ timed-until last claim until other = by-test (nat_le (claim.sample + wait) last 
     by-test false (holdings.waited c is) = absurd (let P : ⊥ = cc in P)
     by-test false (holdings.held c is) = absurd (let P : ⊥ = cc in P)
 
--- nothing that is held has no end
-no-until : (until : ℕ) (hold : Hold) → hold ≡ Nothing → ¬ IsUntil until hold
-no-until until hold none (holdings.wrote c is) = let e : Nothing ≡ Wrote c until = sym none ∙ is in let P : ⊥ = cc in P
-no-until until hold none (holdings.waited c is) = let e : Nothing ≡ Waited c until = sym none ∙ is in let P : ⊥ = cc in P
-no-until until hold none (holdings.held c is) = let e : Nothing ≡ Held c until = sym none ∙ is in let P : ⊥ = cc in P
-
 -- whether the newest exchange asked for the clock
 abbrev clock_newest : List Exchange → Bool
 clock_newest [] = false
@@ -90,15 +84,18 @@ busy-some : (b : Option (ℕ × LeaseRecord)) (l : ℕ) (seen : LeaseRecord) →
 busy-some None l seen none = let P : ⊥ = cc in P
 busy-some (Some met) l seen none = let P : ⊥ = cc in P
 
-module _ (s : Setting) (geometry : IsGeometry s.geometry) (small : s.boot < 2 ^ 128) (before : List Finished) (known : Known) (count reading : ℕ) (rests : Rests s before known) where
+module _ (s : Setting) (geometry : IsGeometry s.geometry) (small : s.boot < 2 ^ 128) (first : CommandLog) (holds : ℕ → Hold) (known : Known) (count : ℕ) (work : WorkRules s first known count) where
   abbrev TakenSo : (M : ℕ → Type 0) → (tried : ℕ) → List Exchange → Taking → Type 0
-  TakenSo M tried done t = Taken s geometry before known count reading rests M tried done t
+  TakenSo M tried done t = HasTaken s geometry first holds known count work M tried done t
 
   abbrev GoesSo : (M : ℕ → Type 0) → (tried : ℕ) → (Taking → Part End) → (n : ℕ) → Type 0
-  GoesSo M tried rest n = Goes s geometry before known count reading rests M tried rest n
+  GoesSo M tried rest n = MeetsTaking s geometry first holds known count work M tried rest n
 
   abbrev RightSo : List Exchange → Part End → ℕ → Type 0
-  RightSo done part n = Right s before (Reserve count) done part n
+  RightSo done part n = Keeping s geometry first holds known count work done part n
+
+  abbrev log : List Exchange → CommandLog
+  log done = with_work first done
 
   -- the rest by the leases that a reading has reached
   by-uses : (P : Part End → Type 0) (next : ClaimEnd → Part End) (uses : List InUse) (last : ℕ) (rest : Part ClaimEnd) → ((due : InUse) → first_reached uses last ≡ Some due → P (next (ClaimLost due last))) →
@@ -113,7 +110,7 @@ module _ (s : Setting) (geometry : IsGeometry s.geometry) (small : s.boot < 2 ^ 
 
   module _ (M : ℕ → Type 0) (d : List Exchange) (t : Taking) (e : ℕ) (found : List ℕ) (bits : List Bool) (below : e < s.geometry.extents) (few : t.known.claims < last_claim)
       (r : TakenSo M e (read_of (map_at s.geometry e) found ∷ d) t) (is_map : read_map s.geometry.extent_blocks found ≡ Some bits)
-      (nothing : hold_by_log s before (read_of (map_at s.geometry e) found ∷ d) (extent_lease s.geometry e) ≡ Nothing) where
+      (nothing : hold_by_log s first.before (after_work first (read_of (map_at s.geometry e) found ∷ d)) (extent_lease s.geometry e) ≡ Nothing) where
     abbrev d0 : List Exchange
     d0 = read_of (map_at s.geometry e) found ∷ d
 
@@ -121,19 +118,19 @@ module _ (s : Setting) (geometry : IsGeometry s.geometry) (small : s.boot < 2 ^ 
     own_lease = extent_lease s.geometry e
 
     abbrev BesideSo : List Exchange → Type 0
-    BesideSo done = Beside s before (log_on before (Reserve count) []) own_lease d0 done
+    BesideSo done = Beside s first own_lease d0 done
 
     lease-within : own_lease < lease_count s.geometry
     lease-within = extent-below s.geometry e below
 
-    unheld : is_held (hold_by_log s before d0 own_lease) ≡ false
+    unheld : is_held (hold_by_log s first.before (after_work first d0) own_lease) ≡ false
     unheld = ap is_held nothing
 
     beside-next : (done : List Exchange) (x : Exchange) → IsOfClaim own_lease x.ask x.answer → BesideSo done → BesideSo (x ∷ done)
-    beside-next done x of b = beside-more s before (log_on before (Reserve count) []) own_lease d0 done x r.has lease-within unheld of b
+    beside-next done x of b = beside-more s first own_lease d0 done x r.has lease-within unheld of b
 
     -- a lease that the take claimed before is claimed still
-    claimed-still : (done : List Exchange) (one : InUse) → BesideSo done → Claimed s geometry before known count reading rests d0 one → Claimed s geometry before known count reading rests done one
+    claimed-still : (done : List Exchange) (one : InUse) → BesideSo done → Claimed s geometry first holds known count work d0 one → Claimed s geometry first holds known count work done one
     claimed-still done one b c = record {
       extent = c.extent;
       below = c.below;
@@ -144,43 +141,44 @@ module _ (s : Setting) (geometry : IsGeometry s.geometry) (small : s.boot < 2 ^ 
     }
       where
         apart : extent_lease s.geometry c.extent ≢ own_lease
-        apart same = let e' : Nothing ≡ Held c.claim one.until = sym nothing ∙ (ap (hold_by_log s before d0) (sym same) ∙ c.held) in let P : ⊥ = cc in P
+        apart same = let e' : Nothing ≡ Held c.claim one.until = sym nothing ∙ (ap (hold_by_log s first.before (after_work first d0)) (sym same) ∙ c.held) in let P : ⊥ = cc in P
 
     -- what goes on beside is among what was claimed
     all-still : (done : List Exchange) (e' until : ℕ) (claim : Claim) → BesideSo done → e' < s.geometry.extents → e' ≢ e → IsIn (claim_done (extent_lease s.geometry e') claim) done →
-        IsUntil until (hold_by_log s before done (extent_lease s.geometry e')) → IsUse (extent_use s.geometry e' until) t.claimed
+        IsUntil until (hold_by_log s first.before (after_work first done) (extent_lease s.geometry e')) → IsUse (extent_use s.geometry e' until) t.claimed
     all-still done e' until claim b below' apart is_in until_is =
         let l = extent_lease s.geometry e' in
         let ne : l ≢ own_lease = λ same. apart (extent-extent s.geometry e' e same) in
         r.all e' until claim below' (b.claims l _ _ ne is_in) (subst (IsUntil until) (b.others l ne (r.at_rest l (extent-below s.geometry e' below'))) until_is)
 
+    -- the leases that are no extent's are held as before
+    others-still : (done : List Exchange) → BesideSo done → HoldsOthers s first (log done)
+    others-still done b l less apart = b.others l (apart e below) (r.at_rest l less) ∙ r.others l less apart
+
     -- the take stands after the claim
-    after-claim : (done : List Exchange) (uses : List InUse) (b : Option (ℕ × LeaseRecord)) → BesideSo done → claims_in s.geometry done ≡ 1 + claims_in s.geometry d0 →
-        IsRest (hold_by_log s before done own_lease) → BusyIs s geometry before known count reading rests b done → (b ≡ None → t.busy ≡ None) →
-        ((one : InUse) → IsUse one uses → Claimed s geometry before known count reading rests done one) →
-        ((until : ℕ) (claim : Claim) → IsIn (claim_done own_lease claim) done → IsUntil until (hold_by_log s before done own_lease) → IsUse (extent_use s.geometry e until) uses) →
+    after-claim : (done : List Exchange) (uses : List InUse) (b : Option (ℕ × LeaseRecord)) → BesideSo done → claims_in s.geometry (after_work first done) ≡ 1 + claims_in s.geometry (after_work first d0) →
+        IsRest (hold_by_log s first.before (after_work first done) own_lease) → BusyIs s geometry first holds known count work b done → (b ≡ None → t.busy ≡ None) →
+        ((one : InUse) → IsUse one uses → Claimed s geometry first holds known count work done one) →
+        ((until : ℕ) (claim : Claim) → IsIn (claim_done own_lease claim) done → IsUntil until (hold_by_log s first.before (after_work first done) own_lease) → IsUse (extent_use s.geometry e until) uses) →
         ((one : InUse) → IsUse one t.claimed → IsUse one uses) →
         TakenSo M (e + 1) done (record { known = with_claim t.known; claimed = uses; hand = t.hand; busy = b })
     after-claim done uses b bes begun rest busy unbusy claimed own wider = record {
       has = bes.has;
-      first = bes.first reading r.first;
       went = bes.went r.went;
       claims = (let c = r.claims in omega (arith, begun));
       sessions = r.sessions;
       at_rest = λ l less. elim (eqb_tells l own_lease) [
-        | inl same ↦ subst (λ n. IsRest (hold_by_log s before done n)) (sym same.1) rest
+        | inl same ↦ subst (λ n. IsRest (hold_by_log s first.before (after_work first done) n)) (sym same.1) rest
         | inr apart ↦ subst IsRest (sym (bes.others l apart.1 (r.at_rest l less))) (r.at_rest l less)
       ];
-      spared = λ other apart less attached held. (
-          let h = r.spared other apart less attached held in
-          (h.0, h.1, bes.others (image_lease other) (image-extent s.geometry other e less) (subst IsRest (sym h.2) tt) ∙ h.2));
+      others = others-still done bes;
       hand = bes.hand ∙ r.hand;
       within = r.within;
       claimed = claimed;
       all = λ e' until claim below' is_in until_is. elim (eqb_tells e' e) [
         | inl same ↦
             subst (λ n. IsUse (extent_use s.geometry n until) uses) (sym same.1)
-            (own until claim (subst (λ n. IsIn (claim_done (extent_lease s.geometry n) claim) done) same.1 is_in) (subst (λ n. IsUntil until (hold_by_log s before done (extent_lease s.geometry n))) same.1 until_is))
+            (own until claim (subst (λ n. IsIn (claim_done (extent_lease s.geometry n) claim) done) same.1 is_in) (subst (λ n. IsUntil until (hold_by_log s first.before (after_work first done) (extent_lease s.geometry n))) same.1 until_is))
         | inr apart ↦ wider (extent_use s.geometry e' until) (all-still done e' until claim bes below' apart.1 is_in until_is)
       ];
       busy = busy;
@@ -194,15 +192,9 @@ module _ (s : Setting) (geometry : IsGeometry s.geometry) (small : s.boot < 2 ^ 
           ));
     }
 
-    -- the leases of attached images are held still
-    spared-still : (done : List Exchange) → BesideSo done → Spared s before done s.geometry.images
-    spared-still done b other apart less attached held =
-        let h = r.spared other apart less attached held in
-        (h.0, h.1, b.others (image_lease other) (image-extent s.geometry other e less) (subst IsRest (sym h.2) tt) ∙ h.2)
-
     -- which lease was busy first, once this one was
-    busy-end : (b : Option (ℕ × LeaseRecord)) (x : Exchange) (older : List Exchange) (seen : LeaseRecord) → BusyIs s geometry before known count reading rests b older →
-        IsBusy s (with_exchanges (log_on before (Reserve count) []) (x ∷ older)) own_lease seen → BusyIs s geometry before known count reading rests (first_busy b own_lease seen) (x ∷ older)
+    busy-end : (b : Option (ℕ × LeaseRecord)) (x : Exchange) (older : List Exchange) (seen : LeaseRecord) → BusyIs s geometry first holds known count work b older →
+        IsBusy s (log (x ∷ older)) own_lease seen → BusyIs s geometry first holds known count work (first_busy b own_lease seen) (x ∷ older)
     busy-end None x older seen none is = (e, below, refl, inl (is, none))
     busy-end (Some met) x older seen other is = (other.0, other.1, other.2, inr other.3)
 
@@ -233,7 +225,7 @@ module _ (s : Setting) (geometry : IsGeometry s.geometry) (small : s.boot < 2 ^ 
       d5 sample bytes last again = after_rereading d0 s.boot own_lease t.known.claims sample bytes last again
 
       b1 : (sample : ℕ) → BesideSo (d1 sample)
-      b1 sample = beside-next d0 (clock sample) tt (beside-none s before (log_on before (Reserve count) []) own_lease d0 r.has)
+      b1 sample = beside-next d0 (clock sample) tt (beside-none s first own_lease d0 r.has)
 
       b2 : (sample : ℕ) (bytes : List ℕ) → BesideSo (d2 sample bytes)
       b2 sample bytes = beside-next (d1 sample) (read_of_lease own_lease (answer.Bytes bytes)) refl (b1 sample)
@@ -247,74 +239,65 @@ module _ (s : Setting) (geometry : IsGeometry s.geometry) (small : s.boot < 2 ^ 
       b5 : (sample : ℕ) (bytes : List ℕ) (last : ℕ) (again : List ℕ) → BesideSo (d5 sample bytes last again)
       b5 sample bytes last again = beside-next (d4 sample bytes last) (read_of_lease own_lease (answer.Bytes again)) refl (b4 sample bytes last)
 
-      nothing1 : (sample : ℕ) → hold_by_log s before (d1 sample) own_lease ≡ Nothing
-      nothing1 sample = ap (λ (h : ℕ → Hold). h (lease_at own_lease)) (along-more s.geometry (is_attached before) (holds_after s.geometry before) (clock sample) d0 r.has) ∙ ap (hold_after_reading sample) nothing
+      nothing1 : (sample : ℕ) → hold_by_log s first.before (after_work first (d1 sample)) own_lease ≡ Nothing
+      nothing1 sample = ap (λ (h : ℕ → Hold). h (lease_at own_lease)) (along-more s.geometry (is_attached first.before) (holds_after s.geometry first.before) (clock sample) (after_work first d0) r.has) ∙ ap (hold_after_reading sample) nothing
 
       -- a lease that was read, of which nothing was held
-      shown2 : (sample : ℕ) (bytes : List ℕ) → hold_by_log s before (d2 sample bytes) own_lease ≡ seen_by (read_lease bytes) sample
+      shown2 : (sample : ℕ) (bytes : List ℕ) → hold_by_log s first.before (after_work first (d2 sample bytes)) own_lease ≡ seen_by (read_lease bytes) sample
       shown2 sample bytes =
-          let H = holds_along s.geometry (is_attached before) (holds_after s.geometry before) (d1 sample) in
+          let H = holds_along s.geometry (is_attached first.before) (holds_after s.geometry first.before) (after_work first (d1 sample)) in
           at-same H (lease_at own_lease) (hold_after_read (Some sample) bytes (H (lease_at own_lease))) ∙ ap (hold_after_read (Some sample) bytes) (nothing1 sample)
 
       -- ---- ends
 
-      counted : (done : List Exchange) → claims_in s.geometry done ≡ 1 + claims_in s.geometry d0 → t.known.claims + 1 ≡ claims_in s.geometry done + claims_begun s.geometry before
+      counted : (done : List Exchange) → claims_in s.geometry (after_work first done) ≡ 1 + claims_in s.geometry (after_work first d0) → t.known.claims + 1 ≡ claims_in s.geometry (after_work first done) + claims_begun s.geometry first.before
       counted done begun = let c = r.claims in omega (arith, begun)
 
-      -- a reply that leaves what is known
-      kept : (done : List Exchange) (x : Exchange) (r' : Reply) → BesideSo done → Spared s before (x ∷ done) s.geometry.images → claims_in s.geometry (x ∷ done) ≡ 1 + claims_in s.geometry d0 →
-          ((other : ℕ) (b : Bool) → attached_by r' (Reserve count) other b ≡ b) → KeepsHolds r' → Rests s (finish (Reserve count) (x ∷ done) r' ∷ before) (with_claim t.known)
-      kept done x r' b spared begun none keeps =
-          rests-still s before (Reserve count) (x ∷ done) r' known (with_claim t.known) (λ other. refl) r.sessions none keeps spared (counted (x ∷ done) begun) rests
-
       -- the lease couldn't be read
-      unreadable : (done : List Exchange) (n : ℕ) → BesideSo done → claims_in s.geometry (read_of_lease own_lease answer.Fault ∷ done) ≡ 1 + claims_in s.geometry d0 →
+      unreadable : (done : List Exchange) (n : ℕ) → BesideSo done → claims_in s.geometry (after_work first (read_of_lease own_lease answer.Fault ∷ done)) ≡ 1 + claims_in s.geometry (after_work first d0) →
           RightSo (read_of_lease own_lease answer.Fault ∷ done) (ends (reply.ReadFault (record { 0 = lease_at own_lease })) (with_claim t.known)) n
-      unreadable done n b begun = (
-        replied-fine s before (Reserve count) reading (reserve-fine s before count reading) (read_of_lease own_lease answer.Fault ∷ done)
-            (first-more done (read_of_lease own_lease answer.Fault) reading (b.first reading r.first)) (reply.ReadFault (record { 0 = lease_at own_lease })) (done, refl),
-        kept done (read_of_lease own_lease answer.Fault) (reply.ReadFault (record { 0 = lease_at own_lease })) b
-            (spared-more s before done (read_of_lease own_lease answer.Fault) s.geometry.images b.has (λ other apart. tt) (spared-still done b)) begun (λ other b'. refl) (λ h. refl),
-      )
+      unreadable done n b begun =
+          let x = read_of_lease own_lease answer.Fault in
+          refuses s geometry first holds known count work (x ∷ done) (with_claim t.known) (reply.ReadFault (record { 0 = lease_at own_lease })) n r.sessions (counted (x ∷ done) begun)
+          (λ l less apart. ap (λ (h : ℕ → Hold). h (lease_at l)) (along-more s.geometry (is_attached first.before) (holds_after s.geometry first.before) x (after_work first done) b.has) ∙ others-still done b l less apart)
+          (takes.unread (record { 0 = lease_at own_lease }) (done, refl))
 
       -- a reading has reached leases in use
-      lost-counted : (done : List Exchange) (last : ℕ) (uses : List InUse) (due : InUse) (n : ℕ) → BesideSo done → claims_in s.geometry done ≡ 1 + claims_in s.geometry d0 →
-          IsLastReading (log_on before (Reserve count) done) last → ((e' : ℕ) → lost_claim s.geometry (reply.Lost (lease.Extent (record { 0 = e' })) due.until last) done ≡ 0) →
-          ((one : InUse) → IsUse one uses → (e' : ℕ) × (one.lease ≡ extent_lease s.geometry e') × IsExtentInUse s (log_on before (Reserve count) done) e' one.until) →
-          ((e' until : ℕ) → IsExtentInUse s (log_on before (Reserve count) done) e' until → IsUse (extent_use s.geometry e' until) uses) → first_reached uses last ≡ Some due →
+      lost-counted : (done : List Exchange) (last : ℕ) (uses : List InUse) (due : InUse) (n : ℕ) → BesideSo done → claims_in s.geometry (after_work first done) ≡ 1 + claims_in s.geometry (after_work first d0) →
+          IsLastReading done last → ((e' : ℕ) → lost_claim s.geometry (reply.Lost (lease.Extent (record { 0 = e' })) due.until last) (after_work first done) ≡ 0) →
+          ((one : InUse) → IsUse one uses → (e' : ℕ) × (one.lease ≡ extent_lease s.geometry e') × IsExtentInUse s (log done) done e' one.until) →
+          ((e' until : ℕ) → IsExtentInUse s (log done) done e' until → IsUse (extent_use s.geometry e' until) uses) → first_reached uses last ≡ Some due →
           RightSo done (lost s (with_claim t.known) due last) n
       lost-counted done last uses due n b begun is none sound complete reached =
-          lost-reading s geometry before known count reading rests done last (with_claim t.known) uses due n is (b.first reading r.first)
-          (λ e'. rests-lost s before (Reserve count) done (lease.Extent (record { 0 = e' })) due.until last (t.known.claims + 1) (none e') (counted done begun)) sound complete reached
+          lost-reading s geometry first holds known count work done last (with_claim t.known) uses due n is
+          (λ e'. (let none' = none e' in let c = counted done begun in omega (arith, none'))) sound complete reached
 
       -- those that were claimed before are in use
       others-use : (done : List Exchange) → BesideSo done → (one : InUse) → IsUse one t.claimed →
-          (e' : ℕ) × (one.lease ≡ extent_lease s.geometry e') × IsExtentInUse s (log_on before (Reserve count) done) e' one.until
+          (e' : ℕ) × (one.lease ≡ extent_lease s.geometry e') × IsExtentInUse s (log done) done e' one.until
       others-use done b one is =
-          let c = claimed-still done one b (r.claimed one is) in (c.extent, c.is, claimed-use s geometry before known count reading rests done one c)
+          let c = claimed-still done one b (r.claimed one is) in (c.extent, c.is, claimed-use s geometry first holds known count work done one c)
 
       -- bytes that are no lease end the take
       no-lease : (done : List Exchange) (bytes : List ℕ) (last n : ℕ) → BesideSo (read_of_lease own_lease (answer.Bytes bytes) ∷ done) → read_lease bytes ≡ None →
-          claims_in s.geometry (clock last ∷ read_of_lease own_lease (answer.Bytes bytes) ∷ done) ≡ 1 + claims_in s.geometry d0 →
+          claims_in s.geometry (after_work first (clock last ∷ read_of_lease own_lease (answer.Bytes bytes) ∷ done)) ≡ 1 + claims_in s.geometry (after_work first d0) →
           RightSo (clock last ∷ read_of_lease own_lease (answer.Bytes bytes) ∷ done) (ends (reply.Damaged (record { 0 = lease_at own_lease })) (with_claim t.known)) n
       no-lease done bytes last n b none begun =
-          let done' = read_of_lease own_lease (answer.Bytes bytes) ∷ done in (
-            replied-fine s before (Reserve count) reading (reserve-fine s before count reading) (clock last ∷ done') (first-more done' (clock last) reading (b.first reading r.first))
-                (reply.Damaged (record { 0 = lease_at own_lease }))
-                (in_lease (record { extent = e; here = refl; bytes = bytes; reading = last; read = inr (inl refl); outside = none; last = (done', refl) })),
-            kept done' (clock last) (reply.Damaged (record { 0 = lease_at own_lease })) b (spared-more s before done' (clock last) s.geometry.images tt (λ other apart. tt) (spared-still done' b)) begun
-                (λ other b'. refl) (λ h. refl),
-          )
+          let done' = read_of_lease own_lease (answer.Bytes bytes) ∷ done in
+          refuses s geometry first holds known count work (clock last ∷ done') (with_claim t.known) (reply.Damaged (record { 0 = lease_at own_lease })) n r.sessions (counted (clock last ∷ done') begun)
+          (others-still (clock last ∷ done') (beside-next done' (clock last) tt b))
+          (takes.lease_damaged (record { 0 = lease_at own_lease })
+          (record { extent = e; here = refl; bytes = bytes; reading = last; read = inr (inl refl); outside = none; last = (done', refl) }))
 
       -- the claim ended Busy, and the take goes on past it
-      goes-past : (x : Exchange) (older : List Exchange) (seen : LeaseRecord) → BesideSo (x ∷ older) → claims_in s.geometry (x ∷ older) ≡ 1 + claims_in s.geometry d0 →
-          hold_by_log s before (x ∷ older) own_lease ≡ Nothing → BusyIs s geometry before known count reading rests t.busy older →
-          IsBusy s (with_exchanges (log_on before (Reserve count) []) (x ∷ older)) own_lease seen → RightSo (x ∷ older) (rest (with_busy (with_claim_begun t) own_lease seen)) m
+      goes-past : (x : Exchange) (older : List Exchange) (seen : LeaseRecord) → BesideSo (x ∷ older) → claims_in s.geometry (after_work first (x ∷ older)) ≡ 1 + claims_in s.geometry (after_work first d0) →
+          hold_by_log s first.before (after_work first (x ∷ older)) own_lease ≡ Nothing → BusyIs s geometry first holds known count work t.busy older →
+          IsBusy s (log (x ∷ older)) own_lease seen → RightSo (x ∷ older) (rest (with_busy (with_claim_begun t) own_lease seen)) m
       goes-past x older seen b begun none busy is =
           goes (with_busy (with_claim_begun t) own_lease seen) (x ∷ older)
-          (extended s geometry before known count reading rests M M' (e + 1) (x ∷ older) (with_busy (with_claim_begun t) own_lease seen) e
+          (extended s geometry first holds known count work M M' (e + 1) (x ∷ older) (with_busy (with_claim_begun t) own_lease seen) e
           (after-claim (x ∷ older) t.claimed (first_busy t.busy own_lease seen) b begun (subst IsRest (sym none) tt) (busy-end t.busy x older seen busy is) (λ none'. absurd (busy-some t.busy own_lease seen none'))
-          (λ one there. claimed-still (x ∷ older) one b (r.claimed one there)) (λ until claim is_in until_is. absurd (no-until until _ none until_is)) (λ one there. there))
+          (λ one there. claimed-still (x ∷ older) one b (r.claimed one there)) (λ until claim is_in until_is. absurd (nothing-used until _ none until_is)) (λ one there. there))
           split (λ few'. ((found, b.older (read_of (map_at s.geometry e) found) (inl refl)), λ none'. absurd (busy-some t.busy own_lease seen none'))))
 
       -- ---- the reread
@@ -322,39 +305,39 @@ module _ (s : Setting) (geometry : IsGeometry s.geometry) (small : s.boot < 2 ^ 
       abbrev uses : ℕ → List InUse
       uses sample = own_use own_lease (own sample) ∷ t.claimed
 
-      busy1 : (sample : ℕ) → BusyIs s geometry before known count reading rests t.busy (d1 sample)
-      busy1 sample = busy-more s geometry before known count reading rests t.busy (clock sample) d0 (λ l seen less. unread-unbusy s (log_on before (Reserve count) []) (d1 sample) refl l seen) r.busy
+      busy1 : (sample : ℕ) → BusyIs s geometry first holds known count work t.busy (d1 sample)
+      busy1 sample = busy-more s geometry first holds known count work t.busy (clock sample) d0 (λ l seen less. unread-unbusy s first (after_work first (d1 sample)) refl l seen) r.busy
 
       module _ (sample : ℕ) (early-sample : sample < 2 ^ 48) (bytes : List ℕ) (seen : LeaseRecord) (sees : read_lease bytes ≡ Some seen) (expired : is_expired seen sample ≡ true) where
-        busy3 : BusyIs s geometry before known count reading rests t.busy (d3 sample bytes)
+        busy3 : BusyIs s geometry first holds known count work t.busy (d3 sample bytes)
         busy3 =
-            busy-more s geometry before known count reading rests t.busy (claim_write s.boot own_lease t.known.claims sample answer.Done) (d2 sample bytes) (λ l seen' less. unread-unbusy s (log_on before (Reserve count) []) (d3 sample bytes) refl l seen')
-            (busy-more s geometry before known count reading rests t.busy (read_of_lease own_lease (answer.Bytes bytes)) (d1 sample)
-            (λ l seen' less. sight-unbusy s (log_on before (Reserve count) []) (d1 sample) own_lease sample bytes seen sees expired (nothing1 sample) refl l seen') (busy1 sample))
+            busy-more s geometry first holds known count work t.busy (claim_write s.boot own_lease t.known.claims sample answer.Done) (d2 sample bytes) (λ l seen' less. unread-unbusy s first (after_work first (d3 sample bytes)) refl l seen')
+            (busy-more s geometry first holds known count work t.busy (read_of_lease own_lease (answer.Bytes bytes)) (d1 sample)
+            (λ l seen' less. sight-unbusy s first (after_work first (d1 sample)) own_lease sample bytes seen sees expired (nothing1 sample) refl l seen') (busy1 sample))
 
-        held3 : hold_by_log s before (d3 sample bytes) own_lease ≡ Wrote (own sample) (sample + term)
-        held3 = held-claiming s small before d0 r.has own_lease t.known.claims small-number sample early-sample bytes
+        held3 : hold_by_log s first.before (after_work first (d3 sample bytes)) own_lease ≡ Wrote (own sample) (sample + term)
+        held3 = held-claiming s small first.before (after_work first d0) r.has own_lease t.known.claims small-number sample early-sample bytes
 
         module _ (last : ℕ) (past : sample + wait ≤ last) where
-          busy4 : BusyIs s geometry before known count reading rests t.busy (d4 sample bytes last)
-          busy4 = busy-more s geometry before known count reading rests t.busy (claim_wait sample last) (d3 sample bytes) (λ l seen' less. unread-unbusy s (log_on before (Reserve count) []) (d4 sample bytes last) refl l seen') busy3
+          busy4 : BusyIs s geometry first holds known count work t.busy (d4 sample bytes last)
+          busy4 = busy-more s geometry first holds known count work t.busy (claim_wait sample last) (d3 sample bytes) (λ l seen' less. unread-unbusy s first (after_work first (d4 sample bytes last)) refl l seen') busy3
 
-          held4 : hold_by_log s before (d4 sample bytes last) own_lease ≡ hold_after_reading last (Wrote (own sample) (sample + term))
+          held4 : hold_by_log s first.before (after_work first (d4 sample bytes last)) own_lease ≡ hold_after_reading last (Wrote (own sample) (sample + term))
           held4 = ap (hold_after_reading last) held3
 
           module _ (early : last < sample + term) where
-            waited : hold_by_log s before (d4 sample bytes last) own_lease ≡ Waited (own sample) (sample + term)
-            waited = held-waiting s small before d0 r.has own_lease t.known.claims small-number sample early-sample bytes last past early
+            waited : hold_by_log s first.before (after_work first (d4 sample bytes last)) own_lease ≡ Waited (own sample) (sample + term)
+            waited = held-waiting s small first.before (after_work first d0) r.has own_lease t.known.claims small-number sample early-sample bytes last past early
 
-            held5 : (again : List ℕ) (same : Bool) → bytes_eq again (lease_bytes (own_record (own sample))) ≡ same → hold_by_log s before (d5 sample bytes last again) own_lease ≡ hold_after_reread same (Held (own sample) (sample + term))
+            held5 : (again : List ℕ) (same : Bool) → bytes_eq again (lease_bytes (own_record (own sample))) ≡ same → hold_by_log s first.before (after_work first (d5 sample bytes last again)) own_lease ≡ hold_after_reread same (Held (own sample) (sample + term))
             held5 again same is =
-                held-rereading s small before d0 r.has own_lease t.known.claims small-number sample early-sample bytes last again past early ∙ ap (λ b. hold_after_reread b (Held (own sample) (sample + term))) is
+                held-rereading s small first.before (after_work first d0) r.has own_lease t.known.claims small-number sample early-sample bytes last again past early ∙ ap (λ b. hold_after_reread b (Held (own sample) (sample + term))) is
 
-            begun5 : (again : List ℕ) → claims_in s.geometry (d5 sample bytes last again) ≡ 1 + claims_in s.geometry d0
-            begun5 again = counts-rereading s.geometry d0 s.boot own_lease t.known.claims sample bytes last (answer.Bytes again) r.has lease-within
+            begun5 : (again : List ℕ) → claims_in s.geometry (after_work first (d5 sample bytes last again)) ≡ 1 + claims_in s.geometry (after_work first d0)
+            begun5 again = counts-rereading s.geometry (after_work first d0) s.boot own_lease t.known.claims sample bytes last (answer.Bytes again) r.has lease-within
 
-            begun6 : (again : List ℕ) (later : ℕ) → claims_in s.geometry (clock later ∷ d5 sample bytes last again) ≡ 1 + claims_in s.geometry d0
-            begun6 again later = claims-more s.geometry (d5 sample bytes last again) (clock later) tt refl ∙ begun5 again
+            begun6 : (again : List ℕ) (later : ℕ) → claims_in s.geometry (after_work first (clock later ∷ d5 sample bytes last again)) ≡ 1 + claims_in s.geometry (after_work first d0)
+            begun6 again later = claims-more s.geometry (after_work first (d5 sample bytes last again)) (clock later) tt refl ∙ begun5 again
 
             b6 : (again : List ℕ) (later : ℕ) → BesideSo (clock later ∷ d5 sample bytes last again)
             b6 again later = beside-next (d5 sample bytes last again) (clock later) tt (b5 sample bytes last again)
@@ -365,14 +348,14 @@ module _ (s : Setting) (geometry : IsGeometry s.geometry) (small : s.boot < 2 ^ 
             taken5 again is =
                 let held = held5 again true is in
                 let same : again ≡ lease_bytes (own_record (own sample)) = (bytes_eq-Decides again (lease_bytes (own_record (own sample)))).0 is in
-                let spells : read_lease again ≡ Some (own_record (own sample)) = ap read_lease same ∙ own-back s small before d0 r.has own_lease t.known.claims small-number sample early-sample again in
+                let spells : read_lease again ≡ Some (own_record (own sample)) = ap read_lease same ∙ own-back s small first.before (after_work first d0) r.has own_lease t.known.claims small-number sample early-sample again in
                 after-claim (d5 sample bytes last again) (extent_use s.geometry e (sample + term) ∷ t.claimed) t.busy (b5 sample bytes last again) (begun5 again) (subst IsRest (sym held) tt)
-                (busy-more s geometry before known count reading rests t.busy (read_of_lease own_lease (answer.Bytes again)) (d4 sample bytes last)
-                (λ l seen' less. reread-unbusy s (log_on before (Reserve count) []) (d4 sample bytes last) own_lease again (own sample) (sample + term) spells waited refl l seen') busy4)
+                (busy-more s geometry first holds known count work t.busy (read_of_lease own_lease (answer.Bytes again)) (d4 sample bytes last)
+                (λ l seen' less. reread-unbusy s first (after_work first (d4 sample bytes last)) own_lease again (own sample) (sample + term) spells waited refl l seen') busy4)
                 (λ none. none) (claims held) (λ until claim is_in until_is. inl (ap (extent_use s.geometry e) (sym (one-until (own sample) (sample + term) until _ held until_is)))) (λ one there. inr there)
               where
-                claims : hold_by_log s before (d5 sample bytes last again) own_lease ≡ Held (own sample) (sample + term) → (one : InUse) → IsUse one (extent_use s.geometry e (sample + term) ∷ t.claimed) →
-                    Claimed s geometry before known count reading rests (d5 sample bytes last again) one
+                claims : hold_by_log s first.before (after_work first (d5 sample bytes last again)) own_lease ≡ Held (own sample) (sample + term) → (one : InUse) → IsUse one (extent_use s.geometry e (sample + term) ∷ t.claimed) →
+                    Claimed s geometry first holds known count work (d5 sample bytes last again) one
                 claims held one (inl same) = record {
                   extent = e;
                   below = below;
@@ -384,11 +367,11 @@ module _ (s : Setting) (geometry : IsGeometry s.geometry) (small : s.boot < 2 ^ 
                 claims held one (inr there) = claimed-still (d5 sample bytes last again) one (b5 sample bytes last again) (r.claimed one there)
 
             -- bytes that are no lease: what is in use at the reading after them
-            gone6 : (again : List ℕ) (later : ℕ) → bytes_eq again (lease_bytes (own_record (own sample))) ≡ false → hold_by_log s before (clock later ∷ d5 sample bytes last again) own_lease ≡ Nothing
+            gone6 : (again : List ℕ) (later : ℕ) → bytes_eq again (lease_bytes (own_record (own sample))) ≡ false → hold_by_log s first.before (after_work first (clock later ∷ d5 sample bytes last again)) own_lease ≡ Nothing
             gone6 again later is = ap (hold_after_reading later) (held5 again false is)
 
             sound6 : (again : List ℕ) (later : ℕ) → read_lease again ≡ None → (one : InUse) → IsUse one (uses sample) →
-                (e' : ℕ) × (one.lease ≡ extent_lease s.geometry e') × IsExtentInUse s (log_on before (Reserve count) (clock later ∷ d5 sample bytes last again)) e' one.until
+                (e' : ℕ) × (one.lease ≡ extent_lease s.geometry e') × IsExtentInUse s (log (clock later ∷ d5 sample bytes last again)) (clock later ∷ d5 sample bytes last again) e' one.until
             sound6 again later none one (inl same) = (
               e,
               ap (λ (u : InUse). u.lease) same,
@@ -397,16 +380,15 @@ module _ (s : Setting) (geometry : IsGeometry s.geometry) (small : s.boot < 2 ^ 
             sound6 again later none one (inr there) = others-use (clock later ∷ d5 sample bytes last again) (b6 again later) one there
 
             complete6 : (again : List ℕ) (later : ℕ) → bytes_eq again (lease_bytes (own_record (own sample))) ≡ false → (e' until : ℕ) →
-                IsExtentInUse s (log_on before (Reserve count) (clock later ∷ d5 sample bytes last again)) e' until → IsUse (extent_use s.geometry e' until) (uses sample)
+                IsExtentInUse s (log (clock later ∷ d5 sample bytes last again)) (clock later ∷ d5 sample bytes last again) e' until → IsUse (extent_use s.geometry e' until) (uses sample)
             complete6 again later is e' until (going claim below' was until_is) = elim (eqb_tells e' e) [
-              | inl same ↦ absurd (no-until until _ (ap (λ n. hold_by_log s before (clock later ∷ d5 sample bytes last again) (extent_lease s.geometry n)) same.1 ∙ gone6 again later is) until_is)
+              | inl same ↦ absurd (nothing-used until _ (ap (λ n. hold_by_log s first.before (after_work first (clock later ∷ d5 sample bytes last again)) (extent_lease s.geometry n)) same.1 ∙ gone6 again later is) until_is)
               | inr apart ↦ inr (all-still (clock later ∷ d5 sample bytes last again) e' until claim (b6 again later) below' apart.1 was until_is)
             ]
             complete6 again later is e' until (unread claim bytes' later' older' below' at_end waited' none') =
                 let block : lease_at own_lease ≡ lease_at (extent_lease s.geometry e') = ap block_second at_end in
                 let same : own_lease ≡ extent_lease s.geometry e' = lease-lease own_lease (extent_lease s.geometry e') block in
-                let o : d4 sample bytes last ≡ older' = ap (λ (d' : List Exchange). older_than (older_than d')) at_end in
-                let w : Waited (own sample) (sample + term) ≡ Waited claim until = sym waited ∙ ((λ i. hold_by_log s before (o i) (same i)) ∙ waited') in
+                let w : Waited (own sample) (sample + term) ≡ Waited claim until = sym waited ∙ (ap (hold_by_log s first.before (after_work first (d4 sample bytes last))) same ∙ waited') in
                 let u : sample + term ≡ until = cc in
                 inl (λ i. record { lease = sym same i; until = sym u i })
             complete6 again later is e' until (rested claim bytes' later' older' below' at_end none' held) = absurd (lease-map s.geometry own_lease e' lease-within (ap block_second at_end))
@@ -414,20 +396,20 @@ module _ (s : Setting) (geometry : IsGeometry s.geometry) (small : s.boot < 2 ^ 
             after-again : (again : List ℕ) (same : Bool) → bytes_eq again (lease_bytes (own_record (own sample))) ≡ same → (found' : Option LeaseRecord) → read_lease again ≡ found' →
                 RightSo (d5 sample bytes last again) (followed_by (reread_by same (uses sample) (own sample) found') next) (suc (suc m))
             after-again again true is found' reads =
-                right-here s geometry before known count reading rests M M' (e + 1) e (sample + term) m (own sample) rest (with_claimed (with_claim_begun t) (extent_use s.geometry e (sample + term)))
+                right-here s geometry first holds known count work M M' (e + 1) e (sample + term) m (own sample) rest (with_claimed (with_claim_begun t) (extent_use s.geometry e (sample + term)))
                 (d5 sample bytes last again) below new split needed (taken5 again is) (held5 again true is) goes
             after-again again false is (Some other) reads =
                 let part = rest (with_busy (with_claim_begun t) own_lease other) in
                 let done = d5 sample bytes last again in
-                more s geometry before known count reading rests (suc m) part done (more s geometry before known count reading rests m part done
+                more s geometry first holds known count work (suc m) part done (more s geometry first holds known count work m part done
                 (goes-past (read_of_lease own_lease (answer.Bytes again)) (d4 sample bytes last) other (b5 sample bytes last again) (begun5 again) (held5 again false is) busy4
-                (taken (own sample) (sample + term) again (d4 sample bytes last) refl waited reads
+                (taken (own sample) (sample + term) again (after_work first (d4 sample bytes last)) refl waited reads
                 (λ same. bytes-other again (lease_bytes (own_record (own sample))) is ((lease-only again other reads).1 ∙ ap lease_bytes same)))))
             after-again again false is None reads = (
-              ((b5 sample bytes last again).went r.went, tt),
+              work.may (d5 sample bytes last again) _ _ ((b5 sample bytes last again).went r.went, tt) tt,
               λ later small'. by-uses (λ part. RightSo (clock later ∷ d5 sample bytes last again) part (suc m)) next (uses sample) later (Ends ClaimDamaged)
                   (λ due reached. lost-counted (clock later ∷ d5 sample bytes last again) later (uses sample) due (suc m) (b6 again later) (begun6 again later) (of_clock (d5 sample bytes last again, refl))
-                  (λ e'. unfound-none s.geometry (lease.Extent (record { 0 = e' })) due.until later (clock later) (d5 sample bytes last again)
+                  (λ e'. unfound-none s.geometry (lease.Extent (record { 0 = e' })) due.until later (clock later) (after_work first (d5 sample bytes last again))
                   (no-map s.geometry (lease_at own_lease) again (λ e''. lease-map s.geometry own_lease e'' lease-within)))
                   (sound6 again later reads) (complete6 again later is) reached)
                   (λ none. no-lease (d4 sample bytes last) again later (suc m) (b5 sample bytes last again) reads (begun6 again later)),
@@ -435,10 +417,10 @@ module _ (s : Setting) (geometry : IsGeometry s.geometry) (small : s.boot < 2 ^ 
 
           -- ---- the wait
 
-          begun4 : claims_in s.geometry (d4 sample bytes last) ≡ 1 + claims_in s.geometry d0
-          begun4 = counts-waiting s.geometry d0 s.boot own_lease t.known.claims sample bytes last r.has lease-within
+          begun4 : claims_in s.geometry (after_work first (d4 sample bytes last)) ≡ 1 + claims_in s.geometry (after_work first d0)
+          begun4 = counts-waiting s.geometry (after_work first d0) s.boot own_lease t.known.claims sample bytes last r.has lease-within
 
-          sound4 : (one : InUse) → IsUse one (uses sample) → (e' : ℕ) × (one.lease ≡ extent_lease s.geometry e') × IsExtentInUse s (log_on before (Reserve count) (d4 sample bytes last)) e' one.until
+          sound4 : (one : InUse) → IsUse one (uses sample) → (e' : ℕ) × (one.lease ≡ extent_lease s.geometry e') × IsExtentInUse s (log (d4 sample bytes last)) (d4 sample bytes last) e' one.until
           sound4 one (inl same) = (
             e,
             ap (λ (u : InUse). u.lease) same,
@@ -447,10 +429,10 @@ module _ (s : Setting) (geometry : IsGeometry s.geometry) (small : s.boot < 2 ^ 
           )
           sound4 one (inr there) = others-use (d4 sample bytes last) (b4 sample bytes last) one there
 
-          complete4 : (e' until : ℕ) → IsExtentInUse s (log_on before (Reserve count) (d4 sample bytes last)) e' until → IsUse (extent_use s.geometry e' until) (uses sample)
+          complete4 : (e' until : ℕ) → IsExtentInUse s (log (d4 sample bytes last)) (d4 sample bytes last) e' until → IsUse (extent_use s.geometry e' until) (uses sample)
           complete4 e' until (going claim below' was until_is) = elim (eqb_tells e' e) [
             | inl same ↦
-                let here : IsUntil until (hold_by_log s before (d4 sample bytes last) own_lease) = subst (λ n. IsUntil until (hold_by_log s before (d4 sample bytes last) (extent_lease s.geometry n))) same.1 until_is in
+                let here : IsUntil until (hold_by_log s first.before (after_work first (d4 sample bytes last)) own_lease) = subst (λ n. IsUntil until (hold_by_log s first.before (after_work first (d4 sample bytes last)) (extent_lease s.geometry n))) same.1 until_is in
                 let u : until ≡ sample + term = timed-until last (own sample) (sample + term) until (subst (IsUntil until) held4 here) in
                 inl (λ i. record { lease = extent_lease s.geometry (same.1 i); until = u i })
             | inr apart ↦ inr (all-still (d4 sample bytes last) e' until claim (b4 sample bytes last) below' apart.1 was until_is)
@@ -462,38 +444,37 @@ module _ (s : Setting) (geometry : IsGeometry s.geometry) (small : s.boot < 2 ^ 
           after-wait =
               by-uses (λ part. RightSo (d4 sample bytes last) part (suc (suc (suc m)))) next (uses sample) last (reread_part (uses sample) own_lease (own sample))
               (λ due reached. lost-counted (d4 sample bytes last) last (uses sample) due (suc (suc (suc m))) (b4 sample bytes last) begun4 (of_wait (sample + wait) (d3 sample bytes, refl))
-              (λ e'. written-none s.geometry (lease.Extent (record { 0 = e' })) due.until last (claim_wait sample last) (d3 sample bytes) refl) sound4 complete4 reached)
+              (λ e'. written-none s.geometry (lease.Extent (record { 0 = e' })) due.until last (claim_wait sample last) (after_work first (d3 sample bytes)) refl) sound4 complete4 reached)
               (λ none. (
-                ((b4 sample bytes last).went r.went, tt),
-                λ again long. after-again ((subst (TellsFirst (uses sample) last) none (first-tells (uses sample) last)) (own_use own_lease (own sample)) (inl refl)) again
+                work.may (d4 sample bytes last) _ _ ((b4 sample bytes last).went r.went, tt) (e, below, inr refl),
+                λ again long. after-again ((subst (TellsFirstDue (uses sample) last) none (first-tells (uses sample) last)) (own_use own_lease (own sample)) (inl refl)) again
                     (bytes_eq again (lease_bytes (own_record (own sample)))) refl (read_lease again) refl,
                 unreadable (d4 sample bytes last) (suc (suc m)) (b4 sample bytes last)
-                    (counts-rereading s.geometry d0 s.boot own_lease t.known.claims sample bytes last answer.Fault r.has lease-within),
+                    (counts-rereading s.geometry (after_work first d0) s.boot own_lease t.known.claims sample bytes last answer.Fault r.has lease-within),
               ))
 
       -- ---- the claim
 
-      begun2 : (sample : ℕ) (x : Answer) → claims_in s.geometry (read_of_lease own_lease x ∷ d1 sample) ≡ 1 + claims_in s.geometry d0
-      begun2 sample x = counts-sight s.geometry d0 own_lease sample x r.has lease-within
+      begun2 : (sample : ℕ) (x : Answer) → claims_in s.geometry (after_work first (read_of_lease own_lease x ∷ d1 sample)) ≡ 1 + claims_in s.geometry (after_work first d0)
+      begun2 sample x = counts-sight s.geometry (after_work first d0) own_lease sample x r.has lease-within
 
-      begun3 : (sample : ℕ) (bytes : List ℕ) (x : Answer) → claims_in s.geometry (claim_write s.boot own_lease t.known.claims sample x ∷ d2 sample bytes) ≡ 1 + claims_in s.geometry d0
-      begun3 sample bytes x = counts-claiming s.geometry d0 s.boot own_lease t.known.claims sample bytes x r.has lease-within
+      begun3 : (sample : ℕ) (bytes : List ℕ) (x : Answer) → claims_in s.geometry (after_work first (claim_write s.boot own_lease t.known.claims sample x ∷ d2 sample bytes)) ≡ 1 + claims_in s.geometry (after_work first d0)
+      begun3 sample bytes x = counts-claiming s.geometry (after_work first d0) s.boot own_lease t.known.claims sample bytes x r.has lease-within
 
       -- bytes that are no lease at its first read: what is in use at the reading after them
       complete2 : (sample : ℕ) (bytes : List ℕ) (later : ℕ) → read_lease bytes ≡ None → (e' until : ℕ) →
-          IsExtentInUse s (log_on before (Reserve count) (clock later ∷ d2 sample bytes)) e' until → IsUse (extent_use s.geometry e' until) t.claimed
+          IsExtentInUse s (log (clock later ∷ d2 sample bytes)) (clock later ∷ d2 sample bytes) e' until → IsUse (extent_use s.geometry e' until) t.claimed
       complete2 sample bytes later none e' until (going claim below' was until_is) =
           let b = beside-next (d2 sample bytes) (clock later) tt (b2 sample bytes) in
-          let gone : hold_by_log s before (clock later ∷ d2 sample bytes) own_lease ≡ Nothing = ap (hold_after_reading later) (shown2 sample bytes ∙ ap (λ f. seen_by f sample) none) in
+          let gone : hold_by_log s first.before (after_work first (clock later ∷ d2 sample bytes)) own_lease ≡ Nothing = ap (hold_after_reading later) (shown2 sample bytes ∙ ap (λ f. seen_by f sample) none) in
           elim (eqb_tells e' e) [
-            | inl same ↦ absurd (no-until until _ (ap (λ n. hold_by_log s before (clock later ∷ d2 sample bytes) (extent_lease s.geometry n)) same.1 ∙ gone) until_is)
+            | inl same ↦ absurd (nothing-used until _ (ap (λ n. hold_by_log s first.before (after_work first (clock later ∷ d2 sample bytes)) (extent_lease s.geometry n)) same.1 ∙ gone) until_is)
             | inr apart ↦ all-still (clock later ∷ d2 sample bytes) e' until claim b below' apart.1 was until_is
           ]
       complete2 sample bytes later none e' until (unread claim bytes' later' older' below' at_end waited' none') =
           let block : lease_at own_lease ≡ lease_at (extent_lease s.geometry e') = ap block_second at_end in
           let same : own_lease ≡ extent_lease s.geometry e' = lease-lease own_lease (extent_lease s.geometry e') block in
-          let o : d1 sample ≡ older' = ap (λ (d' : List Exchange). older_than (older_than d')) at_end in
-          let w : Nothing ≡ Waited claim until = sym (nothing1 sample) ∙ ((λ i. hold_by_log s before (o i) (same i)) ∙ waited') in
+          let w : Nothing ≡ Waited claim until = sym (nothing1 sample) ∙ (ap (hold_by_log s first.before (after_work first (d1 sample))) same ∙ waited') in
           absurd (let P : ⊥ = cc in P)
       complete2 sample bytes later none e' until (rested claim bytes' later' older' below' at_end none' held) = absurd (lease-map s.geometry own_lease e' lease-within (ap block_second at_end))
 
@@ -501,14 +482,14 @@ module _ (s : Setting) (geometry : IsGeometry s.geometry) (small : s.boot < 2 ^ 
       after-seen : (sample : ℕ) (bytes : List ℕ) → sample < 2 ^ 48 → (found' : Option LeaseRecord) → read_lease bytes ≡ found' →
           RightSo (d2 sample bytes) (followed_by (seen_part t.claimed own_lease (own sample) found') next) (suc (suc (suc (suc (suc m)))))
       after-seen sample bytes early None sees = (
-        ((b2 sample bytes).went r.went, tt),
+        work.may (d2 sample bytes) _ _ ((b2 sample bytes).went r.went, tt) tt,
         λ later small'.
             let done = clock later ∷ d2 sample bytes in
             let b = beside-next (d2 sample bytes) (clock later) tt (b2 sample bytes) in
-            let begun = claims-more s.geometry (d2 sample bytes) (clock later) tt refl ∙ begun2 sample (answer.Bytes bytes) in
+            let begun = claims-more s.geometry (after_work first (d2 sample bytes)) (clock later) tt refl ∙ begun2 sample (answer.Bytes bytes) in
             by-uses (λ part. RightSo done part (suc (suc (suc (suc m))))) next t.claimed later (Ends ClaimDamaged)
             (λ due reached. lost-counted done later t.claimed due (suc (suc (suc (suc m)))) b begun (of_clock (d2 sample bytes, refl))
-            (λ e'. unfound-none s.geometry (lease.Extent (record { 0 = e' })) due.until later (clock later) (d2 sample bytes)
+            (λ e'. unfound-none s.geometry (lease.Extent (record { 0 = e' })) due.until later (clock later) (after_work first (d2 sample bytes))
             (no-map s.geometry (lease_at own_lease) bytes (λ e''. lease-map s.geometry own_lease e'' lease-within)))
             (λ one is. others-use done b one is) (complete2 sample bytes later sees) reached)
             (λ none. no-lease (d1 sample) bytes later (suc (suc (suc (suc m)))) (b2 sample bytes) sees begun),
@@ -520,50 +501,36 @@ module _ (s : Setting) (geometry : IsGeometry s.geometry) (small : s.boot < 2 ^ 
           by-expired false is =
               let part = rest (with_busy (with_claim_begun t) own_lease seen) in
               let done = d2 sample bytes in
-              let up : (n : ℕ) → RightSo done part n → RightSo done part (suc n) = λ n right. more s geometry before known count reading rests n part done right in
+              let up : (n : ℕ) → RightSo done part n → RightSo done part (suc n) = λ n right. more s geometry first holds known count work n part done right in
               up (suc (suc (suc (suc m)))) (up (suc (suc (suc m))) (up (suc (suc m)) (up (suc m) (up m
               (goes-past (read_of_lease own_lease (answer.Bytes bytes)) (d1 sample) seen (b2 sample bytes) (begun2 sample (answer.Bytes bytes))
               (shown2 sample bytes ∙ (ap (λ f. seen_by f sample) sees ∙ ap (λ b. if b then Seen sample else Nothing) is)) (busy1 sample)
-              (unexpired sample bytes d0 refl sees is))))))
+              (unexpired sample bytes (after_work first d0) refl sees is))))))
           by-expired true is =
               let block = lease_at own_lease in
               let n = suc (suc (suc (suc m))) in (
-                (
+                work.may (d2 sample bytes) _ _ (
                   (b2 sample bytes).went r.went,
-                  claim_of_lease own_lease (own sample) seen bytes d0 lease-within refl
-                      (λ c u held. (
-                      let was : hold_by_log s before (d2 sample bytes) own_lease ≡ Seen sample = shown2 sample bytes ∙ (ap (λ f. seen_by f sample) sees ∙ ap (λ b. if b then Seen sample else Nothing) is) in
-                      let q : Seen sample ≡ Held c u = sym was ∙ held in
-                      let P : ⊥ = cc in P))
+                  claim_of_lease own_lease (own sample) seen bytes (after_work first d0) lease-within refl
+                      (ap is_held (shown2 sample bytes ∙ (ap (λ f. seen_by f sample) sees ∙ ap (λ b. if b then Seen sample else Nothing) is)))
                       refl sees is refl r.claims refl (lease-rest (own_record (own sample)) ∙ sym (ap (drop 512) (lease-only bytes seen sees).1 ∙ lease-rest seen)) refl,
-                ),
+                ) (e, below, inr refl),
                 (
-                  ((b3 sample bytes).went r.went, record { lease = own_lease; claim = own sample; until = sample + term; wrote = held3 sample early bytes seen sees is; after = refl }),
+                  work.may (d3 sample bytes) _ _
+                      ((b3 sample bytes).went r.went, record { lease = own_lease; claim = own sample; until = sample + term; wrote = held3 sample early bytes seen sees is; after = refl }) tt,
                   λ last past small'. after-wait sample early bytes seen sees is last past,
                 ),
-                (
-                  replied-fine s before (Reserve count) reading (reserve-fine s before count reading) (claim_write s.boot own_lease t.known.claims sample answer.Fault ∷ d2 sample bytes)
-                      (first-more (d2 sample bytes) (claim_write s.boot own_lease t.known.claims sample answer.Fault) reading ((b2 sample bytes).first reading r.first)) (reply.WriteFault (record { 0 = block }))
-                      (kind.Claim, sample + window, lease_bytes (own_record (own sample)), (d2 sample bytes, refl)),
-                  rests-failed s before (Reserve count) (claim_write s.boot own_lease t.known.claims sample answer.Fault ∷ d2 sample bytes) (record { 0 = block }) (t.known.claims + 1)
-                      (counted (claim_write s.boot own_lease t.known.claims sample answer.Fault ∷ d2 sample bytes) (begun3 sample bytes answer.Fault)),
-                ),
-                λ late past small'.
-                    let x = claim_write s.boot own_lease t.known.claims sample (answer.Missed late) in
-                    subst (λ (name : LeaseName). RightSo (x ∷ d2 sample bytes) (ends (reply.Lost name (sample + window) late) (nothing_known (t.known.claims + 1))) n) (sym (extent-name s.geometry e)) (
-                      replied-fine s before (Reserve count) reading (reserve-fine s before count reading) (x ∷ d2 sample bytes)
-                          (first-more (d2 sample bytes) x reading ((b2 sample bytes).first reading r.first)) (reply.Lost (lease.Extent (record { 0 = e })) (sample + window) late)
-                          (replies.missed kind.Claim (record { 0 = block }) (lease_bytes (own_record (own sample))) (d2 sample bytes, refl) (of_claim refl)),
-                      rests-lost s before (Reserve count) (x ∷ d2 sample bytes) (lease.Extent (record { 0 = e })) (sample + window) late (t.known.claims + 1)
-                          (written-none s.geometry (lease.Extent (record { 0 = e })) (sample + window) late x (d2 sample bytes) refl) (counted (x ∷ d2 sample bytes) (begun3 sample bytes (answer.Missed late))),
-                    ),
+                write-failed s geometry first holds known count work (d2 sample bytes) kind.Claim (record { 0 = block }) (sample + window) (lease_bytes (own_record (own sample))) (t.known.claims + 1) n
+                    (counted (claim_write s.boot own_lease t.known.claims sample answer.Fault ∷ d2 sample bytes) (begun3 sample bytes answer.Fault)),
+                λ late past small'. write-missed s geometry first holds known count work (d2 sample bytes) kind.Claim (record { 0 = block }) (lease_bytes (own_record (own sample))) e (sample + window) late
+                    (t.known.claims + 1) n (of_claim refl) (counted (claim_write s.boot own_lease t.known.claims sample (answer.Missed late) ∷ d2 sample bytes) (begun3 sample bytes (answer.Missed late))),
               )
 
       -- ---- its first reading
 
-      complete1 : (sample e' until : ℕ) → IsExtentInUse s (log_on before (Reserve count) (d1 sample)) e' until → IsUse (extent_use s.geometry e' until) t.claimed
+      complete1 : (sample e' until : ℕ) → IsExtentInUse s (log (d1 sample)) (d1 sample) e' until → IsUse (extent_use s.geometry e' until) t.claimed
       complete1 sample e' until (going claim below' was until_is) = elim (eqb_tells e' e) [
-        | inl same ↦ absurd (no-until until _ (ap (λ n. hold_by_log s before (d1 sample) (extent_lease s.geometry n)) same.1 ∙ nothing1 sample) until_is)
+        | inl same ↦ absurd (nothing-used until _ (ap (λ n. hold_by_log s first.before (after_work first (d1 sample)) (extent_lease s.geometry n)) same.1 ∙ nothing1 sample) until_is)
         | inr apart ↦ all-still (d1 sample) e' until claim (b1 sample) below' apart.1 was until_is
       ]
       complete1 sample e' until (unread claim bytes' later' older' below' at_end waited' none') =
@@ -576,16 +543,18 @@ module _ (s : Setting) (geometry : IsGeometry s.geometry) (small : s.boot < 2 ^ 
       -- the lease is claimed
       pub right-claim : RightSo d0 (followed_by (claim_part s.boot t.claimed own_lease t.known.claims) next) (suc (suc (suc (suc (suc (suc (suc m)))))))
       right-claim = (
-        (r.went, tt),
+        work.may d0 _ _ (r.went, tt) tt,
         λ sample early. by-uses (λ part. RightSo (d1 sample) part (suc (suc (suc (suc (suc (suc m))))))) next t.claimed sample _
-            (λ due reached. lost-reading s geometry before known count reading rests (d1 sample) sample (with_claim t.known) t.claimed due (suc (suc (suc (suc (suc (suc m)))))) (of_clock (d0, refl))
-            ((b1 sample).first reading r.first)
-            (λ e'. rests-lost-claim s before (Reserve count) (d1 sample) (lease.Extent (record { 0 = e' })) due.until sample (t.known.claims + 1)
-            (let f = map-is-found s.geometry e found bits (some-blocks s geometry before known count reading rests) is_map in rw f refl)
-            (let c = r.claims in let b = claims-more s.geometry d0 (clock sample) r.has refl in omega (arith, b)))
+            (λ due reached. lost-reading s geometry first holds known count work (d1 sample) sample (with_claim t.known) t.claimed due (suc (suc (suc (suc (suc (suc m)))))) (of_clock (d0, refl))
+            (λ e'. (
+            let f = map-is-found s.geometry e found bits (some-blocks s geometry first holds known count work) is_map in
+            let one : lost_claim s.geometry (reply.Lost (lease.Extent (record { 0 = e' })) due.until sample) (after_work first (d1 sample)) ≡ 1 = rw f refl in
+            let c = r.claims in
+            let b = claims-more s.geometry (after_work first d0) (clock sample) r.has refl in
+            omega (arith, one, b)))
             (λ one is. others-use (d1 sample) (b1 sample) one is) (complete1 sample) reached)
             (λ none. (
-              ((b1 sample).went r.went, tt),
+              work.may (d1 sample) _ _ ((b1 sample).went r.went, tt) (e, below, inr refl),
               λ bytes long. after-seen sample bytes early (read_lease bytes) refl,
               unreadable (d1 sample) (suc (suc (suc (suc (suc m))))) (b1 sample) (begun2 sample answer.Fault),
             )),

@@ -7,18 +7,20 @@ use Rattle.plx_base.specs.declared.lease.LeaseName.{LeaseName}
 use Rattle.plx_base.specs.declared.lease.LeaseName.TheVariants as lease
 use Rattle.plx_base.specs.declared.lease.LeaseRecord.{LeaseRecord}
 use Rattle.plx_base.specs.declared.lease.LeaseRecord.TheVariants as lease_is
+use Rattle.plx_base.specs.declared.numbers.BlockNo.{BlockNo}
+use Rattle.plx_base.specs.declared.write_kind.WriteKind.{WriteKind}
 use Rattle.plx_base.specs.declared.write_kind.WriteKind.TheVariants as kind
 use Rattle.plx_commands.proofs.Places.{at-other}
-use Rattle.plx_commands.specs.declared.command.Command.TheVariants.{Reserve}
 use Rattle.plx_commands.specs.declared.reply.Reply.{Reply}
 use Rattle.plx_commands.specs.declared.reply.Reply.TheVariants as reply
+use Rattle.plx_disk.specs.declared.ask.Ask.{Ask}
 use Rattle.plx_disk.specs.declared.ask.Ask.TheVariants as ask
 use Rattle.plx_disk.specs.declared.ask.Answer.TheVariants as answer
 use Rattle.plx_extent.proofs.Maps.{bits-back, length-bits_from}
 use Rattle.plx_extent.specs.Maps.{bits_of, map_bytes}
 use Rattle.plx_gate.specs.Leases.{lease_bytes}
-use Rattle.plx_geom.proofs.Places.{lease-map, map-map, image-below, extent-below}
-use Rattle.plx_geom.specs.Geometry.{IsGeometry, lease_count, image_lease, extent_lease, lease_at, map_at}
+use Rattle.plx_geom.proofs.Places.{lease-map, map-map, extent-below}
+use Rattle.plx_geom.specs.Geometry.{IsGeometry, lease_count, extent_lease, lease_at, map_at}
 use Rattle.plx_rules.specs.Part.{Part}
 use Rattle.plx_rules.specs.Ends.{End, ends, lost, damaged_part}
 use Rattle.plx_rules.specs.Hands.{is_held, set_since, hand_answered, hand_held}
@@ -31,29 +33,31 @@ use Rattle.plx_rules.specs.Space.{Taking, with_taken, extent_use, read_map, free
 use Rattle.plx_rules.specs.Times.{window, term}
 use Rattle.law_lease.proofs.LawfulCommands.{IsRest}
 use Rattle.law_lease.proofs.LawfulSpace.{timed-rests}
-use Rattle.law_run.specs.AllowedAsks.{GoesOn, WentOn, take_of_blocks}
+use Rattle.law_run.specs.AllowedAsks.{GoesOn, WentOn, take_of_blocks, MayAsk}
 use Rattle.law_run.specs.Busy.{IsBusy, NoneBusy, FirstBusy}
-use Rattle.law_run.specs.CommandLogs.{Exchange, Finished, CommandLog, IsIn, first_reading, with_exchanges}
+use Rattle.law_run.specs.CommandLogs.{Exchange, CommandLog, IsIn}
 use Rattle.law_run.specs.Holdings as holdings
-use Rattle.law_run.specs.Holdings.{holds_along, holds_after, hold_by_log, hand_by_log, last_found, is_lease_read, IsUntil, claims_in, lost_claim, claims_begun}
+use Rattle.law_run.specs.Holdings.{holds_along, holds_after, hold_by_log, hand_by_log, last_found, IsUntil, claims_in, lost_claim, claims_begun}
 use Rattle.law_run.specs.KnownBytes.{nothing_given, given_after_exchanges}
+use Rattle.law_run.specs.Machines.{with_work}
 use Rattle.law_run.specs.Refusals.{IsNamedFirst}
-use Rattle.law_run.specs.Replies.{IsLastReading, of_clock, in_map}
+use Rattle.law_run.specs.Replies.{IsLastReading, of_clock, RestsOn, of_need, WasLost}
 use Rattle.law_run.specs.Replies as replies
-use Rattle.law_run.specs.Sessions.{attached_by, is_attached}
+use Rattle.law_run.specs.Sessions.{is_attached}
 use Rattle.law_run.specs.Space.{IsExtentInUse, going, unread, rested}
-use Rattle.law_run.proofs.Asking.{replied-fine, asks-write}
-use Rattle.law_run.proofs.Beside.{unread-unbusy, map-unbusy}
+use Rattle.law_run.specs.Takes as takes
+use Rattle.law_run.specs.Takes.{IsClaimedHere, IsOfExtents, HoldsOthers, RefusesTake, FailsTake, counted_by_log}
+use Rattle.law_run.proofs.Beside.{after_work, unread-unbusy, map-unbusy}
 use Rattle.law_run.proofs.FreeBlocks.{has-take, take-all, take-none, free-within, free-none, free-fewer, set-taken, map-bits}
 use Rattle.law_run.proofs.Grown.{with-block-same, with-other}
 use Rattle.law_run.proofs.Hands.{HasBlock, has-append, append-left, append-right, filter-all, extent-found, hand-more, hand-is-held}
-use Rattle.law_run.proofs.Holding.{Spared, spared-more, hold-stays, first-more, claims-more}
-use Rattle.law_run.proofs.Meets.{exchange, meets-more}
-use Rattle.law_run.proofs.OnExtent.{claims_at, block_second, reserve-fine, extent-name, map-no-lease, bad-map, rests-still}
-use Rattle.law_run.proofs.Reached.{IsUse, NotAfter, IsFirst, TellsFirst, first-tells}
-use Rattle.law_run.proofs.Rests.{KeepsHolds, rests-lost, unfound-none}
-use Rattle.law_run.proofs.Right.{clock, read_of, Rests, finish, log_on, May, Shows, Right}
-use Rattle.law_run.proofs.Runs.{HasFirst, along-more, start}
+use Rattle.law_run.proofs.Holding.{hold-stays, claims-more}
+use Rattle.law_run.proofs.Meets.{exchange, Meets, meets-more}
+use Rattle.law_run.proofs.OnExtent.{claims_at, block_second, extent-name, map-no-lease, bad-map}
+use Rattle.law_run.proofs.Reached.{IsUse, NotAfter, IsFirstDue, TellsFirstDue, first-tells}
+use Rattle.law_run.proofs.Rests.{written-none, unfound-none}
+use Rattle.law_run.proofs.Right.{clock, read_of}
+use Rattle.law_run.proofs.Runs.{HasFirst, along-more}
 use Rattle.plx_rules.proofs.Maps.{length-with_set}
 
 -- the claim of a lease that is done
@@ -71,65 +75,65 @@ FullAt s done hand extent =
     (bytes : List ℕ) × (given_after_exchanges done nothing_given (map_at s.geometry extent) ≡ Some bytes)
     × (free_from hand (map_at s.geometry extent) (bits_of s.geometry.extent_blocks bytes) ≡ [])
 
-module _ (s : Setting) (geometry : IsGeometry s.geometry) (before : List Finished) (known : Known) (count reading : ℕ) (rests : Rests s before known) where
-  -- the log of a reserve
+-- the rules of the work that a take is part of: they hold of the take's asks, and of its failures
+pub record WorkRules (s : Setting) (first : CommandLog) (known : Known) (count : ℕ) : Type 1 where
+  pub May : List Exchange → Ask → List ℕ → Type 0
+  pub Shows : List Exchange → End → Type 0
+  pub may : (own : List Exchange) (a : Ask) (bytes : List ℕ) → MayAsk s (with_work first own) a bytes → IsOfExtents s.geometry a → May (after_work first own) a bytes
+  pub fails : (own : List Exchange) (end : End) → FailsTake s first (with_work first own) own known count end → Shows (after_work first own) end
+
+module _ (s : Setting) (geometry : IsGeometry s.geometry) (first : CommandLog) (holds : ℕ → Hold) (known : Known) (count : ℕ) (work : WorkRules s first known count) where
+  -- the log of the command, once a take that began after the first log has had these exchanges
   abbrev pub log : List Exchange → CommandLog
-  log done = log_on before (Reserve count) done
+  log own = with_work first own
 
   -- a lease that the take has claimed
-  pub record Claimed (done : List Exchange) (one : InUse) : Type 0 where
-    pub extent : ℕ
-    pub below : extent < s.geometry.extents
-    pub is : one.lease ≡ extent_lease s.geometry extent
-    pub claim : Claim
-    pub wrote : IsIn (claim_done (extent_lease s.geometry extent) claim) done
-    pub held : hold_by_log s before done (extent_lease s.geometry extent) ≡ Held claim one.until
+  abbrev pub Claimed : List Exchange → InUse → Type 0
+  Claimed done one = IsClaimedHere s (log done) done one
 
   -- which claim has ended Busy first, if one has
   abbrev pub BusyIs : Option (ℕ × LeaseRecord) → List Exchange → Type 0
-  BusyIs None done = NoneBusy s (log []) done
-  BusyIs (Some met) done = (e : ℕ) × (e < s.geometry.extents) × (met.0 ≡ extent_lease s.geometry e) × FirstBusy s (log []) met.0 met.1 done
+  BusyIs None done = NoneBusy s (log done) done
+  BusyIs (Some met) done = (e : ℕ) × (e < s.geometry.extents) × (met.0 ≡ extent_lease s.geometry e) × FirstBusy s (log done) met.0 met.1 done
 
   -- how far a take has come: the maps of some extents were read, and none is free there while too few are in hand and no lease was busy;
-  -- leases of extents from `tried` on are held as at the first reading
-  pub record Taken (M : ℕ → Type 0) (tried : ℕ) (done : List Exchange) (t : Taking) : Type 0 where
-    pub has : HasFirst done
-    pub first : first_reading done ≡ Some reading
-    pub went : WentOn done
-    pub claims : t.known.claims ≡ claims_in s.geometry done + claims_begun s.geometry before
+  -- leases of extents from `tried` on are held as at its start
+  pub record HasTaken (M : ℕ → Type 0) (tried : ℕ) (done : List Exchange) (t : Taking) : Type 0 where
+    pub has : HasFirst (after_work first done)
+    pub went : WentOn (after_work first done)
+    pub claims : t.known.claims ≡ claims_in s.geometry (after_work first done) + claims_begun s.geometry first.before
     pub sessions : (image : ℕ) → t.known.sessions image ≡ known.sessions image
-    pub at_rest : (l : ℕ) → l < lease_count s.geometry → IsRest (hold_by_log s before done l)
-    pub spared : Spared s before done s.geometry.images
-    pub hand : hand_by_log s before done ≡ t.hand
+    pub at_rest : (l : ℕ) → l < lease_count s.geometry → IsRest (hold_by_log s first.before (after_work first done) l)
+    pub others : HoldsOthers s first (log done)
+    pub hand : hand_by_log s first.before (after_work first done) ≡ t.hand
     pub within : (b : ℕ) → HasBlock t.hand b → extent_of s.geometry b < s.geometry.extents
     pub claimed : (one : InUse) → IsUse one t.claimed → Claimed done one
     pub all : (e until : ℕ) (claim : Claim) → e < s.geometry.extents → IsIn (claim_done (extent_lease s.geometry e) claim) done →
-        IsUntil until (hold_by_log s before done (extent_lease s.geometry e)) → IsUse (extent_use s.geometry e until) t.claimed
+        IsUntil until (hold_by_log s first.before (after_work first done) (extent_lease s.geometry e)) → IsUse (extent_use s.geometry e until) t.claimed
     pub busy : BusyIs t.busy done
     pub later : (e : ℕ) → tried ≤ e → e < s.geometry.extents →
-        hold_by_log s before done (extent_lease s.geometry e) ≡ start s before reading (lease_at (extent_lease s.geometry e))
+        hold_by_log s first.before (after_work first done) (extent_lease s.geometry e) ≡ holds (lease_at (extent_lease s.geometry e))
     pub maps : length t.hand < count → (e : ℕ) → M e → ReadAt s done e × (t.busy ≡ None → FullAt s done t.hand e)
 
   pub some-blocks : 1 ≤ s.geometry.extent_blocks
   some-blocks = omega (arith, geometry.blocks_low)
 
   -- which claim was busy first is told by one more exchange that ends none Busy
-  pub busy-more : (b : Option (ℕ × LeaseRecord)) (x : Exchange) (done : List Exchange) → ((l : ℕ) (seen : LeaseRecord) → l < lease_count s.geometry → ¬ IsBusy s (with_exchanges (log []) (x ∷ done)) l seen) →
+  pub busy-more : (b : Option (ℕ × LeaseRecord)) (x : Exchange) (done : List Exchange) → ((l : ℕ) (seen : LeaseRecord) → l < lease_count s.geometry → ¬ IsBusy s (log (x ∷ done)) l seen) →
       BusyIs b done → BusyIs b (x ∷ done)
   busy-more None x done none is = (none, is)
   busy-more (Some met) x done none is = (is.0, is.1, is.2, inr is.3)
 
   -- more maps were read
-  pub with-maps : (M M' : ℕ → Type 0) (tried : ℕ) (done : List Exchange) (t : Taking) → Taken M tried done t →
-      (length t.hand < count → (e : ℕ) → M' e → ReadAt s done e × (t.busy ≡ None → FullAt s done t.hand e)) → Taken M' tried done t
+  pub with-maps : (M M' : ℕ → Type 0) (tried : ℕ) (done : List Exchange) (t : Taking) → HasTaken M tried done t →
+      (length t.hand < count → (e : ℕ) → M' e → ReadAt s done e × (t.busy ≡ None → FullAt s done t.hand e)) → HasTaken M' tried done t
   with-maps M M' tried done t r maps' = record {
     has = r.has;
-    first = r.first;
     went = r.went;
     claims = r.claims;
     sessions = r.sessions;
     at_rest = r.at_rest;
-    spared = r.spared;
+    others = r.others;
     hand = r.hand;
     within = r.within;
     claimed = r.claimed;
@@ -139,16 +143,15 @@ module _ (s : Setting) (geometry : IsGeometry s.geometry) (before : List Finishe
     maps = maps';
   }
 
-  -- fewer leases are as at the first reading
-  pub with-tried : (M : ℕ → Type 0) (tried tried' : ℕ) (done : List Exchange) (t : Taking) → tried ≤ tried' → Taken M tried done t → Taken M tried' done t
+  -- fewer leases are as at its start
+  pub with-tried : (M : ℕ → Type 0) (tried tried' : ℕ) (done : List Exchange) (t : Taking) → tried ≤ tried' → HasTaken M tried done t → HasTaken M tried' done t
   with-tried M tried tried' done t le r = record {
     has = r.has;
-    first = r.first;
     went = r.went;
     claims = r.claims;
     sessions = r.sessions;
     at_rest = r.at_rest;
-    spared = r.spared;
+    others = r.others;
     hand = r.hand;
     within = r.within;
     claimed = r.claimed;
@@ -159,24 +162,21 @@ module _ (s : Setting) (geometry : IsGeometry s.geometry) (before : List Finishe
   }
 
   -- an exchange that leaves all leases, and adds these blocks to the hand
-  pub more-taken : (M : ℕ → Type 0) (tried : ℕ) (done : List Exchange) (t : Taking) (x : Exchange) (blocks : List ℕ) → Taken M tried done t →
-      claims_in s.geometry (x ∷ done) ≡ claims_in s.geometry done → GoesOn x.answer →
-      ((l : ℕ) → l < lease_count s.geometry → hold_by_log s before (x ∷ done) l ≡ hold_by_log s before done l) →
-      hand_answered s.geometry (last_found done) x.ask x.bytes x.answer (hand_by_log s before done) ≡ t.hand ++ blocks →
-      ((b : ℕ) → HasBlock blocks b → (extent_of s.geometry b < s.geometry.extents) × (is_held (hold_by_log s before done (extent_lease s.geometry (extent_of s.geometry b))) ≡ true)) →
-      ((l : ℕ) (seen : LeaseRecord) → l < lease_count s.geometry → ¬ IsBusy s (with_exchanges (log []) (x ∷ done)) l seen) → claims_at x.ask ≡ false →
-      ((e : ℕ) → M e → given_after_exchanges (x ∷ done) nothing_given (map_at s.geometry e) ≡ given_after_exchanges done nothing_given (map_at s.geometry e)) → Taken M tried (x ∷ done) (with_taken t blocks)
+  pub more-taken : (M : ℕ → Type 0) (tried : ℕ) (done : List Exchange) (t : Taking) (x : Exchange) (blocks : List ℕ) → HasTaken M tried done t →
+      claims_in s.geometry (after_work first (x ∷ done)) ≡ claims_in s.geometry (after_work first done) → GoesOn x.answer →
+      ((l : ℕ) → l < lease_count s.geometry → hold_by_log s first.before (after_work first (x ∷ done)) l ≡ hold_by_log s first.before (after_work first done) l) →
+      hand_answered s.geometry (last_found (after_work first done)) x.ask x.bytes x.answer (hand_by_log s first.before (after_work first done)) ≡ t.hand ++ blocks →
+      ((b : ℕ) → HasBlock blocks b → (extent_of s.geometry b < s.geometry.extents) × (is_held (hold_by_log s first.before (after_work first done) (extent_lease s.geometry (extent_of s.geometry b))) ≡ true)) →
+      ((l : ℕ) (seen : LeaseRecord) → l < lease_count s.geometry → ¬ IsBusy s (log (x ∷ done)) l seen) → claims_at x.ask ≡ false →
+      ((e : ℕ) → M e → given_after_exchanges (x ∷ done) nothing_given (map_at s.geometry e) ≡ given_after_exchanges done nothing_given (map_at s.geometry e)) → HasTaken M tried (x ∷ done) (with_taken t blocks)
   more-taken M tried done t x blocks r begun goes same answered own none quiet stands = record {
     has = tt;
-    first = first-more done x reading r.first;
     went = (goes, r.went);
-    claims = r.claims ∙ ap (λ n. n + claims_begun s.geometry before) (sym begun);
+    claims = r.claims ∙ ap (λ n. n + claims_begun s.geometry first.before) (sym begun);
     sessions = r.sessions;
     at_rest = λ l below. subst IsRest (sym (same l below)) (r.at_rest l below);
-    spared = λ other apart below attached held. (
-        let h = r.spared other apart below attached held in
-        (h.0, h.1, same (image_lease other) (image-below s.geometry other below) ∙ h.2));
-    hand = hand-more s before x done r.has ∙ (ap (hand_held s.geometry H) answered ∙ filter-all (λ c. is_held (H (lease_at (extent_lease s.geometry (extent_of s.geometry c))))) (t.hand ++ blocks) still);
+    others = λ l below apart. same l below ∙ r.others l below apart;
+    hand = hand-more s first.before x (after_work first done) r.has ∙ (ap (hand_held s.geometry H) answered ∙ filter-all (λ c. is_held (H (lease_at (extent_lease s.geometry (extent_of s.geometry c))))) (t.hand ++ blocks) still);
     within = λ b has. elim (has-append t.hand blocks b has) [ inl old ↦ r.within b old | inr new ↦ (own b new).0 ];
     claimed = λ one is. (
         let c = r.claimed one is in record {
@@ -202,12 +202,12 @@ module _ (s : Setting) (geometry : IsGeometry s.geometry) (before : List Finishe
   }
     where
       H : ℕ → Hold
-      H = holds_along s.geometry (is_attached before) (holds_after s.geometry before) (x ∷ done)
+      H = holds_along s.geometry (is_attached first.before) (holds_after s.geometry first.before) (after_work first (x ∷ done))
 
       still : (c : ℕ) → HasBlock (t.hand ++ blocks) c → is_held (H (lease_at (extent_lease s.geometry (extent_of s.geometry c)))) ≡ true
       still c has = elim (has-append t.hand blocks c has) [
         | inl old ↦ ap is_held (same (extent_lease s.geometry (extent_of s.geometry c)) (extent-below s.geometry _ (r.within c old)))
-            ∙ hand-is-held s before done c r.has (subst (λ (h : List ℕ). HasBlock h c) (sym r.hand) old)
+            ∙ hand-is-held s first.before (after_work first done) c r.has (subst (λ (h : List ℕ). HasBlock h c) (sym r.hand) old)
         | inr new ↦ (let o = own c new in ap is_held (same (extent_lease s.geometry (extent_of s.geometry c)) (extent-below s.geometry _ o.0)) ∙ o.1)
       ]
 
@@ -219,39 +219,39 @@ module _ (s : Setting) (geometry : IsGeometry s.geometry) (before : List Finishe
   no-more t i = record t { hand = append-none t.hand i }
 
   -- an exchange that leaves all leases and the hand
-  pub still-taken : (M : ℕ → Type 0) (tried : ℕ) (done : List Exchange) (t : Taking) (x : Exchange) → Taken M tried done t →
-      claims_in s.geometry (x ∷ done) ≡ claims_in s.geometry done → GoesOn x.answer →
-      ((l : ℕ) → l < lease_count s.geometry → hold_by_log s before (x ∷ done) l ≡ hold_by_log s before done l) →
-      hand_answered s.geometry (last_found done) x.ask x.bytes x.answer (hand_by_log s before done) ≡ hand_by_log s before done →
-      ((l : ℕ) (seen : LeaseRecord) → l < lease_count s.geometry → ¬ IsBusy s (with_exchanges (log []) (x ∷ done)) l seen) → claims_at x.ask ≡ false →
-      ((e : ℕ) → M e → given_after_exchanges (x ∷ done) nothing_given (map_at s.geometry e) ≡ given_after_exchanges done nothing_given (map_at s.geometry e)) → Taken M tried (x ∷ done) t
+  pub still-taken : (M : ℕ → Type 0) (tried : ℕ) (done : List Exchange) (t : Taking) (x : Exchange) → HasTaken M tried done t →
+      claims_in s.geometry (after_work first (x ∷ done)) ≡ claims_in s.geometry (after_work first done) → GoesOn x.answer →
+      ((l : ℕ) → l < lease_count s.geometry → hold_by_log s first.before (after_work first (x ∷ done)) l ≡ hold_by_log s first.before (after_work first done) l) →
+      hand_answered s.geometry (last_found (after_work first done)) x.ask x.bytes x.answer (hand_by_log s first.before (after_work first done)) ≡ hand_by_log s first.before (after_work first done) →
+      ((l : ℕ) (seen : LeaseRecord) → l < lease_count s.geometry → ¬ IsBusy s (log (x ∷ done)) l seen) → claims_at x.ask ≡ false →
+      ((e : ℕ) → M e → given_after_exchanges (x ∷ done) nothing_given (map_at s.geometry e) ≡ given_after_exchanges done nothing_given (map_at s.geometry e)) → HasTaken M tried (x ∷ done) t
   still-taken M tried done t x r begun goes same answered none quiet stands =
-      subst (λ (t' : Taking). Taken M tried (x ∷ done) t') (no-more t)
+      subst (λ (t' : Taking). HasTaken M tried (x ∷ done) t') (no-more t)
       (more-taken M tried done t x [] r begun goes same (answered ∙ (r.hand ∙ sym (append-none t.hand))) (λ b has. absurd (let P : ⊥ = cc in P)) none quiet stands)
 
   -- a map is read
-  pub map-taken : (M : ℕ → Type 0) (tried : ℕ) (done : List Exchange) (t : Taking) (e : ℕ) (bytes : List ℕ) → ¬ M e → Taken M tried done t → Taken M tried (read_of (map_at s.geometry e) bytes ∷ done) t
+  pub map-taken : (M : ℕ → Type 0) (tried : ℕ) (done : List Exchange) (t : Taking) (e : ℕ) (bytes : List ℕ) → ¬ M e → HasTaken M tried done t → HasTaken M tried (read_of (map_at s.geometry e) bytes ∷ done) t
   map-taken M tried done t e bytes new r =
       let x = read_of (map_at s.geometry e) bytes in
-      let H = holds_along s.geometry (is_attached before) (holds_after s.geometry before) done in
-      still-taken M tried done t x r (claims-more s.geometry done x r.has (map-no-lease s.geometry e)) tt
-      (λ l below. ap (λ (h : ℕ → Hold). h (lease_at l)) (along-more s.geometry (is_attached before) (holds_after s.geometry before) x done r.has)
+      let H = holds_along s.geometry (is_attached first.before) (holds_after s.geometry first.before) (after_work first done) in
+      still-taken M tried done t x r (claims-more s.geometry (after_work first done) x r.has (map-no-lease s.geometry e)) tt
+      (λ l below. ap (λ (h : ℕ → Hold). h (lease_at l)) (along-more s.geometry (is_attached first.before) (holds_after s.geometry first.before) x (after_work first done) r.has)
       ∙ at-other H (map_at s.geometry e) (lease_at l) _ (lease-map s.geometry l e below))
-      refl (λ l seen below. map-unbusy s (log []) (x ∷ done) e bytes refl l seen below) refl
+      refl (λ l seen below. map-unbusy s first (after_work first (x ∷ done)) e bytes refl l seen below) refl
       (λ e' m. with-other (given_after_exchanges done nothing_given) (map_at s.geometry e) bytes (map_at s.geometry e') (λ same. new (subst M (map-map s.geometry e' e some-blocks same) m)))
 
   -- the clock is read
-  pub clock-taken : (M : ℕ → Type 0) (tried : ℕ) (done : List Exchange) (t : Taking) (last : ℕ) → Taken M tried done t → Taken M tried (clock last ∷ done) t
+  pub clock-taken : (M : ℕ → Type 0) (tried : ℕ) (done : List Exchange) (t : Taking) (last : ℕ) → HasTaken M tried done t → HasTaken M tried (clock last ∷ done) t
   clock-taken M tried done t last r =
-      still-taken M tried done t (clock last) r (claims-more s.geometry done (clock last) r.has refl) tt
-      (λ l below. ap (λ (h : ℕ → Hold). h (lease_at l)) (along-more s.geometry (is_attached before) (holds_after s.geometry before) (clock last) done r.has) ∙ timed-rests last _ (r.at_rest l below))
-      refl (λ l seen below. unread-unbusy s (log []) (clock last ∷ done) refl l seen) refl (λ e m. refl)
+      still-taken M tried done t (clock last) r (claims-more s.geometry (after_work first done) (clock last) r.has refl) tt
+      (λ l below. ap (λ (h : ℕ → Hold). h (lease_at l)) (along-more s.geometry (is_attached first.before) (holds_after s.geometry first.before) (clock last) (after_work first done) r.has) ∙ timed-rests last _ (r.at_rest l below))
+      refl (λ l seen below. unread-unbusy s first (after_work first (clock last ∷ done)) refl l seen) refl (λ e m. refl)
 
   -- ---- blocks are taken
 
   module _ (M : ℕ → Type 0) (tried : ℕ) (d : List Exchange) (t : Taking) (e until : ℕ) (claim : Claim) (bytes : List ℕ) (bits : List Bool) (blocks : List ℕ) (k : ℕ) (below : e < s.geometry.extents)
-      (new : ¬ M e) (r : Taken M tried (read_of (map_at s.geometry e) bytes ∷ d) t) (is : read_map s.geometry.extent_blocks bytes ≡ Some bits) (same : take k (free_from t.hand (map_at s.geometry e) bits) ≡ blocks)
-      (held : hold_by_log s before (read_of (map_at s.geometry e) bytes ∷ d) (extent_lease s.geometry e) ≡ Held claim until) where
+      (new : ¬ M e) (r : HasTaken M tried (read_of (map_at s.geometry e) bytes ∷ d) t) (is : read_map s.geometry.extent_blocks bytes ≡ Some bits) (same : take k (free_from t.hand (map_at s.geometry e) bits) ≡ blocks)
+      (held : hold_by_log s first.before (after_work first (read_of (map_at s.geometry e) bytes ∷ d)) (extent_lease s.geometry e) ≡ Held claim until) where
     abbrev pub read_so : List Exchange
     read_so = read_of (map_at s.geometry e) bytes ∷ d
 
@@ -280,20 +280,20 @@ module _ (s : Setting) (geometry : IsGeometry s.geometry) (before : List Finishe
     pub were-free : (b : ℕ) → HasBlock blocks b → HasBlock (free_from t.hand (map_at s.geometry e) bits) b
     were-free b has = has-take k (free_from t.hand (map_at s.geometry e) bits) b (subst (λ (l : List ℕ). HasBlock l b) (sym same) has)
 
-    own : (b : ℕ) → HasBlock blocks b → (extent_of s.geometry b < s.geometry.extents) × (is_held (hold_by_log s before read_so (extent_lease s.geometry (extent_of s.geometry b))) ≡ true)
+    own : (b : ℕ) → HasBlock blocks b → (extent_of s.geometry b < s.geometry.extents) × (is_held (hold_by_log s first.before (after_work first read_so) (extent_lease s.geometry (extent_of s.geometry b))) ≡ true)
     own b has =
         let w = free-within t.hand (map_at s.geometry e) bits b (were-free b has) in
         let here : extent_of s.geometry b ≡ e = extent-found s.geometry e b w.0 (omega (arith, w.1, long)) in
-        (omega (arith, below, here), ap (λ n. is_held (hold_by_log s before read_so (extent_lease s.geometry n))) here ∙ ap is_held held)
+        (omega (arith, below, here), ap (λ n. is_held (hold_by_log s first.before (after_work first read_so) (extent_lease s.geometry n))) here ∙ ap is_held held)
 
-    pub take-taken : Taken M tried (write_so ∷ read_so) (with_taken t blocks)
+    pub take-taken : HasTaken M tried (write_so ∷ read_so) (with_taken t blocks)
     take-taken =
-        more-taken M tried read_so t write_so blocks r (claims-more s.geometry read_so write_so r.has refl) tt
-        (λ l less. ap (λ (h : ℕ → Hold). h (lease_at l)) (along-more s.geometry (is_attached before) (holds_after s.geometry before) write_so read_so r.has))
-        answered own (λ l seen less. unread-unbusy s (log []) (write_so ∷ read_so) refl l seen) refl
+        more-taken M tried read_so t write_so blocks r (claims-more s.geometry (after_work first read_so) write_so r.has refl) tt
+        (λ l less. ap (λ (h : ℕ → Hold). h (lease_at l)) (along-more s.geometry (is_attached first.before) (holds_after s.geometry first.before) write_so (after_work first read_so) r.has))
+        answered own (λ l seen less. unread-unbusy s first (after_work first (write_so ∷ read_so)) refl l seen) refl
         (λ e' m. with-other (given_after_exchanges read_so nothing_given) (map_at s.geometry e) out_so (map_at s.geometry e') (λ at. new (subst M (map-map s.geometry e' e some-blocks at) m)))
       where
-        answered : hand_answered s.geometry (last_found read_so) write_so.ask write_so.bytes write_so.answer (hand_by_log s before read_so) ≡ t.hand ++ blocks
+        answered : hand_answered s.geometry (last_found (after_work first read_so)) write_so.ask write_so.bytes write_so.answer (hand_by_log s first.before (after_work first read_so)) ≡ t.hand ++ blocks
         answered = let one = eqb-true (map_at s.geometry e) (map_at s.geometry e) refl in rw one (λ i. r.hand i ++ added i)
 
     -- where still too few are in hand, none is free there any more
@@ -311,45 +311,81 @@ module _ (s : Setting) (geometry : IsGeometry s.geometry) (before : List Finishe
 
   -- ---- ends
 
-  -- a reply that leaves what is known
-  pub rests-kept : (M : ℕ → Type 0) (tried : ℕ) (done : List Exchange) (t : Taking) (r : Reply) → Taken M tried done t → ((other : ℕ) (b : Bool) → attached_by r (Reserve count) other b ≡ b) → KeepsHolds r →
-      Rests s (finish (Reserve count) done r ∷ before) t.known
-  rests-kept M tried done t r taken none keeps = rests-still s before (Reserve count) done r known t.known (λ other. refl) taken.sessions none keeps taken.spared taken.claims rests
+  -- after these exchanges, with so many answers left, the rest of the take keeps the rules
+  abbrev pub Keeping : List Exchange → Part End → (n : ℕ) → Type 0
+  Keeping done part n = Meets work.May work.Shows (after_work first done) part n
+
+  -- what is known by now is what the log shows
+  pub known-by-log : (done : List Exchange) (k : Known) → ((image : ℕ) → k.sessions image ≡ known.sessions image) →
+      k.claims ≡ claims_in s.geometry (after_work first done) + claims_begun s.geometry first.before → k ≡ counted_by_log s (log done) known
+  known-by-log done k same claims i = record { sessions = λ image. same image i; claims = claims i }
+
+  -- the take is refused
+  pub refuses : (done : List Exchange) (k : Known) (r : Reply) (n : ℕ) → ((image : ℕ) → k.sessions image ≡ known.sessions image) →
+      k.claims ≡ claims_in s.geometry (after_work first done) + claims_begun s.geometry first.before → HoldsOthers s first (log done) → RefusesTake s (log done) done count r →
+      Keeping done (ends r k) n
+  refuses done k r n same claims others why =
+      subst (λ (k' : Known). Keeping done (ends r k') n) (sym (known-by-log done k same claims)) (work.fails done _ (takes.refused r why others))
+
+  pub refuses-taken : (M : ℕ → Type 0) (tried : ℕ) (done : List Exchange) (t : Taking) (r : Reply) (n : ℕ) → HasTaken M tried done t → RefusesTake s (log done) done count r → Keeping done (ends r t.known) n
+  refuses-taken M tried done t r n taken why = refuses done t.known r n taken.sessions taken.claims taken.others why
+
+  -- the lease of an extent is lost
+  pub loses : (done : List Exchange) (l e until last claims n : ℕ) → l ≡ extent_lease s.geometry e →
+      claims ≡ claims_in s.geometry (after_work first done) + lost_claim s.geometry (reply.Lost (lease.Extent (record { 0 = e })) until last) (after_work first done) + claims_begun s.geometry first.before →
+      WasLost s (log done) done (lease.Extent (record { 0 = e })) until last → Keeping done (ends (reply.Lost (lease_name s.geometry l) until last) (nothing_known claims)) n
+  loses done l e until last claims n at counted why =
+      subst (λ (name : LeaseName). Keeping done (ends (reply.Lost name until last) (nothing_known claims)) n) (sym (ap (lease_name s.geometry) at ∙ extent-name s.geometry e))
+      (subst (λ c. Keeping done (ends (reply.Lost (lease.Extent (record { 0 = e })) until last) (nothing_known c)) n) (sym counted) (work.fails done _ (takes.lost (record { 0 = e }) until last why)))
+
+  -- a write came too late for its guard, the end of the lease of an extent
+  pub write-missed : (done : List Exchange) (k : WriteKind) (block : BlockNo) (bytes : List ℕ) (e until last claims n : ℕ) → RestsOn s.geometry k block.0 (lease.Extent (record { 0 = e })) →
+      claims ≡ claims_in s.geometry (after_work first (exchange (ask.Write k block until) bytes (answer.Missed last) ∷ done)) + claims_begun s.geometry first.before →
+      Keeping (exchange (ask.Write k block until) bytes (answer.Missed last) ∷ done) (ends (reply.Lost (lease_name s.geometry (extent_lease s.geometry e)) until last) (nothing_known claims)) n
+  write-missed done k block bytes e until last claims n on counted =
+      let x = exchange (ask.Write k block until) bytes (answer.Missed last) in
+      loses (x ∷ done) (extent_lease s.geometry e) e until last claims n refl
+      (let none = written-none s.geometry (lease.Extent (record { 0 = e })) until last x (after_work first done) refl in omega (arith, none, counted))
+      (replies.missed k block bytes (done, refl) on)
+
+  -- a write failed
+  pub write-failed : (done : List Exchange) (k : WriteKind) (block : BlockNo) (guard : ℕ) (bytes : List ℕ) (claims n : ℕ) →
+      claims ≡ claims_in s.geometry (after_work first (exchange (ask.Write k block guard) bytes answer.Fault ∷ done)) + claims_begun s.geometry first.before →
+      Keeping (exchange (ask.Write k block guard) bytes answer.Fault ∷ done) (ends (reply.WriteFault block) (nothing_known claims)) n
+  write-failed done k block guard bytes claims n counted =
+      let x = exchange (ask.Write k block guard) bytes answer.Fault in
+      subst (λ c. Keeping (x ∷ done) (ends (reply.WriteFault block) (nothing_known c)) n) (sym counted) (work.fails (x ∷ done) _ (takes.unwritten k block guard bytes (done, refl)))
 
   -- a lease that was claimed is in use
-  pub claimed-use : (done : List Exchange) (one : InUse) → (c : Claimed done one) → IsExtentInUse s (log done) c.extent one.until
+  pub claimed-use : (done : List Exchange) (one : InUse) → (c : Claimed done one) → IsExtentInUse s (log done) done c.extent one.until
   claimed-use done one c = going c.claim c.below c.wrote (holdings.held c.claim c.held)
 
   -- a reading has reached leases in use
-  pub lost-reading : (done : List Exchange) (last : ℕ) (k : Known) (uses : List InUse) (due : InUse) (n : ℕ) → IsLastReading (log done) last → first_reading done ≡ Some reading →
-      ((e : ℕ) → Rests s (finish (Reserve count) done (reply.Lost (lease.Extent (record { 0 = e })) due.until last) ∷ before) (nothing_known k.claims)) →
-      ((one : InUse) → IsUse one uses → (e : ℕ) × (one.lease ≡ extent_lease s.geometry e) × IsExtentInUse s (log done) e one.until) →
-      ((e until : ℕ) → IsExtentInUse s (log done) e until → IsUse (extent_use s.geometry e until) uses) → first_reached uses last ≡ Some due →
-      Right s before (Reserve count) done (lost s k due last) n
-  lost-reading done last k uses due n is first after sound complete reached =
-      let f : IsFirst uses last due = subst (TellsFirst uses last) reached (first-tells uses last) in
+  pub lost-reading : (done : List Exchange) (last : ℕ) (k : Known) (uses : List InUse) (due : InUse) (n : ℕ) → IsLastReading done last →
+      ((e : ℕ) → k.claims ≡ claims_in s.geometry (after_work first done) + lost_claim s.geometry (reply.Lost (lease.Extent (record { 0 = e })) due.until last) (after_work first done) + claims_begun s.geometry first.before) →
+      ((one : InUse) → IsUse one uses → (e : ℕ) × (one.lease ≡ extent_lease s.geometry e) × IsExtentInUse s (log done) done e one.until) →
+      ((e until : ℕ) → IsExtentInUse s (log done) done e until → IsUse (extent_use s.geometry e until) uses) → first_reached uses last ≡ Some due →
+      Keeping done (lost s k due last) n
+  lost-reading done last k uses due n is counted sound complete reached =
+      let f : IsFirstDue uses last due = subst (TellsFirstDue uses last) reached (first-tells uses last) in
       let own = sound due f.among in
-      let name : lease_name s.geometry due.lease ≡ lease.Extent (record { 0 = own.0 }) = ap (lease_name s.geometry) own.1 ∙ extent-name s.geometry own.0 in
-      subst (λ (l : LeaseName). Right s before (Reserve count) done (ends (reply.Lost l due.until last) (nothing_known k.claims)) n) (sym name) (
-        replied-fine s before (Reserve count) reading (reserve-fine s before count reading) done first (reply.Lost (lease.Extent (record { 0 = own.0 })) due.until last)
-            (replies.reached_extent (record { 0 = own.0 }) is own.2 f.past (λ other until' used le. order own.0 own.1 other until' (f.first (extent_use s.geometry other until') (complete other until' used) le))),
-        after own.0,
-      )
+      loses done due.lease own.0 due.until last k.claims n own.1 (counted own.0)
+      (replies.reached_extent (record { 0 = own.0 }) is own.2 f.past (λ other until' used le. order own.0 own.1 other until' (f.first (extent_use s.geometry other until') (complete other until' used) le)))
     where
       order : (e : ℕ) → due.lease ≡ extent_lease s.geometry e → (other until' : ℕ) → NotAfter due (extent_use s.geometry other until') → IsNamedFirst e due.until other until'
       order e at other until' (inl less) = inl less
       order e at other until' (inr same) = inr (same.0, (let l = same.1 in omega (arith, at)))
 
   -- a take goes on rightly from there
-  abbrev pub Goes : (M : ℕ → Type 0) → (tried : ℕ) → (Taking → Part End) → (n : ℕ) → Type 0
-  Goes M tried rest n = (t : Taking) (done : List Exchange) → Taken M tried done t → Right s before (Reserve count) done (rest t) n
+  abbrev pub MeetsTaking : (M : ℕ → Type 0) → (tried : ℕ) → (Taking → Part End) → (n : ℕ) → Type 0
+  MeetsTaking M tried rest n = (t : Taking) (done : List Exchange) → HasTaken M tried done t → Keeping done (rest t) n
 
-  pub more : (n : ℕ) (part : Part End) (done : List Exchange) → Right s before (Reserve count) done part n → Right s before (Reserve count) done part (suc n)
-  more n part done right = meets-more (May s before (Reserve count)) (Shows s before (Reserve count)) part done n right
+  pub more : (n : ℕ) (part : Part End) (done : List Exchange) → Keeping done part n → Keeping done part (suc n)
+  more n part done right = meets-more work.May work.Shows part (after_work first done) n right
 
   -- one more map was read
-  pub extended : (M M' : ℕ → Type 0) (tried : ℕ) (done : List Exchange) (t : Taking) (e : ℕ) → Taken M tried done t → ((other : ℕ) → M' other → M other ⊎ (other ≡ e)) →
-      (length t.hand < count → ReadAt s done e × (t.busy ≡ None → FullAt s done t.hand e)) → Taken M' tried done t
+  pub extended : (M M' : ℕ → Type 0) (tried : ℕ) (done : List Exchange) (t : Taking) (e : ℕ) → HasTaken M tried done t → ((other : ℕ) → M' other → M other ⊎ (other ≡ e)) →
+      (length t.hand < count → ReadAt s done e × (t.busy ≡ None → FullAt s done t.hand e)) → HasTaken M' tried done t
   extended M M' tried done t e r split fact = with-maps M M' tried done t r (λ few other m'. elim (split other m') [
     | inl m ↦ r.maps few other m
     | inr same ↦ subst (λ n. ReadAt s done n × (t.busy ≡ None → FullAt s done t.hand n)) (sym same) (fact few)
@@ -357,68 +393,67 @@ module _ (s : Setting) (geometry : IsGeometry s.geometry) (before : List Finishe
 
   -- ---- reads of maps
 
-  pub read-failed : (M : ℕ → Type 0) (tried : ℕ) (done : List Exchange) (t : Taking) (e n : ℕ) → Taken M tried done t →
-      Right s before (Reserve count) (exchange (ask.Read (record { 0 = map_at s.geometry e })) [] answer.Fault ∷ done) (ends (reply.ReadFault (record { 0 = map_at s.geometry e })) t.known) n
+  pub read-failed : (M : ℕ → Type 0) (tried : ℕ) (done : List Exchange) (t : Taking) (e n : ℕ) → HasTaken M tried done t →
+      Keeping (exchange (ask.Read (record { 0 = map_at s.geometry e })) [] answer.Fault ∷ done) (ends (reply.ReadFault (record { 0 = map_at s.geometry e })) t.known) n
   read-failed M tried done t e n r =
       let x = exchange (ask.Read (record { 0 = map_at s.geometry e })) [] answer.Fault in
-      let begun = claims-more s.geometry done x r.has (map-no-lease s.geometry e) in (
-        replied-fine s before (Reserve count) reading (reserve-fine s before count reading) (x ∷ done) (first-more done x reading r.first) (reply.ReadFault (record { 0 = map_at s.geometry e })) (done, refl),
-        rests-still s before (Reserve count) (x ∷ done) (reply.ReadFault (record { 0 = map_at s.geometry e })) known t.known (λ other. refl) r.sessions (λ other b. refl) (λ h. refl)
-            (spared-more s before done x s.geometry.images r.has (λ other apart. tt) r.spared) (let c = r.claims in omega (arith, begun)) rests,
-      )
+      let begun = claims-more s.geometry (after_work first done) x r.has (map-no-lease s.geometry e) in
+      refuses (x ∷ done) t.known (reply.ReadFault (record { 0 = map_at s.geometry e })) n r.sessions (let c = r.claims in omega (arith, begun))
+      (λ l below apart. ap (λ (h : ℕ → Hold). h (lease_at l)) (along-more s.geometry (is_attached first.before) (holds_after s.geometry first.before) x (after_work first done) r.has) ∙ r.others l below apart)
+      (takes.unread (record { 0 = map_at s.geometry e }) (done, refl))
 
   -- bytes that are no map end the take after one more reading
-  pub right-damaged : (M : ℕ → Type 0) (tried : ℕ) (d : List Exchange) (t : Taking) (e n : ℕ) (bytes : List ℕ) (uses : List InUse) → Taken M tried (read_of (map_at s.geometry e) bytes ∷ d) t →
+  pub right-damaged : (M : ℕ → Type 0) (tried : ℕ) (d : List Exchange) (t : Taking) (e n : ℕ) (bytes : List ℕ) (uses : List InUse) → HasTaken M tried (read_of (map_at s.geometry e) bytes ∷ d) t →
       read_map s.geometry.extent_blocks bytes ≡ None →
       ((last : ℕ) (one : InUse) → IsUse one uses →
-      (e' : ℕ) × (one.lease ≡ extent_lease s.geometry e') × IsExtentInUse s (log (clock last ∷ read_of (map_at s.geometry e) bytes ∷ d)) e' one.until) →
+      (e' : ℕ) × (one.lease ≡ extent_lease s.geometry e') × IsExtentInUse s (log (clock last ∷ read_of (map_at s.geometry e) bytes ∷ d)) (clock last ∷ read_of (map_at s.geometry e) bytes ∷ d) e' one.until) →
       ((one : InUse) → IsUse one t.claimed → IsUse one uses) →
-      ((last : ℕ) (claim : Claim) (until : ℕ) → hold_by_log s before (clock last ∷ read_of (map_at s.geometry e) bytes ∷ d) (extent_lease s.geometry e) ≡ Held claim until → IsUse (extent_use s.geometry e until) uses) →
-      Right s before (Reserve count) (read_of (map_at s.geometry e) bytes ∷ d) (damaged_part s t.known uses (map_at s.geometry e)) (suc n)
-  right-damaged M tried d t e n bytes uses r none sound wider own = ((r.went, tt), λ last small. go last (first_reached uses last) refl)
+      ((last : ℕ) (claim : Claim) (until : ℕ) → hold_by_log s first.before (after_work first (clock last ∷ read_of (map_at s.geometry e) bytes ∷ d)) (extent_lease s.geometry e) ≡ Held claim until → IsUse (extent_use s.geometry e until) uses) →
+      Keeping (read_of (map_at s.geometry e) bytes ∷ d) (damaged_part s t.known uses (map_at s.geometry e)) (suc n)
+  right-damaged M tried d t e n bytes uses r none sound wider own = (work.may (read_of (map_at s.geometry e) bytes ∷ d) _ _ (r.went, tt) tt, λ last small. go last (first_reached uses last) refl)
     where
       done : List Exchange
       done = read_of (map_at s.geometry e) bytes ∷ d
 
-      complete : (last e' until : ℕ) → IsExtentInUse s (log (clock last ∷ done)) e' until → IsUse (extent_use s.geometry e' until) uses
+      complete : (last e' until : ℕ) → IsExtentInUse s (log (clock last ∷ done)) (clock last ∷ done) e' until → IsUse (extent_use s.geometry e' until) uses
       complete last e' until (going claim below was is) = wider (extent_use s.geometry e' until) ((clock-taken M tried done t last r).all e' until claim below was is)
       complete last e' until (unread claim bytes' last' older' below is waited none') =
           absurd (lease-map s.geometry (extent_lease s.geometry e') e (extent-below s.geometry e' below) (sym (ap block_second is)))
       complete last e' until (rested claim bytes' last' older' below is none' held) =
           let same : e ≡ e' = map-map s.geometry e e' some-blocks (ap block_second is) in
           subst (λ n'. IsUse (extent_use s.geometry n' until) uses) same
-          (own last claim until (subst (λ n'. hold_by_log s before (clock last ∷ done) (extent_lease s.geometry n') ≡ Held claim until) (sym same) held))
+          (own last claim until (subst (λ n'. hold_by_log s first.before (after_work first (clock last ∷ done)) (extent_lease s.geometry n') ≡ Held claim until) (sym same) held))
 
       go : (last : ℕ) (found : Option InUse) → first_reached uses last ≡ found →
-          Right s before (Reserve count) (clock last ∷ done) (unless_reached found (λ due. lost s t.known due last) (ends (reply.Damaged (record { 0 = map_at s.geometry e })) t.known)) n
+          Keeping (clock last ∷ done) (unless_reached found (λ due. lost s t.known due last) (ends (reply.Damaged (record { 0 = map_at s.geometry e })) t.known)) n
       go last (Some due) is =
           let r2 = clock-taken M tried done t last r in
-          lost-reading (clock last ∷ done) last t.known uses due n (of_clock (done, refl)) r2.first
-          (λ e'. rests-lost s before (Reserve count) (clock last ∷ done) (lease.Extent (record { 0 = e' })) due.until last t.known.claims
-          (unfound-none s.geometry (lease.Extent (record { 0 = e' })) due.until last (clock last) done (bad-map s.geometry (map_at s.geometry e) bytes none)) r2.claims)
+          lost-reading (clock last ∷ done) last t.known uses due n (of_clock (done, refl))
+          (λ e'. (
+          let none' = unfound-none s.geometry (lease.Extent (record { 0 = e' })) due.until last (clock last) (after_work first done) (bad-map s.geometry (map_at s.geometry e) bytes none) in
+          let c = r2.claims in
+          omega (arith, none')))
           (sound last) (complete last) is
       go last None is =
-          let r2 = clock-taken M tried done t last r in (
-            replied-fine s before (Reserve count) reading (reserve-fine s before count reading) (clock last ∷ done) r2.first (reply.Damaged (record { 0 = map_at s.geometry e }))
-                (in_map (record {
-                  extent = e;
-                  here = refl;
-                  bytes = bytes;
-                  reading = last;
-                  read = inr (inl refl);
-                  outside = none;
-                  last = (done, refl);
-                  below = λ claim until held. (subst (TellsFirst uses last) is (first-tells uses last)) (extent_use s.geometry e until) (own last claim until held);
-                })),
-            rests-kept M tried (clock last ∷ done) t (reply.Damaged (record { 0 = map_at s.geometry e })) r2 (λ other b. refl) (λ h. refl),
-          )
+          let r2 = clock-taken M tried done t last r in
+          refuses-taken M tried (clock last ∷ done) t (reply.Damaged (record { 0 = map_at s.geometry e })) n r2
+          (takes.map_damaged (record { 0 = map_at s.geometry e }) (record {
+            extent = e;
+            here = refl;
+            bytes = bytes;
+            reading = last;
+            read = inr (inl refl);
+            outside = none;
+            last = (done, refl);
+            below = λ claim until held. (subst (TellsFirstDue uses last) is (first-tells uses last)) (extent_use s.geometry e until) (own last claim until held);
+          }))
 
   -- blocks are taken of an extent whose lease is held
   pub right-here : (M M' : ℕ → Type 0) (tried e until m : ℕ) (claim : Claim) (rest : Taking → Part End) (t : Taking) (done : List Exchange) → e < s.geometry.extents → ¬ M e →
-      ((other : ℕ) → M' other → M other ⊎ (other ≡ e)) → length t.hand < count → Taken M tried done t → hold_by_log s before done (extent_lease s.geometry e) ≡ Held claim until → Goes M' tried rest m →
-      Right s before (Reserve count) done (take_here s count e until rest t) (suc (suc m))
+      ((other : ℕ) → M' other → M other ⊎ (other ≡ e)) → length t.hand < count → HasTaken M tried done t → hold_by_log s first.before (after_work first done) (extent_lease s.geometry e) ≡ Held claim until → MeetsTaking M' tried rest m →
+      Keeping done (take_here s count e until rest t) (suc (suc m))
   right-here M M' tried e until m claim rest t done below new split few r held goes = (
-    (r.went, tt),
+    work.may done _ _ (r.went, tt) (e, below, inl refl),
     λ bytes long. by-map bytes (read_map s.geometry.extent_blocks bytes) refl,
     read-failed M tried done t e (suc m) r,
   )
@@ -426,11 +461,11 @@ module _ (s : Setting) (geometry : IsGeometry s.geometry) (before : List Finishe
       place : ℕ
       place = map_at s.geometry e
 
-      now : (bytes : List ℕ) → hold_by_log s before (read_of place bytes ∷ done) (extent_lease s.geometry e) ≡ Held claim until
-      now bytes = hold-stays s before done (read_of place bytes) (extent_lease s.geometry e) claim until r.has tt held
+      now : (bytes : List ℕ) → hold_by_log s first.before (after_work first (read_of place bytes ∷ done)) (extent_lease s.geometry e) ≡ Held claim until
+      now bytes = hold-stays s first.before (after_work first done) (read_of place bytes) (extent_lease s.geometry e) claim until r.has tt held
 
       by-blocks : (bytes : List ℕ) (bits : List Bool) → read_map s.geometry.extent_blocks bytes ≡ Some bits → (blocks : List ℕ) →
-          take (count - length t.hand) (free_from t.hand place bits) ≡ blocks → Right s before (Reserve count) (read_of place bytes ∷ done) (set_part s e until bits blocks rest t) (suc m)
+          take (count - length t.hand) (free_from t.hand place bits) ≡ blocks → Keeping (read_of place bytes ∷ done) (set_part s e until bits blocks rest t) (suc m)
       by-blocks bytes bits is [] same =
           let r1 = map-taken M tried done t e bytes new r in
           more m (rest t) (read_of place bytes ∷ done) (goes t (read_of place bytes ∷ done)
@@ -444,31 +479,38 @@ module _ (s : Setting) (geometry : IsGeometry s.geometry) (before : List Finishe
           let out = map_bytes (with_set (block ∷ blocks) place bits) in
           let x = exchange (ask.Write kind.Take (record { 0 = place }) until) out answer.Done in
           let k = count - length t.hand in
-          asks-write s before t.known (Reserve count) reading (reserve-fine s before count reading) done1 (extent_lease s.geometry e) until kind.Take place out (rest (with_taken t (block ∷ blocks))) m
-          r1.first r1.claims (λ y e'. claims-more s.geometry done1 y r1.has (rw e' refl)) (extent-below s.geometry e below) (e, below, refl, refl) r1.went
-          (take_of_blocks e claim bytes bits (block ∷ blocks) below refl (now bytes) (done, refl) is
-          (λ b has. subst (λ (h : List ℕ). HasBlock (free_from h place bits) b) (sym r1.hand) (were-free M tried done t e until claim bytes bits (block ∷ blocks) k below new r1 is same (now bytes) b has)) refl)
-          (goes (with_taken t (block ∷ blocks)) (x ∷ done1)
-          (extended M M' tried (x ∷ done1) (with_taken t (block ∷ blocks)) e (take-taken M tried done t e until claim bytes bits (block ∷ blocks) k below new r1 is same (now bytes)) split (λ few'. (
-            (bytes, inr (inl refl)),
-            λ unbusy. take-full M tried done t e until claim bytes bits (block ∷ blocks) k below new r1 is same (now bytes) refl few',
-          ))))
+          let sum : (y : Exchange) → y.ask ≡ ask.Write kind.Take (record { 0 = place }) until → t.known.claims ≡ claims_in s.geometry (after_work first (y ∷ done1)) + claims_begun s.geometry first.before =
+          λ y is'. (let m' : claims_in s.geometry (after_work first (y ∷ done1)) ≡ claims_in s.geometry (after_work first done1) = claims-more s.geometry (after_work first done1) y r1.has (rw is' refl) in let c = r1.claims in omega (arith, m')) in (
+            work.may done1 _ _ (
+              r1.went,
+              take_of_blocks e claim bytes bits (block ∷ blocks) below refl (now bytes) (after_work first done, refl) is
+                  (λ b has. subst (λ (h : List ℕ). HasBlock (free_from h place bits) b) (sym r1.hand) (were-free M tried done t e until claim bytes bits (block ∷ blocks) k below new r1 is same (now bytes) b has)) refl,
+            ) (e, below, inl refl),
+            goes (with_taken t (block ∷ blocks)) (x ∷ done1)
+                (extended M M' tried (x ∷ done1) (with_taken t (block ∷ blocks)) e (take-taken M tried done t e until claim bytes bits (block ∷ blocks) k below new r1 is same (now bytes)) split (λ few'. (
+                  (bytes, inr (inl refl)),
+                  λ unbusy. take-full M tried done t e until claim bytes bits (block ∷ blocks) k below new r1 is same (now bytes) refl few',
+                ))),
+            write-failed done1 kind.Take (record { 0 = place }) until out t.known.claims m (sum (exchange (ask.Write kind.Take (record { 0 = place }) until) out answer.Fault) refl),
+            λ late past small. write-missed done1 kind.Take (record { 0 = place }) out e until late t.known.claims m (of_need (e, below, refl, refl))
+                (sum (exchange (ask.Write kind.Take (record { 0 = place }) until) out (answer.Missed late)) refl),
+          )
 
-      by-map : (bytes : List ℕ) (found : Option (List Bool)) → read_map s.geometry.extent_blocks bytes ≡ found → Right s before (Reserve count) (read_of place bytes ∷ done) (take_found s count e until found rest t) (suc m)
+      by-map : (bytes : List ℕ) (found : Option (List Bool)) → read_map s.geometry.extent_blocks bytes ≡ found → Keeping (read_of place bytes ∷ done) (take_found s count e until found rest t) (suc m)
       by-map bytes (Some bits) is = by-blocks bytes bits is (take (count - length t.hand) (free_from t.hand place bits)) refl
       by-map bytes None is =
           let r1 = map-taken M tried done t e bytes new r in
-          let still : (last : ℕ) → hold_by_log s before (clock last ∷ read_of place bytes ∷ done) (extent_lease s.geometry e) ≡ Held claim until =
-          λ last. hold-stays s before (read_of place bytes ∷ done) (clock last) (extent_lease s.geometry e) claim until tt tt (now bytes) in
+          let still : (last : ℕ) → hold_by_log s first.before (after_work first (clock last ∷ read_of place bytes ∷ done)) (extent_lease s.geometry e) ≡ Held claim until =
+          λ last. hold-stays s first.before (after_work first (read_of place bytes ∷ done)) (clock last) (extent_lease s.geometry e) claim until tt tt (now bytes) in
           right-damaged M tried done t e m bytes (extent_use s.geometry e until ∷ t.claimed) r1 is (sound r1 still) (λ one there. inr there)
           (λ last claim' until' held'. (
           let q : Held claim until ≡ Held claim' until' = sym (still last) ∙ held' in
           let u : until ≡ until' = cc in
           inl (ap (extent_use s.geometry e) (sym u))))
         where
-          sound : Taken M tried (read_of place bytes ∷ done) t → ((last : ℕ) → hold_by_log s before (clock last ∷ read_of place bytes ∷ done) (extent_lease s.geometry e) ≡ Held claim until) →
+          sound : HasTaken M tried (read_of place bytes ∷ done) t → ((last : ℕ) → hold_by_log s first.before (after_work first (clock last ∷ read_of place bytes ∷ done)) (extent_lease s.geometry e) ≡ Held claim until) →
               (last : ℕ) (one : InUse) → IsUse one (extent_use s.geometry e until ∷ t.claimed) →
-              (e' : ℕ) × (one.lease ≡ extent_lease s.geometry e') × IsExtentInUse s (log (clock last ∷ read_of place bytes ∷ done)) e' one.until
+              (e' : ℕ) × (one.lease ≡ extent_lease s.geometry e') × IsExtentInUse s (log (clock last ∷ read_of place bytes ∷ done)) (clock last ∷ read_of place bytes ∷ done) e' one.until
           sound r1 still last one (inl same) =
               (e, ap (λ (u : InUse). u.lease) same, rested claim bytes last done below refl is (still last ∙ ap (λ (u : InUse). Held claim u.until) (sym same)))
           sound r1 still last one (inr there) =

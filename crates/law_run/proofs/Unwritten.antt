@@ -1,6 +1,7 @@
 -- The bytes that were known before the writes of a command that read nothing.
 use Rattle.std.proofs.Common.{◌≡◌, ℕ, List, [], ◌∷◌, Bool, true, false, Option, refl, ◌∙◌}
-use Rattle.std.specs.Prelude.{if◌then◌else◌, ◌||◌}
+use Rattle.std.specs.Prelude.{if◌then◌else◌}
+use Rattle.plx_base.proofs.Tests.{or-parts}
 use Rattle.plx_disk.specs.declared.ask.Ask.{Ask}
 use Rattle.plx_disk.specs.declared.ask.Ask.TheVariants as ask
 use Rattle.plx_disk.specs.declared.ask.Answer.{Answer}
@@ -19,10 +20,6 @@ IsNoRead (ask.Until from) = Unit {0}
 abbrev pub ReadsNothing : List Exchange → Type 0
 ReadsNothing [] = Unit {0}
 ReadsNothing (x ∷ older) = IsNoRead x.ask × ReadsNothing older
-
-or-parts : (a b : Bool) → (a || b) ≡ false → (a ≡ false) × (b ≡ false)
-or-parts true b e = absurd (let P : ⊥ = cc in P)
-or-parts false b e = (refl, e)
 
 told-elsewhere : (a : Ask) (bytes : List ℕ) (x : Answer) (given : Given) (block : ℕ) → IsNoRead a → is_write_of block a ≡ false → given_after_exchange a bytes x given block ≡ given block
 told-elsewhere (ask.Read b) bytes x given block quiet other = absurd quiet

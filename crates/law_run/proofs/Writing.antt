@@ -46,11 +46,11 @@ use Rattle.law_run.proofs.Meets.{exchange}
 use Rattle.law_run.proofs.OnImage.{OnImage, names-own, names-other, still, on-image, Ready}
 use Rattle.law_run.proofs.Passed.{Passed, passed-at-most}
 use Rattle.law_run.proofs.Rests.{rests-by}
-use Rattle.law_run.proofs.Right.{clock, Fits, FitsAt, Rests, finish, log_on, Right}
+use Rattle.law_run.proofs.Right.{clock, FitsSession, FitsAt, Rests, finish, log_on, Right}
 use Rattle.law_run.proofs.Runs.{start, hand_start}
 use Rattle.law_run.proofs.Slots.{slot-below}
 use Rattle.law_run.proofs.Unwritten.{unwritten-quiet}
-use Rattle.law_run.proofs.Tests.{eqb-is, eqb-isn't, le-is, le-isn't, opposite-false, opposite-true}
+use Rattle.plx_base.proofs.Tests.{nat_le-tells, nat_le-past, not-false, eqb-is, eqb-isn't, opposite-true}
 use Rattle.plx_commands.proofs.Places.{at-other, at-same}
 
 pub on-write : (slot : SlotNo) (vblock : ℕ) (payload : Payload) → OnImage (Write slot vblock payload) slot.0
@@ -107,7 +107,7 @@ module _ (s : Setting) (some : 1 ≤ s.geometry.slots) (before : List Finished) 
       (write-clear s.geometry.slots slot vblock payload session n live below counted room)
 
   -- the next write, where these bytes are known
-  abbrev is-next : (done : List Exchange) (given : Given) → known_in s.geometry (log_on before (Write slot vblock payload) done) slot.0 ≡ given → Fits s.geometry given slot.0 session →
+  abbrev is-next : (done : List Exchange) (given : Given) → known_in s.geometry (log_on before (Write slot vblock payload) done) slot.0 ≡ given → FitsSession s.geometry given slot.0 session →
       is_live session.image ≡ true → length session.writes < s.geometry.slots → IsNext s (log_on before (Write slot vblock payload) done) slot.0 (write_count session + 1)
   is-next done given same fits live room = record {
     attached = ready.attached;
@@ -159,8 +159,8 @@ module _ (s : Setting) (some : 1 ≤ s.geometry.slots) (before : List Finished) 
         number_low = omega arith;
         number_high = omega (arith, counted);
       } in
-      let fits1 : Fits g given1 slot.0 session = fits-data g given slot.0 session bytes ready.fits room in
-      let fits2 : Fits g given2 slot.0 (with_write session write) =
+      let fits1 : FitsSession g given1 slot.0 session = fits-data g given slot.0 session bytes ready.fits room in
+      let fits2 : FitsSession g given2 slot.0 (with_write session write) =
       fits-more g given1 slot.0 session write fits1 limit live some room refl (with-block-same given block bytes) in
       let next = with_session known slot.0 (Some (with_write session write)) in
       let end_part = ends_in_time s known (image_use slot.0 until) (reply.Written (write_count session + 1)) next in
@@ -194,7 +194,7 @@ module _ (s : Setting) (some : 1 ≤ s.geometry.slots) (before : List Finished) 
         rests-by s before command done3 (reply.Written (write_count session + 1)) known next slot.0 (names-other command slot.0 on.named)
             (λ other apart. at-other known.sessions slot.0 other (Some (with_write session write)) apart) (λ other b apart. refl) (λ h. refl) going.spared
             (subst (λ o. FitsAt s (finish command done3 (reply.Written (write_count session + 1)) ∷ before) slot.0 o) (sym (at-same known.sessions slot.0 (Some (with_write session write))))
-            (ready.attached, subst (λ (h : Given). Fits g h slot.0 (with_write session write)) (sym known3) fits2, (claim, until, going.held)))
+            (ready.attached, subst (λ (h : Given). FitsSession g h slot.0 (with_write session write)) (sym known3) fits2, (claim, until, going.held)))
             (let a = rests.claims in let b = going.begun in omega arith) rests,
       ))))
 
@@ -216,23 +216,23 @@ module _ (s : Setting) (some : 1 ≤ s.geometry.slots) (before : List Finished) 
         still s before known command slot reading on rests reply.NoImage (λ other b. refl) (λ h. refl),
       ))
       (λ alive.
-      let live = opposite-false (is_live session.image) alive in
+      let live = not-false (is_live session.image) alive in
       by-unless P (nat_le (size_of session.image) vblock) (reply.OutOfRange (size_of session.image)) known _
       (λ past. (
-        refused 6 (reading, refl) (out_of_range slot.0 vblock session.image (of_write slot payload refl refl) found refl (le-is (size_of session.image) vblock past))
+        refused 6 (reading, refl) (out_of_range slot.0 vblock session.image (of_write slot payload refl refl) found refl (nat_le-tells (size_of session.image) vblock past))
             (λ p other refuses. passed-at-most s log 6 p other (place 6 (λ lt. live) (λ lt. absurd (omega arith)) (λ lt. absurd (omega arith)) (λ lt. absurd (omega arith)) done refl) refuses),
         still s before known command slot reading on rests (reply.OutOfRange (size_of session.image)) (λ other b. refl) (λ h. refl),
       ))
       (λ within.
-      let below = le-isn't (size_of session.image) vblock within in
+      let below = nat_le-past (size_of session.image) vblock within in
       by-unless P (is_worn last_write (write_count session)) (reply.WornOut last_write) known _
       (λ worn. (
-        refused 9 (reading, refl) (writes slot vblock payload session.image (write_count session) refl found counts (le-is last_write (write_count session) worn))
+        refused 9 (reading, refl) (writes slot vblock payload session.image (write_count session) refl found counts (nat_le-tells last_write (write_count session) worn))
             (λ p other refuses. passed-at-most s log 9 p other (place 9 (λ lt. live) (λ lt. below) (λ lt. absurd (omega arith)) (λ lt. absurd (omega arith)) done refl) refuses),
         still s before known command slot reading on rests (reply.WornOut last_write) (λ other b. refl) (λ h. refl),
       ))
       (λ fresh.
-      let counted = le-isn't last_write (write_count session) fresh in
+      let counted = nat_le-past last_write (write_count session) fresh in
       by-unless P (length session.writes == s.geometry.slots) reply.Full known _
       (λ filled. (
         refused 10 (reading, refl) (full slot vblock payload session.image (write_count session) refl found counts (ap (λ n. applied_of session.image + n) (eqb-is (length session.writes) s.geometry.slots filled)))

@@ -11,7 +11,7 @@ use Rattle.plx_rules.specs.Holds.{Waited}
 use Rattle.plx_rules.specs.Settings.{Setting}
 use Rattle.plx_rules.specs.Times.{is_expired}
 use Rattle.law_run.specs.AllowedAsks.{HasSampled}
-use Rattle.law_run.specs.CommandLogs.{Exchange, CommandLog, NewestIs, with_exchanges}
+use Rattle.law_run.specs.CommandLogs.{Exchange, CommandLog, NewestIs, without_newest}
 use Rattle.law_run.specs.Holdings.{hold_by_log}
 
 -- a lease is busy: a claim of this command read its record, which isn't expired for the claim's sample;
@@ -23,14 +23,14 @@ pub data IsBusy (s : Setting) (log : CommandLog) (lease : ℕ) (seen : LeaseReco
       NewestIs log.exchanges (ask.Read (record { 0 = lease_at lease })) [] (answer.Bytes bytes) older → hold_by_log s log.before older lease ≡ Waited claim until →
       read_lease bytes ≡ Some seen → seen ≢ lease_is.Claimed claim until → IsBusy s log lease seen
 
--- no claim of a lease ended Busy in these exchanges of a command
+-- no claim of a lease ended Busy in the newest exchanges of a command, which are these
 abbrev pub NoneBusy : Setting → CommandLog → List Exchange → Type 0
 NoneBusy s log [] = Unit {0}
 NoneBusy s log (exchange ∷ older) =
-    ((lease : ℕ) (seen : LeaseRecord) → lease < lease_count s.geometry → ¬ IsBusy s (with_exchanges log (exchange ∷ older)) lease seen) × NoneBusy s log older
+    ((lease : ℕ) (seen : LeaseRecord) → lease < lease_count s.geometry → ¬ IsBusy s log lease seen) × NoneBusy s (without_newest log) older
 
--- the first claim that ended Busy in these exchanges is that of this lease, with that record
+-- the first claim that ended Busy in the newest exchanges of a command, which are these, is that of this lease, with that record
 abbrev pub FirstBusy : Setting → CommandLog → (lease : ℕ) → LeaseRecord → List Exchange → Type 0
 FirstBusy s log lease seen [] = ⊥
 FirstBusy s log lease seen (exchange ∷ older) =
-    (IsBusy s (with_exchanges log (exchange ∷ older)) lease seen × NoneBusy s log older) ⊎ FirstBusy s log lease seen older
+    (IsBusy s log lease seen × NoneBusy s (without_newest log) older) ⊎ FirstBusy s (without_newest log) lease seen older

@@ -18,7 +18,7 @@ use Rattle.law_run.specs.AllowedAsks.{WentOn}
 use Rattle.law_run.specs.Busy.{IsBusy}
 use Rattle.law_run.specs.CommandLogs.{Exchange, CommandLog, WasAnswered, LastAnswered}
 use Rattle.law_run.specs.Holdings.{hold_by_log, Holds, claims_in, claims_begun}
-use Rattle.law_run.specs.Machines.{HasCome, IsRightAsk, IsRightEnd, Keeps}
+use Rattle.law_run.specs.Machines.{HasCome, IsRightAsk, IsRightEnd, Keeps, IsOfBlock}
 use Rattle.law_run.specs.Replies.{IsLastReading}
 use Rattle.law_run.specs.Rules.{IsSetting}
 
@@ -33,7 +33,7 @@ pub data AreInUse (log : CommandLog) (others : List InUse) (lease : ℕ) : List 
 pub data IsClaimLost (log : CommandLog) (others : List InUse) (lease : ℕ) (due : InUse) (reading : ℕ) : Type 0 where
   missed : (bytes : List ℕ) → LastAnswered log (ask.Write kind.Claim (record { 0 = lease_at lease }) due.until) bytes (answer.Missed reading) → due.lease ≡ lease →
       IsClaimLost log others lease due reading
-  reached : (uses : List InUse) → AreInUse log others lease uses → IsLastReading log reading → first_reached uses reading ≡ Some due → IsClaimLost log others lease due reading
+  reached : (uses : List InUse) → AreInUse log others lease uses → IsLastReading log.exchanges reading → first_reached uses reading ≡ Some due → IsClaimLost log others lease due reading
 
 -- a claim ends Damaged: its lease was read as bytes that are no lease, and the reading after that has reached no lease in use
 pub record IsClaimDamaged (log : CommandLog) (others : List InUse) (lease : ℕ) : Type 0 where
@@ -73,7 +73,7 @@ claim_bound = 6
 -- an ask of a claim that has come to this rest keeps the rules, by each log that leads there, within any command in which the claim may begin
 abbrev pub IsClaimAsk : (rest : Part ClaimEnd) → Ask → Type 0
 IsClaimAsk rest ask = (s : Setting) (log : CommandLog) (others : List InUse) (lease number : ℕ) (own : List Exchange) → IsSetting s → MayBeginClaim s log lease number →
-    HasCome (claim_part s.boot others lease number) own rest → IsRightAsk s log (lease_at lease) claim_bound own ask (bytes_out rest)
+    HasCome (claim_part s.boot others lease number) own rest → IsRightAsk s log (IsOfBlock (lease_at lease)) claim_bound own ask (bytes_out rest)
 
 -- the same of its end
 abbrev pub IsClaimEnd : (rest : Part ClaimEnd) → ClaimEnd → Type 0
@@ -83,4 +83,4 @@ IsClaimEnd rest end = (s : Setting) (log : CommandLog) (others : List InUse) (le
 -- each claim keeps the rules, whatever its answers are: its asks are allowed, at most six are answered, and its end has its cause
 abbrev pub ClaimsKeepRules : Type 0
 ClaimsKeepRules = (s : Setting) (log : CommandLog) (others : List InUse) (lease number : ℕ) → IsSetting s → MayBeginClaim s log lease number →
-    Keeps s log (lease_at lease) claim_bound (ShowsClaim s others lease) (claim_part s.boot others lease number)
+    Keeps s log (IsOfBlock (lease_at lease)) claim_bound (ShowsClaim s others lease) (claim_part s.boot others lease number)

@@ -67,17 +67,34 @@ abbrev pub IsIn : Exchange → List Exchange → Type 0
 IsIn exchange [] = ⊥
 IsIn exchange (other ∷ others) = (exchange ≡ other) ⊎ IsIn exchange others
 
+-- an ask was answered so in these exchanges
+abbrev pub WasAnsweredIn : List Exchange → Ask → List ℕ → Answer → Type 0
+WasAnsweredIn exchanges ask bytes answer = IsIn (record { ask = ask; bytes = bytes; answer = answer }) exchanges
+
 -- an ask of the command was answered so
 abbrev pub WasAnswered : CommandLog → Ask → List ℕ → Answer → Type 0
-WasAnswered log ask bytes answer = IsIn (record { ask = ask; bytes = bytes; answer = answer }) log.exchanges
+WasAnswered log ask bytes answer = WasAnsweredIn log.exchanges ask bytes answer
+
+-- the exchanges before the newest one
+abbrev pub older_than : List Exchange → List Exchange
+older_than [] = []
+older_than (exchange ∷ older) = older
+
+-- the log before its newest exchange
+abbrev pub without_newest : CommandLog → CommandLog
+without_newest log = with_exchanges log (older_than log.exchanges)
 
 -- the newest exchange is this one, after those
 abbrev pub NewestIs : List Exchange → Ask → List ℕ → Answer → (older : List Exchange) → Type 0
 NewestIs exchanges ask bytes answer older = exchanges ≡ (record { ask = ask; bytes = bytes; answer = answer }) ∷ older
 
+-- the last answer in these exchanges was this one
+abbrev pub LastAnsweredIn : List Exchange → Ask → List ℕ → Answer → Type 0
+LastAnsweredIn exchanges ask bytes answer = (older : List Exchange) × NewestIs exchanges ask bytes answer older
+
 -- the last answer of the command was this one
 abbrev pub LastAnswered : CommandLog → Ask → List ℕ → Answer → Type 0
-LastAnswered log ask bytes answer = (older : List Exchange) × NewestIs log.exchanges ask bytes answer older
+LastAnswered log ask bytes answer = LastAnsweredIn log.exchanges ask bytes answer
 
 -- the reading of an exchange that has none before it
 abbrev pub earliest : (before newer : Option ℕ) → Option ℕ

@@ -9,7 +9,7 @@ use Rattle.plx_disk.specs.declared.ask.Ask.TheVariants as ask
 use Rattle.plx_disk.specs.declared.ask.Answer.{Answer}
 use Rattle.plx_disk.specs.declared.ask.Answer.TheVariants as answer
 use Rattle.plx_geom.specs.Geometry.{Geometry, lease_count, image_lease, lease_at, map_at}
-use Rattle.plx_rules.specs.Hands.{found_by, hand_answered, hand_held}
+use Rattle.plx_rules.specs.Hands.{found_by, hand_answered, hand_held, is_held}
 use Rattle.plx_rules.specs.Holds.{Hold, Nothing, Wrote, Waited, Held, no_holds, after_answer, sample_of, holds_after_reply}
 use Rattle.plx_rules.specs.Rests.{extent_of}
 use Rattle.plx_rules.specs.Settings.{Setting}
@@ -59,7 +59,7 @@ HoldsImage s log image until = (claim : Claim) × Holds s log (image_lease image
 
 -- a lease isn't held
 abbrev pub IsNotHeld : Hold → Type 0
-IsNotHeld hold = (claim : Claim) (until : ℕ) → ¬ (hold ≡ Held claim until)
+IsNotHeld hold = is_held hold ≡ false
 
 -- a claim was written, which may have waited, or the lease is held
 pub data IsUntil (until : ℕ) : Hold → Type 0 where

@@ -19,3 +19,6 @@ pub mod Machines
 pub mod ClaimEnds
 pub mod Renewals
 pub mod Releases
+pub mod Takes
+pub mod OnHand
+pub mod RetireRules

@@ -33,10 +33,10 @@ IsOfBlock block (ask.Write kind written guard) = written.0 ≡ block
 IsOfBlock block ask.Clock = Unit {0}
 IsOfBlock block (ask.Until from) = Unit {0}
 
--- an ask of some work keeps the rules: it is allowed, it is of the work's block alone, and it is one of so many at most
-pub record IsRightAsk (s : Setting) (log : CommandLog) (block most : ℕ) (own : List Exchange) (ask : Ask) (bytes : List ℕ) : Type 0 where
+-- an ask of some work keeps the rules: it is allowed, it is of the work's place, and it is one of so many at most
+pub record IsRightAsk (s : Setting) (log : CommandLog) (Place : Ask → Type 0) (most : ℕ) (own : List Exchange) (ask : Ask) (bytes : List ℕ) : Type 0 where
   pub allowed : MayAsk s (with_work log own) ask bytes
-  pub place : IsOfBlock block ask
+  pub place : Place ask
   pub bounded : length own < most
 
 -- some work kept the rules up to its end: all asks of the command were allowed, if those before the work were; it had so many answers at most;
@@ -46,7 +46,7 @@ pub record IsRightEnd {E : Type 0} (s : Setting) (log : CommandLog) (most : ℕ)
   pub bounded : length own ≤ most
   pub shown : Shows (with_work log own) end
 
--- some work on a block, begun after the exchanges of this log, keeps the rules, however it is answered
-pub record Keeps {E : Type 0} (s : Setting) (log : CommandLog) (block most : ℕ) (Shows : CommandLog → E → Type 0) (start : Part E) : Type 0 where
-  pub asks : {own : List Exchange} {rest : Part E} → HasCome start own rest → (ask : Ask) → standing rest ≡ Some ask → IsRightAsk s log block most own ask (bytes_out rest)
+-- some work on a place, begun after the exchanges of this log, keeps the rules, however it is answered
+pub record Keeps {E : Type 0} (s : Setting) (log : CommandLog) (Place : Ask → Type 0) (most : ℕ) (Shows : CommandLog → E → Type 0) (start : Part E) : Type 0 where
+  pub asks : {own : List Exchange} {rest : Part E} → HasCome start own rest → (ask : Ask) → standing rest ≡ Some ask → IsRightAsk s log Place most own ask (bytes_out rest)
   pub ends : {own : List Exchange} {rest : Part E} → HasCome start own rest → (end : E) → rest ≡ Ends end → IsRightEnd s log most Shows own end

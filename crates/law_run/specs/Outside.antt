@@ -11,7 +11,7 @@ use Rattle.plx_rules.specs.Records.{is_plain, size_of, applied_of}
 use Rattle.plx_rules.specs.Stored.{Given, record_on, IsCounted}
 
 -- a write is missing: of those from the last one applied on, the least number that no descriptor counted has
-pub record IsMissing (g : Geometry) (given : Given) (image : ℕ) (kept : ImageRecord) (missing : ℕ) : Type 0 where
+pub record IsMissingNumber (g : Geometry) (given : Given) (image : ℕ) (kept : ImageRecord) (missing : ℕ) : Type 0 where
   pub above : applied_of kept < missing
   pub absent : (slot : ℕ) (d : Descriptor) → IsCounted g given image kept slot d → d.number ≢ missing
   pub there : (number : ℕ) → applied_of kept < number → number < missing → (slot : ℕ) × (d : Descriptor) × IsCounted g given image kept slot d × (d.number ≡ number)
@@ -29,5 +29,5 @@ pub data IsOutside (g : Geometry) (given : Given) (image : ℕ) (block : ℕ) (b
   past_size : (kept : ImageRecord) (slot : ℕ) (d : Descriptor) → slot < g.slots → block ≡ descriptor_at g image slot → record_on g given image ≡ Some kept →
       read_descriptor bytes ≡ Some (Some d) → is_unapplied kept d ≡ true → size_of kept ≤ d.vblock → IsOutside g given image block bytes
   past_gap : (kept : ImageRecord) (slot : ℕ) (d : Descriptor) (missing : ℕ) → block ≡ descriptor_at g image slot → record_on g given image ≡ Some kept →
-      IsCounted g given image kept slot d → IsMissing g given image kept missing → missing < d.number →
+      IsCounted g given image kept slot d → IsMissingNumber g given image kept missing → missing < d.number →
       ((other : ℕ) (e : Descriptor) → IsCounted g given image kept other e → missing < e.number → d.number ≤ e.number) → IsOutside g given image block bytes

@@ -16,7 +16,7 @@ use Rattle.plx_rules.specs.Settings.{Setting}
 use Rattle.law_run.specs.AllowedAsks.{WentOn}
 use Rattle.law_run.specs.CommandLogs.{Exchange, CommandLog, LastAnswered}
 use Rattle.law_run.specs.Holdings.{Holds, hold_by_log}
-use Rattle.law_run.specs.Machines.{HasCome, IsRightAsk, IsRightEnd, Keeps}
+use Rattle.law_run.specs.Machines.{HasCome, IsRightAsk, IsRightEnd, Keeps, IsOfBlock}
 
 -- how a release ends: the lease is free; its write was missed; or its write failed
 pub data ReleaseEnd : Type 0 where
@@ -53,7 +53,7 @@ ShowsRelease s lease until log ReleaseWriteFault = ReleaseAnswered log lease unt
 -- an ask of a release that has come to this rest keeps the rules, by each log that leads there, within any command in which the release may begin
 abbrev pub IsReleaseAsk : (rest : Part ReleaseEnd) → Ask → Type 0
 IsReleaseAsk rest ask = (s : Setting) (log : CommandLog) (lease until : ℕ) (own : List Exchange) → MayBeginRelease s log lease until →
-    HasCome (release_part lease until) own rest → IsRightAsk s log (lease_at lease) 1 own ask (bytes_out rest)
+    HasCome (release_part lease until) own rest → IsRightAsk s log (IsOfBlock (lease_at lease)) 1 own ask (bytes_out rest)
 
 -- the same of its end
 abbrev pub IsReleaseEnd : (rest : Part ReleaseEnd) → ReleaseEnd → Type 0
@@ -63,4 +63,4 @@ IsReleaseEnd rest end = (s : Setting) (log : CommandLog) (lease until : ℕ) (ow
 -- each release keeps the rules, whatever its answer is: its write is allowed, it is the one ask, and its end has its cause
 abbrev pub ReleasesKeepRules : Type 0
 ReleasesKeepRules = (s : Setting) (log : CommandLog) (lease until : ℕ) → MayBeginRelease s log lease until →
-    Keeps s log (lease_at lease) 1 (ShowsRelease s lease until) (release_part lease until)
+    Keeps s log (IsOfBlock (lease_at lease)) 1 (ShowsRelease s lease until) (release_part lease until)

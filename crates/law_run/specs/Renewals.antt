@@ -17,7 +17,7 @@ use Rattle.plx_rules.specs.Times.{term}
 use Rattle.law_run.specs.AllowedAsks.{WentOn}
 use Rattle.law_run.specs.CommandLogs.{Exchange, CommandLog, LastAnswered, first_reading}
 use Rattle.law_run.specs.Holdings.{Holds}
-use Rattle.law_run.specs.Machines.{HasCome, IsRightAsk, IsRightEnd, Keeps}
+use Rattle.law_run.specs.Machines.{HasCome, IsRightAsk, IsRightEnd, Keeps, IsOfBlock}
 
 -- how a renewal ends: the lease is held up to the later moment; its write was missed; or its write failed
 pub data RenewalEnd : Type 0 where
@@ -56,7 +56,7 @@ ShowsRenewal s lease claim until reading log RenewalWriteFault = RenewalAnswered
 -- an ask of a renewal that has come to this rest keeps the rules, by each log that leads there, within any command in which the renewal may begin
 abbrev pub IsRenewalAsk : (rest : Part RenewalEnd) → Ask → Type 0
 IsRenewalAsk rest ask = (s : Setting) (log : CommandLog) (lease : ℕ) (claim : Claim) (until reading : ℕ) (own : List Exchange) → MayBeginRenewal s log lease claim until reading →
-    HasCome (renewal_part lease claim until (renewal_until until reading)) own rest → IsRightAsk s log (lease_at lease) 1 own ask (bytes_out rest)
+    HasCome (renewal_part lease claim until (renewal_until until reading)) own rest → IsRightAsk s log (IsOfBlock (lease_at lease)) 1 own ask (bytes_out rest)
 
 -- the same of its end
 abbrev pub IsRenewalEnd : (rest : Part RenewalEnd) → RenewalEnd → Type 0
@@ -66,4 +66,4 @@ IsRenewalEnd rest end = (s : Setting) (log : CommandLog) (lease : ℕ) (claim : 
 -- each renewal keeps the rules, whatever its answer is: its write is allowed, it is the one ask, and its end has its cause
 abbrev pub RenewalsKeepRules : Type 0
 RenewalsKeepRules = (s : Setting) (log : CommandLog) (lease : ℕ) (claim : Claim) (until reading : ℕ) → MayBeginRenewal s log lease claim until reading →
-    Keeps s log (lease_at lease) 1 (ShowsRenewal s lease claim until reading) (renewal_part lease claim until (renewal_until until reading))
+    Keeps s log (IsOfBlock (lease_at lease)) 1 (ShowsRenewal s lease claim until reading) (renewal_part lease claim until (renewal_until until reading))

@@ -28,14 +28,14 @@ use Rattle.plx_rules.specs.Settings.{Setting}
 use Rattle.plx_rules.specs.Stored.{Holds, StoredImage, record_on, IsContent, Stores}
 use Rattle.law_run.specs.Busy.{IsBusy}
 use Rattle.law_run.specs.Changes.{written_on, created_on, deleted_on, report_on}
-use Rattle.law_run.specs.CommandLogs.{Exchange, CommandLog, WasAnswered, NewestIs, LastAnswered}
+use Rattle.law_run.specs.CommandLogs.{Exchange, CommandLog, WasAnswered, NewestIs, LastAnsweredIn, LastAnswered}
 use Rattle.law_run.specs.Holdings as holdings
 use Rattle.law_run.specs.Holdings.{hold_by_log, HoldsImage, IsUntil}
 use Rattle.law_run.specs.KnownBytes.{known_in, known_before}
 use Rattle.law_run.specs.Outside.{IsOutside}
 use Rattle.law_run.specs.Refusals.{Refuses, IsNamedFirst}
 use Rattle.law_run.specs.Sessions.{names}
-use Rattle.law_run.specs.Space.{IsExtentInUse, WasBusyForSpace, IsFull, IsWornOut, IsMapDamaged, IsLeaseDamaged, ShowsReserve, ShowsRetire}
+use Rattle.law_run.specs.Space.{IsExtentInUse, WasBusyForSpace, IsFull, IsWornOut, IsMapDamaged, IsLeaseDamaged, OfReserve, ShowsReserve, ShowsRetire}
 
 -- ---- leases
 
@@ -62,27 +62,29 @@ pub data IsInUse (s : Setting) (log : CommandLog) (image until : ℕ) : Type 0 w
       hold_by_log s log.before older (image_lease image) ≡ Waited claim until → read_lease bytes ≡ None →
       hold_by_log s log.before log.exchanges (image_lease image) ≡ Nothing → IsInUse s log image until
 
--- the last answer of a command was this reading
-pub data IsLastReading (log : CommandLog) (reading : ℕ) : Type 0 where
-  of_clock : LastAnswered log ask.Clock [] (answer.Reading reading) → IsLastReading log reading
-  of_wait : (from : ℕ) → LastAnswered log (ask.Until from) [] (answer.Reading reading) → IsLastReading log reading
+-- the last answer in these exchanges was this reading
+pub data IsLastReading (exchanges : List Exchange) (reading : ℕ) : Type 0 where
+  of_clock : LastAnsweredIn exchanges ask.Clock [] (answer.Reading reading) → IsLastReading exchanges reading
+  of_wait : (from : ℕ) → LastAnsweredIn exchanges (ask.Until from) [] (answer.Reading reading) → IsLastReading exchanges reading
 
 -- a lease is lost: a write that rests on it came too late for its guard; or a reading has reached its end while it was in use,
--- and of several such leases it is the one to be named; a command uses the leases of images or those of extents
-pub data WasLost (s : Setting) (log : CommandLog) : LeaseName → (until reading : ℕ) → Type 0 where
+-- and of several such leases it is the one to be named; a command uses the leases of images or those of extents. The exchanges `own` tell of it, the newest
+-- ones of the log: all those of a command, or those of work within it
+pub data WasLost (s : Setting) (log : CommandLog) (own : List Exchange) : LeaseName → (until reading : ℕ) → Type 0 where
   missed : {name : LeaseName} {until reading : ℕ} (kind : WriteKind) (block : BlockNo) (bytes : List ℕ) →
-      LastAnswered log (ask.Write kind block until) bytes (answer.Missed reading) → RestsOn s.geometry kind block.0 name → WasLost s log name until reading
-  reached : {until reading : ℕ} (slot : SlotNo) → IsLastReading log reading → IsInUse s log slot.0 until → until ≤ reading →
+      LastAnsweredIn own (ask.Write kind block until) bytes (answer.Missed reading) → RestsOn s.geometry kind block.0 name → WasLost s log own name until reading
+  reached : {until reading : ℕ} (slot : SlotNo) → IsLastReading own reading → IsInUse s log slot.0 until → until ≤ reading →
       ((other other_until : ℕ) → IsInUse s log other other_until → other_until ≤ reading → IsNamedFirst slot.0 until other other_until) →
-      WasLost s log (lease.Image slot) until reading
-  reached_extent : {until reading : ℕ} (extent : ExtentNo) → IsLastReading log reading → IsExtentInUse s log extent.0 until → until ≤ reading →
-      ((other other_until : ℕ) → IsExtentInUse s log other other_until → other_until ≤ reading → IsNamedFirst extent.0 until other other_until) →
-      WasLost s log (lease.Extent extent) until reading
+      WasLost s log own (lease.Image slot) until reading
+  reached_extent : {until reading : ℕ} (extent : ExtentNo) → IsLastReading own reading → IsExtentInUse s log own extent.0 until → until ≤ reading →
+      ((other other_until : ℕ) → IsExtentInUse s log own other other_until → other_until ≤ reading → IsNamedFirst extent.0 until other other_until) →
+      WasLost s log own (lease.Extent extent) until reading
 
 -- a claim of this command ended Busy with this record: that of the lease of an image which the command names; or that of an extent's lease, for space
 pub data WasBusy (s : Setting) (log : CommandLog) : LeaseName → LeaseRecord → Type 0 where
   of_image : {seen : LeaseRecord} (slot : SlotNo) → names log.command slot.0 ≡ true → IsBusy s log (image_lease slot.0) seen → WasBusy s log (lease.Image slot) seen
-  for_space : {seen : LeaseRecord} (extent : ExtentNo) → WasBusyForSpace s log extent.0 seen → WasBusy s log (lease.Extent extent) seen
+  for_space : {seen : LeaseRecord} (extent : ExtentNo) → OfReserve log (λ count. WasBusyForSpace s log log.exchanges count extent.0 seen) →
+      WasBusy s log (lease.Extent extent) seen
 
 -- ---- bytes outside the format
 
@@ -108,8 +110,8 @@ pub record IsImageDamaged (s : Setting) (log : CommandLog) (block : BlockNo) : T
 -- bytes outside the format were read at a block: of an image that the command names; of a map; or of an extent's lease
 pub data WasDamaged (s : Setting) (log : CommandLog) (block : BlockNo) : Type 0 where
   in_image : IsImageDamaged s log block → WasDamaged s log block
-  in_map : IsMapDamaged s log block → WasDamaged s log block
-  in_lease : IsLeaseDamaged s log block → WasDamaged s log block
+  in_map : IsMapDamaged s log log.exchanges block → WasDamaged s log block
+  in_lease : IsLeaseDamaged s log log.exchanges block → WasDamaged s log block
 
 -- ---- the Ok of each command
 
@@ -126,7 +128,7 @@ pub record ShowsImage (s : Setting) (log : CommandLog) (report : Report) : Type 
       ¬ IsOutside s.geometry (known_in s.geometry log slot.0) slot.0 block.0 bytes
 
 -- the image is detached: its lease is released
-pub record ShowsRelease (s : Setting) (log : CommandLog) : Type 0 where
+pub record ShowsDetached (s : Setting) (log : CommandLog) : Type 0 where
   pub slot : SlotNo
   pub command : log.command ≡ Detach slot
   pub guard : ℕ
@@ -187,7 +189,7 @@ pub record ShowsRenewals (s : Setting) (log : CommandLog) : Type 0 where
 -- why a reply comes of the work, and what it shows; a refusal that rests on a fact comes of none, and no command that is built has the Oks that show nothing
 abbrev pub Comes : Setting → CommandLog → Reply → Type 0
 Comes s log (reply.Attached report) = ShowsImage s log report
-Comes s log reply.Detached = ShowsRelease s log
+Comes s log reply.Detached = ShowsDetached s log
 Comes s log reply.Created = ShowsCreate s log
 Comes s log reply.Deleted = ShowsDelete s log
 Comes s log (reply.Data payload) = ShowsContent s log payload
@@ -203,12 +205,12 @@ Comes s log reply.NoImage = ⊥
 Comes s log reply.Exists = ⊥
 Comes s log (reply.OutOfRange size) = ⊥
 Comes s log (reply.Busy lease seen) = WasBusy s log lease seen
-Comes s log (reply.Lost lease until reading) = WasLost s log lease until reading
+Comes s log (reply.Lost lease until reading) = WasLost s log log.exchanges lease until reading
 Comes s log (reply.ReadFault block) = LastAnswered log (ask.Read block) [] answer.Fault
 Comes s log (reply.WriteFault block) = (kind : WriteKind) × (guard : ℕ) × (bytes : List ℕ) × LastAnswered log (ask.Write kind block guard) bytes answer.Fault
-Comes s log reply.Full = IsFull s log
+Comes s log reply.Full = OfReserve log (IsFull s log log.exchanges)
 Comes s log (reply.Damaged block) = WasDamaged s log block
-Comes s log (reply.WornOut count) = IsWornOut s log count
+Comes s log (reply.WornOut last) = OfReserve log (λ count. IsWornOut s log log.exchanges count last)
 
 -- a command was asked for its first reading alone
 abbrev pub IsAtFirst : CommandLog → Type 0

@@ -1,4 +1,6 @@
--- What the log of a reserve and of a retire shows.
+-- What the log of a reserve and of a retire shows, and that of a take within any command.
+--
+-- `own` are the exchanges of which it is told, the newest ones of the log: all those of a command, or those of work within it.
 use Rattle.std.specs.Prelude.{◌≡◌, ◌≢◌, ◌+◌, ◌≤◌, ◌<◌, ℕ, List, [], ◌∷◌, length, Some, None, true}
 use Rattle.plx_base.specs.declared.lease.Claim.{Claim}
 use Rattle.plx_base.specs.declared.lease.LeaseRecord.{LeaseRecord}
@@ -17,96 +19,99 @@ use Rattle.plx_rules.specs.Settings.{Setting}
 use Rattle.plx_rules.specs.Space.{read_map, free_from}
 use Rattle.plx_rules.specs.Times.{window, term}
 use Rattle.law_run.specs.Busy.{NoneBusy, FirstBusy}
-use Rattle.law_run.specs.CommandLogs.{Exchange, CommandLog, WasAnswered, LastAnswered}
+use Rattle.law_run.specs.CommandLogs.{Exchange, CommandLog, WasAnsweredIn, LastAnsweredIn, older_than}
 use Rattle.law_run.specs.Holdings.{hold_by_log, hand_by_log, Holds, IsUntil, IsNotHeld, claims_in, claims_begun}
 use Rattle.law_run.specs.KnownBytes.{nothing_given, given_after_exchanges}
 use Rattle.law_run.specs.Sessions.{is_attached}
 
 -- ---- leases of extents
 
--- the lease of an extent is in use until that moment: the command has written its claim, which goes on, or it is held since; or the claim has waited, and
+-- the lease of an extent is in use until that moment: its claim was written, which goes on, or it is held since; or the claim has waited, and
 -- its reread showed bytes that are no lease, after which the clock was asked; or it is held, and the clock was asked because its map was read as bytes
 -- that are no map
-pub data IsExtentInUse (s : Setting) (log : CommandLog) (extent until : ℕ) : Type 0 where
+pub data IsExtentInUse (s : Setting) (log : CommandLog) (own : List Exchange) (extent until : ℕ) : Type 0 where
   going : (claim : Claim) → extent < s.geometry.extents →
-      WasAnswered log (ask.Write kind.Claim (record { 0 = lease_at (extent_lease s.geometry extent) }) (claim.sample + window))
+      WasAnsweredIn own (ask.Write kind.Claim (record { 0 = lease_at (extent_lease s.geometry extent) }) (claim.sample + window))
       (lease_bytes (lease_is.Claimed claim (claim.sample + term))) answer.Done →
-      IsUntil until (hold_by_log s log.before log.exchanges (extent_lease s.geometry extent)) → IsExtentInUse s log extent until
+      IsUntil until (hold_by_log s log.before log.exchanges (extent_lease s.geometry extent)) → IsExtentInUse s log own extent until
   unread : (claim : Claim) (bytes : List ℕ) (reading : ℕ) (older : List Exchange) → extent < s.geometry.extents →
-      log.exchanges ≡ (record { ask = ask.Clock; bytes = []; answer = answer.Reading reading })
+      own ≡ (record { ask = ask.Clock; bytes = []; answer = answer.Reading reading })
       ∷ (record { ask = ask.Read (record { 0 = lease_at (extent_lease s.geometry extent) }); bytes = []; answer = answer.Bytes bytes }) ∷ older →
-      hold_by_log s log.before older (extent_lease s.geometry extent) ≡ Waited claim until → read_lease bytes ≡ None → IsExtentInUse s log extent until
+      hold_by_log s log.before (older_than (older_than log.exchanges)) (extent_lease s.geometry extent) ≡ Waited claim until →
+      read_lease bytes ≡ None → IsExtentInUse s log own extent until
   rested : (claim : Claim) (bytes : List ℕ) (reading : ℕ) (older : List Exchange) → extent < s.geometry.extents →
-      log.exchanges ≡ (record { ask = ask.Clock; bytes = []; answer = answer.Reading reading })
+      own ≡ (record { ask = ask.Clock; bytes = []; answer = answer.Reading reading })
       ∷ (record { ask = ask.Read (record { 0 = map_at s.geometry extent }); bytes = []; answer = answer.Bytes bytes }) ∷ older →
-      read_map s.geometry.extent_blocks bytes ≡ None → Holds s log (extent_lease s.geometry extent) claim until → IsExtentInUse s log extent until
+      read_map s.geometry.extent_blocks bytes ≡ None → Holds s log (extent_lease s.geometry extent) claim until → IsExtentInUse s log own extent until
 
 -- ---- maps
 
--- the map of an extent was read in this command
-abbrev pub WasMapRead : Setting → CommandLog → (extent : ℕ) → Type 0
-WasMapRead s log extent = (bytes : List ℕ) × WasAnswered log (ask.Read (record { 0 = map_at s.geometry extent })) [] (answer.Bytes bytes)
+-- the map of an extent was read
+abbrev pub WasMapRead : Setting → (own : List Exchange) → (extent : ℕ) → Type 0
+WasMapRead s own extent = (bytes : List ℕ) × WasAnsweredIn own (ask.Read (record { 0 = map_at s.geometry extent })) [] (answer.Bytes bytes)
 
--- the map of an extent was last read or written in this command with the bit of each block set that isn't in hand
-abbrev pub IsMapFull : Setting → CommandLog → (extent : ℕ) → Type 0
-IsMapFull s log extent =
-    (bytes : List ℕ) × (given_after_exchanges log.exchanges nothing_given (map_at s.geometry extent) ≡ Some bytes)
+-- the map of an extent was last read or written with the bit of each block set that isn't in hand
+abbrev pub IsMapFull : Setting → CommandLog → (own : List Exchange) → (extent : ℕ) → Type 0
+IsMapFull s log own extent =
+    (bytes : List ℕ) × (given_after_exchanges own nothing_given (map_at s.geometry extent) ≡ Some bytes)
     × (free_from (hand_by_log s log.before log.exchanges) (map_at s.geometry extent) (bits_of s.geometry.extent_blocks bytes) ≡ [])
 
 -- ---- why a take is refused
 
--- a take has failed: too few blocks are in hand, though the map of each extent was read
-pub record HasFailed (s : Setting) (log : CommandLog) : Type 0 where
-  pub count : ℕ
-  pub command : log.command ≡ Reserve count
+-- a take of so many blocks has failed: fewer are in hand, though the map of each extent was read
+pub record HasFailed (s : Setting) (log : CommandLog) (own : List Exchange) (count : ℕ) : Type 0 where
   pub few : length (hand_by_log s log.before log.exchanges) < count
-  pub read : (extent : ℕ) → extent < s.geometry.extents → WasMapRead s log extent
+  pub read : (extent : ℕ) → extent < s.geometry.extents → WasMapRead s own extent
 
 -- it has, and the first claim that ended Busy in it is that of this extent's lease, with that record
-pub record WasBusyForSpace (s : Setting) (log : CommandLog) (extent : ℕ) (seen : LeaseRecord) : Type 0 where
-  pub failed : HasFailed s log
-  pub first : FirstBusy s log (extent_lease s.geometry extent) seen log.exchanges
+pub record WasBusyForSpace (s : Setting) (log : CommandLog) (own : List Exchange) (count extent : ℕ) (seen : LeaseRecord) : Type 0 where
+  pub failed : HasFailed s log own count
+  pub first : FirstBusy s log (extent_lease s.geometry extent) seen own
 
 -- it has, no claim ended Busy in it, and each map is full
-pub record IsFull (s : Setting) (log : CommandLog) : Type 0 where
-  pub failed : HasFailed s log
-  pub unbusy : NoneBusy s log log.exchanges
-  pub full : (extent : ℕ) → extent < s.geometry.extents → IsMapFull s log extent
+pub record IsFull (s : Setting) (log : CommandLog) (own : List Exchange) (count : ℕ) : Type 0 where
+  pub failed : HasFailed s log own count
+  pub unbusy : NoneBusy s log own
+  pub full : (extent : ℕ) → extent < s.geometry.extents → IsMapFull s log own extent
 
--- a take needs a claim, and the boot has none left: too few blocks are in hand, and the map that was just read, of an extent whose lease isn't held, has a
--- clear bit of a block that isn't in hand
-pub record IsWornOut (s : Setting) (log : CommandLog) (last : ℕ) : Type 0 where
+-- a take of so many blocks needs a claim, and the boot has none left: fewer are in hand, and the map that was just read, of an extent whose lease isn't
+-- held, has a clear bit of a block that isn't in hand
+pub record IsWornOut (s : Setting) (log : CommandLog) (own : List Exchange) (count last : ℕ) : Type 0 where
   pub is : last ≡ last_claim
   pub begun : last_claim ≤ claims_in s.geometry log.exchanges + claims_begun s.geometry log.before
-  pub count : ℕ
-  pub command : log.command ≡ Reserve count
   pub few : length (hand_by_log s log.before log.exchanges) < count
   pub extent : ℕ
   pub unheld : IsNotHeld (hold_by_log s log.before log.exchanges (extent_lease s.geometry extent))
   pub bytes : List ℕ
-  pub read : LastAnswered log (ask.Read (record { 0 = map_at s.geometry extent })) [] (answer.Bytes bytes)
+  pub read : LastAnsweredIn own (ask.Read (record { 0 = map_at s.geometry extent })) [] (answer.Bytes bytes)
   pub free : free_from (hand_by_log s log.before log.exchanges) (map_at s.geometry extent) (bits_of s.geometry.extent_blocks bytes) ≢ []
 
 -- a map was read as bytes that are no map, and a later reading, the last ask, is below the end of its extent's lease, where that is held
-pub record IsMapDamaged (s : Setting) (log : CommandLog) (block : BlockNo) : Type 0 where
+pub record IsMapDamaged (s : Setting) (log : CommandLog) (own : List Exchange) (block : BlockNo) : Type 0 where
   pub extent : ℕ
   pub here : block.0 ≡ map_at s.geometry extent
   pub bytes : List ℕ
   pub reading : ℕ
-  pub read : WasAnswered log (ask.Read block) [] (answer.Bytes bytes)
+  pub read : WasAnsweredIn own (ask.Read block) [] (answer.Bytes bytes)
   pub outside : read_map s.geometry.extent_blocks bytes ≡ None
-  pub last : LastAnswered log ask.Clock [] (answer.Reading reading)
+  pub last : LastAnsweredIn own ask.Clock [] (answer.Reading reading)
   pub below : (claim : Claim) (until : ℕ) → Holds s log (extent_lease s.geometry extent) claim until → reading < until
 
 -- the lease of an extent was read as bytes that are no lease, and the clock was asked once more; such a read rests on no lease
-pub record IsLeaseDamaged (s : Setting) (log : CommandLog) (block : BlockNo) : Type 0 where
+pub record IsLeaseDamaged (s : Setting) (log : CommandLog) (own : List Exchange) (block : BlockNo) : Type 0 where
   pub extent : ℕ
   pub here : block.0 ≡ lease_at (extent_lease s.geometry extent)
   pub bytes : List ℕ
   pub reading : ℕ
-  pub read : WasAnswered log (ask.Read block) [] (answer.Bytes bytes)
+  pub read : WasAnsweredIn own (ask.Read block) [] (answer.Bytes bytes)
   pub outside : read_lease bytes ≡ None
-  pub last : LastAnswered log ask.Clock [] (answer.Reading reading)
+  pub last : LastAnsweredIn own ask.Clock [] (answer.Reading reading)
+
+-- ---- a reserve
+
+-- the command is a reserve, and this holds of its count
+abbrev pub OfReserve : CommandLog → (Fact : (count : ℕ) → Type 0) → Type 0
+OfReserve log Fact = (count : ℕ) × (log.command ≡ Reserve count) × Fact count
 
 -- ---- the Oks
 

@@ -11,7 +11,9 @@ ghost use Rattle.law_run.specs.OneImage.{StoresOneImage};
 ghost use Rattle.law_run.specs.Positions.{PositionsAgree};
 ghost use Rattle.law_run.specs.Releases.{ReleasesKeepRules};
 ghost use Rattle.law_run.specs.Renewals.{RenewalsKeepRules};
+ghost use Rattle.law_run.specs.RetireRules.{RetiresKeepRules};
 ghost use Rattle.law_run.specs.Rules.{RunsKeepRules};
+ghost use Rattle.law_run.specs.Takes.{TakesKeepRules};
 ghost use Rattle.law_run.specs.Worlds.{BootsKeepRules};
 
 /// Each run keeps the rules, whatever its answers were.
@@ -54,4 +56,17 @@ pub fn renewals_keep_rules()
 /// So does each release of a lease: its write is allowed, it is the one ask, and its end has its cause.
 pub fn releases_keep_rules()
     ensures { ReleasesKeepRules }
+{}
+
+/// So does each take of fresh blocks: its asks are allowed and of maps and leases of extents alone, at most eight
+/// for each extent are answered, and its end has its cause in its own exchanges.
+pub fn takes_keep_rules()
+    ensures { TakesKeepRules }
+{}
+
+/// So does the giving up of all extents: its asks are allowed and of one extent each, at most three for each extent
+/// are answered, and its end has its cause; where the command goes on, no extent's lease is held, and no block is
+/// in hand.
+pub fn retires_keep_rules()
+    ensures { RetiresKeepRules }
 {}

@@ -22,12 +22,12 @@ use Rattle.law_space.proofs.Marks.{MayMark}
 use Rattle.law_space.proofs.SpaceSteps.{reached-spaced}
 
 -- what is in hand while a give is asked was in hand
-hand-within : (g : Geometry) (place : Place) (found : Option (ℕ × List ℕ)) (hand : List ℕ) (block : ℕ) → is_in block (hand_at g place found hand) ≡ true → is_in block hand ≡ true
-hand-within g (In known command (WriteThen kind.Give b bytes guard done fault missed)) found hand block is = elim (hand-after g found kind.Give b bytes hand block is) [
+hand-before : (g : Geometry) (place : Place) (found : Option (ℕ × List ℕ)) (hand : List ℕ) (block : ℕ) → is_in block (hand_at g place found hand) ≡ true → is_in block hand ≡ true
+hand-before g (In known command (WriteThen kind.Give b bytes guard done fault missed)) found hand block is = elim (hand-after g found kind.Give b bytes hand block is) [
   | inl before ↦ before
   | inr taken ↦ absurd (let e : kind.Give ≡ kind.Take = taken.take in let P : ⊥ = cc in P)
 ]
-hand-within g other found hand block is = is
+hand-before g other found hand block is = is
 
 -- of a give that is waited for, it stays in hand
 hand-given : (g : Geometry) (place : Place) (found : Option (ℕ × List ℕ)) (hand : List ℕ) (block boot : ℕ) (write : Issued) → IsAskedAt place boot write → is_in block (hand_at g place found hand) ≡ true →
@@ -83,7 +83,7 @@ hands-allocated w reached a block below has = by_pending (w.seats a).pending ref
         (grip-held p.place (pending_write w.surface.writes (w.seats a).pending) lease (p.holds lease) has.owns.claim has.owns.until has.owns.held) has.owns.time
 
     in-hand : is_in block p.hand ≡ true
-    in-hand = hand-within g p.place p.found p.hand block has.here
+    in-hand = hand-before g p.place p.found p.hand block has.here
 
     by_pending : (pending : Option ℕ) → (w.seats a).pending ≡ pending → bit_of now (block - map_at g extent) ≡ true
     by_pending None is =

@@ -11,8 +11,6 @@ use Rattle.plx_commands.proofs.Places.{at-same, at-other}
 use Rattle.plx_commands.specs.Places.{at}
 use Rattle.plx_commands.specs.Replies.{is_in}
 use Rattle.plx_commands.specs.declared.command.Command.{Command}
-use Rattle.plx_commands.specs.declared.reply.Reply.{Reply}
-use Rattle.plx_commands.specs.declared.reply.Reply.TheVariants as reply
 use Rattle.plx_disk.specs.declared.ask.Ask.{Ask}
 use Rattle.plx_disk.specs.declared.ask.Answer.{Answer}
 use Rattle.plx_disk.specs.declared.ask.Answer.TheVariants as answer
@@ -21,11 +19,12 @@ use Rattle.plx_geom.specs.Geometry.{Geometry, extent_lease, lease_at}
 use Rattle.plx_rules.specs.Boot.{Happening, Began, Asked, Place, Idle, Begins, In, Position, position, after_part, first_part, first_read, goes_to, went_on}
 use Rattle.plx_rules.specs.Ends.{End}
 use Rattle.plx_rules.specs.Hands.{found_by, hand_answered, is_held}
-use Rattle.plx_rules.specs.Holds.{Hold, Nothing, Seen, Wrote, Waited, Held, after_answer, after_first, holds_after_reply, after_write, hold_after_renewal, sample_of, hold_after_read, hold_after_reading, hold_after_claim}
-use Rattle.plx_rules.specs.Part.{Part, Ends, ReadThen, WriteThen, ClockThen, UntilThen, answered}
+use Rattle.plx_rules.specs.Holds.{Hold, Nothing, Seen, Wrote, Waited, Held, after_answer, after_first, after_write, hold_after_renewal, sample_of, hold_after_read, hold_after_claim}
+use Rattle.plx_rules.specs.Part.{Part, answered}
 use Rattle.plx_rules.specs.Rests.{extent_of}
 use Rattle.plx_rules.specs.Session.{Known}
 use Rattle.plx_rules.specs.Settings.{Setting}
+use Rattle.plx_rules.proofs.Holds.{nothing-held}
 use Rattle.law_lease.proofs.Leased.{grip_while}
 use Rattle.law_space.proofs.Lists.{in-filter}
 
@@ -55,20 +54,6 @@ hand-held s (Began command ∷ older) = hand-held s older
 hand-held s (Asked ask bytes answer ∷ older) = hand-went s ask bytes answer (position s older) (position s older).place (hand-held s older)
 
 -- ---- what is held after an answer was held before
-
-pub nothing-held : {A : Type 0} (claim : Claim) (until : ℕ) → Nothing ≡ Held claim until → A
-nothing-held claim until e = absurd (let P : ⊥ = cc in P)
-
-pub part-held : (part : Part End) (holds : ℕ → Hold) (block : ℕ) (claim : Claim) (until : ℕ) → after_part part holds block ≡ Held claim until → holds block ≡ Held claim until
-part-held (Ends end) holds block claim until e = by_reply end.reply e
-  where
-    by_reply : (r : Reply) → holds_after_reply r holds block ≡ Held claim until → holds block ≡ Held claim until
-    by_reply (reply.Lost lease u reading) e' = nothing-held claim until e'
-    by_reply other e' = e'
-part-held (ReadThen b rest fault) holds block claim until e = e
-part-held (WriteThen k b bytes guard done fault missed) holds block claim until e = e
-part-held (ClockThen rest) holds block claim until e = e
-part-held (UntilThen from rest) holds block claim until e = e
 
 -- after a read it was held before, or wasn't held
 pub shown-held : (sample : Option ℕ) (bytes : List ℕ) (hold : Hold) (claim : Claim) (until : ℕ) → hold_after_read sample bytes hold ≡ Held claim until → (hold ≡ Held claim until) ⊎ (is_held hold ≡ false)

@@ -39,7 +39,7 @@ turned write now sector bit marking missing eight long long_now = by_sector (cas
     by_sector (inr apart) = inl ((landed-bits sector write.bytes now long long_now (omega (arith, eight, slice_get_within write.landed sector false missing))).outside bit apart)
 
 -- a landing that changes whether a block is allocated is of a write of its extent's map, which rests on the lease of the extent
-pub record Turns (w : World) (number sector : ℕ) (write : Issued) (block : ℕ) : Type 0 where
+pub record TurnsBlock (w : World) (number sector : ℕ) (write : Issued) (block : ℕ) : Type 0 where
   pub of_map : IsOfMap write.kind
   pub under : IsUnder w.rests number (extent_lease w.geometry (extent_of w.geometry block))
   pub base : List ℕ
@@ -49,7 +49,7 @@ pub record Turns (w : World) (number sector : ℕ) (write : Issued) (block : ℕ
 
 -- it changes nothing of a block, or is such a landing
 landing-turns : (w : World) → Reached w → (number sector : ℕ) (write : Issued) → MayLand w.surface number sector write → (block : ℕ) →
-    (is_allocated w.geometry (after_landing w.surface number write sector).device block ≡ is_allocated w.geometry w.surface.device block) ⊎ Turns w number sector write block
+    (is_allocated w.geometry (after_landing w.surface number write sector).device block ≡ is_allocated w.geometry w.surface.device block) ⊎ TurnsBlock w number sector write block
 landing-turns w reached number sector write may block = elim (eqb_tells map write.block) [
   | inr away ↦ inl (ap (λ (x : List ℕ). bit_of x bit) (put-other device write.block (with_landed_sector sector write.bytes (device write.block)) map away.1))
   | inl here ↦

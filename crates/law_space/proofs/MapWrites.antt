@@ -67,7 +67,7 @@ map-unlanded other flags is missing = absurd is
 -- ---- what is in hand once it is written
 
 -- the bit of this block in the bytes that a take writes
-pub record IsTaken (g : Geometry) (k : WriteKind) (map : ℕ) (bytes : List ℕ) (block : ℕ) : Type 0 where
+pub record IsTakenBit (g : Geometry) (k : WriteKind) (map : ℕ) (bytes : List ℕ) (block : ℕ) : Type 0 where
   pub take : k ≡ kind.Take
   pub bit : ℕ
   pub here : block ≡ map + bit
@@ -76,7 +76,7 @@ pub record IsTaken (g : Geometry) (k : WriteKind) (map : ℕ) (bytes : List ℕ)
 
 -- it was in hand, or its bit became set
 pub hand-after : (g : Geometry) (found : Option (ℕ × List ℕ)) (k : WriteKind) (map : ℕ) (bytes hand : List ℕ) (block : ℕ) → is_in block (hand_from g found k map bytes hand) ≡ true →
-    (is_in block hand ≡ true) ⊎ IsTaken g k map bytes block
+    (is_in block hand ≡ true) ⊎ IsTakenBit g k map bytes block
 hand-after g None k map bytes hand block is = inl is
 hand-after g (Some seen) k map bytes hand block is = by_test (seen.0 == map) is
   where
@@ -86,7 +86,7 @@ hand-after g (Some seen) k map bytes hand block is = by_test (seen.0 == map) is
     new : List Bool
     new = bits_of g.extent_blocks bytes
 
-    by_kind : (k' : WriteKind) → is_in block (hand_written k' map old new hand) ≡ true → (is_in block hand ≡ true) ⊎ IsTaken g k' map bytes block
+    by_kind : (k' : WriteKind) → is_in block (hand_written k' map old new hand) ≡ true → (is_in block hand ≡ true) ⊎ IsTakenBit g k' map bytes block
     by_kind kind.Take is' = elim (in-append block hand (set_since map old new) is') [
       | inl before ↦ inl before
       | inr since ↦
@@ -97,7 +97,7 @@ hand-after g (Some seen) k map bytes hand block is = by_test (seen.0 == map) is
     by_kind kind.Give is' = inl (in-filter (λ b. not (is_in b (set_since map new old))) block hand is').0
     by_kind other is' = inl is'
 
-    by_test : (t : Bool) → is_in block (if t then hand_written k map old new hand else hand) ≡ true → (is_in block hand ≡ true) ⊎ IsTaken g k map bytes block
+    by_test : (t : Bool) → is_in block (if t then hand_written k map old new hand else hand) ≡ true → (is_in block hand ≡ true) ⊎ IsTakenBit g k map bytes block
     by_test true is' = by_kind k is'
     by_test false is' = inl is'
 

@@ -7,7 +7,7 @@ use Rattle.plx_extent.proofs.Maps.{length-bits_from, map_bytes-bit}
 use Rattle.plx_extent.specs.Maps.{bit_of, bits_of, map_bytes}
 use Rattle.plx_rules.specs.Part.{Part, Ends, ReadThen, WriteThen, ClockThen, UntilThen}
 use Rattle.plx_rules.specs.Space.{is_own_set, read_map, with_clear, with_set}
-use Rattle.plx_rules.proofs.Maps.{length-with_clear, length-with_set}
+use Rattle.plx_rules.proofs.Maps.{clear-was, length-with_clear, length-with_set}
 
 -- the kinds of writes of maps
 abbrev pub IsOfMap : WriteKind → Type 0
@@ -57,13 +57,6 @@ take-keeps blocks bytes bits taken block most is bit set =
     map_bytes-bit (with_set taken block bits) bit (omega (arith, long, length-with_set taken block bits)) ∙ set-stays taken block bits bit was
 
 -- ---- bits that are cleared
-
--- a bit that is set was set
-clear-was : (blocks : List ℕ) (block : ℕ) (bits : List Bool) (i : ℕ) → get_or (with_clear blocks block bits) i false ≡ true → get_or bits i false ≡ true
-clear-was blocks block [] i is = is
-clear-was blocks block (true ∷ bits) zero is = refl
-clear-was blocks block (false ∷ bits) zero is = is
-clear-was blocks block (bit ∷ bits) (suc i) is = clear-was blocks (block + 1) bits i is
 
 -- a map with some bits cleared has no bit set that was clear
 pub give-had : (blocks : ℕ) (bytes : List ℕ) (bits : List Bool) (given : List ℕ) (block : ℕ) → blocks ≤ 32768 → read_map blocks bytes ≡ Some bits →

@@ -7,6 +7,7 @@ use Rattle.plx_base.specs.Sectors.{Device, put, with_landed_sector}
 use Rattle.plx_base.specs.declared.lease.Claim.{Claim}
 use Rattle.plx_base.specs.declared.write_kind.WriteKind.{WriteKind}
 use Rattle.plx_base.specs.declared.write_kind.WriteKind.TheVariants as kind
+use Rattle.plx_base.proofs.Tests.{eqb-is}
 use Rattle.plx_disk.proofs.Lists.{set-same, set-other}
 use Rattle.plx_disk.specs.Writes.{Issued, MayLand, with_sector}
 use Rattle.plx_geom.proofs.Places.{extent-below}
@@ -18,7 +19,7 @@ use Rattle.plx_rules.specs.Settings.{boot_number}
 use Rattle.plx_rules.specs.World.{World, Seat, setting_at}
 use Rattle.law_lease.proofs.LeaseFrames.{grip_while-open}
 use Rattle.law_lease.proofs.LeaseLands.{MayBeAsked, asked-may, grip-asked, not-whole, pending-other}
-use Rattle.law_lease.proofs.Leased.{Good, IsAskedAt, IsHeld, IsLive, Leased, grip_at, grip_while}
+use Rattle.law_lease.proofs.Leased.{Good, IsAskedAt, StandsConfirmed, IsLiveWrite, Leased, grip_at, grip_while}
 use Rattle.law_lease.proofs.Lists.{pending-is}
 use Rattle.law_space.proofs.Kept.{AreMarking, IsMarking, KeptSeat, MapKept, Spaced, lease_block}
 use Rattle.law_space.proofs.MapWrites.{kept-away, kept-landed, map-of, map-unlanded, marking-landed, on-map}
@@ -45,10 +46,6 @@ grip-before k same write sector bytes hold claim until missing e = elim (eqb_tel
     by_kind kind.Release true false unset e' = inl (ap (λ (b : Bool). grip_while kind.Release true b bytes hold) unset ∙ e')
     by_kind kind.Release false flag unset e' = inl e'
     by_kind other same flag unset e' = inl e'
-
--- two equal numbers, by their test
-tested : (a b : ℕ) → (a == b) ≡ true → a ≡ b
-tested a b e = elim (eqb_tells a b) [ inl same ↦ same.1 | inr away ↦ absurd (let f : true ≡ false = sym e ∙ away.0 in let P : ⊥ = cc in P) ]
 
 module _ (w : World) (leased : Leased w) (spaced : Spaced w) (number sector : ℕ) (write : Issued) (may : MayLand w.surface number sector write) where
   abbrev g : Geometry
@@ -121,7 +118,7 @@ module _ (w : World) (leased : Leased w) (spaced : Spaced w) (number sector : �
             | inr renewal ↦
                 let M : WriteKind → Type 0 = λ k. MayBeAsked g boot p.holds k write.block write.bytes write.guard in
                 let renew = (subst M renewal.1 (asked-may g boot p.holds p.sample p.place write asked' (leased.seated b below).lawful)).1 in
-                let hold : p.holds lease ≡ Held renew.claim renew.until = ap p.holds (tested lease write.block renewal.2 ∙ renew.at_lease) ∙ renew.hold in
+                let hold : p.holds lease ≡ Held renew.claim renew.until = ap p.holds (eqb-is lease write.block renewal.2 ∙ renew.at_lease) ∙ renew.hold in
                 let early = may.early in
                 let guarded = renew.guarded in
                 record { claim = renew.claim; until = renew.until; held = old ∙ unset renewal.0 hold; live = omega (arith, early, guarded) }
@@ -135,8 +132,8 @@ module _ (w : World) (leased : Leased w) (spaced : Spaced w) (number sector : �
         let there = extent-below g extent within in
         let on = on-map g leased.geometry write.kind write.block write.bytes (w.rests number) (leased.right number write may.found).placed extent (sym here) in
         let H : Hold → Type 0 = λ h. Good w.rests time writes home (leased.on home there).standing boot seat.pending h in
-        let is-held : IsHeld w.rests time writes home (leased.on home there).standing boot seat.pending c u = subst H held ((leased.on home there).each b below) in
-        let op : IsLive w.rests time writes home number write =
+        let is-held : StandsConfirmed w.rests time writes home (leased.on home there).standing boot seat.pending c u = subst H held ((leased.on home there).each b below) in
+        let op : IsLiveWrite w.rests time writes home number write =
         record { found = may.found; needs = on.1; missing = map-unlanded write.kind write.landed on.0 (not-whole write.landed sector may.missing); live = may.early } in
         is-held.only live number write op
 
@@ -189,8 +186,8 @@ module _ (w : World) (leased : Leased w) (spaced : Spaced w) (number sector : �
           let its = map-of g x.kind x.block x.bytes (w.rests m) of_map right.placed in
           let home = extent_lease g its.0 in
           let on = on-map g leased.geometry write.kind write.block write.bytes (w.rests number) (leased.right number write may.found).placed its.0 (sym here.1 ∙ its.2) in
-          let one : IsLive w.rests time writes home m x = record { found = old.1; needs = its.3; missing = map-unlanded x.kind x.landed of_map missing; live = live } in
-          let other : IsLive w.rests time writes home number write =
+          let one : IsLiveWrite w.rests time writes home m x = record { found = old.1; needs = its.3; missing = map-unlanded x.kind x.landed of_map missing; live = live } in
+          let other : IsLiveWrite w.rests time writes home number write =
           record { found = may.found; needs = on.1; missing = map-unlanded write.kind write.landed on.0 (not-whole write.landed sector may.missing); live = may.early } in
           absurd (old.0 ((leased.on home (extent-below g its.0 its.1)).alone m number x write one other))
       | inr away ↦

@@ -30,16 +30,16 @@ use Rattle.plx_rules.specs.World.{World, Seat, Step, Reached, setting_at}
 use Rattle.law_lease.proofs.LeaseFrames.{grip-open}
 use Rattle.law_lease.proofs.LeaseLands.{first-set}
 use Rattle.law_lease.proofs.LeaseSteps.{not-waiting, reached-leased}
-use Rattle.law_lease.proofs.Leased.{IsAskedAt, IsGranted, LawfulAt, Leased, MayWrite, grip_at, grip_while}
+use Rattle.law_lease.proofs.Leased.{IsAskedAt, IsGranted, LawfulAt, Leased, MayIssue, grip_at, grip_while}
 use Rattle.law_lease.proofs.Lists.{push-cases}
 use Rattle.law_space.proofs.CarefulCommands.{careful-command}
-use Rattle.law_space.proofs.Held.{hand-held, part-held, read-held, written-held, nothing-held}
+use Rattle.law_space.proofs.Held.{hand-held, read-held, written-held}
 use Rattle.law_space.proofs.Kept.{AreMarking, CarefulAt, IsMarking, CarefulSeat, KeptAt, KeptSeat, MapKept, Spaced, lease_block}
 use Rattle.law_space.proofs.Lists.{in-filter}
 use Rattle.law_space.proofs.MapWrites.{kept-done, kept-fewer, map-kept-issued, kept-read, kept-unread, map-of, marking-issued}
 use Rattle.law_space.proofs.Marks.{Careful, IsOfMap, MayMark}
 use Rattle.law_space.proofs.SpaceLands.{marking-lands, seat-landed}
-use Rattle.plx_rules.proofs.Holds.{first-held, timed-held}
+use Rattle.plx_rules.proofs.Holds.{first-held, timed-held, nothing-held, part-held}
 
 careful-placed : (found : Option (ℕ × List ℕ)) (known : Known) (command : Command) (part : Part End) → Careful found part → CarefulAt found (place_of known command part)
 careful-placed found known command (Ends end) careful = tt
@@ -288,7 +288,7 @@ issue-spaced w leased spaced a below k block bytes guard free b below' extent wi
         same (Some h) is = let x = (leased.seated c under).asked h is in x.1 ∙ sym (push-before w.surface.writes write x.0 h x.1)
 
 -- a write of a map that may be asked is of an extent whose lease is held
-map-granted : (g : Geometry) (boot : ℕ) (holds : ℕ → Hold) (rests : List ℕ) (k : WriteKind) (block : ℕ) (bytes : List ℕ) (guard : ℕ) → IsOfMap k → MayWrite g boot holds rests k block bytes guard →
+map-granted : (g : Geometry) (boot : ℕ) (holds : ℕ → Hold) (rests : List ℕ) (k : WriteKind) (block : ℕ) (bytes : List ℕ) (guard : ℕ) → IsOfMap k → MayIssue g boot holds rests k block bytes guard →
     (extent : ℕ) × (extent < g.extents) × (block ≡ map_at g extent) × IsGranted holds (extent_lease g extent) guard
 map-granted g boot holds rests kind.Take block bytes guard of_map may =
     let m = map-of g kind.Take block bytes rests tt may.placed in (m.0, m.1, m.2, may.grants (extent_lease g m.0) m.3)

@@ -1,10 +1,11 @@
 -- Which blocks of an extent are taken: bit by bit.
-use Rattle.std.proofs.Common.{◌≡◌, ◌≢◌, ◌<◌, ◌≤◌, ◌+◌, ◌-◌, ◌∙◌, ap, sym, refl, subst, ℕ, zero, suc, List, [], ◌∷◌, ◌++◌, length, drop, take, get_or, Bool, true, false, inl, inr, arith}
+use Rattle.std.proofs.Common.{◌≡◌, ◌<◌, ◌≤◌, ◌+◌, ◌-◌, ◌∙◌, ap, sym, refl, subst, ℕ, zero, suc, List, [], ◌∷◌, ◌++◌, length, drop, take, get_or, Bool, true, false, inl, inr, arith}
 use Rattle.std.specs.Prelude.{◌==◌, ◌||◌, slice_set, if◌then◌else◌}
 use Rattle.std.proofs.lemmas.Bool.Decides.{eqb_tells}
 use Rattle.std.proofs.lemmas.List.{append_assoc, append-nil, length-append, map-append}
 use Rattle.std.proofs.lemmas.List.Elements.{All-push}
 use Rattle.plx_base.specs.declared.numbers.BlockNo.{BlockNo}
+use Rattle.plx_base.proofs.Tests.{eqb-false}
 use Rattle.plx_commands.specs.Replies.{is_in}
 use Rattle.plx_rules.specs.Space.{free_from, is_own_set, with_set}
 use Rattle.plx_alloc.specs.Pools.{AreBetween}
@@ -56,9 +57,6 @@ with_set-none start (bit ∷ bits) = ap (λ b. b ∷ with_set [] (start + 1) bit
 pub eq-self : (n : ℕ) → (n == n) ≡ true
 eq-self n = elim (eqb_tells n n) [ inl same ↦ same.0 | inr other ↦ absurd (other.1 refl) ]
 
-pub eq-not : (m n : ℕ) → m ≢ n → (m == n) ≡ false
-eq-not m n ne = elim (eqb_tells m n) [ inl same ↦ absurd (ne same.1) | inr other ↦ other.0 ]
-
 pub or-true : (b : Bool) → (b || true) ≡ true
 or-true true = refl
 or-true false = refl
@@ -73,9 +71,9 @@ with_set-snoc blocks block start (bit ∷ bits) zero here less =
     ap (λ b. (bit || b) ∷ with_set (blocks ++ block ∷ []) (start + 1) bits) (e ∙ or-true (is_in start blocks))
     ∙ ap (λ b. b ∷ with_set (blocks ++ block ∷ []) (start + 1) bits) (or-true bit)
     ∙ ap (λ rest. true ∷ rest) (with_set-same (blocks ++ block ∷ []) blocks (start + 1) bits (λ number past. is_in-snoc number block blocks
-    ∙ (ap (λ b. is_in number blocks || b) (eq-not number block (λ e. absurd (omega (arith, e, past, same)))) ∙ or-false (is_in number blocks))))
+    ∙ (ap (λ b. is_in number blocks || b) (eqb-false number block (λ e. absurd (omega (arith, e, past, same)))) ∙ or-false (is_in number blocks))))
 with_set-snoc blocks block start (bit ∷ bits) (suc i) here less =
-    let other : (start == block) ≡ false = eq-not start block (λ e. absurd (omega (arith, e, here))) in
+    let other : (start == block) ≡ false = eqb-false start block (λ e. absurd (omega (arith, e, here))) in
     let e : is_in start (blocks ++ block ∷ []) ≡ is_in start blocks = is_in-snoc start block blocks ∙ (ap (λ b. is_in start blocks || b) other ∙ or-false (is_in start blocks)) in
     ap (λ b. (bit || b) ∷ with_set (blocks ++ block ∷ []) (start + 1) bits) e
     ∙ ap (λ rest. (bit || is_in start blocks) ∷ rest) (with_set-snoc blocks block (start + 1) bits i (omega (arith, here)) (omega (arith, less)))
@@ -139,7 +137,7 @@ below-more blocks block next here below number past =
     ap (is_in number) (map-append (λ (b : BlockNo). b.0) blocks (block ∷ []))
     ∙ (is_in-snoc number block.0 (numbers blocks)
     ∙ (ap (λ b. b || (number == block.0)) (below number (omega (arith, here, past)))
-    ∙ eq-not number block.0 (λ e. absurd (omega (arith, e, here, past)))))
+    ∙ eqb-false number block.0 (λ e. absurd (omega (arith, e, here, past)))))
 
 -- ---- what is taken up to a bit
 

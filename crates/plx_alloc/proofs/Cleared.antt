@@ -6,6 +6,7 @@ use Rattle.std.proofs.lemmas.Bool.Decides.{eqb_tells}
 use Rattle.std.proofs.lemmas.List.{length-append, map-append, take_all}
 use Rattle.std.proofs.lemmas.List.Elements.{All-push}
 use Rattle.std.proofs.lemmas.Nat.{mod-mul-add}
+use Rattle.law_run.proofs.Hands.{extent-found}
 use Rattle.plx_base.specs.declared.numbers.BlockNo.{BlockNo}
 use Rattle.plx_commands.specs.Replies.{is_in}
 use Rattle.plx_geom.specs.Geometry.{Geometry, extents_start, map_at}
@@ -14,11 +15,11 @@ use Rattle.plx_rules.specs.Rests.{extent_of}
 use Rattle.plx_rules.specs.Space.{in_extent, with_clear}
 use Rattle.plx_alloc.specs.Pools.{AreBetween, AreInPool, IsInPool}
 use Rattle.plx_alloc.specs.Tables.{numbers}
-use Rattle.plx_alloc.proofs.Chosen.{eq-not, eq-self, is_in-snoc, or-false, or-true}
-use Rattle.plx_alloc.proofs.Suited.{between-extent, inside-extent}
+use Rattle.plx_alloc.proofs.Chosen.{eq-self, is_in-snoc, or-false, or-true}
+use Rattle.plx_alloc.proofs.Suited.{between-extent}
 use Rattle.std.proofs.Math.Bool.{and-false, and-true}
-use Rattle.plx_base.proofs.Tests.{and-left}
-use Rattle.plx_rules.proofs.Maps.{length-with_clear}
+use Rattle.plx_base.proofs.Tests.{eqb-false}
+use Rattle.plx_rules.proofs.Maps.{clear-was, length-with_clear}
 
 -- ---- truth values
 
@@ -33,13 +34,6 @@ or-more true b c d e = refl
 or-more false b c d e = e
 
 -- ---- bits that are cleared
-
--- a bit that is set now was set before
-was-set : (blocks : List ℕ) (start : ℕ) (bits : List Bool) (i : ℕ) → get_or (with_clear blocks start bits) i false ≡ true → get_or bits i false ≡ true
-was-set blocks start [] zero z = z
-was-set blocks start [] (suc i) z = z
-was-set blocks start (bit ∷ bits) zero set = and-left bit (not (is_in start blocks)) set
-was-set blocks start (bit ∷ bits) (suc i) set = was-set blocks (start + 1) bits i set
 
 -- only the blocks of these bits matter
 pub with_clear-among : (blocks others : List ℕ) (start : ℕ) (bits : List Bool) →
@@ -59,7 +53,7 @@ with_clear-none start (bit ∷ bits) = ap (λ b. b ∷ with_clear [] (start + 1)
 -- a block beside one more is as it was
 other-in : (blocks : List ℕ) (block number : ℕ) → number ≢ block → is_in number (blocks ++ block ∷ []) ≡ is_in number blocks
 other-in blocks block number apart =
-    is_in-snoc number block blocks ∙ (ap (λ b. is_in number blocks || b) (eq-not number block apart) ∙ or-false (is_in number blocks))
+    is_in-snoc number block blocks ∙ (ap (λ b. is_in number blocks || b) (eqb-false number block apart) ∙ or-false (is_in number blocks))
 
 -- one more block that has none of these bits clears none
 with_clear-past : (blocks : List ℕ) (block start : ℕ) (bits : List Bool) → ((number : ℕ) → start ≤ number → number < start + length bits → number ≢ block) →
@@ -187,7 +181,7 @@ cleared-more start old hand i d bit given new bits now less here low high set is
     let x : BlockNo = get_or hand i d in
     let few = h.few in
     let long : length (given ++ x ∷ []) ≡ length given + 1 = length-append given (x ∷ []) in
-    let was : get_or old bit false ≡ true = was-set (numbers (take i hand)) start old bit (ap (λ b. get_or b bit false) (sym h.cleared) ∙ set) in
+    let was : get_or old bit false ≡ true = clear-was (numbers (take i hand)) start old bit (ap (λ b. get_or b bit false) (sym h.cleared) ∙ set) in
     subst (λ blocks. IsCleared start old hand (i + 1) blocks now) (sym is) (record {
       few = omega (arith, few, long);
       cleared =
@@ -226,7 +220,7 @@ apart-of number (block ∷ hand) (suc i) d less none' = apart-of number hand i d
 pub map-outside-pool : (g : Geometry) (extent : ℕ) (items : List BlockNo) → 0 < g.extent_blocks → AreInPool g items → is_in (map_at g extent) (numbers items) ≡ false
 map-outside-pool g extent [] some pool = refl
 map-outside-pool g extent (block ∷ items) some pool =
-    ap (λ b. b || is_in (map_at g extent) (numbers items)) (eq-not (map_at g extent) block.0 (not-pool block.0 (pool 0 block (omega arith))))
+    ap (λ b. b || is_in (map_at g extent) (numbers items)) (eqb-false (map_at g extent) block.0 (not-pool block.0 (pool 0 block (omega arith))))
     ∙ map-outside-pool g extent items some (λ k d less. pool (suc k) d (omega (arith, less)))
   where
     not-pool : (number : ℕ) → IsInPool g number → map_at g extent ≢ number
@@ -259,7 +253,7 @@ in-filter-same p number (block ∷ blocks) so = go (in-filter-same p number bloc
     go : is_in number (filter p blocks) ≡ is_in number blocks → (b : Bool) → p block ≡ b → is_in number (if b then block ∷ filter p blocks else filter p blocks) ≡ ((number == block) || is_in number blocks)
     go later true passes = ap (λ b. (number == block) || b) later
     go later false other =
-        later ∙ ap (λ b. b || is_in number blocks) (sym (eq-not number block (λ same. absurd (let e : true ≡ false = sym so ∙ (ap p same ∙ other) in let P : ⊥ = cc in P))))
+        later ∙ ap (λ b. b || is_in number blocks) (sym (eqb-false number block (λ same. absurd (let e : true ≡ false = sym so ∙ (ap p same ∙ other) in let P : ⊥ = cc in P))))
 
 -- they clear no bit of this extent's map
 pub with_clear-mine : (g : Geometry) (extent : ℕ) (hand : List ℕ) (bits : List Bool) → length bits ≡ g.extent_blocks →
@@ -267,4 +261,4 @@ pub with_clear-mine : (g : Geometry) (extent : ℕ) (hand : List ℕ) (bits : Li
 with_clear-mine g extent hand bits long =
     with_clear-among (in_extent g extent hand) hand (map_at g extent) bits
     (λ number low high. in-filter-same (λ block. extent_of g block == extent) number hand
-    (ap (λ k. k == extent) (inside-extent g extent number low (subst (λ n. number < map_at g extent + n) long high)) ∙ eq-self extent))
+    (ap (λ k. k == extent) (extent-found g extent number low (subst (λ n. number < map_at g extent + n) long high)) ∙ eq-self extent))

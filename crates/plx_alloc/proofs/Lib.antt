@@ -2,6 +2,7 @@ pub mod Asking
 pub mod Chosen
 pub mod Cleared
 pub mod Dropping
+pub mod GiveBackRules
 pub mod GiveRules
 pub mod Gives
 pub mod Hands
@@ -15,5 +16,6 @@ pub mod Released
 pub mod Retiring
 pub mod Since
 pub mod Suited
+pub mod TakeEnds
 pub mod TakeRules
 pub mod Taking

@@ -1,9 +1,10 @@
 -- An allocator keeps suiting a take.
-use Rattle.std.proofs.Common.{◌≡◌, ◌≢◌, ◌<◌, ◌≤◌, ◌+◌, ◌*◌, ◌-◌, ◌/◌, ◌%◌, ◌∙◌, ap, sym, refl, ℕ, suc, List, [], ◌∷◌, ◌++◌, length, get_or, Bool, true, false, Option, Some, None, inl, inr, arith}
+use Rattle.std.proofs.Common.{◌≡◌, ◌≢◌, ◌<◌, ◌+◌, ◌*◌, ◌-◌, ◌%◌, ◌∙◌, ap, sym, refl, ℕ, suc, List, [], ◌∷◌, ◌++◌, length, get_or, Bool, true, false, Option, Some, None, inl, inr, arith}
 use Rattle.std.specs.Prelude.{filter, if◌then◌else◌}
 use Rattle.std.proofs.lemmas.Bool.Decides.{eqb_tells}
 use Rattle.std.proofs.lemmas.List.Elements.{filter-append}
-use Rattle.std.proofs.lemmas.Nat.{div-mul-add, mod-mul-add}
+use Rattle.std.proofs.lemmas.Nat.{mod-mul-add}
+use Rattle.law_run.proofs.Hands.{extent-found}
 use Rattle.plx_base.specs.declared.lease.Claim.{Claim}
 use Rattle.plx_base.specs.declared.numbers.BlockNo.{BlockNo}
 use Rattle.plx_commands.proofs.Places.{at-other, at-same}
@@ -108,15 +109,8 @@ hand-taken a b extent blocks same leases hand held own h =
 
 -- ---- blocks of an extent
 
-pub inside-extent : (g : Geometry) (extent block : ℕ) → map_at g extent ≤ block → block < map_at g extent + g.extent_blocks → extent_of g block ≡ extent
-inside-extent g extent block low high =
-    let r : ℕ = block - map_at g extent in
-    let less : r < g.extent_blocks = omega (arith, low, high) in
-    let e : block - extents_start g ≡ extent * g.extent_blocks + r = omega (arith, low) in
-    ap (λ n. n / g.extent_blocks) e ∙ div-mul-add extent g.extent_blocks r less
-
 pub between-extent : (g : Geometry) (extent block : ℕ) → map_at g extent < block → block < map_at g extent + g.extent_blocks → extent_of g block ≡ extent
-between-extent g extent block low high = inside-extent g extent block (omega (arith, low)) high
+between-extent g extent block low high = extent-found g extent block (omega (arith, low)) high
 
 pub between-pool : (g : Geometry) (extent block : ℕ) → extent < g.extents → map_at g extent < block → block < map_at g extent + g.extent_blocks → IsInPool g block
 between-pool g extent block within low high =

@@ -1,15 +1,14 @@
 -- The taking of blocks of an extent whose lease is held keeps the rules.
-use Rattle.std.proofs.Common.{◌≡◌, ℕ, ◌+◌, ◌-◌, List, [], ◌∷◌, length, Bool, true, false, Option, Some, None, refl, sym, subst, ◌∙◌, inl, inr}
+use Rattle.std.proofs.Common.{◌≡◌, ℕ, ◌+◌, ◌-◌, List, [], ◌∷◌, length, Bool, true, false, Option, Some, None, refl, sym, subst, inl, inr}
 use Rattle.std.specs.Prelude.{if◌then◌else◌}
 use Rattle.plx_commands.specs.Replies.{is_in}
 use Rattle.plx_commands.specs.declared.reply.Reply.TheVariants as reply
-use Rattle.plx_disk.specs.declared.ask.Ask.{Ask}
 use Rattle.plx_extent.specs.Maps.{map_bytes}
 use Rattle.plx_geom.specs.Geometry.{extent_lease, map_at}
 use Rattle.plx_rules.specs.Ends.{End, ends, lost}
 use Rattle.plx_rules.specs.Holds.{Held}
 use Rattle.plx_rules.specs.InUse.{InUse, first_reached, unless_reached}
-use Rattle.plx_rules.specs.Part.{Part, Ends, standing}
+use Rattle.plx_rules.specs.Part.{Part, Ends}
 use Rattle.plx_rules.specs.Settings.{Setting}
 use Rattle.plx_rules.specs.Space.{Taking, extent_use, free_from, read_map, set_part, take_found, with_set}
 use Rattle.law_run.specs.AllowedAsks.{take_of_blocks}
@@ -19,15 +18,11 @@ use Rattle.law_run.proofs.ClaimRules.{begun-first}
 use Rattle.law_run.proofs.FreeBlocks.{has-take}
 use Rattle.law_run.proofs.Hands.{HasBlock, hand-fewer, has-head, has-parts, has-tail}
 use Rattle.law_run.proofs.Holding.{hold-stays}
+use Rattle.law_run.specs.Machines.{IsOfBlock}
 use Rattle.law_run.proofs.Machines.{MeetsWork, meets-keeps}
 use Rattle.law_run.proofs.Right.{clock, read_of}
 use Rattle.law_run.proofs.Runs.{HasFirst}
-use Rattle.plx_alloc.specs.Takes.{Outer, reserve_at}
-use Rattle.plx_alloc.specs.declared.allocator.Allocator.{Allocator}
-use Rattle.plx_alloc.specs.declared.reserve.Reserve.{Reserve}
-use Rattle.plx_alloc.specs.declared.reserve.ReserveAt.{ReserveAt}
-use Rattle.plx_alloc.specs.declared.reserve.ReserveAt.TheVariants as at
-use Rattle.plx_alloc.specs.TakeRules.{IsTakeAsk, MayBeginTake, ShowsTake, TakesKeepRules, blocks_taken, damaged, missed, none_taken, reached, some_taken, take_bound, take_work, taking_here, unread, unwritten}
+use Rattle.plx_alloc.specs.TakeRules.{MayBeginExtentTake, ShowsExtentTake, ExtentTakesKeepRules, blocks_taken, damaged, missed, none_taken, reached, some_taken, extent_take_bound, extent_take_work, unread, unwritten}
 
 -- with fewer blocks in hand, what was free is free
 free-step : (hand less : List ℕ) (m b : ℕ) (bits : List Bool) (one other : Bool) → (other ≡ true → one ≡ true) →
@@ -47,7 +42,7 @@ free-still hand less m b (true ∷ bits) fewer has = free-still hand less (m + 1
 free-still hand less m b (false ∷ bits) fewer has =
     free-step hand less m b bits (is_in m hand) (is_in m less) (fewer m) (free-still hand less (m + 1) b bits fewer) has
 
-module _ (s : Setting) (log : CommandLog) (count extent until : ℕ) (t : Taking) (follows : Taking → End) (may : MayBeginTake s log extent until t) where
+module _ (s : Setting) (log : CommandLog) (count extent until : ℕ) (t : Taking) (follows : Taking → End) (may : MayBeginExtentTake s log extent until t) where
   abbrev place : ℕ
   place = map_at s.geometry extent
 
@@ -55,7 +50,7 @@ module _ (s : Setting) (log : CommandLog) (count extent until : ℕ) (t : Taking
   read bytes = read_of place bytes ∷ log.exchanges
 
   abbrev Takes : List Exchange → Part End → ℕ → Type 0
-  Takes done part n = MeetsWork s log place (ShowsTake s count extent until t follows) done part n
+  Takes done part n = MeetsWork s log (IsOfBlock place) (ShowsExtentTake s count extent until t follows) done part n
 
   has : HasFirst log.exchanges
   has = begun-first log.exchanges may.others may.first may.begun
@@ -102,31 +97,14 @@ module _ (s : Setting) (log : CommandLog) (count extent until : ℕ) (t : Taking
   by-map bytes None is = ((((tt, may.went), tt), tt), λ last small. by-reading bytes last (first_reached uses last) is refl)
   by-map bytes (Some bits) is = by-blocks bytes bits is (blocks_taken s count extent t bits) refl
 
-  take-meets : Takes log.exchanges (take_work s count extent until t follows) take_bound
+  take-meets : Takes log.exchanges (extent_take_work s count extent until t follows) extent_take_bound
   take-meets = (
     ((may.went, tt), refl),
     λ bytes long. by-map bytes (read_map s.geometry.extent_blocks bytes) refl,
     unread (log.exchanges, refl),
   )
 
-pub takes-keep-rules : TakesKeepRules
-takes-keep-rules s log count extent until t follows may =
-    meets-keeps s log (map_at s.geometry extent) (ShowsTake s count extent until t follows) (take_work s count extent until t follows) take_bound
+pub extent-takes-keep-rules : ExtentTakesKeepRules
+extent-takes-keep-rules s log count extent until t follows may =
+    meets-keeps s log (IsOfBlock (map_at s.geometry extent)) (ShowsExtentTake s count extent until t follows) (extent_take_work s count extent until t follows) extent_take_bound
     (take-meets s log count extent until t follows may)
-
--- so does each of its asks, by where it stands
-pub take-ask : (rest : Part End) (ask : Ask) → Some ask ≡ standing rest → IsTakeAsk rest ask
-take-ask rest ask stands s log count extent until t follows own may leads = (takes-keep-rules s log count extent until t follows may).asks leads ask (sym stands)
-
--- its machine
-standing-here : (place : ReserveAt) (follows : Taking → End) (o : Outer) (a : Allocator) (m : Reserve) →
-    standing (taking_here place follows o a m) ≡ standing (reserve_at place o a m)
-standing-here at.Map follows o a m = refl
-standing-here at.Write follows o a m = refl
-standing-here at.Look follows o a m = refl
-standing-here at.Claim follows o a m = refl
-standing-here at.Damaged follows o a m = refl
-
-pub takes-rightly : (follows : Taking → End) (o : Outer) (a : Allocator) (m : Reserve) (ask : Ask) → Some ask ≡ standing (reserve_at m.at o a m) →
-    IsTakeAsk (taking_here m.at follows o a m) ask
-takes-rightly follows o a m ask stands = take-ask (taking_here m.at follows o a m) ask (stands ∙ sym (standing-here m.at follows o a m))

@@ -50,13 +50,6 @@ hold-here a extent = ap (extent_leases a) (extent-back a.geometry extent)
 
 -- ---- tests
 
-pub lt-tells : (m n : ℕ) → n < m → nat_le m n ≡ false
-lt-tells m n less = elim (leb_tells m n) [ inl h ↦ let x = h.1 in absurd (omega (arith, x, less)) | inr h ↦ h.0 ]
-
-pub not-set : (b : Bool) → not b ≡ true → b ≡ false
-not-set true e = let P : ⊥ = cc in absurd P
-not-set false e = refl
-
 pub not-held-none : (o : Option (Token Extent)) → is_held (extent_hold o) ≡ false → o ≡ None
 not-held-none None e = refl
 not-held-none (Some held) e = let P : ⊥ = cc in absurd P

@@ -1,6 +1,5 @@
 -- How work on space ends.
 use Rattle.std.specs.Prelude.{Option, Some, None, Result, Ok, Err}
-use Rattle.plx_commands.specs.declared.reply.Reply.TheVariants as reply
 use Rattle.plx_rules.specs.Ends.{End, ends}
 use Rattle.plx_rules.specs.Part.{Part}
 use Rattle.plx_rules.specs.Session.{Known, known_after}

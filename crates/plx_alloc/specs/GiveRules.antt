@@ -20,7 +20,7 @@ use Rattle.plx_rules.specs.Space.{give_found, read_map, with_clear}
 use Rattle.law_run.specs.AllowedAsks.{WentOn}
 use Rattle.law_run.specs.CommandLogs.{Exchange, CommandLog, LastAnswered, WasAnswered}
 use Rattle.law_run.specs.Holdings.{Holds, hand_by_log}
-use Rattle.law_run.specs.Machines.{HasCome, IsRightAsk, Keeps}
+use Rattle.law_run.specs.Machines.{HasCome, IsOfBlock, IsRightAsk, Keeps}
 
 -- what is asked until these blocks of an extent are given back; then the command ends so
 abbrev pub give_work : Setting → Known → (extent until : ℕ) → (blocks : List ℕ) → (follows : End) → Part End
@@ -74,9 +74,9 @@ give_bound = 2
 abbrev pub IsGiveAsk : (rest : Part End) → Ask → Type 0
 IsGiveAsk rest ask = (s : Setting) (log : CommandLog) (known : Known) (extent until : ℕ) (blocks : List ℕ) (follows : End) (own : List Exchange) →
     MayBeginGive s log extent until blocks → HasCome (give_work s known extent until blocks follows) own rest →
-    IsRightAsk s log (map_at s.geometry extent) give_bound own ask (bytes_out rest)
+    IsRightAsk s log (IsOfBlock (map_at s.geometry extent)) give_bound own ask (bytes_out rest)
 
 -- it keeps the rules, whatever its answers are: its asks are allowed and of the extent's map alone, at most two are answered, and its end has its cause
-abbrev pub GivesKeepRules : Type 0
-GivesKeepRules = (s : Setting) (log : CommandLog) (known : Known) (extent until : ℕ) (blocks : List ℕ) (follows : End) → MayBeginGive s log extent until blocks →
-    Keeps s log (map_at s.geometry extent) give_bound (ShowsGive s extent until blocks known follows) (give_work s known extent until blocks follows)
+abbrev pub ExtentGivesKeepRules : Type 0
+ExtentGivesKeepRules = (s : Setting) (log : CommandLog) (known : Known) (extent until : ℕ) (blocks : List ℕ) (follows : End) → MayBeginGive s log extent until blocks →
+    Keeps s log (IsOfBlock (map_at s.geometry extent)) give_bound (ShowsGive s extent until blocks known follows) (give_work s known extent until blocks follows)

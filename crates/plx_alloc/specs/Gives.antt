@@ -9,12 +9,14 @@ use Rattle.plx_rules.specs.Part.{Part}
 use Rattle.plx_rules.specs.Session.{Session, Known}
 use Rattle.plx_rules.specs.Settings.{Setting}
 use Rattle.plx_rules.specs.Space.{give_found, give_part, in_extent, read_map}
+use Rattle.plx_alloc.specs.Ending.{after_space}
 use Rattle.plx_alloc.specs.Tables.{allocator_setting, hand_numbers, holds_of, known_beside}
 use Rattle.plx_alloc.specs.declared.allocator.Allocator.{Allocator}
 use Rattle.plx_alloc.specs.declared.give_back.GiveBack.{GiveBack}
 use Rattle.plx_alloc.specs.declared.giving.Giving.{Giving}
 use Rattle.plx_alloc.specs.declared.giving.GivingAt.{GivingAt}
 use Rattle.plx_alloc.specs.declared.giving.GivingAt.TheVariants as at
+use Rattle.plx_alloc.specs.declared.space_end.SpaceEnd.{SpaceEnd}
 
 -- what the work is a part of: a command of this appliance, with these sessions, which goes on so
 pub record Around : Type 0 where
@@ -63,3 +65,7 @@ give_from o a from = give_extents (allocator_setting o.appliance a) (around_know
 -- what is still asked until all blocks are given back
 abbrev pub give_back_rest : Around → Allocator → GiveBack → Part End
 give_back_rest o a m = giving_rest (record o { rest = give_from o a (m.giving.extent.0 + 1) }) a m.giving
+
+-- and once it was answered
+abbrev pub give_back_after : Around → Allocator → GiveBack → Option SpaceEnd → Part End
+give_back_after o a m result = after_space (give_back_rest o a m) o.rest (around_known o a) result

@@ -1,5 +1,6 @@
 pub mod Asking
 pub mod Ending
+pub mod GiveBackRules
 pub mod GiveRules
 pub mod Gives
 pub mod Moving
@@ -7,5 +8,6 @@ pub mod Pools
 pub mod Retires
 pub mod Suiting
 pub mod Tables
+pub mod TakeEnds
 pub mod TakeRules
 pub mod Takes

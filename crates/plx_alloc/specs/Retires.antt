@@ -1,8 +1,9 @@
 -- What the extents' part of a retire still asks, by where its machine stands and by what is lent to it.
-use Rattle.std.specs.Prelude.{◌+◌, ◌-◌, ℕ}
+use Rattle.std.specs.Prelude.{◌+◌, ◌-◌, ℕ, Option}
 use Rattle.plx_rules.specs.Ends.{End}
 use Rattle.plx_rules.specs.Part.{Part}
 use Rattle.plx_rules.specs.Space.{release_then, retire_extents}
+use Rattle.plx_alloc.specs.Ending.{after_space}
 use Rattle.plx_alloc.specs.Gives.{Around, around_known, giving_rest, retire_use}
 use Rattle.plx_alloc.specs.Tables.{allocator_setting, hand_numbers, holds_of}
 use Rattle.plx_alloc.specs.declared.allocator.Allocator.{Allocator}
@@ -10,6 +11,7 @@ use Rattle.plx_alloc.specs.declared.giving.Giving.{Giving}
 use Rattle.plx_alloc.specs.declared.retire.Retire.{Retire}
 use Rattle.plx_alloc.specs.declared.retire.RetireAt.{RetireAt}
 use Rattle.plx_alloc.specs.declared.retire.RetireAt.TheVariants as at
+use Rattle.plx_alloc.specs.declared.space_end.SpaceEnd.{SpaceEnd}
 
 -- what is asked of the extents from one on
 abbrev pub retire_extents_from : Around → Allocator → (from : ℕ) → Part End
@@ -27,3 +29,7 @@ retire_at at.Release o a m = release_next o a m
 
 abbrev pub retire_extents_rest : Around → Allocator → Retire → Part End
 retire_extents_rest o a m = retire_at m.at o a m.giving
+
+-- and once it was answered
+abbrev pub retire_after : Around → Allocator → Retire → Option SpaceEnd → Part End
+retire_after o a m result = after_space (retire_extents_rest o a m) o.rest (around_known o a) result

@@ -3,35 +3,28 @@ use Rattle.std.specs.Prelude.{◌≡◌, ◌<◌, ◌-◌, ℕ, List, [], ◌∷
 use Rattle.plx_base.specs.declared.lease.Claim.{Claim}
 use Rattle.plx_base.specs.declared.write_kind.WriteKind.TheVariants as kind
 use Rattle.plx_commands.specs.declared.reply.Reply.TheVariants as reply
-use Rattle.plx_disk.specs.declared.ask.Ask.{Ask}
 use Rattle.plx_disk.specs.declared.ask.Ask.TheVariants as ask
 use Rattle.plx_disk.specs.declared.ask.Answer.{Answer}
 use Rattle.plx_disk.specs.declared.ask.Answer.TheVariants as answer
 use Rattle.plx_extent.specs.Maps.{map_bytes}
 use Rattle.plx_geom.specs.Geometry.{extent_lease, map_at}
-use Rattle.plx_rules.specs.Ends.{End, read_then, write_then}
+use Rattle.plx_rules.specs.Ends.{End}
 use Rattle.plx_rules.specs.InUse.{InUse, first_reached, lease_name}
-use Rattle.plx_rules.specs.Part.{Part, Ends, bytes_out}
+use Rattle.plx_rules.specs.Part.{Part, Ends}
 use Rattle.plx_rules.specs.Session.{nothing_known}
 use Rattle.plx_rules.specs.Settings.{Setting}
-use Rattle.plx_rules.specs.Space.{Taking, extent_use, free_from, read_map, take_found, take_here, with_set, with_taken}
+use Rattle.plx_rules.specs.Space.{Taking, extent_use, free_from, read_map, take_here, with_set, with_taken}
 use Rattle.law_run.specs.AllowedAsks.{WentOn}
 use Rattle.law_run.specs.CommandLogs.{Exchange, CommandLog, LastAnswered, WasAnswered}
 use Rattle.law_run.specs.Holdings.{Holds, hand_by_log}
-use Rattle.law_run.specs.Machines.{HasCome, IsRightAsk, Keeps}
-use Rattle.plx_alloc.specs.Tables.{allocator_setting, numbers}
-use Rattle.plx_alloc.specs.Takes.{Outer, outer_known, reserve_at, taking_of}
-use Rattle.plx_alloc.specs.declared.allocator.Allocator.{Allocator}
-use Rattle.plx_alloc.specs.declared.reserve.Reserve.{Reserve}
-use Rattle.plx_alloc.specs.declared.reserve.ReserveAt.{ReserveAt}
-use Rattle.plx_alloc.specs.declared.reserve.ReserveAt.TheVariants as at
+use Rattle.law_run.specs.Machines.{IsOfBlock, Keeps}
 
 -- what is asked until blocks of an extent are taken; then the command ends so
-abbrev pub take_work : Setting → (count extent until : ℕ) → Taking → (follows : Taking → End) → Part End
-take_work s count extent until t follows = take_here s count extent until (λ t. Ends (follows t)) t
+abbrev pub extent_take_work : Setting → (count extent until : ℕ) → Taking → (follows : Taking → End) → Part End
+extent_take_work s count extent until t follows = take_here s count extent until (λ t. Ends (follows t)) t
 
 -- it may begin: the extent's lease is held up to `until`, the take knows what is in hand, and the command has had its first reading and goes on
-pub record MayBeginTake (s : Setting) (log : CommandLog) (extent until : ℕ) (t : Taking) : Type 0 where
+pub record MayBeginExtentTake (s : Setting) (log : CommandLog) (extent until : ℕ) (t : Taking) : Type 0 where
   pub within : extent < s.geometry.extents
   pub claim : Claim
   pub held : Holds s log (extent_lease s.geometry extent) claim until
@@ -55,47 +48,31 @@ take_lost s t due reading = record { reply = reply.Lost (lease_name s.geometry d
 
 -- why it ends so: no block is taken, or the map was written with the bits of the free blocks set, the lowest first, and the command goes on; or the read or the
 -- write failed, the write was missed, or the map's bytes were outside the format, and the reading after that has reached a lease in use or not
-pub data ShowsTake (s : Setting) (count extent until : ℕ) (t : Taking) (follows : Taking → End) (log : CommandLog) : End → Type 0 where
+pub data ShowsExtentTake (s : Setting) (count extent until : ℕ) (t : Taking) (follows : Taking → End) (log : CommandLog) : End → Type 0 where
   none_taken : (bytes : List ℕ) (bits : List Bool) → LastAnswered log (ask.Read (record { 0 = map_at s.geometry extent })) [] (answer.Bytes bytes) →
-      read_map s.geometry.extent_blocks bytes ≡ Some bits → blocks_taken s count extent t bits ≡ [] → ShowsTake s count extent until t follows log (follows t)
+      read_map s.geometry.extent_blocks bytes ≡ Some bits → blocks_taken s count extent t bits ≡ [] → ShowsExtentTake s count extent until t follows log (follows t)
   some_taken : (bits : List Bool) (blocks : List ℕ) → blocks_taken s count extent t bits ≡ blocks →
       TakeAnswered s log extent until (map_bytes (with_set blocks (map_at s.geometry extent) bits)) answer.Done →
-      ShowsTake s count extent until t follows log (follows (with_taken t blocks))
+      ShowsExtentTake s count extent until t follows log (follows (with_taken t blocks))
   unread : LastAnswered log (ask.Read (record { 0 = map_at s.geometry extent })) [] answer.Fault →
-      ShowsTake s count extent until t follows log (record { reply = reply.ReadFault (record { 0 = map_at s.geometry extent }); known = t.known })
+      ShowsExtentTake s count extent until t follows log (record { reply = reply.ReadFault (record { 0 = map_at s.geometry extent }); known = t.known })
   unwritten : (bytes : List ℕ) → TakeAnswered s log extent until bytes answer.Fault →
-      ShowsTake s count extent until t follows log
+      ShowsExtentTake s count extent until t follows log
       (record { reply = reply.WriteFault (record { 0 = map_at s.geometry extent }); known = nothing_known t.known.claims })
   missed : (bytes : List ℕ) (reading : ℕ) → TakeAnswered s log extent until bytes (answer.Missed reading) →
-      ShowsTake s count extent until t follows log (take_lost s t (extent_use s.geometry extent until) reading)
+      ShowsExtentTake s count extent until t follows log (take_lost s t (extent_use s.geometry extent until) reading)
   reached : (due : InUse) (reading : ℕ) → LastAnswered log ask.Clock [] (answer.Reading reading) →
-      first_reached (extent_use s.geometry extent until ∷ t.claimed) reading ≡ Some due → ShowsTake s count extent until t follows log (take_lost s t due reading)
+      first_reached (extent_use s.geometry extent until ∷ t.claimed) reading ≡ Some due → ShowsExtentTake s count extent until t follows log (take_lost s t due reading)
   damaged : (bytes : List ℕ) (reading : ℕ) → WasAnswered log (ask.Read (record { 0 = map_at s.geometry extent })) [] (answer.Bytes bytes) →
       read_map s.geometry.extent_blocks bytes ≡ None → LastAnswered log ask.Clock [] (answer.Reading reading) →
       first_reached (extent_use s.geometry extent until ∷ t.claimed) reading ≡ None →
-      ShowsTake s count extent until t follows log (record { reply = reply.Damaged (record { 0 = map_at s.geometry extent }); known = t.known })
+      ShowsExtentTake s count extent until t follows log (record { reply = reply.Damaged (record { 0 = map_at s.geometry extent }); known = t.known })
 
 -- how many of its asks are answered at most
-abbrev pub take_bound : ℕ
-take_bound = 2
+abbrev pub extent_take_bound : ℕ
+extent_take_bound = 2
 
 -- it keeps the rules, whatever its answers are: its asks are allowed and of the extent's map alone, at most two are answered, and its end has its cause
-abbrev pub TakesKeepRules : Type 0
-TakesKeepRules = (s : Setting) (log : CommandLog) (count extent until : ℕ) (t : Taking) (follows : Taking → End) → MayBeginTake s log extent until t →
-    Keeps s log (map_at s.geometry extent) take_bound (ShowsTake s count extent until t follows) (take_work s count extent until t follows)
-
--- an ask of it that has come to this rest keeps the rules, by each log that leads there, within any command in which it may begin
-abbrev pub IsTakeAsk : (rest : Part End) → Ask → Type 0
-IsTakeAsk rest ask = (s : Setting) (log : CommandLog) (count extent until : ℕ) (t : Taking) (follows : Taking → End) (own : List Exchange) →
-    MayBeginTake s log extent until t → HasCome (take_work s count extent until t follows) own rest →
-    IsRightAsk s log (map_at s.geometry extent) take_bound own ask (bytes_out rest)
-
--- what a take still asks of the map of its extent, where the command ends so after that
-abbrev pub taking_here : ReserveAt → (follows : Taking → End) → Outer → Allocator → Reserve → Part End
-taking_here at.Map follows o a m =
-    read_then m.map.0 (outer_known o a) (λ bytes. take_found (allocator_setting o.appliance a) m.count m.extent.0 m.until
-    (read_map a.geometry.extent_blocks bytes) (λ t. Ends (follows t)) (taking_of o a m))
-taking_here at.Write follows o a m =
-    write_then (allocator_setting o.appliance a) (outer_known o a) (extent_use a.geometry m.extent.0 m.until) kind.Take m.map.0 m.out
-    (Ends (follows (with_taken (taking_of o a m) (numbers m.taken.items))))
-taking_here other follows o a m = reserve_at other o a m
+abbrev pub ExtentTakesKeepRules : Type 0
+ExtentTakesKeepRules = (s : Setting) (log : CommandLog) (count extent until : ℕ) (t : Taking) (follows : Taking → End) → MayBeginExtentTake s log extent until t →
+    Keeps s log (IsOfBlock (map_at s.geometry extent)) extent_take_bound (ShowsExtentTake s count extent until t follows) (extent_take_work s count extent until t follows)

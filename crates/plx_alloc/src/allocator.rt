@@ -158,7 +158,7 @@ impl Allocator {
     }
 
     /// The first extent from that one on whose lease is held, or, where `held` is false, isn't.
-    pub fn next_extent(&self, from: u32, held: bool) -> Option<ExtentNo>
+    pub(crate) fn next_extent(&self, from: u32, held: bool) -> Option<ExtentNo>
         requires { from ≤ self.now.geometry.extents }
         ensures { extent_number result ≡ first_extent
             (λ extent. is_as held (extent_leases self.now extent))
@@ -256,7 +256,7 @@ impl Allocator {
     }
 
     /// These blocks were taken: they are in hand, as the last ones.
-    pub fn add(&mut self, blocks: &ArrayVec<BlockNo, HAND_LEN>)
+    pub(crate) fn add(&mut self, blocks: &ArrayVec<BlockNo, HAND_LEN>)
         requires room { array_vec_len self.old.hand + array_vec_len blocks.now ≤ 256 }
         requires pool { AreInPool self.old.geometry blocks.now.items }
         ensures hand { hand_numbers self.new ≡ hand_numbers self.old ++ numbers blocks.now.items }
@@ -270,7 +270,7 @@ impl Allocator {
     }
 
     /// These blocks were given back: they aren't in hand any more.
-    pub fn give(&mut self, blocks: &ArrayVec<BlockNo, HAND_LEN>)
+    pub(crate) fn give(&mut self, blocks: &ArrayVec<BlockNo, HAND_LEN>)
         ensures hand { hand_numbers self.new ≡ blocks_without (numbers blocks.now.items)
             (hand_numbers self.old) }
         ensures leases { extent_leases self.new ≡ extent_leases self.old }
@@ -287,7 +287,7 @@ impl Allocator {
     }
 
     /// The lease of an extent was released: it isn't held any more, and its blocks aren't in hand.
-    pub fn release(&mut self, extent: ExtentNo)
+    pub(crate) fn release(&mut self, extent: ExtentNo)
         ensures leases { extent_leases self.new ≡ at (extent_leases self.old) extent.0 Nothing }
         ensures hand { hand_numbers self.new ≡ held_hand self.old.geometry (extent_leases self.new)
             (hand_numbers self.old) }
@@ -329,7 +329,7 @@ impl Allocator {
     }
 
     /// The block of the map of an extent.
-    pub fn map_block(&self, extent: ExtentNo) -> BlockNo
+    pub(crate) fn map_block(&self, extent: ExtentNo) -> BlockNo
         requires { extent.0 < self.now.geometry.extents }
         ensures { result.0 ≡ map_at self.now.geometry extent.0 }
     {
@@ -337,7 +337,7 @@ impl Allocator {
     }
 
     /// The number of the lease of an extent.
-    pub fn lease_number(&self, extent: ExtentNo) -> u32
+    pub(crate) fn lease_number(&self, extent: ExtentNo) -> u32
         requires { extent.0 < self.now.geometry.extents }
         ensures { result ≡ extent_lease self.now.geometry extent.0 }
     {

@@ -15,7 +15,7 @@ use plx_extent::ExtentMap;
 /// Takes as many of the free blocks of an extent as are needed, the lowest first, and sets their
 /// bits. The extent has so many blocks, of which the map's own is `map`; blocks in hand aren't
 /// free.
-pub fn choose(
+pub(crate) fn choose(
     bits: &mut ExtentMap,
     blocks: u32,
     map: BlockNo,
@@ -51,7 +51,7 @@ pub fn choose(
 
 /// Whether an extent has a free block. The extent has so many blocks, of which the map's own is
 /// `map`; blocks in hand aren't free.
-pub fn has_free(bits: &ExtentMap, blocks: u32, map: BlockNo, hand: &[BlockNo]) -> bool
+pub(crate) fn has_free(bits: &ExtentMap, blocks: u32, map: BlockNo, hand: &[BlockNo]) -> bool
     requires map { map.0 < 2 ^ 32 }
     requires own { is_own_set bits.now ≡ true }
     requires blocks { blocks ≡ length bits.now }
@@ -67,7 +67,7 @@ pub fn has_free(bits: &ExtentMap, blocks: u32, map: BlockNo, hand: &[BlockNo]) -
 
 /// Clears the bits of the blocks in hand of an extent, and tells which of them were set. The extent
 /// has so many blocks, of which the map's own is `map`.
-pub fn clear(
+pub(crate) fn clear(
     bits: &mut ExtentMap,
     blocks: u32,
     map: BlockNo,
@@ -95,7 +95,7 @@ pub fn clear(
 }
 
 /// Whether a block is one of these.
-pub fn is_among(block: BlockNo, blocks: &[BlockNo]) -> bool
+pub(crate) fn is_among(block: BlockNo, blocks: &[BlockNo]) -> bool
     ensures { result ≡ is_in block.0 (numbers blocks.now) }
 {
     for other in blocks {

@@ -1,9 +1,10 @@
 //! All blocks in hand are given back; the leases of their extents are kept.
-ghost use Rattle.std.specs.Prelude.{◌≡◌, ◌≤◌, ◌+◌, ℕ, List, Option, Some, None, IfOk};
+ghost use Rattle.std.specs.Prelude.{◌≡◌, ◌≤◌, ◌+◌, ℕ, List, [], Option, Some, None, IfOk};
 
 use crate::allocator::Allocator;
 use crate::giving::Giving;
 use crate::space_end::SpaceEnd;
+use plx_base::Block;
 use plx_disk::{Answer, Ask};
 
 /// The giving back of all blocks in hand, at one of its asks.
@@ -16,29 +17,42 @@ impl GiveBack {
     ghost use Rattle.plx_disk.specs.declared.ask.Answer.{Answer};
     ghost use Rattle.plx_geom.specs.Geometry.{Geometry};
     ghost use Rattle.plx_rules.specs.Boot.{Fits};
+    ghost use Rattle.plx_rules.specs.Ends.{End};
     ghost use Rattle.plx_rules.specs.Hands.{found_by, hand_answered};
     ghost use Rattle.plx_rules.specs.Machines.{AreWhole};
-    ghost use Rattle.plx_rules.specs.Part.{answered, standing, bytes_out};
+    ghost use Rattle.plx_rules.specs.Part.{Ends, answered, standing, bytes_out};
+    ghost use Rattle.law_run.specs.Machines.{HasCome, MovesOn};
     ghost use Rattle.plx_alloc.specs.Asking.{IsOnDevice, SparesLeases};
     ghost use Rattle.plx_alloc.specs.Ending.{after_space, space_part};
-    ghost use Rattle.plx_alloc.specs.GiveRules.{IsGiveAsk};
-    ghost use Rattle.plx_alloc.specs.Gives.{Around, around_known, give_back_rest, give_extents, give_from, giving_rest};
+    ghost use Rattle.plx_alloc.specs.GiveBackRules.{IsGiveBackAsk, IsGiveBackEnd};
+    ghost use Rattle.plx_alloc.specs.Gives.{Around, around_known, give_back_after, give_back_rest, give_extents, give_from};
     ghost use Rattle.plx_alloc.specs.Moving.{TellsGiven, giving_ask};
     ghost use Rattle.plx_alloc.specs.Suiting.{SuitsGiveBack};
     ghost use Rattle.plx_alloc.specs.Tables.{HoldsHand, IsSame, allocator_setting, hand_numbers, holds_of, extent_leases};
 
-    /// All blocks in hand are to be given back: it begins, or is over at once.
-    pub fn begin(space: &Allocator) -> Result<GiveBack, SpaceEnd>
+    /// All blocks in hand are to be given back: it begins, with a block for the maps that it writes,
+    /// or is over at once.
+    pub fn begin(out: Block, space: &Allocator) -> Result<GiveBack, SpaceEnd>
         requires held { HoldsHand space.now }
         ensures rest { (o : Around) → space_part (give_back_rest o space.now) o.rest
             (around_known o space.now) result
             ≡ give_extents (allocator_setting o.appliance space.now) (around_known o space.now)
             (holds_of space.now) (hand_numbers space.now) space.now.geometry.extents 0 o.rest }
+        ensures log { (o : Around) → HasCome (give_extents (allocator_setting o.appliance space.now)
+            (around_known o space.now) (holds_of space.now) (hand_numbers space.now)
+            space.now.geometry.extents 0 o.rest) [] (space_part (give_back_rest o space.now) o.rest
+            (around_known o space.now) result) }
         ensures suits { IfOk result (λ m. SuitsGiveBack space.now m) }
         ensures tells { (g : Geometry) (found : Option (ℕ × List ℕ))
             → IfOk result (λ m. TellsGiven g m.giving found) }
     {
-        GiveBack::begin_from(space, 0)
+        let mut back = GiveBack {
+            giving: Giving::idle(out),
+        };
+        match back.go_on(space, 0) {
+            None => Ok(back),
+            Some(end) => Err(end),
+        }
     }
 
     /// The ask that stands.
@@ -50,7 +64,7 @@ impl GiveBack {
         ensures spare { (a : Allocator) → SuitsGiveBack a self.now
             → SparesLeases a.geometry result }
         ensures rules { (o : Around) (a : Allocator)
-            → IsGiveAsk (giving_rest o a self.now.giving) result }
+            → IsGiveBackAsk (give_back_rest o a self.now) result }
     {
         self.giving.ask()
     }
@@ -71,6 +85,11 @@ impl GiveBack {
         ensures rest { (o : Around) → after_space (give_back_rest o space.new self.new) o.rest
             (around_known o space.new) result
             ≡ answered (give_back_rest o space.old self.old) answer.now }
+        ensures log { (o : Around) → MovesOn (give_back_rest o space.old self.old) answer.now
+            (give_back_after o space.new self.new result) }
+        ensures rules { (o : Around) (end : End)
+            → give_back_after o space.new self.new result ≡ Ends end
+            → IsGiveBackEnd (give_back_after o space.new self.new result) end }
         ensures suits { result ≡ None → SuitsGiveBack space.new self.new }
         ensures held { HoldsHand space.new }
         ensures same { IsSame space.old space.new }
@@ -86,46 +105,29 @@ impl GiveBack {
             (found_by (giving_ask self.old.giving) answer.now) }
     {
         match self.giving.answer(space, answer) {
-            Some(SpaceEnd::Done) => self.go_on(space),
+            Some(SpaceEnd::Done) => {
+                let given = self.giving.extent();
+                self.go_on(space, given.0 + 1)
+            }
             Some(SpaceEnd::Refused(reply)) => Some(SpaceEnd::Refused(reply)),
             None => None,
         }
     }
 
-    // The blocks of the extent are given back: it goes on past it.
-    fn go_on(&mut self, space: &Allocator) -> Option<SpaceEnd>
-        requires suits { SuitsGiveBack space.now self.old }
+    // It goes on at the next extent, from one on, that has blocks in hand, or is over.
+    fn go_on(&mut self, space: &Allocator, from: u32) -> Option<SpaceEnd>
+        requires from { from ≤ space.now.geometry.extents }
+        requires held { HoldsHand space.now }
         ensures rest { (o : Around) → after_space (give_back_rest o space.now self.new) o.rest
-            (around_known o space.now) result
-            ≡ give_from o space.now (self.old.giving.extent.0 + 1) }
+            (around_known o space.now) result ≡ give_from o space.now from }
         ensures suits { result ≡ None → SuitsGiveBack space.now self.new }
         ensures tells { (g : Geometry) (found : Option (ℕ × List ℕ)) → result ≡ None
             → TellsGiven g self.new.giving found }
     {
-        match GiveBack::begin_from(space, self.giving.extent().0 + 1) {
-            Ok(next) => {
-                *self = next;
-                None
-            }
-            Err(end) => Some(end),
-        }
-    }
-
-    // The giving back of the extents from one on begins, or is over at once.
-    fn begin_from(space: &Allocator, from: u32) -> Result<GiveBack, SpaceEnd>
-        requires from { from ≤ space.now.geometry.extents }
-        requires held { HoldsHand space.now }
-        ensures rest { (o : Around) → space_part (give_back_rest o space.now) o.rest
-            (around_known o space.now) result ≡ give_from o space.now from }
-        ensures suits { IfOk result (λ m. SuitsGiveBack space.now m) }
-        ensures tells { (g : Geometry) (found : Option (ℕ × List ℕ))
-            → IfOk result (λ m. TellsGiven g m.giving found) }
-    {
         let Some(extent) = space.next_in_hand(from) else {
-            return Err(SpaceEnd::Done);
+            return Some(SpaceEnd::Done);
         };
-        Ok(GiveBack {
-            giving: Giving::begin(extent, space),
-        })
+        self.giving.begin(extent, space);
+        None
     }
 }

@@ -4,8 +4,9 @@ ghost use Rattle.std.specs.Prelude.{◌≡◌, ◌≢◌, ◌<◌, ◌^◌, ◌�
 use crate::allocator::{Allocator, HAND_LEN};
 use crate::choosing::clear;
 use crate::space_end::{SpaceEnd, lost};
+use crate::spell::spell_map;
 use arrayvec::ArrayVec;
-use plx_base::{BLOCK_LEN, Block, BlockNo, ExtentNo, WriteKind};
+use plx_base::{Block, BlockNo, ExtentNo, WriteKind};
 use plx_commands::Reply;
 use plx_disk::{Answer, Ask};
 use plx_extent::ExtentMap;
@@ -31,7 +32,7 @@ pub struct Giving {
     lease: u32,
     until: u64,
     given: ArrayVec<BlockNo, HAND_LEN>,
-    out: [u8; BLOCK_LEN],
+    out: Block,
     ghost guard: { until < 2 ^ 49 },
 }
 
@@ -53,25 +54,35 @@ impl Giving {
     ghost use Rattle.plx_alloc.specs.Suiting.{IsHeldUntil, SuitsGiving};
     ghost use Rattle.plx_alloc.specs.Tables.{HoldsHand, IsSame, allocator_setting, hand_numbers, held_of, extent_leases};
 
+    /// A giving back of nothing yet, with a block for the maps that it writes.
+    pub fn idle(out: Block) -> Giving {
+        Giving {
+            at: GivingAt::Map,
+            extent: ExtentNo(0),
+            map: BlockNo(0),
+            lease: 0,
+            until: 0,
+            given: ArrayVec::new(),
+            out,
+        }
+    }
+
     /// The blocks in hand of an extent whose lease is held are to be given back.
-    pub fn begin(extent: ExtentNo, space: &Allocator) -> Giving
+    pub fn begin(&mut self, extent: ExtentNo, space: &Allocator)
         requires inside { extent.0 < space.now.geometry.extents }
         requires lease { IsSome (held_of space.now extent.0) }
         requires held { HoldsHand space.now }
-        ensures at { result.at ≡ GivingAt.Map }
-        ensures extent { result.extent ≡ extent }
-        ensures until { IsHeldUntil space.now extent.0 result.until }
-        ensures suits { SuitsGiving space.now result }
+        ensures at { self.new.at ≡ GivingAt.Map }
+        ensures extent { self.new.extent ≡ extent }
+        ensures until { IsHeldUntil space.now extent.0 self.new.until }
+        ensures suits { SuitsGiving space.now self.new }
     {
-        Giving {
-            at: GivingAt::Map,
-            extent,
-            map: space.map_block(extent),
-            lease: space.lease_number(extent),
-            until: space.held(extent).unwrap().until(),
-            given: ArrayVec::new(),
-            out: [0; BLOCK_LEN],
-        }
+        self.until = space.held(extent).unwrap().until();
+        self.at = GivingAt::Map;
+        self.extent = extent;
+        self.map = space.map_block(extent);
+        self.lease = space.lease_number(extent);
+        self.given.clear();
     }
 
     /// The extent.
@@ -119,7 +130,7 @@ impl Giving {
             → AreWhole (standing (giving_rest o a self.now)) result.now }
     {
         match self.at {
-            GivingAt::Write => &self.out,
+            GivingAt::Write => self.out.as_slice(),
             GivingAt::Map | GivingAt::Damaged => &[],
         }
     }
@@ -188,7 +199,7 @@ impl Giving {
             return;
         };
         self.given = clear(&mut bits, blocks, self.map, space.hand());
-        self.out.copy_from_slice(bits.bytes());
+        spell_map(&bits, &mut self.out);
         self.at = GivingAt::Write;
     }
 

@@ -10,12 +10,11 @@ mod reserve;
 mod retire;
 mod rules;
 mod space_end;
+mod spell;
 
 pub use allocator::{Allocator, HAND_LEN};
-pub use choosing::{choose, clear, has_free, is_among};
 pub use give_back::GiveBack;
-pub use giving::{Giving, GivingAt};
 pub use reserve::{Met, Pass, Reserve, ReserveAt};
 pub use retire::{Retire, RetireAt};
-pub use rules::{gives_keep_rules, takes_keep_rules};
-pub use space_end::{SpaceEnd, lease_name, lost};
+pub use rules::{extent_gives_keep_rules, extent_takes_keep_rules, give_backs_keep_rules};
+pub use space_end::{SpaceEnd, lease_name};

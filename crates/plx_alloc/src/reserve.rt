@@ -5,8 +5,9 @@ ghost use Rattle.arrayvec.specs.ArrayVec.{array_vec_len};
 use crate::allocator::{Allocator, HAND_LEN};
 use crate::choosing::{choose, has_free};
 use crate::space_end::{SpaceEnd, lease_name, lost};
+use crate::spell::spell_map;
 use arrayvec::ArrayVec;
-use plx_base::{BLOCK_LEN, Block, BlockNo, ExtentNo, LeaseRecord, WriteKind};
+use plx_base::{Block, BlockNo, ExtentNo, LeaseRecord, WriteKind};
 use plx_commands::{LAST_CLAIM, Reply};
 use plx_disk::{Answer, Ask};
 use plx_extent::ExtentMap;
@@ -59,7 +60,7 @@ pub struct Reserve {
     claimed: Option<InUse>,
     busy: Option<Met>,
     taken: ArrayVec<BlockNo, HAND_LEN>,
-    out: [u8; BLOCK_LEN],
+    out: Block,
     ghost most: { count ≤ 256 },
     ghost guard: { until < 2 ^ 49 },
 }
@@ -82,11 +83,18 @@ impl Reserve {
     ghost use Rattle.plx_alloc.specs.Tables.{HoldsHand, IsSame, allocator_setting, hand_numbers, holds_of, extent_leases, numbers};
     ghost use Rattle.plx_alloc.specs.Moving.{GoesPast, ReadsFirst, TellsTaken, extent_leases_after_claim, found_tells, looked_starts, reserve_ask, reserve_moves};
     ghost use Rattle.plx_rules.specs.Hands.{found_by, hand_answered};
-    ghost use Rattle.plx_alloc.specs.TakeRules.{IsTakeAsk, taking_here};
+    ghost use Rattle.law_run.specs.Takes.{IsTakeAsk};
+    ghost use Rattle.plx_alloc.specs.TakeEnds.{BeginsRightly, MovesOnRightly, reserve_after, reserve_begun, take_asked};
     ghost use Rattle.plx_alloc.specs.Takes.{Outer, busy_of, next_rest, outer_known, pass_rest, reserve_follows, reserve_rest, taking_of};
 
-    /// So many blocks are to be in hand, at most 256: the take begins, or is over at once.
-    pub fn begin(count: u16, space: &Allocator) -> Result<Reserve, SpaceEnd>
+    /// So many blocks are to be in hand, at most 256: the take begins, with a block for the maps that
+    /// it writes and one for its claims, or is over at once.
+    pub fn begin(
+        count: u16,
+        out: Block,
+        lease: Block,
+        space: &Allocator,
+    ) -> Result<Reserve, SpaceEnd>
         requires most { count ≤ 256 }
         requires held { HoldsHand space.now }
         ensures rest { (o : Outer) → space_part (reserve_rest o space.now)
@@ -94,11 +102,13 @@ impl Reserve {
             (outer_known o space.now) result ≡ take_part (allocator_setting o.appliance space.now)
             (holds_of space.now) count o.rest
             (first_taking (outer_known o space.now) (hand_numbers space.now)) }
+        ensures rules { (o : Outer) → BeginsRightly (take_asked o space.now count)
+            (reserve_begun o space.now result) }
         ensures suits { IfOk result (λ m. SuitsReserve space.now m) }
         ensures reads { IfOk result (λ m. ReadsFirst m.at) }
     {
         let extent = ExtentNo(0);
-        let lease = BlockNo(1 + u64::from(space.lease_number(extent)));
+        let block = BlockNo(1 + u64::from(space.lease_number(extent)));
         let mut take = Reserve {
             at: ReserveAt::Map,
             pass: Pass::Held,
@@ -106,11 +116,11 @@ impl Reserve {
             extent,
             map: space.map_block(extent),
             until: 0,
-            claim: LeaseClaim::begin(Extent(extent), lease, space.boot(), 0, None),
+            claim: LeaseClaim::begin(Extent(extent), block, space.boot(), 0, None, lease),
             claimed: None,
             busy: None,
             taken: ArrayVec::new(),
-            out: [0; BLOCK_LEN],
+            out,
         };
         match take.go_on(space, 0) {
             None => Ok(take),
@@ -126,8 +136,8 @@ impl Reserve {
         ensures within { (a : Allocator) → SuitsReserve a self.now → IsOnDevice a.geometry result }
         ensures spare { (a : Allocator) → SuitsReserve a self.now
             → reserve_spares self.now.at a.geometry self.now result }
-        ensures rules { (follows : Taking → End) (o : Outer) (a : Allocator)
-            → IsTakeAsk (taking_here self.now.at follows o a self.now) result }
+        ensures rules { (o : Outer) (a : Allocator)
+            → IsTakeAsk (reserve_rest o a self.now) result }
     {
         match self.at {
             ReserveAt::Map | ReserveAt::Look => Ask::Read { block: self.map },
@@ -149,7 +159,7 @@ impl Reserve {
             → AreWhole (standing (reserve_rest o a self.now)) result.now }
     {
         match self.at {
-            ReserveAt::Write => &self.out,
+            ReserveAt::Write => self.out.as_slice(),
             ReserveAt::Claim => self.claim.out(),
             ReserveAt::Map | ReserveAt::Look | ReserveAt::Damaged => &[],
         }
@@ -162,6 +172,8 @@ impl Reserve {
         ensures rest { (o : Outer) → after_space (reserve_rest o space.new self.new)
             (reserve_follows o space.new self.new) (outer_known o space.new) result
             ≡ answered (reserve_rest o space.old self.old) answer.now }
+        ensures rules { (o : Outer) → MovesOnRightly (reserve_rest o space.old self.old) answer.now
+            (reserve_after o space.new self.new result) }
         ensures suits { result ≡ None → SuitsReserve space.new self.new }
         ensures held { HoldsHand space.new }
         ensures same { IsSame space.old space.new }
@@ -221,7 +233,7 @@ impl Reserve {
         if self.taken.is_empty() {
             return self.go_on(space, self.extent.0 + 1);
         }
-        self.out.copy_from_slice(bits.bytes());
+        spell_map(&bits, &mut self.out);
         self.at = ReserveAt::Write;
         None
     }
@@ -277,7 +289,7 @@ impl Reserve {
             return Some(SpaceEnd::Refused(Reply::WornOut { count: LAST_CLAIM }));
         };
         let lease = BlockNo(1 + u64::from(space.lease_number(self.extent)));
-        self.claim = LeaseClaim::begin(
+        self.claim.begin_next(
             Extent(self.extent),
             lease,
             space.boot(),

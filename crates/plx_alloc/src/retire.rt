@@ -1,15 +1,15 @@
 //! The extents' part of a retire: blocks in hand are given back, and leases of extents released.
-ghost use Rattle.std.specs.Prelude.{◌≡◌, ◌≤◌, ◌+◌, ℕ, List, Option, Some, None, IfOk};
+ghost use Rattle.std.specs.Prelude.{◌≡◌, ◌≤◌, ◌+◌, ℕ, List, [], Option, Some, None, IfOk};
 ghost use Rattle.plx_base.specs.declared.lease.LeaseRecord.TheVariants.{Free};
 ghost use Rattle.plx_gate.specs.Leases.{lease_bytes};
 
 use crate::allocator::Allocator;
 use crate::giving::Giving;
 use crate::space_end::{SpaceEnd, lost};
-use plx_base::{BLOCK_LEN, BlockNo, LeaseRecord, WriteKind};
+use plx_base::{Block, BlockNo, LeaseRecord, WriteKind};
 use plx_commands::Reply;
 use plx_disk::{Answer, Ask};
-use plx_gate::write_lease;
+use plx_lease::spell_lease;
 
 /// Where the extents' part of a retire stands.
 #[derive(Clone, Copy)]
@@ -20,12 +20,12 @@ pub enum RetireAt {
     Release,
 }
 
-/// The extents' part of a retire, at one of its asks, with the bytes of a free lease.
+/// The extents' part of a retire, at one of its asks, with a block that spells a free lease.
 #[derive(Drop)]
 pub struct Retire {
     at: RetireAt,
     giving: Giving,
-    free: [u8; BLOCK_LEN],
+    free: Block,
     ghost spelled: { free ≡ lease_bytes Free },
 }
 
@@ -34,32 +34,49 @@ impl Retire {
     ghost use Rattle.plx_disk.specs.declared.ask.Answer.{Answer};
     ghost use Rattle.plx_geom.specs.Geometry.{Geometry, lease_at};
     ghost use Rattle.plx_rules.specs.Boot.{Fits};
+    ghost use Rattle.plx_rules.specs.Ends.{End};
     ghost use Rattle.plx_rules.specs.Hands.{found_by, hand_answered};
     ghost use Rattle.plx_rules.specs.Holds.{Nothing};
     ghost use Rattle.plx_rules.specs.Machines.{AreWhole};
-    ghost use Rattle.plx_rules.specs.Part.{answered, standing, bytes_out};
+    ghost use Rattle.plx_rules.specs.Part.{Ends, answered, standing, bytes_out};
     ghost use Rattle.plx_rules.specs.Space.{retire_extents};
+    ghost use Rattle.law_run.specs.Machines.{HasCome, MovesOn};
+    ghost use Rattle.law_run.specs.RetireRules.{IsRetireAsk, IsRetireEnd};
     ghost use Rattle.plx_alloc.specs.Asking.{IsOnDevice, retire_spares};
     ghost use Rattle.plx_alloc.specs.Ending.{after_space, space_part};
-    ghost use Rattle.plx_alloc.specs.GiveRules.{IsGiveAsk};
-    ghost use Rattle.plx_alloc.specs.Gives.{Around, around_known, giving_rest};
+    ghost use Rattle.plx_alloc.specs.Gives.{Around, around_known};
     ghost use Rattle.plx_alloc.specs.Moving.{TellsRetired, released_at, retire_ask};
-    ghost use Rattle.plx_alloc.specs.Retires.{retire_extents_from, retire_extents_rest};
+    ghost use Rattle.plx_alloc.specs.Retires.{retire_after, retire_extents_from, retire_extents_rest};
     ghost use Rattle.plx_alloc.specs.Suiting.{SuitsRetire};
     ghost use Rattle.plx_alloc.specs.Tables.{HoldsHand, IsSame, allocator_setting, hand_numbers, held_hand, holds_of, extent_leases};
 
-    /// Each extent whose lease is held is to be given up: the retire begins, or is over at once.
-    pub fn begin(space: &Allocator) -> Result<Retire, SpaceEnd>
+    /// Each extent whose lease is held is to be given up: the retire begins, with a block for the maps
+    /// that it writes and one for its releases, or is over at once.
+    pub fn begin(out: Block, lease: Block, space: &Allocator) -> Result<Retire, SpaceEnd>
         requires held { HoldsHand space.now }
         ensures rest { (o : Around) → space_part (retire_extents_rest o space.now) o.rest
             (around_known o space.now) result
             ≡ retire_extents (allocator_setting o.appliance space.now) (around_known o space.now)
             (holds_of space.now) (hand_numbers space.now) space.now.geometry.extents 0 o.rest }
+        ensures log { (o : Around) → HasCome (retire_extents
+            (allocator_setting o.appliance space.now) (around_known o space.now)
+            (holds_of space.now) (hand_numbers space.now) space.now.geometry.extents 0 o.rest) []
+            (space_part (retire_extents_rest o space.now) o.rest (around_known o space.now) result) }
         ensures suits { IfOk result (λ m. SuitsRetire space.now m) }
         ensures tells { (g : Geometry) (found : Option (ℕ × List ℕ))
             → IfOk result (λ m. TellsRetired g m found) }
     {
-        Retire::begin_from(space, 0)
+        let mut free = lease;
+        spell_lease(&LeaseRecord::Free, &mut free);
+        let mut retire = Retire {
+            at: RetireAt::Give,
+            giving: Giving::idle(out),
+            free,
+        };
+        match retire.go_on(space, 0) {
+            None => Ok(retire),
+            Some(end) => Err(end),
+        }
     }
 
     /// The ask that stands.
@@ -70,8 +87,8 @@ impl Retire {
         ensures within { (a : Allocator) → SuitsRetire a self.now → IsOnDevice a.geometry result }
         ensures spare { (a : Allocator) → SuitsRetire a self.now
             → retire_spares self.now.at a.geometry self.now result }
-        ensures rules { self.now.at ≡ RetireAt.Give → (o : Around) (a : Allocator)
-            → IsGiveAsk (giving_rest o a self.now.giving) result }
+        ensures rules { (o : Around) (a : Allocator)
+            → IsRetireAsk (retire_extents_rest o a self.now) result }
     {
         match self.at {
             RetireAt::Give => self.giving.ask(),
@@ -92,7 +109,7 @@ impl Retire {
     {
         match self.at {
             RetireAt::Give => self.giving.out(),
-            RetireAt::Release => &self.free,
+            RetireAt::Release => self.free.as_slice(),
         }
     }
 
@@ -102,6 +119,11 @@ impl Retire {
         ensures rest { (o : Around) → after_space (retire_extents_rest o space.new self.new) o.rest
             (around_known o space.new) result
             ≡ answered (retire_extents_rest o space.old self.old) answer.now }
+        ensures log { (o : Around) → MovesOn (retire_extents_rest o space.old self.old) answer.now
+            (retire_after o space.new self.new result) }
+        ensures rules { (o : Around) (end : End)
+            → retire_after o space.new self.new result ≡ Ends end
+            → IsRetireEnd (retire_after o space.new self.new result) end }
         ensures suits { result ≡ None → SuitsRetire space.new self.new }
         ensures held { HoldsHand space.new }
         ensures same { IsSame space.old space.new }
@@ -158,43 +180,29 @@ impl Retire {
     {
         let extent = self.giving.extent();
         space.release(extent);
-        match Retire::begin_from(space, extent.0 + 1) {
-            Ok(next) => {
-                *self = next;
-                None
-            }
-            Err(end) => Some(end),
-        }
+        self.go_on(space, extent.0 + 1)
     }
 
-    // A retire of the extents from one on begins, or is over at once.
-    fn begin_from(space: &Allocator, from: u32) -> Result<Retire, SpaceEnd>
+    // The retire goes on at the next extent, from one on, whose lease is held, or is over.
+    fn go_on(&mut self, space: &Allocator, from: u32) -> Option<SpaceEnd>
         requires from { from ≤ space.now.geometry.extents }
         requires held { HoldsHand space.now }
-        ensures rest { (o : Around) → space_part (retire_extents_rest o space.now) o.rest
+        ensures rest { (o : Around) → after_space (retire_extents_rest o space.now self.new) o.rest
             (around_known o space.now) result ≡ retire_extents_from o space.now from }
-        ensures suits { IfOk result (λ m. SuitsRetire space.now m) }
-        ensures tells { (g : Geometry) (found : Option (ℕ × List ℕ))
-            → IfOk result (λ m. TellsRetired g m found) }
+        ensures suits { result ≡ None → SuitsRetire space.now self.new }
+        ensures tells { (g : Geometry) (found : Option (ℕ × List ℕ)) → result ≡ None
+            → TellsRetired g self.new found }
     {
         let Some(extent) = space.next_extent(from, true) else {
-            return Err(SpaceEnd::Done);
+            return Some(SpaceEnd::Done);
         };
-        let mut free = [0; BLOCK_LEN];
-        write_lease(&LeaseRecord::Free, &mut free);
-        let giving = Giving::begin(extent, space);
+        self.giving.begin(extent, space);
         if space.has_in_hand(extent) {
-            return Ok(Retire {
-                at: RetireAt::Give,
-                giving,
-                free,
-            });
+            self.at = RetireAt::Give;
+            return None;
         }
-        Ok(Retire {
-            at: RetireAt::Release,
-            giving,
-            free,
-        })
+        self.at = RetireAt::Release;
+        None
     }
 
     // The block of the lease.

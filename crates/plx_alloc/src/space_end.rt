@@ -37,7 +37,7 @@ pub fn lease_name(geometry: &Geometry, number: u32) -> LeaseName
 }
 
 /// The end where a reading has reached a lease in use.
-pub fn lost(geometry: &Geometry, due: InUse, reading: u64) -> SpaceEnd
+pub(crate) fn lost(geometry: &Geometry, due: InUse, reading: u64) -> SpaceEnd
     ensures { (s : Setting) (follows : Part End) (known : Known) → s.geometry ≡ geometry.now
         → space_end follows known result ≡ lost_part s known (use_of due) reading }
 {

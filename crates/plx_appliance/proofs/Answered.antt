@@ -31,17 +31,15 @@ use Rattle.plx_lease.specs.declared.claim_end.ClaimEnd.{ClaimEnd as End'}
 use Rattle.plx_token.specs.declared.kind.Image.{Image}
 use Rattle.plx_alloc.specs.Asking.{SparesHand, SparesLeases}
 use Rattle.plx_appliance.specs.Attaches.{attach_at, attach_spares}
-use Rattle.plx_appliance.specs.Holding.{HoldsAs, IsKept, image_leases_after_write, hold_without_claim}
-use Rattle.plx_appliance.specs.Moving.{ClaimMoves, ClaimsNone, Moves, attach_moves, attach_stays, renew_stays, reserve_stays, retire_stays}
+use Rattle.plx_appliance.specs.Holding.{HoldsAs, DropsNothing, image_leases_after_write, hold_without_claim}
+use Rattle.plx_appliance.specs.Moving.{AttachClaimMoves, ClaimsNone, Moves, attach_moves, attach_stays, renew_stays, reserve_stays, retire_stays}
 use Rattle.plx_appliance.specs.Lent.{Lent}
-use Rattle.plx_appliance.specs.Releasing.{image_leases_after_release}
 use Rattle.plx_appliance.specs.Renews.{IsRenewing}
 use Rattle.plx_appliance.specs.Reserves.{outer_of}
 use Rattle.plx_appliance.specs.Rests.{record_stage, write_at}
 use Rattle.plx_appliance.specs.Retires.{retire_tells}
 use Rattle.plx_appliance.specs.Space.{AreWithin, IsHand}
 use Rattle.plx_appliance.specs.Loads.{load_at}
-use Rattle.plx_appliance.specs.declared.detach.Detach.{Detach}
 use Rattle.plx_appliance.specs.declared.load.Load.{Load}
 use Rattle.plx_appliance.specs.declared.load.LoadAt.{LoadAt}
 use Rattle.plx_appliance.specs.declared.load.LoadAt.TheVariants as load
@@ -64,7 +62,7 @@ use Rattle.plx_appliance.specs.declared.work.Work.TheVariants as work
 use Rattle.plx_appliance.proofs.Entered.{held-image}
 use Rattle.plx_appliance.proofs.Failing.{EndsOnFailure, claim-fails, kept-asks, same-ask}
 use Rattle.plx_appliance.proofs.Goes.{work-asks}
-use Rattle.plx_appliance.proofs.Held.{nothing-at, spare-holds}
+use Rattle.plx_appliance.proofs.Held.{spare-holds}
 use Rattle.plx_appliance.proofs.InHand.{spares-hand}
 use Rattle.plx_appliance.proofs.Lengthened.{renewed-holds, renewed-inside}
 use Rattle.plx_appliance.proofs.Moved.{claim-settled, claimed-others, holds-own, leaves-settled, release-holds-as}
@@ -96,13 +94,13 @@ fits-timely (ask.Until from) answer.Fault fits = tt
 
 -- how far a claim has come once it was answered
 claim-own : (old new : Attach) (a : Answer) (before after holds : ℕ → Hold) (sample : Option ℕ) (result : Option Reply) →
-    (m : ClaimMoves old new a before after result) → IsClaiming old holds sample → Fits (claim_ask old.claim) a →
+    (m : AttachClaimMoves old new a before after result) → IsClaiming old holds sample → Fits (claim_ask old.claim) a →
     LeavesClaim (after_answer sample (claim_ask old.claim) (bytes_out (claim_rest old.claim)) a holds (lease_at old.claim.number)) (sample_of a) new.claim m.end
 claim-own old new a before after holds sample result m i fits = claim-holds old.claim new.claim m.end sample a holds i.sampled i.hold (m.hold fits)
 
 claim-moved : (g : Geometry) (old new : Attach) (a : Answer) (before after extents holds : ℕ → Hold) (sample : Option ℕ) (result : Option Reply) →
     old.load.image.setting.geometry ≡ g → Fits (claim_ask old.claim) a → AsksOnly (lease_at old.claim.number) (claim_ask old.claim) →
-    HoldsAs g before extents holds → IsClaiming old holds sample → ClaimMoves old new a before after result →
+    HoldsAs g before extents holds → IsClaiming old holds sample → AttachClaimMoves old new a before after result →
     HoldsAs g (image_leases_after_write (claim_ask old.claim) a after) (image_leases_after_write (claim_ask old.claim) a extents) (after_answer sample (claim_ask old.claim) (bytes_out (claim_rest old.claim)) a holds)
 claim-moved g old new a before after extents holds sample result same fits only h i m =
     let image = old.load.image.slot.0 in
@@ -120,7 +118,7 @@ claim-moved g old new a before after extents holds sample result same fits only 
     (λ other ne. ap (λ (t : ℕ → Hold). t other) m.leases ∙ claimed-others m.end image before other ne)
 
 claim-inside : (old new : Attach) (a : Answer) (before after holds : ℕ → Hold) (sample : Option ℕ) (result : Option Reply) (at : AttachAt) →
-    Fits (claim_ask old.claim) a → IsClaiming old holds sample → ClaimMoves old new a before after result → result ≡ None → new.at ≡ at →
+    Fits (claim_ask old.claim) a → IsClaiming old holds sample → AttachClaimMoves old new a before after result → result ≡ None → new.at ≡ at →
     inside_at at new (after_answer sample (claim_ask old.claim) (bytes_out (claim_rest old.claim)) a holds) (sample_of a)
 claim-inside old new a before after holds sample result attach.Claim fits i m none at =
     let now = after_answer sample (claim_ask old.claim) (bytes_out (claim_rest old.claim)) a holds in
@@ -270,7 +268,7 @@ none-inside (work.Reserve r) holds sample found none = absurd none
 none-inside (work.Retire r) holds sample found none = absurd none
 
 -- a command that goes on suits what it is lent, and is for the same geometry
-pub record GoesOn (g : Geometry) (later : Lent) (new : Work) : Type 0 where
+pub record WorkGoesOn (g : Geometry) (later : Lent) (new : Work) : Type 0 where
   pub setting : (work_setting new).geometry ≡ g
   pub space : later.space.geometry ≡ g
   pub suits : work_suits later.space new
@@ -279,7 +277,7 @@ pub record GoesOn (g : Geometry) (later : Lent) (new : Work) : Type 0 where
 pub work-inside : (g : Geometry) (lent later : Lent) (w new : Work) (q : Ask) (a : Answer) (holds : ℕ → Hold) (sample : Option ℕ) (found : Option (ℕ × List ℕ)) (result : Option Reply) →
     (work_setting w).geometry ≡ g → lent.space.geometry ≡ g → work_suits lent.space w → Some q ≡ standing (work_rest lent w) → Spares w q → Fits q a →
     HoldsAs g (image_leases_after_write q a later.leases) (image_leases_after_write q a (extents_of later.space)) (after_answer sample q (bytes_out (work_rest lent w)) a holds) →
-    Inside w holds sample found → Moves w new a lent later result → result ≡ None → GoesOn g later new →
+    Inside w holds sample found → Moves w new a lent later result → result ≡ None → WorkGoesOn g later new →
     Inside new (after_answer sample q (bytes_out (work_rest lent w)) a holds) (sample_of a) (found_by q a)
 work-inside g lent later (work.Attach old) new q a holds sample found result same space suits stands spare fits h i m none goes =
     by-attach (λ w. Inside w (after_answer sample q (bytes_out (work_rest lent (work.Attach old))) a holds) (sample_of a) (found_by q a)) old new a lent.leases later.leases result m.0
@@ -421,5 +419,5 @@ work-fails lent (work.Reserve r) = take-fails (outer_of r.setting lent.known.ses
 work-fails lent (work.Retire r) = retire-fails lent r.stage r
 
 -- where it goes on, what is held stays
-pub work-kept : (lent later : Lent) (w new : Work) (q : Ask) (a : Answer) → Some q ≡ standing (work_rest lent w) → work_rest later new ≡ answered (work_rest lent w) a → IsKept q a
+pub work-kept : (lent later : Lent) (w new : Work) (q : Ask) (a : Answer) → Some q ≡ standing (work_rest lent w) → work_rest later new ≡ answered (work_rest lent w) a → DropsNothing q a
 work-kept lent later w new q a stands is = kept-asks (work_rest lent w) q a stands (work-fails lent w) (subst (λ (part : Part End). Asks part) is (work-asks later new))

@@ -10,12 +10,12 @@ use Rattle.plx_appliance.proofs.First.{first-nothing}
 use Rattle.plx_base.proofs.Tests.{below-next, below-or-past}
 
 -- the images below one have had their turn, the others not
-abbrev pub IsDropped : (known : Known) → (reading : ℕ) → (leases now : ℕ → Hold) → (index : ℕ) → Type 0
-IsDropped known reading leases now index =
+abbrev pub AreImagesDropped : (known : Known) → (reading : ℕ) → (leases now : ℕ → Hold) → (index : ℕ) → Type 0
+AreImagesDropped known reading leases now index =
     ((image : ℕ) → image < index → now image ≡ first_leases known reading leases image) × ((image : ℕ) → index ≤ image → now image ≡ leases image)
 
-pub images-dropped-next : (known : Known) (reading : ℕ) (leases now new : ℕ → Hold) (index : ℕ) → IsDropped known reading leases now index →
-    new ≡ at now index (first_hold (known.sessions index) reading (now index)) → IsDropped known reading leases new (index + 1)
+pub images-dropped-next : (known : Known) (reading : ℕ) (leases now new : ℕ → Hold) (index : ℕ) → AreImagesDropped known reading leases now index →
+    new ≡ at now index (first_hold (known.sessions index) reading (now index)) → AreImagesDropped known reading leases new (index + 1)
 images-dropped-next known reading leases now new index h is = (below, past)
   where
     here : new index ≡ first_leases known reading leases index
@@ -33,7 +33,7 @@ images-dropped-next known reading leases now new index h is = (below, past)
     past : (image : ℕ) → index + 1 ≤ image → new image ≡ leases image
     past image more = there image (λ e. absurd (omega (arith, e, more))) ∙ h.1 image (omega (arith, more))
 
-pub images-dropped-all : (known : Known) (reading : ℕ) (leases now : ℕ → Hold) (index : ℕ) → IsDropped known reading leases now index →
+pub images-dropped-all : (known : Known) (reading : ℕ) (leases now : ℕ → Hold) (index : ℕ) → AreImagesDropped known reading leases now index →
     ((image : ℕ) → index ≤ image → leases image ≡ Nothing) → now ≡ first_leases known reading leases
 images-dropped-all known reading leases now index h none = fun_ext (λ image. elim (below-or-past image index) [
   | inl below ↦ h.0 image below

@@ -1,5 +1,5 @@
 -- A write that fails or is missed ends its command: where a command goes on, what is held stays.
-use Rattle.std.proofs.Common.{◌≡◌, ℕ, List, Option, Some, None, refl, sym, ap, ◌∙◌, subst}
+use Rattle.std.proofs.Common.{◌≡◌, ℕ, List, Option, Some, None, refl, sym, ap, subst}
 use Rattle.plx_base.specs.declared.write_kind.WriteKind.{WriteKind}
 use Rattle.plx_disk.specs.declared.ask.Ask.{Ask}
 use Rattle.plx_disk.specs.declared.ask.Ask.TheVariants as ask
@@ -16,7 +16,7 @@ use Rattle.plx_lease.specs.Claiming.{claim_at}
 use Rattle.plx_lease.specs.declared.claim.ClaimAt.{ClaimAt}
 use Rattle.plx_lease.specs.declared.claim.ClaimAt.TheVariants as claim
 use Rattle.plx_lease.specs.declared.claim.LeaseClaim.{LeaseClaim}
-use Rattle.plx_appliance.specs.Holding.{IsKept, image_leases_after_write}
+use Rattle.plx_appliance.specs.Holding.{DropsNothing, image_leases_after_write}
 
 -- a write that fails or is missed ends it
 abbrev pub EndsOnFailure : Part End → Type 0
@@ -27,7 +27,7 @@ EndsOnFailure (ClockThen rest) = Unit {0}
 EndsOnFailure (UntilThen from rest) = Unit {0}
 
 write-kept : (kind : WriteKind) (block : ℕ) (bytes : List ℕ) (guard : ℕ) (done fault : Part End) (missed : ℕ → Part End) (a : Answer) →
-    EndsOnFailure (WriteThen kind block bytes guard done fault missed) → Asks (answered (WriteThen kind block bytes guard done fault missed) a) → IsKept (ask.Write kind (record { 0 = block }) guard) a
+    EndsOnFailure (WriteThen kind block bytes guard done fault missed) → Asks (answered (WriteThen kind block bytes guard done fault missed) a) → DropsNothing (ask.Write kind (record { 0 = block }) guard) a
 write-kept kind block bytes guard done fault missed (answer.Bytes b) fails asks = tt
 write-kept kind block bytes guard done fault missed answer.Done fails asks = tt
 write-kept kind block bytes guard done fault missed (answer.Reading r) fails asks = tt
@@ -43,16 +43,16 @@ pub same-ask : (q r : Ask) → Some q ≡ Some r → q ≡ r
 same-ask q r e = ap ask_or e
 
 -- what still asks after an answer kept what is held
-pub kept-asks : (part : Part End) (q : Ask) (a : Answer) → Some q ≡ standing part → EndsOnFailure part → Asks (answered part a) → IsKept q a
+pub kept-asks : (part : Part End) (q : Ask) (a : Answer) → Some q ≡ standing part → EndsOnFailure part → Asks (answered part a) → DropsNothing q a
 kept-asks (Ends end) q a stands fails asks = absurd cc
-kept-asks (ReadThen block rest fault) q a stands fails asks = subst (λ (r : Ask). IsKept r a) (sym (same-ask q (ask.Read (record { 0 = block })) stands)) tt
+kept-asks (ReadThen block rest fault) q a stands fails asks = subst (λ (r : Ask). DropsNothing r a) (sym (same-ask q (ask.Read (record { 0 = block })) stands)) tt
 kept-asks (WriteThen kind block bytes guard done fault missed) q a stands fails asks =
-    subst (λ (r : Ask). IsKept r a) (sym (same-ask q (ask.Write kind (record { 0 = block }) guard) stands)) (write-kept kind block bytes guard done fault missed a fails asks)
-kept-asks (ClockThen rest) q a stands fails asks = subst (λ (r : Ask). IsKept r a) (sym (same-ask q ask.Clock stands)) tt
-kept-asks (UntilThen from rest) q a stands fails asks = subst (λ (r : Ask). IsKept r a) (sym (same-ask q (ask.Until from) stands)) tt
+    subst (λ (r : Ask). DropsNothing r a) (sym (same-ask q (ask.Write kind (record { 0 = block }) guard) stands)) (write-kept kind block bytes guard done fault missed a fails asks)
+kept-asks (ClockThen rest) q a stands fails asks = subst (λ (r : Ask). DropsNothing r a) (sym (same-ask q ask.Clock stands)) tt
+kept-asks (UntilThen from rest) q a stands fails asks = subst (λ (r : Ask). DropsNothing r a) (sym (same-ask q (ask.Until from) stands)) tt
 
 -- so it is of what is held by the leases
-pub kept-leases : (q : Ask) (a : Answer) (leases : ℕ → Hold) → IsKept q a → image_leases_after_write q a leases ≡ leases
+pub kept-leases : (q : Ask) (a : Answer) (leases : ℕ → Hold) → DropsNothing q a → image_leases_after_write q a leases ≡ leases
 kept-leases (ask.Read block) a leases kept = refl
 kept-leases (ask.Write k block guard) (answer.Bytes b) leases kept = refl
 kept-leases (ask.Write k block guard) answer.Done leases kept = refl

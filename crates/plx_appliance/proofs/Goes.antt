@@ -1,5 +1,5 @@
 -- A command that goes on, or ends, after an answer.
-use Rattle.std.proofs.Common.{◌≡◌, ℕ, ◌+◌, ◌<◌, List, [], ◌∷◌, ◌++◌, Option, Some, None, refl, sym, ap, ◌∙◌, subst, arith}
+use Rattle.std.proofs.Common.{◌≡◌, ℕ, ◌<◌, List, [], ◌∷◌, ◌++◌, Option, Some, None, refl, sym, ap, ◌∙◌, subst, arith}
 use Rattle.std.specs.Prelude.{Bool, true, false, nat_le, if◌then◌else◌}
 use Rattle.plx_alloc.specs.Moving.{ReadsFirst, tells_at}
 use Rattle.plx_alloc.specs.declared.reserve.Reserve.{Reserve as Take}
@@ -24,7 +24,7 @@ use Rattle.plx_rules.proofs.Nested.{asks-followed}
 use Rattle.plx_rules.specs.Session.{Known, Session}
 use Rattle.plx_rules.specs.Settings.{Setting}
 use Rattle.plx_lease.specs.Claiming.{claim_rest}
-use Rattle.plx_appliance.specs.Appliance.{HasBegun, IsIn}
+use Rattle.plx_appliance.specs.Appliance.{HasBegun, IsInWork}
 use Rattle.plx_appliance.specs.Attaches.{attach_at}
 use Rattle.plx_appliance.specs.Begins.{waiting_part}
 use Rattle.plx_appliance.specs.Ending.{hand_after_reply, known_after, leases_after}
@@ -218,20 +218,20 @@ starts-inside g leases extents (work.Retire r) holds sample same starts agrees c
 
 -- a command goes on after its first reading
 pub record FirstIn (s : Setting) (lent : Lent) (w : Work) (tokens : List (Option (Token Image))) (extents : ℕ → Hold) (hand : List ℕ) (log : List Happening) (reading : ℕ) : Type 0 where
-  pub in_it : IsIn lent w (position s (Asked ask.Clock [] (answer.Reading reading) ∷ log))
+  pub in_it : IsInWork lent w (position s (Asked ask.Clock [] (answer.Reading reading) ∷ log))
   pub held : HoldsAs s.geometry (image_leases tokens) extents (position s (Asked ask.Clock [] (answer.Reading reading) ∷ log)).holds
   pub in_hand : (position s (Asked ask.Clock [] (answer.Reading reading) ∷ log)).hand ≡ hand
   pub no_reply : None ≡ replies s (answer.Reading reading) (position s log)
 
 -- a command that has begun stands for its log, with these leases and this hand
-pub record Waits (s : Setting) (known : Known) (b : Begun) (log : List Happening) (leases extents : ℕ → Hold) (hand : List ℕ) : Type 0 where
+pub record BegunStands (s : Setting) (known : Known) (b : Begun) (log : List Happening) (leases extents : ℕ → Hold) (hand : List ℕ) : Type 0 where
   pub begun : HasBegun s known b (position s log)
   pub held : HoldsAs s.geometry leases extents (position s log).holds
   pub hand_is : (position s log).hand ≡ hand
   pub within : AreWithin s.geometry hand
 
 pub first-in : (s : Setting) (known : Known) (after : Lent) (b : Begun) (w : Work) (log : List Happening) (reading : ℕ) (leases extents : ℕ → Hold) (hand : List ℕ) (tokens : List (Option (Token Image))) →
-    Waits s known b log leases extents hand →
+    BegunStands s known b log leases extents hand →
     work_rest after w ≡ waiting_part s known (lease_holds_at s.geometry (first_leases known reading leases) (first_extents reading extents)) (held_hand s.geometry (first_extents reading extents) hand) reading b →
     image_leases tokens ≡ first_leases known reading leases → StartsInside (image_leases tokens) (first_extents reading extents) w → (work_setting w).geometry ≡ s.geometry →
     FirstIn s after w tokens (first_extents reading extents) (held_hand s.geometry (first_extents reading extents) hand) log reading
@@ -279,7 +279,7 @@ pub record FirstEnds (s : Setting) (known : Known) (r : Reply) (leases extents :
   pub replied : Some r ≡ replies s (answer.Reading reading) (position s log)
 
 pub first-ends : (s : Setting) (known after : Known) (b : Begun) (r : Reply) (log : List Happening) (reading : ℕ) (leases extents : ℕ → Hold) (hand : List ℕ) (tokens : List (Option (Token Image))) →
-    Waits s known b log leases extents hand →
+    BegunStands s known b log leases extents hand →
     ends r (known_after r after) ≡ waiting_part s known (lease_holds_at s.geometry (first_leases known reading leases) (first_extents reading extents)) (held_hand s.geometry (first_extents reading extents) hand) reading b →
     image_leases tokens ≡ first_leases known reading leases →
     FirstEnds s after r (image_leases tokens) (first_extents reading extents) (held_hand s.geometry (first_extents reading extents) hand) log reading

@@ -1,5 +1,5 @@
 -- The blocks in hand, by what is held of the leases of extents.
-use Rattle.std.proofs.Common.{◌≡◌, ℕ, suc, ◌+◌, ◌<◌, List, [], ◌∷◌, Option, Some, None, Bool, true, false, refl, ap, ◌∙◌, arith}
+use Rattle.std.proofs.Common.{◌≡◌, ℕ, suc, ◌<◌, List, [], ◌∷◌, Option, Some, None, Bool, true, false, refl, ap, ◌∙◌, arith}
 use Rattle.std.specs.Prelude.{◌==◌, if◌then◌else◌}
 use Rattle.plx_base.specs.declared.write_kind.WriteKind.{WriteKind}
 use Rattle.plx_base.specs.declared.write_kind.WriteKind.TheVariants as kind
@@ -20,7 +20,7 @@ use Rattle.plx_rules.specs.Rests.{extent_of}
 use Rattle.plx_extent.specs.Maps.{bits_of}
 use Rattle.plx_alloc.specs.Asking.{SparesHand}
 use Rattle.plx_appliance.specs.Ending.{hand_after_reply, leases_after}
-use Rattle.plx_appliance.specs.Holding.{HoldsAs, IsKept, image_leases_after_write, dropped_hand, hold_without_claim}
+use Rattle.plx_appliance.specs.Holding.{HoldsAs, DropsNothing, image_leases_after_write, dropped_hand, hold_without_claim}
 use Rattle.plx_appliance.specs.Space.{AreWithin, held_hand}
 use Rattle.plx_appliance.proofs.Entered.{held-extent}
 
@@ -64,7 +64,7 @@ dropped-hand g extents ask.Clock a hand all h = h
 dropped-hand g extents (ask.Until from) a hand all h = h
 
 -- after an answer that keeps what is held the hand stays
-pub kept-hand : (q : Ask) (a : Answer) (hand : List ℕ) → IsKept q a → dropped_hand q a hand ≡ hand
+pub kept-hand : (q : Ask) (a : Answer) (hand : List ℕ) → DropsNothing q a → dropped_hand q a hand ≡ hand
 kept-hand (ask.Read block) a hand kept = refl
 kept-hand (ask.Write k block guard) (answer.Bytes b) hand kept = refl
 kept-hand (ask.Write k block guard) answer.Done hand kept = refl

@@ -1,5 +1,5 @@
 -- What is lent of space, as its machines see it, is what the definitions ask of.
-use Rattle.std.proofs.Common.{◌≡◌, ℕ, ◌+◌, ◌-◌, ◌<◌, List, sym, ap, ◌∙◌, subst, arith}
+use Rattle.std.proofs.Common.{◌≡◌, ℕ, ◌+◌, ◌-◌, sym, ap, ◌∙◌, subst, arith}
 use Rattle.plx_base.specs.declared.numbers.Boot.{Boot}
 use Rattle.plx_geom.specs.Geometry.{Geometry, extent_lease, lease_at}
 use Rattle.plx_rules.specs.Ends.{End}

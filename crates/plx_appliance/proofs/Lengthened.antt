@@ -1,5 +1,5 @@
 -- A renew that was answered: what is kept of the leases, and the renewals that are left.
-use Rattle.std.proofs.Common.{◌≡◌, ℕ, zero, suc, ◌+◌, ◌-◌, ◌<◌, ◌≤◌, List, [], ◌∷◌, ◌++◌, Option, None, inl, inr, refl, sym, ap, ◌∙◌, subst, arith}
+use Rattle.std.proofs.Common.{◌≡◌, ℕ, zero, suc, ◌-◌, ◌<◌, ◌≤◌, List, [], ◌∷◌, ◌++◌, Option, None, inl, inr, refl, sym, ap, ◌∙◌, subst, arith}
 use Rattle.std.specs.Prelude.{Bool, true, false, nat_le, nat_lt, if◌then◌else◌}
 use Rattle.std.proofs.lemmas.Bool.Decides.{eqb_tells, nat_tests}
 use Rattle.plx_base.specs.declared.lease.LeaseName.{LeaseName}
@@ -116,13 +116,9 @@ later-end one other h = by_test (nat_le one other) refl
     by_test true e = refl
     by_test false e = grind (arith, nat_tests)
 
--- once a renewal is written, its lease is held up to its later moment
-written-hold : (r : LeaseRenewal) → hold_after_renewal (read_lease (bytes_out (renewal_rest r))) ≡ Held r.claim r.later
-written-hold r = ap (λ (bytes : List ℕ). hold_after_renewal (read_lease bytes)) (sym r.spelled) ∙ renewed-own r
-
--- as it is held longer
+-- once a renewal is written, its lease is held longer
 written-longer : (r : LeaseRenewal) (hold : Hold) → hold ≡ renewal_hold r → hold_after_renewal (read_lease (bytes_out (renewal_rest r))) ≡ longer_hold r.later hold
-written-longer r hold is = written-hold r ∙ ap (Held r.claim) (sym (later-end r.until r.later r.after)) ∙ ap (longer_hold r.later) (sym is)
+written-longer r hold is = renewed-own r ∙ ap (Held r.claim) (sym (later-end r.until r.later r.after)) ∙ ap (longer_hold r.later) (sym is)
 
 pub renewed-holds : (g : Geometry) (old new : Renew) (a : Answer) (before after : Lent) (holds : ℕ → Hold) (sample : Option ℕ) (result : Option Reply) →
     old.setting.geometry ≡ g → Fits (renewal_ask old.renewal) a → HoldsAs g before.leases (extents_of before.space) holds → IsRenewing old (λ lease. holds (lease_at lease)) →

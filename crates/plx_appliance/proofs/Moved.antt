@@ -14,7 +14,8 @@ use Rattle.plx_rules.specs.Boot.{Fits}
 use Rattle.plx_rules.specs.Claims.{ClaimEnd, ClaimHeld, ClaimBusy, ClaimLost, ClaimReadFault, ClaimWriteFault, ClaimDamaged}
 use Rattle.plx_rules.specs.Holds.{Hold, Nothing, Seen, Wrote, Waited, Held, after_answer}
 use Rattle.plx_rules.specs.Machines.{AsksOnly}
-use Rattle.plx_lease.specs.Holding.{HoldsAtEnd, IsUnheld, LeavesClaim, claim_hold, claim_hold_at, other_after}
+use Rattle.law_run.specs.Holdings.{IsNotHeld}
+use Rattle.plx_lease.specs.Holding.{HoldsAtEnd, LeavesClaim, claim_hold, claim_hold_at, other_after}
 use Rattle.plx_lease.specs.ClaimEnds.{claim_end}
 use Rattle.plx_lease.specs.declared.claim.ClaimAt.{ClaimAt}
 use Rattle.plx_lease.specs.declared.claim.ClaimAt.TheVariants as claim
@@ -182,12 +183,12 @@ claim-at-settled claim.DamagedLate c = refl
 pub claim-settled : {K : Type 0} (c : LeaseClaim K) → hold_without_claim (claim_hold c) ≡ Nothing
 claim-settled c = claim-at-settled c.at c.claim
 
-pub not-settled : (hold : Hold) → IsUnheld hold → hold_without_claim hold ≡ Nothing
+pub not-settled : (hold : Hold) → IsNotHeld hold → hold_without_claim hold ≡ Nothing
 not-settled Nothing h = refl
 not-settled (Seen sample) h = refl
 not-settled (Wrote claim until) h = refl
 not-settled (Waited claim until) h = refl
-not-settled (Held claim until) h = absurd h
+not-settled (Held claim until) h = absurd (let P : ⊥ = cc in P)
 
 end-settled : (end : ClaimEnd) (image : ℕ) (before : ℕ → Hold) (hold : Hold) → before image ≡ Nothing → HoldsAtEnd end hold → hold_without_claim hold ≡ image_leases_after_claim end image before image
 end-settled (ClaimHeld claim until) image before hold none h = ap hold_without_claim h ∙ sym (at-same before image (Held claim until))

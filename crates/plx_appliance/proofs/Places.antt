@@ -1,12 +1,11 @@
 -- Each place is a block of the device.
-use Rattle.std.proofs.Common.{◌≡◌, ◌<◌, ℕ, sym, subst, arith}
+use Rattle.std.proofs.Common.{◌≡◌, ◌<◌, ℕ, subst, arith}
 use Rattle.plx_geom.specs.Geometry.{Geometry, IsGeometry, block_count, root_lease, image_lease, extent_lease, lease_at, lease_count}
 use Rattle.plx_geom.specs.Places.{IsPlace, block_of}
 use Rattle.plx_geom.specs.declared.place.Place.{Place}
 use Rattle.plx_geom.specs.declared.place.Place.TheVariants.{Super, RootLease, ImageLease, ExtentLease, Record, Log, JDesc, JData, Map, Pool}
 use Rattle.plx_geom.proofs.Places.{lease-within, record-within, log-within, descriptor-within, data-within, map-within, pool-within}
 use Rattle.plx_disk.specs.declared.ask.Ask.{Ask}
-use Rattle.plx_disk.specs.declared.ask.Ask.TheVariants as ask
 use Rattle.plx_rules.specs.Holds.{Hold}
 use Rattle.plx_rules.specs.Machines.{AsksOnly}
 use Rattle.plx_alloc.specs.Asking.{IsOnDevice}

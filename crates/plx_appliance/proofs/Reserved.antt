@@ -1,5 +1,5 @@
 -- A reserve that was answered: what is kept of the leases, what is in hand, and how far its claim has come.
-use Rattle.std.proofs.Common.{◌≡◌, ◌≢◌, inl, inr, ℕ, ◌+◌, ◌*◌, ◌<◌, List, Option, Some, None, refl, sym, ap, ◌∙◌, subst, arith}
+use Rattle.std.proofs.Common.{◌≡◌, ◌≢◌, inl, inr, ℕ, ◌<◌, List, Option, Some, None, refl, sym, ap, ◌∙◌, subst, arith}
 use Rattle.std.proofs.lemmas.Bool.Decides.{eqb_tells}
 use Rattle.plx_base.specs.declared.numbers.BlockNo.{BlockNo}
 use Rattle.plx_base.specs.declared.numbers.ExtentNo.{ExtentNo}
@@ -19,13 +19,13 @@ use Rattle.plx_rules.specs.Part.{bytes_out, standing}
 use Rattle.plx_rules.proofs.Nested.{asks-followed, bytes-followed, standing-followed}
 use Rattle.plx_lease.specs.ClaimEnds.{claim_end}
 use Rattle.plx_lease.specs.Claiming.{claim_rest}
-use Rattle.plx_lease.specs.Holding.{HoldsAtEnd, LeavesClaim, claim_ask, claim_hold, other_after}
+use Rattle.plx_lease.specs.Holding.{HoldsAtEnd, LeavesClaim, claim_ask, other_after}
 use Rattle.plx_lease.specs.declared.claim_end.ClaimEnd.{ClaimEnd as End'}
 use Rattle.plx_lease.proofs.Asking.{claim-asks}
 use Rattle.plx_lease.proofs.Held.{claim-holds, claim-standing}
 use Rattle.plx_lease.proofs.Holding.{other-after}
 use Rattle.plx_token.specs.declared.kind.Extent.{Extent}
-use Rattle.plx_alloc.specs.Moving.{ClaimMoves, TakeGoesOn, GoesPast, ReadsFirst, SpareMoves, TellsTaken, reserve_ask_at, extent_leases_after_turn, reserve_ask, reserve_moves}
+use Rattle.plx_alloc.specs.Moving.{ClaimMoves, TakeGoesOn, GoesPast, ReadsFirst, SpareMoves, TellsTaken, reserve_ask_at, reserve_ask, reserve_moves}
 use Rattle.plx_alloc.specs.Asking.{reserve_spares}
 use Rattle.plx_alloc.specs.Suiting.{SuitsReserve}
 use Rattle.plx_alloc.specs.Tables.{hand_numbers, held_hand}
@@ -44,7 +44,7 @@ use Rattle.plx_appliance.specs.declared.reserve.Reserve.{Reserve}
 use Rattle.plx_appliance.proofs.Entered.{held-extent}
 use Rattle.plx_appliance.proofs.ExtentClaimed.{extent-claim-moved}
 use Rattle.plx_appliance.proofs.Failing.{EndsOnFailure, claim-fails, same-ask}
-use Rattle.plx_appliance.proofs.Held.{nothing-at, settled-timed, spare-holds}
+use Rattle.plx_appliance.proofs.Held.{nothing-at, spare-holds}
 
 -- the map of an extent lies past the leases
 map-past : (g : Geometry) (extent : ℕ) → lease_count g < map_at g extent
@@ -61,12 +61,12 @@ take-holds g leases extents holds sample map until bytes (answer.Bytes b) fits h
 take-holds g leases extents holds sample map until bytes (answer.Reading r) fits h = absurd fits
 
 -- a take stands in no claim
-abbrev pub IsOutside : ReserveAt → Type 0
-IsOutside at.Claim = ⊥
-IsOutside other = Unit {0}
+abbrev pub IsInNoClaim : ReserveAt → Type 0
+IsInNoClaim at.Claim = ⊥
+IsInNoClaim other = Unit {0}
 
 pub outside-holds : (g : Geometry) (place : ReserveAt) (m : Take) (a : Answer) (leases extents holds : ℕ → Hold) (sample : Option ℕ) (bytes : List ℕ) →
-    m.map.0 ≡ map_at g m.extent.0 → IsOutside place → Fits (reserve_ask_at place m) a → HoldsAs g leases extents holds →
+    m.map.0 ≡ map_at g m.extent.0 → IsInNoClaim place → Fits (reserve_ask_at place m) a → HoldsAs g leases extents holds →
     HoldsAs g (image_leases_after_write (reserve_ask_at place m) a leases) (image_leases_after_write (reserve_ask_at place m) a extents) (after_answer sample (reserve_ask_at place m) bytes a holds)
 outside-holds g at.Map m a leases extents holds sample bytes map outside fits h =
     spare-holds g leases extents holds sample (ask.Read m.map) bytes a (subst (λ (n : ℕ). lease_count g < n) (sym map) (map-past g m.extent.0)) h
@@ -100,8 +100,8 @@ take-standing o a at.Claim m = standing-followed (claim_rest m.claim) _ (claim-a
 take-standing o a at.Damaged m = refl
 
 -- the ask of a take is the one that stands
-pub take-ask : (lent : Lent) (r : Reserve) (q : Ask) → Some q ≡ standing (reserve_work_rest lent r) → reserve_ask r.work ≡ q
-take-ask lent r q stands =
+pub take-ask-stands : (lent : Lent) (r : Reserve) (q : Ask) → Some q ≡ standing (reserve_work_rest lent r) → reserve_ask r.work ≡ q
+take-ask-stands lent r q stands =
     let o = outer_of r.setting lent.known.sessions in
     sym (same-ask q (reserve_ask r.work) (stands ∙ take-standing o lent.space r.work.at r.work))
 
@@ -117,7 +117,7 @@ take-bytes o a at.Damaged m e = absurd cc
 
 -- it moves no lease but in a claim
 spare-moved : (g own : Geometry) (place : ReserveAt) (old new : Take) (a : Answer) (leases before after holds : ℕ → Hold) (sample : Option ℕ) (bytes : List ℕ) (end : Option SpaceEnd) →
-    old.map.0 ≡ map_at g old.extent.0 → IsOutside place → Fits (reserve_ask_at place old) a → HoldsAs g leases before holds → SpareMoves own new before after end →
+    old.map.0 ≡ map_at g old.extent.0 → IsInNoClaim place → Fits (reserve_ask_at place old) a → HoldsAs g leases before holds → SpareMoves own new before after end →
     HoldsAs g (image_leases_after_write (reserve_ask_at place old) a leases) (image_leases_after_write (reserve_ask_at place old) a after) (after_answer sample (reserve_ask_at place old) bytes a holds)
 spare-moved g own place old new a leases before after holds sample bytes end map outside fits h m =
     subst (λ (es : ℕ → Hold). HoldsAs g (image_leases_after_write (reserve_ask_at place old) a leases) (image_leases_after_write (reserve_ask_at place old) a es) (after_answer sample (reserve_ask_at place old) bytes a holds)) (sym m.leases)
@@ -146,7 +146,7 @@ pub reserve-holds : (g : Geometry) (lent later : Lent) (old new : Reserve) (q : 
     HoldsAs g lent.leases (extents_of lent.space) holds → IsReserving old holds sample found → ReserveMoves old new a lent later result →
     HoldsAs g (image_leases_after_write q a later.leases) (image_leases_after_write q a (extents_of later.space)) (after_answer sample q (bytes_out (reserve_work_rest lent old)) a holds)
 reserve-holds g lent later old new q a holds sample found result same space suits stands spare fits h i m =
-    let e = take-ask lent old q stands in
+    let e = take-ask-stands lent old q stands in
     let o = outer_of old.setting lent.known.sessions in
     let within = suits.extent in
     subst (λ (r : Ask). HoldsAs g (image_leases_after_write r a later.leases) (image_leases_after_write r a (extents_of later.space)) (after_answer sample r (bytes_out (reserve_work_rest lent old)) a holds)) e
@@ -282,7 +282,7 @@ claim-goes g old new a before after holds sample result (Some end) place fits on
     ])
 
 -- a take stands past the leases where it isn't in a claim
-spare-settled : (g : Geometry) (place : ReserveAt) (m : Take) (bytes : List ℕ) (a : Answer) (holds : ℕ → Hold) (sample : Option ℕ) → m.map.0 ≡ map_at g m.extent.0 → IsOutside place →
+spare-settled : (g : Geometry) (place : ReserveAt) (m : Take) (bytes : List ℕ) (a : Answer) (holds : ℕ → Hold) (sample : Option ℕ) → m.map.0 ≡ map_at g m.extent.0 → IsInNoClaim place →
     HaveNoClaims g holds → HaveNoClaims g (after_answer sample (reserve_ask_at place m) bytes a holds)
 spare-settled g at.Map m bytes a holds sample map outside clean =
     maps-settled g m.map.0 (ask.Read m.map) bytes a holds sample (subst (λ (n : ℕ). lease_count g < n) (sym map) (map-past g m.extent.0)) refl clean
@@ -324,7 +324,7 @@ pub reserve-inside : (g : Geometry) (lent later : Lent) (old new : Reserve) (q :
     new.setting.geometry ≡ g → later.space.geometry ≡ g → SuitsReserve later.space new.work →
     IsReserving new (after_answer sample q (bytes_out (reserve_work_rest lent old)) a holds) (sample_of a) (found_by q a)
 reserve-inside g lent later old new q a holds sample found result same space suits stands spare fits h i m none after kept left =
-    let e = take-ask lent old q stands in
+    let e = take-ask-stands lent old q stands in
     let o = outer_of old.setting lent.known.sessions in
     let bytes = bytes_out (reserve_work_rest lent old) in
     let own = reserve_ask old.work in
@@ -351,7 +351,7 @@ pub reserve-hand : (g : Geometry) (lent later : Lent) (old new : Reserve) (q : A
     AreWithin g (hand_answered g found q (bytes_out (reserve_work_rest lent old)) a (hand_numbers lent.space))
     × (held_hand g (extents_of later.space) (hand_answered g found q (bytes_out (reserve_work_rest lent old)) a (hand_numbers lent.space)) ≡ hand_numbers later.space)
 reserve-hand g lent later old new q a holds sample found result same space stands i kept m =
-    let e = take-ask lent old q stands in
+    let e = take-ask-stands lent old q stands in
     let o = outer_of old.setting lent.known.sessions in
     let bytes = bytes_out (reserve_work_rest lent old) in
     let tells = subst (λ (k : Geometry). TellsTaken k old.work found) (same ∙ sym space) i.tells in

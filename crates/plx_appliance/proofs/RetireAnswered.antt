@@ -2,7 +2,6 @@
 use Rattle.std.proofs.Common.{◌≡◌, ℕ, ◌<◌, List, [], ◌∷◌, Bool, true, false, Option, Some, None, refl, sym, ap, ◌∙◌, subst}
 use Rattle.std.specs.Prelude.{◌==◌, not, if◌then◌else◌}
 use Rattle.plx_base.specs.declared.write_kind.WriteKind.TheVariants as kind
-use Rattle.plx_base.specs.declared.numbers.BlockNo.{BlockNo}
 use Rattle.plx_commands.specs.Replies.{is_in}
 use Rattle.plx_commands.specs.declared.reply.Reply.{Reply}
 use Rattle.plx_extent.specs.Maps.{bits_of}
@@ -10,7 +9,7 @@ use Rattle.plx_disk.specs.declared.ask.Ask.{Ask}
 use Rattle.plx_disk.specs.declared.ask.Ask.TheVariants as ask
 use Rattle.plx_disk.specs.declared.ask.Answer.{Answer}
 use Rattle.plx_disk.specs.declared.ask.Answer.TheVariants as answer
-use Rattle.plx_geom.specs.Geometry.{Geometry, extent_lease, image_lease, lease_at, lease_count, map_at}
+use Rattle.plx_geom.specs.Geometry.{Geometry, extent_lease, image_lease, lease_at, map_at}
 use Rattle.plx_rules.specs.Part.{bytes_out, standing}
 use Rattle.plx_rules.specs.Boot.{Fits}
 use Rattle.plx_rules.specs.Hands.{found_by, hand_answered, hand_from, hand_written, set_since, blocks_without}

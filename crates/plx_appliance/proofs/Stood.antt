@@ -8,7 +8,7 @@ use Rattle.plx_rules.specs.Ends.{End, ends}
 use Rattle.plx_rules.specs.Part.{Part}
 use Rattle.plx_rules.specs.Holds.{Hold}
 use Rattle.plx_rules.specs.Session.{Known}
-use Rattle.plx_appliance.specs.Appliance.{IsIn, StandsAt, StandsFor, appliance_setting}
+use Rattle.plx_appliance.specs.Appliance.{IsInWork, StandsAt, StandsFor, appliance_setting}
 use Rattle.plx_appliance.specs.Begins.{waiting_part}
 use Rattle.plx_appliance.specs.Ending.{hand_after_reply, known_after, leases_after}
 use Rattle.plx_appliance.specs.Giving.{rules_setting}
@@ -28,7 +28,7 @@ use Rattle.plx_appliance.specs.declared.holdings.Holdings.{Holdings}
 use Rattle.plx_appliance.specs.declared.setting.Setting.{Setting}
 use Rattle.plx_appliance.specs.declared.work.Work.{Work}
 use Rattle.plx_appliance.proofs.Went.{Stood, keeps-by, stood-as}
-use Rattle.plx_appliance.proofs.Goes.{FirstIn, FirstEnds, Waits, first-in, first-ends}
+use Rattle.plx_appliance.proofs.Goes.{FirstIn, FirstEnds, BegunStands, first-in, first-ends}
 
 -- what is kept once the leases that are over were dropped
 pub record IsDroppedOf (a : Appliance) (h : Holdings) (reading : ℕ) : Type 0 where
@@ -62,7 +62,7 @@ over-old a h reading b part d is =
 
 -- an appliance whose command has begun
 begun-waits : (a : Appliance) (b : Begun) (log : List Happening) → a.stage ≡ stage.Begun b → StandsFor a log → AreWithin a.holdings.setting.geometry (hand_in a.holdings) →
-    Waits (appliance_setting a) (known_of a.holdings) b log (image_leases a.holdings.leases.leases.items) (extents_in a.holdings) (hand_in a.holdings)
+    BegunStands (appliance_setting a) (known_of a.holdings) b log (image_leases a.holdings.leases.leases.items) (extents_in a.holdings) (hand_in a.holdings)
 begun-waits a b log begun stands within = record {
   begun = subst (λ (st : Stage). StandsAt (appliance_setting a) (lent_of a.holdings) st (position (appliance_setting a) log)) begun stands.at;
   held = stands.held;
@@ -107,10 +107,10 @@ read_at setting log reading = position (rules_setting setting) (Asked ask.Clock 
 -- so an appliance stands whose command goes on
 pub first-stands : (a : Appliance) (h e : Holdings) (w : Work) (log : List Happening) (reading : ℕ) → e.setting ≡ a.holdings.setting → extents_in e ≡ extents_in h → hand_in e ≡ hand_in h →
     FirstIn (appliance_setting a) (lent_of e) w e.leases.leases.items (extents_in h) (hand_in h) log reading →
-    Stood e (position (rules_setting e.setting) (Asked ask.Clock [] (answer.Reading reading) ∷ log)) (λ lent. IsIn lent w (position (rules_setting e.setting) (Asked ask.Clock [] (answer.Reading reading) ∷ log)))
+    Stood e (position (rules_setting e.setting) (Asked ask.Clock [] (answer.Reading reading) ∷ log)) (λ lent. IsInWork lent w (position (rules_setting e.setting) (Asked ask.Clock [] (answer.Reading reading) ∷ log)))
 first-stands a h e w log reading same extents hand first =
-    subst (λ (st : Setting). Stood e (read_at st log reading) (λ lent. IsIn lent w (read_at st log reading))) (sym same)
-    (stood-as e (read_at a.holdings.setting log reading) (λ lent. IsIn lent w (read_at a.holdings.setting log reading)) a.holdings.setting.geometry
+    subst (λ (st : Setting). Stood e (read_at st log reading) (λ lent. IsInWork lent w (read_at st log reading))) (sym same)
+    (stood-as e (read_at a.holdings.setting log reading) (λ lent. IsInWork lent w (read_at a.holdings.setting log reading)) a.holdings.setting.geometry
     (record { leases = image_leases e.leases.leases.items; extents = extents_in h; hand = hand_in h })
     (ap (λ (st : Setting). st.geometry) same) (keeps-by _ _ _ _ _ _ refl extents hand) first.in_it first.held first.in_hand)
 

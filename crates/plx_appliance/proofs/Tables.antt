@@ -4,8 +4,6 @@ use Rattle.std.specs.Prelude.{slice_set}
 use Rattle.std.proofs.Math.Path.{fun_ext}
 use Rattle.std.proofs.lemmas.List.{get_or-set_other, get_or_past}
 use Rattle.std.proofs.lemmas.Grind.{get_or-set_at}
-use Rattle.std.proofs.lemmas.Bool.Decides.{eqb_tells}
-use Rattle.plx_commands.specs.Places.{at}
 use Rattle.plx_base.proofs.Tests.{below-next, below-or-past}
 
 -- what is made of each item, with the same past the list

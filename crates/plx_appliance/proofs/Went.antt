@@ -5,16 +5,16 @@ use Rattle.plx_disk.specs.declared.ask.Ask.{Ask}
 use Rattle.plx_disk.specs.declared.ask.Ask.TheVariants as ask
 use Rattle.plx_disk.specs.declared.ask.Answer.{Answer}
 use Rattle.plx_rules.specs.Part.{Part, answered, bytes_out, standing}
-use Rattle.plx_rules.specs.Boot.{Asked, Fits, Happening, Idle, In, Place, Position, after_part, asks, goes_to, place_of, position, replies, replies_at, reply_of, went_on, writes_out}
+use Rattle.plx_rules.specs.Boot.{Asked, Fits, Happening, Idle, Place, Position, after_part, asks, goes_to, place_of, position, replies, replies_at, reply_of, went_on, writes_out}
 use Rattle.plx_rules.specs.Ends.{End, ends}
 use Rattle.plx_rules.specs.Hands.{found_by, hand_answered, hand_held}
 use Rattle.plx_rules.specs.Holds.{Hold, after_answer, holds_after_reply, sample_of}
 use Rattle.plx_geom.specs.Geometry.{Geometry}
 use Rattle.plx_rules.specs.Session.{Known}
 use Rattle.plx_rules.specs.Settings.{Setting}
-use Rattle.plx_appliance.specs.Appliance.{HasBegun, IsIn, IsStanding, StandsAt, StandsFor, has_begun, runs, appliance_setting}
+use Rattle.plx_appliance.specs.Appliance.{HasBegun, IsInWork, IsStanding, StandsAt, StandsFor, has_begun, runs, appliance_setting}
 use Rattle.plx_appliance.specs.Ending.{hand_after_reply, known_after, leases_after}
-use Rattle.plx_appliance.specs.Holding.{HoldsAs, IsKept, image_leases_after_write, dropped_hand}
+use Rattle.plx_appliance.specs.Holding.{HoldsAs, DropsNothing, image_leases_after_write, dropped_hand}
 use Rattle.plx_appliance.specs.Space.{AreWithin, IsHand, extents_in, hand_in, held_hand}
 use Rattle.plx_appliance.specs.Giving.{rules_setting}
 use Rattle.plx_appliance.specs.Kept.{known_of}
@@ -38,14 +38,14 @@ use Rattle.plx_appliance.proofs.Goes.{reply-asks, reply-holds, work-asks}
 use Rattle.plx_appliance.proofs.InHand.{hand-within, dropped-hand, hand-as, kept-hand, reply-hand}
 
 -- what an appliance keeps of leases, and its hand
-pub record Keeps : Type 0 where
+pub record KeptLeases : Type 0 where
   pub leases : ℕ → Hold
   pub extents : ℕ → Hold
   pub hand : List ℕ
 
 -- the ask of the command that runs stands, it is answered, and the appliance keeps what the log holds then
-pub record IsAnswered (s : Setting) (lent later : Lent) (w new : Work) (log : List Happening) (q : Ask) (bytes : List ℕ) (a : Answer) (before after : Keeps) (result : Option Reply) : Type 0 where
-  pub at : IsIn lent w (position s log)
+pub record WorkIsAnswered (s : Setting) (lent later : Lent) (w new : Work) (log : List Happening) (q : Ask) (bytes : List ℕ) (a : Answer) (before after : KeptLeases) (result : Option Reply) : Type 0 where
+  pub at : IsInWork lent w (position s log)
   pub hand : (position s log).hand ≡ before.hand
   pub held : HoldsAs s.geometry (image_leases_after_write q a after.leases) (image_leases_after_write q a after.extents) (after_answer (position s log).sample q bytes a (position s log).holds)
   pub inside : result ≡ None → Inside new (after_answer (position s log).sample q bytes a (position s log).holds) (sample_of a) (found_by q a)
@@ -53,25 +53,25 @@ pub record IsAnswered (s : Setting) (lent later : Lent) (w new : Work) (log : Li
   pub hand_moves : held_hand s.geometry after.extents (hand_answered s.geometry (position s log).found q bytes a before.hand) ≡ after.hand
 
 -- the position after it
-went : (s : Setting) (lent : Lent) (w : Work) (log : List Happening) (q : Ask) (bytes : List ℕ) (a : Answer) → (i : IsIn lent w (position s log)) →
+went : (s : Setting) (lent : Lent) (w : Work) (log : List Happening) (q : Ask) (bytes : List ℕ) (a : Answer) → (i : IsInWork lent w (position s log)) →
     position s (Asked q bytes a ∷ log)
     ≡ goes_to s.geometry i.before i.command (after_answer (position s log).sample q bytes a (position s log).holds)
     (hand_answered s.geometry (position s log).found q bytes a (position s log).hand) (sample_of a) (found_by q a) (answered (work_rest lent w) a)
 went s lent w log q bytes a i = ap (λ (place : Place). went_on s q bytes a (position s log) place) i.place_is
 
-replies-in-work : (s : Setting) (lent : Lent) (w : Work) (log : List Happening) (a : Answer) → IsIn lent w (position s log) →
+replies-in-work : (s : Setting) (lent : Lent) (w : Work) (log : List Happening) (a : Answer) → IsInWork lent w (position s log) →
     replies s a (position s log) ≡ reply_of (answered (work_rest lent w) a)
 replies-in-work s lent w log a i = ap (λ (place : Place). replies_at s a (position s log) place) i.place_is
 
 -- a command goes on
-pub record WentIn (s : Setting) (later : Lent) (new : Work) (log : List Happening) (q : Ask) (bytes : List ℕ) (a : Answer) (after : Keeps) : Type 0 where
-  pub in_it : IsIn later new (position s (Asked q bytes a ∷ log))
+pub record WentIn (s : Setting) (later : Lent) (new : Work) (log : List Happening) (q : Ask) (bytes : List ℕ) (a : Answer) (after : KeptLeases) : Type 0 where
+  pub in_it : IsInWork later new (position s (Asked q bytes a ∷ log))
   pub held : HoldsAs s.geometry (image_leases_after_write q a after.leases) (image_leases_after_write q a after.extents) (position s (Asked q bytes a ∷ log)).holds
   pub in_hand : (position s (Asked q bytes a ∷ log)).hand ≡ dropped_hand q a after.hand
   pub no_reply : None ≡ replies s a (position s log)
 
-pub went-in : (s : Setting) (lent later : Lent) (w new : Work) (log : List Happening) (q : Ask) (bytes : List ℕ) (a : Answer) (before after : Keeps) →
-    IsAnswered s lent later w new log q bytes a before after None → work_rest later new ≡ answered (work_rest lent w) a →
+pub went-in : (s : Setting) (lent later : Lent) (w new : Work) (log : List Happening) (q : Ask) (bytes : List ℕ) (a : Answer) (before after : KeptLeases) →
+    WorkIsAnswered s lent later w new log q bytes a before after None → work_rest later new ≡ answered (work_rest lent w) a →
     WentIn s later new log q bytes a after
 went-in s lent later w new log q bytes a before after h is =
     let p = position s log in
@@ -101,14 +101,14 @@ went-in s lent later w new log q bytes a before after h is =
     }
 
 -- a command ends
-pub record WentOut (s : Setting) (known : Known) (r : Reply) (log : List Happening) (q : Ask) (bytes : List ℕ) (a : Answer) (after : Keeps) : Type 0 where
+pub record WentOut (s : Setting) (known : Known) (r : Reply) (log : List Happening) (q : Ask) (bytes : List ℕ) (a : Answer) (after : KeptLeases) : Type 0 where
   pub idle : (position s (Asked q bytes a ∷ log)).place ≡ Idle (known_after r known)
   pub held : HoldsAs s.geometry (leases_after r (image_leases_after_write q a after.leases)) (leases_after r (image_leases_after_write q a after.extents)) (position s (Asked q bytes a ∷ log)).holds
   pub in_hand : (position s (Asked q bytes a ∷ log)).hand ≡ hand_after_reply r (dropped_hand q a after.hand)
   pub replied : Some r ≡ replies s a (position s log)
 
-pub went-out : (s : Setting) (lent later : Lent) (w new : Work) (r : Reply) (log : List Happening) (q : Ask) (bytes : List ℕ) (a : Answer) (before after : Keeps) →
-    IsAnswered s lent later w new log q bytes a before after (Some r) → ends r (known_after r later.known) ≡ answered (work_rest lent w) a →
+pub went-out : (s : Setting) (lent later : Lent) (w new : Work) (r : Reply) (log : List Happening) (q : Ask) (bytes : List ℕ) (a : Answer) (before after : KeptLeases) →
+    WorkIsAnswered s lent later w new log q bytes a before after (Some r) → ends r (known_after r later.known) ≡ answered (work_rest lent w) a →
     WentOut s later.known r log q bytes a after
 went-out s lent later w new r log q bytes a before after h is =
     let p = position s log in
@@ -132,7 +132,7 @@ went-out s lent later w new r log q bytes a before after h is =
     }
 
 -- what is kept
-abbrev pub keeps_of : Holdings → Keeps
+abbrev pub keeps_of : Holdings → KeptLeases
 keeps_of h = record { leases = image_leases h.leases.leases.items; extents = extents_in h; hand = hand_in h }
 
 -- the hand is one of extents whose leases are held
@@ -150,14 +150,14 @@ space-of h g same = (h.geometry ∙ same, subst (λ (k : Geometry). IsHand k (ex
 pub answered-by : (a : Appliance) (w new : Work) (log : List Happening) (q r : Ask) (bytes : List ℕ) (found : Answer) (h : Holdings) (result : Option Reply) →
     a.stage ≡ stage.In w → StandsFor a log → IsStanding a log r bytes → Fits r found → ((lent : Lent) → Some q ≡ standing (work_rest lent w)) → Spares w q →
     Moves w new found (lent_of a.holdings) (lent_of h) result → h.setting ≡ a.holdings.setting → (result ≡ None → work_setting new ≡ work_setting w) → (result ≡ None → work_suits h.space new) →
-    (q ≡ r) × IsAnswered (appliance_setting a) (lent_of a.holdings) (lent_of h) w new log r bytes found (keeps_of a.holdings) (keeps_of h) result
+    (q ≡ r) × WorkIsAnswered (appliance_setting a) (lent_of a.holdings) (lent_of h) w new log r bytes found (keeps_of a.holdings) (keeps_of h) result
 answered-by a w new log q r bytes found h result runs stands standing' fits is spare moves kept goes suits =
     let lent = lent_of a.holdings in
     let later = lent_of h in
     let s = appliance_setting a in
     let g = s.geometry in
     let p = position s log in
-    let i : IsIn lent w p = subst (λ (st : Stage). StandsAt s lent st p) runs stands.at in
+    let i : IsInWork lent w p = subst (λ (st : Stage). StandsAt s lent st p) runs stands.at in
     let place : asks p.place ≡ standing (work_rest lent w) = ap asks i.place_is in
     let e : q ≡ r = same-ask q r (is lent ∙ sym place ∙ standing'.ask_is) in
     let tied : work_setting w ≡ a.holdings.setting = subst (λ (st : Stage). stage_setting a.holdings.setting st ≡ a.holdings.setting) runs a.same in
@@ -200,16 +200,16 @@ pub record Stood (kept : Holdings) (p : Position) (At : Lent → Type 0) : Type 
   pub hand : p.hand ≡ hand_in kept
 
 -- the same by what is kept in its place
-pub stood-as : (kept : Holdings) (p : Position) (At : Lent → Type 0) (g : Geometry) (k : Keeps) → kept.setting.geometry ≡ g →
+pub stood-as : (kept : Holdings) (p : Position) (At : Lent → Type 0) (g : Geometry) (k : KeptLeases) → kept.setting.geometry ≡ g →
     keeps_of kept ≡ k → At (lent_of kept) → HoldsAs g k.leases k.extents p.holds → p.hand ≡ k.hand → Stood kept p At
 stood-as kept p At g k same keeps at held hand = record {
   at = at;
   held = subst (λ (x : Geometry). HoldsAs x (image_leases kept.leases.leases.items) (extents_in kept) p.holds) (sym same)
-      (subst (λ (x : Keeps). HoldsAs g x.leases x.extents p.holds) (sym keeps) held);
-  hand = hand ∙ ap (λ (x : Keeps). x.hand) (sym keeps);
+      (subst (λ (x : KeptLeases). HoldsAs g x.leases x.extents p.holds) (sym keeps) held);
+  hand = hand ∙ ap (λ (x : KeptLeases). x.hand) (sym keeps);
 }
 
-abbrev pub kept_state : (leases extents : ℕ → Hold) → (hand : List ℕ) → Keeps
+abbrev pub kept_state : (leases extents : ℕ → Hold) → (hand : List ℕ) → KeptLeases
 kept_state leases extents hand = record { leases = leases; extents = extents; hand = hand }
 
 pub keeps-by : (leases leases2 extents extents2 : ℕ → Hold) (hand hand2 : List ℕ) → leases ≡ leases2 → extents ≡ extents2 → hand ≡ hand2 →
@@ -219,11 +219,11 @@ keeps-by leases leases2 extents extents2 hand hand2 l e h =
 
 -- an appliance whose command goes on stands for the longer log
 pub stands-in : (a : Appliance) (h : Holdings) (new : Work) (log : List Happening) (q : Ask) (bytes : List ℕ) (found : Answer) →
-    h.setting ≡ a.holdings.setting → IsKept q found → WentIn (appliance_setting a) (lent_of h) new log q bytes found (keeps_of h) →
-    Stood h (position (rules_setting h.setting) (Asked q bytes found ∷ log)) (λ lent. IsIn lent new (position (rules_setting h.setting) (Asked q bytes found ∷ log)))
+    h.setting ≡ a.holdings.setting → DropsNothing q found → WentIn (appliance_setting a) (lent_of h) new log q bytes found (keeps_of h) →
+    Stood h (position (rules_setting h.setting) (Asked q bytes found ∷ log)) (λ lent. IsInWork lent new (position (rules_setting h.setting) (Asked q bytes found ∷ log)))
 stands-in a h new log q bytes found same kept went =
-    subst (λ (st : Given). Stood h (position (rules_setting st) (Asked q bytes found ∷ log)) (λ lent. IsIn lent new (position (rules_setting st) (Asked q bytes found ∷ log)))) (sym same)
-    (stood-as h (position (appliance_setting a) (Asked q bytes found ∷ log)) (λ lent. IsIn lent new (position (appliance_setting a) (Asked q bytes found ∷ log))) a.holdings.setting.geometry
+    subst (λ (st : Given). Stood h (position (rules_setting st) (Asked q bytes found ∷ log)) (λ lent. IsInWork lent new (position (rules_setting st) (Asked q bytes found ∷ log)))) (sym same)
+    (stood-as h (position (appliance_setting a) (Asked q bytes found ∷ log)) (λ lent. IsInWork lent new (position (appliance_setting a) (Asked q bytes found ∷ log))) a.holdings.setting.geometry
     (record { leases = image_leases_after_write q found (image_leases h.leases.leases.items); extents = image_leases_after_write q found (extents_in h); hand = dropped_hand q found (hand_in h) })
     (ap (λ (st : Given). st.geometry) same)
     (keeps-by _ _ _ _ _ _ (sym (kept-leases q found (image_leases h.leases.leases.items) kept)) (sym (kept-leases q found (extents_in h) kept)) (sym (kept-hand q found (hand_in h) kept)))

@@ -33,7 +33,7 @@ pub record HasBegun (s : Setting) (known : Known) (begun : Begun) (p : Position)
   pub part_is : (holds : ℕ → Hold) (hand : List ℕ) (reading : ℕ) → waiting_part s known holds hand reading begun ≡ command_part s known holds hand reading command
 
 -- a command has had its first reading, and its machine stands where its log does
-pub record IsIn (lent : Lent) (w : Work) (p : Position) : Type 0 where
+pub record IsInWork (lent : Lent) (w : Work) (p : Position) : Type 0 where
   pub before : Known
   pub command : Command
   pub place_is : p.place ≡ In before command (work_rest lent w)
@@ -42,7 +42,7 @@ pub record IsIn (lent : Lent) (w : Work) (p : Position) : Type 0 where
 abbrev pub StandsAt : Setting → Lent → Stage → Position → Type 0
 StandsAt s lent stage.Idle p = p.place ≡ Idle lent.known
 StandsAt s lent (stage.Begun begun) p = HasBegun s lent.known begun p
-StandsAt s lent (stage.In w) p = IsIn lent w p
+StandsAt s lent (stage.In w) p = IsInWork lent w p
 
 -- an appliance stands for a log that leads to where it stands, its tokens are what the log holds, and its hand is the one of the log
 pub record StandsFor (a : Appliance) (log : List Happening) : Type 0 where

@@ -22,9 +22,9 @@ waiting_part s known holds hand reading (begun.Create slot size label record') =
 waiting_part s known holds hand reading (begun.Delete slot record') = of_attached s known holds reading slot.0 (delete_part s known slot.0)
 waiting_part s known holds hand reading (begun.Read slot vblock block) = of_attached s known holds reading slot.0 (read_part s known slot.0 vblock)
 waiting_part s known holds hand reading (begun.Write slot vblock block descriptor) = of_attached s known holds reading slot.0 (write_part s known slot.0 vblock block)
-waiting_part s known holds hand reading (begun.Renew renewals) = renew_command s known holds reading
-waiting_part s known holds hand reading (begun.Reserve need) = reserve_part s known holds hand need.count
-waiting_part s known holds hand reading (begun.Retire lease) = retire_part s known holds hand
+waiting_part s known holds hand reading (begun.Renew renewals lease) = renew_command s known holds reading
+waiting_part s known holds hand reading (begun.Reserve need map lease) = reserve_part s known holds hand need.count
+waiting_part s known holds hand reading (begun.Retire map extent_lease image_lease) = retire_part s known holds hand
 
 -- for how many journal slots it has memory, where it needs any
 abbrev pub begun_slots : ℕ → Begun → ℕ
@@ -33,5 +33,5 @@ begun_slots slots other = slots
 
 -- for how many leases it has memory, where it needs any
 abbrev pub begun_leases : ℕ → Begun → ℕ
-begun_leases leases (begun.Renew renewals) = renewals.leases
+begun_leases leases (begun.Renew renewals lease) = renewals.leases
 begun_leases leases other = leases

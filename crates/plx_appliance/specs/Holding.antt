@@ -19,10 +19,10 @@ abbrev pub HoldsAs : Geometry → (leases extents : ℕ → Hold) → (holds : �
 HoldsAs g leases extents holds = (lease : ℕ) → lease < lease_count g → hold_without_claim (holds (lease_at lease)) ≡ lease_holds_at g leases extents (lease_at lease)
 
 -- an answer after which what is held stays: no write failed or was missed
-abbrev pub IsKept : Ask → Answer → Type 0
-IsKept (ask.Write kind block guard) answer.Fault = ⊥
-IsKept (ask.Write kind block guard) (answer.Missed reading) = ⊥
-IsKept ask found = Unit {0}
+abbrev pub DropsNothing : Ask → Answer → Type 0
+DropsNothing (ask.Write kind block guard) answer.Fault = ⊥
+DropsNothing (ask.Write kind block guard) (answer.Missed reading) = ⊥
+DropsNothing ask found = Unit {0}
 
 -- a write that failed or was missed
 abbrev pub image_leases_after_write : Ask → Answer → (ℕ → Hold) → ℕ → Hold

@@ -35,7 +35,7 @@ image_leases_after_turn None image leases = leases
 image_leases_after_turn (Some end) image leases = image_leases_after_claim (claim_end end) image leases
 
 -- the claim of an attach was answered: how far it has come with its lease, and what is held then
-pub record ClaimMoves (old new : Attach) (answer : Answer) (before after : ℕ → Hold) (result : Option Reply) : Type 0 where
+pub record AttachClaimMoves (old new : Attach) (answer : Answer) (before after : ℕ → Hold) (result : Option Reply) : Type 0 where
   pub end : Option (End Image)
   pub hold : Fits (claim_ask old.claim) answer →
       LeavesClaim (lease_after (claim_sample old.claim) (claim_ask old.claim) old.claim.out answer (claim_hold old.claim)) (sample_of answer) new.claim end
@@ -50,7 +50,7 @@ pub record LoadMoves (new : Attach) (before after : ℕ → Hold) : Type 0 where
   pub leases : after ≡ before
 
 abbrev pub attach_moves : AttachAt → (old new : Attach) → Answer → (before after : ℕ → Hold) → Option Reply → Type 0
-attach_moves attach.Claim old new answer before after result = ClaimMoves old new answer before after result
+attach_moves attach.Claim old new answer before after result = AttachClaimMoves old new answer before after result
 attach_moves attach.Load old new answer before after result = LoadMoves new before after
 
 -- an attach stays one

@@ -1,6 +1,6 @@
 -- What a reserve still asks, and what it moves.
 use Rattle.std.specs.Prelude.{◌≡◌, ◌≢◌, ◌<◌, ℕ, List, Option, None, refl}
-use Rattle.plx_alloc.specs.Moving.{StartsClaim, TellsTaken, reserve_ask, reserve_moves}
+use Rattle.plx_alloc.specs.Moving.{TellsTaken, reserve_ask, reserve_moves}
 use Rattle.plx_alloc.specs.Tables.{hand_numbers}
 use Rattle.plx_alloc.specs.Tables.{extent_leases as extents_of}
 use Rattle.plx_alloc.specs.Takes.{Outer}

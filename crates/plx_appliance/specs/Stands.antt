@@ -44,14 +44,14 @@ Inside (work.Reserve r) holds sample found = IsReserving r holds sample found
 Inside (work.Retire r) holds sample found = retire_tells r.setting.geometry r.stage found
 
 -- a claim that begins, of a lease of which nothing is held yet
-pub record StartsClaim (leases : ℕ → Hold) (a : Attach) : Type 0 where
+pub record StartsAttachClaim (leases : ℕ → Hold) (a : Attach) : Type 0 where
   pub number : a.claim.number ≡ image_lease a.load.image.slot.0
   pub none : leases a.load.image.slot.0 ≡ Nothing
   pub fresh : claim_hold a.claim ≡ Nothing
   pub sampled : (sample : Option ℕ) → IsSampled a.claim sample
 
 abbrev pub starts_at : (leases : ℕ → Hold) → AttachAt → Attach → Type 0
-starts_at leases attach.Claim a = StartsClaim leases a
+starts_at leases attach.Claim a = StartsAttachClaim leases a
 starts_at leases attach.Load a = Unit {0}
 
 -- how a command begins with its claim, and which leases it renews

@@ -216,26 +216,18 @@ impl Appliance {
             (position (appliance_setting self.old) log) }
         ensures setting { self.new.holdings.setting ≡ self.old.holdings.setting }
     {
-        match mem::replace(&mut self.stage, Stage::Idle) {
-            Stage::In(running) => {
-                let mut work = running;
-                let ask = work.ask();
-                let reply = work.answer(&mut self.holdings, answer);
-                self.holdings.drop_failed(&ask, answer);
-                match reply {
-                    None => {
-                        self.stage = Stage::In(work);
-                        None
-                    }
-                    Some(reply) => {
-                        self.holdings.settle(&reply);
-                        Some(reply)
-                    }
-                }
-            }
-            other => {
-                self.stage = other;
-                None
+        let Stage::In(work) = &mut self.stage else {
+            return None;
+        };
+        let ask = work.ask();
+        let reply = work.answer(&mut self.holdings, answer);
+        self.holdings.drop_failed(&ask, answer);
+        match reply {
+            None => None,
+            Some(reply) => {
+                self.stage = Stage::Idle;
+                self.holdings.settle(&reply);
+                Some(reply)
             }
         }
     }

@@ -8,7 +8,7 @@ use crate::load::Load;
 use crate::session::Session;
 use crate::sessions::Sessions;
 use crate::setting::Setting;
-use plx_base::{BlockNo, LeaseName, SlotNo};
+use plx_base::{Block, BlockNo, LeaseName, SlotNo};
 use plx_commands::Reply;
 use plx_disk::{Answer, Ask};
 use plx_geom::Place;
@@ -53,13 +53,15 @@ impl Attach {
     ghost use Rattle.plx_appliance.specs.Moving.{attach_moves, image_leases_after_claim};
     ghost use Rattle.plx_appliance.specs.Tokens.{image_leases};
 
-    /// The lease is to be claimed, by a boot that began so many claims before.
+    /// The lease is to be claimed, by a boot that began so many claims before, with a block for what
+    /// the claim writes.
     pub fn claim(
         alloc: Global,
         setting: Setting,
         slot: SlotNo,
         number: u64,
         session: Session,
+        lease: Block,
     ) -> Attach
         requires within { slot.0 < setting.geometry.images }
         requires number { number < last_claim }
@@ -79,7 +81,7 @@ impl Attach {
         let block = setting.block(Place::ImageLease(slot));
         Attach {
             at: AttachAt::Claim,
-            claim: LeaseClaim::begin(Image(slot), block, setting.boot, number, None),
+            claim: LeaseClaim::begin(Image(slot), block, setting.boot, number, None, lease),
             load: Load::begin(
                 alloc,
                 Leased {
@@ -93,7 +95,7 @@ impl Attach {
     }
 
     /// The lease is held up to this moment.
-    pub fn load(alloc: Global, image: Leased, session: Session) -> Attach
+    pub fn load(alloc: Global, image: Leased, session: Session, lease: Block) -> Attach
         requires slots { session.slots ≡ image.setting.geometry.slots }
         requires empty { vec_len session.writes ≡ 0 }
         ensures rest { (known : Known) → attach_rest known result ≡ load_image
@@ -105,7 +107,7 @@ impl Attach {
         let block = image.setting.block(Place::ImageLease(image.slot));
         Attach {
             at: AttachAt::Load,
-            claim: LeaseClaim::begin(Image(image.slot), block, image.setting.boot, 0, None),
+            claim: LeaseClaim::begin(Image(image.slot), block, image.setting.boot, 0, None, lease),
             load: Load::begin(alloc, image, session),
         }
     }

@@ -9,14 +9,31 @@ use plx_base::{Block, Label, NoMemory, SlotNo};
 use plx_commands::Command;
 use std::alloc::Global;
 
-/// The memory of an attach: a session for a journal of so many slots.
+/// The memory of an attach: a session for a journal of so many slots, and a block for its claim.
 #[derive(Drop)]
 pub struct Room {
     pub slots: u32,
     pub session: Session,
+    pub lease: Block,
     pub alloc: Global,
     ghost same: { session.slots ≡ slots },
     ghost empty: { vec_len session.writes ≡ 0 },
+}
+
+impl Room {
+    ghost use Rattle.std.specs.Prelude.{IfOk};
+
+    /// The memory of an attach of an image with so many journal slots.
+    pub fn new(alloc: Global, slots: u32) -> Result<Room, NoMemory>
+        ensures { IfOk result (λ r. r.slots ≡ slots) }
+    {
+        Ok(Room {
+            slots,
+            session: Session::new(alloc, slots)?,
+            lease: Block::zeros(alloc)?,
+            alloc,
+        })
+    }
 }
 
 /// How many blocks a reserve is to have in hand, at most 256.
@@ -60,12 +77,17 @@ pub enum Begun {
     },
     Renew {
         renewals: Renewals,
+        lease: Block,
     },
     Reserve {
         need: Need,
+        map: Block,
+        lease: Block,
     },
     Retire {
-        lease: Block,
+        map: Block,
+        extent_lease: Block,
+        image_lease: Block,
     },
 }
 
@@ -90,70 +112,56 @@ impl Begun {
         ensures leases { IfOk result (λ b. begun_leases (lease_count setting.now.geometry) b
             ≡ lease_count setting.now.geometry) }
     {
-        match command {
-            Command::Attach { slot } => {
-                let slots = setting.geometry.slots;
-                let session = Session::new(alloc, slots)?;
-                Ok(Begun::Attach {
-                    slot,
-                    room: Room {
-                        slots,
-                        session,
-                        alloc,
-                    },
-                })
-            }
-            Command::Detach { slot } => {
-                let lease = Block::zeros(alloc)?;
-                Ok(Begun::Detach { slot, lease })
-            }
-            Command::Create { slot, size, label } => {
-                let record = Block::zeros(alloc)?;
-                Ok(Begun::Create {
-                    slot,
-                    size,
-                    label,
-                    record,
-                })
-            }
-            Command::Delete { slot } => {
-                let record = Block::zeros(alloc)?;
-                Ok(Begun::Delete { slot, record })
-            }
-            Command::Read { slot, vblock } => {
-                let block = Block::zeros(alloc)?;
-                Ok(Begun::Read {
-                    slot,
-                    vblock,
-                    block,
-                })
-            }
+        let begun = match command {
+            Command::Attach { slot } => Begun::Attach {
+                slot,
+                room: Room::new(alloc, setting.geometry.slots)?,
+            },
+            Command::Detach { slot } => Begun::Detach {
+                slot,
+                lease: Block::zeros(alloc)?,
+            },
+            Command::Create { slot, size, label } => Begun::Create {
+                slot,
+                size,
+                label,
+                record: Block::zeros(alloc)?,
+            },
+            Command::Delete { slot } => Begun::Delete {
+                slot,
+                record: Block::zeros(alloc)?,
+            },
+            Command::Read { slot, vblock } => Begun::Read {
+                slot,
+                vblock,
+                block: Block::zeros(alloc)?,
+            },
             Command::Write {
                 slot,
                 vblock,
                 payload,
-            } => {
-                let block = payload.to_block(alloc)?;
-                let descriptor = Block::zeros(alloc)?;
-                Ok(Begun::Write {
-                    slot,
-                    vblock,
-                    block,
-                    descriptor,
-                })
-            }
-            Command::Renew => {
-                let renewals = Renewals::new(alloc, setting.lease_count())?;
-                Ok(Begun::Renew { renewals })
-            }
-            Command::Retire => {
-                let lease = Block::zeros(alloc)?;
-                Ok(Begun::Retire { lease })
-            }
-            Command::Reserve { count } => Ok(Begun::Reserve {
+            } => Begun::Write {
+                slot,
+                vblock,
+                block: payload.to_block(alloc)?,
+                descriptor: Block::zeros(alloc)?,
+            },
+            Command::Renew => Begun::Renew {
+                renewals: Renewals::new(alloc, setting.lease_count())?,
+                lease: Block::zeros(alloc)?,
+            },
+            Command::Reserve { count } => Begun::Reserve {
                 need: Need { count },
-            }),
+                map: Block::zeros(alloc)?,
+                lease: Block::zeros(alloc)?,
+            },
+            Command::Retire => Begun::Retire {
+                map: Block::zeros(alloc)?,
+                extent_lease: Block::zeros(alloc)?,
+                image_lease: Block::zeros(alloc)?,
+            },
             Command::Flush { .. } | Command::Reclaim => unreachable!(),
-        }
+        };
+        Ok(begun)
     }
 }

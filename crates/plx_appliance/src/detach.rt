@@ -6,11 +6,11 @@ ghost use Rattle.plx_gate.specs.Leases.{lease_bytes};
 use crate::lease::Leases;
 use crate::leased::Leased;
 use crate::sessions::Sessions;
-use crate::spell::spell_lease;
 use plx_base::{Block, BlockNo, LeaseRecord, WriteKind};
 use plx_commands::Reply;
 use plx_disk::{Answer, Ask};
 use plx_geom::Place;
+use plx_lease::spell_lease;
 
 /// The release of an image's lease, with the block that spells a free one.
 #[derive(Drop)]

@@ -32,10 +32,7 @@ use crate::work::Work;
 use crate::write::Write;
 use plx_alloc::{Reserve as Take, SpaceEnd};
 use plx_base::{Block, Label, SlotNo};
-use plx_commands::Reply;
-
-/// The number of a boot's last claim.
-const LAST_CLAIM: u64 = (1 << 40) - 1;
+use plx_commands::{LAST_CLAIM, Reply};
 
 /// A command has its first reading, below 2^48.
 pub fn enter(begun: Begun, holdings: &mut Holdings, reading: u64) -> Result<Work, Reply>
@@ -78,9 +75,13 @@ pub fn enter(begun: Begun, holdings: &mut Holdings, reading: u64) -> Result<Work
             block,
             descriptor,
         } => enter_write(holdings, slot, vblock, block, descriptor, reading),
-        Begun::Renew { renewals } => enter_renew(holdings, renewals, reading),
-        Begun::Reserve { need } => enter_reserve(holdings, need),
-        Begun::Retire { lease } => enter_retire(holdings, lease),
+        Begun::Renew { renewals, lease } => enter_renew(holdings, renewals, lease, reading),
+        Begun::Reserve { need, map, lease } => enter_reserve(holdings, need, map, lease),
+        Begun::Retire {
+            map,
+            extent_lease,
+            image_lease,
+        } => enter_retire(holdings, map, extent_lease, image_lease),
     }
 }
 
@@ -136,7 +137,7 @@ fn enter_free(holdings: &mut Holdings, slot: SlotNo, room: Room) -> Result<Work,
                 slot,
                 until: held.until(),
             };
-            Ok(Work::Attach(Attach::load(room.alloc, image, room.session)))
+            Ok(Work::Attach(Attach::load(room.alloc, image, room.session, room.lease)))
         }
         None => enter_claim(holdings, slot, room),
     }
@@ -164,7 +165,7 @@ fn enter_claim(holdings: &mut Holdings, slot: SlotNo, room: Room) -> Result<Work
     let Some(number) = holdings.space.next_claim() else {
         return Err(Reply::WornOut { count: LAST_CLAIM });
     };
-    Ok(Work::Attach(Attach::claim(room.alloc, setting, slot, number, room.session)))
+    Ok(Work::Attach(Attach::claim(room.alloc, setting, slot, number, room.session, room.lease)))
 }
 
 // A detach has its first reading.
@@ -312,7 +313,12 @@ fn enter_write(
 }
 
 // A renew has its first reading.
-fn enter_renew(holdings: &Holdings, room: Renewals, reading: u64) -> Result<Work, Reply>
+fn enter_renew(
+    holdings: &Holdings,
+    room: Renewals,
+    lease: Block,
+    reading: u64,
+) -> Result<Work, Reply>
     requires room { room.leases ≡ lease_count holdings.now.setting.geometry }
     requires reading { reading < 2 ^ 48 }
     ensures part { work_entered (lent_of holdings.now) result
@@ -328,12 +334,17 @@ fn enter_renew(holdings: &Holdings, room: Renewals, reading: u64) -> Result<Work
             until: due.until,
             reading,
         }),
-        None => enter_renewals(holdings, room, reading),
+        None => enter_renewals(holdings, room, lease, reading),
     }
 }
 
 // A renew whose reading has reached no lease in use.
-fn enter_renewals(holdings: &Holdings, room: Renewals, reading: u64) -> Result<Work, Reply>
+fn enter_renewals(
+    holdings: &Holdings,
+    room: Renewals,
+    lease: Block,
+    reading: u64,
+) -> Result<Work, Reply>
     requires room { room.leases ≡ lease_count holdings.now.setting.geometry }
     requires reading { reading < 2 ^ 48 }
     ensures part { work_entered (lent_of holdings.now) result
@@ -347,15 +358,18 @@ fn enter_renewals(holdings: &Holdings, room: Renewals, reading: u64) -> Result<W
     let Some(renewal) = left.pop() else {
         return Err(Reply::Renewed);
     };
+    let mut out = lease;
+    renewal.spell(&mut out);
     Ok(Work::Renew(Renew {
         setting: holdings.setting,
         renewal,
         left,
+        out,
     }))
 }
 
 // A reserve has its first reading.
-fn enter_reserve(holdings: &Holdings, need: Need) -> Result<Work, Reply>
+fn enter_reserve(holdings: &Holdings, need: Need, map: Block, lease: Block) -> Result<Work, Reply>
     ensures part { work_entered (lent_of holdings.now) result
         ≡ reserve_part (rules_setting holdings.now.setting) (known_of holdings.now)
         (holds_in holdings.now) (hand_in holdings.now) need.count }
@@ -363,7 +377,7 @@ fn enter_reserve(holdings: &Holdings, need: Need) -> Result<Work, Reply>
     ensures inside { IfOk result (StartsInside (leases_in holdings.now) (extents_in holdings.now)) }
     ensures suits { IfOk result (work_suits holdings.now.space) }
 {
-    match Take::begin(need.count, &holdings.space) {
+    match Take::begin(need.count, map, lease, &holdings.space) {
         Ok(work) => Ok(Work::Reserve(Reserve {
             setting: holdings.setting,
             work,
@@ -374,7 +388,12 @@ fn enter_reserve(holdings: &Holdings, need: Need) -> Result<Work, Reply>
 }
 
 // A retire has its first reading.
-fn enter_retire(holdings: &Holdings, lease: Block) -> Result<Work, Reply>
+fn enter_retire(
+    holdings: &Holdings,
+    map: Block,
+    extent_lease: Block,
+    image_lease: Block,
+) -> Result<Work, Reply>
     ensures part { work_entered (lent_of holdings.now) result
         ≡ retire_part (rules_setting holdings.now.setting) (known_of holdings.now)
         (holds_in holdings.now) (hand_in holdings.now) }
@@ -382,7 +401,7 @@ fn enter_retire(holdings: &Holdings, lease: Block) -> Result<Work, Reply>
     ensures inside { IfOk result (StartsInside (leases_in holdings.now) (extents_in holdings.now)) }
     ensures suits { IfOk result (work_suits holdings.now.space) }
 {
-    match Retire::enter(holdings, lease) {
+    match Retire::enter(holdings, map, extent_lease, image_lease) {
         Err(reply) => Err(reply),
         Ok(retire) => Ok(Work::Retire(retire)),
     }

@@ -38,7 +38,7 @@ impl Holdings {
     ghost use Rattle.plx_appliance.specs.Taking.{leased_part};
     ghost use Rattle.plx_commands.specs.Places.{at};
     ghost use Rattle.plx_rules.specs.Holds.{Nothing, first_hold};
-    ghost use Rattle.plx_appliance.specs.Holding.{IsKept, image_leases_after_write, dropped_hand, first_extents, first_leases};
+    ghost use Rattle.plx_appliance.specs.Holding.{DropsNothing, image_leases_after_write, dropped_hand, first_extents, first_leases};
     ghost use Rattle.plx_appliance.specs.Renews.{longer_extents, longer_images};
     ghost use Rattle.plx_appliance.specs.Space.{extents_in, hand_in, held_hand};
     ghost use Rattle.plx_rules.specs.Session.{nothing_known};
@@ -128,7 +128,7 @@ impl Holdings {
         ensures extents { extents_in self.new ≡ image_leases_after_write ask.now answer.now
             (extents_in self.old) }
         ensures hand { hand_in self.new ≡ dropped_hand ask.now answer.now (hand_in self.old) }
-        ensures kept { IsKept ask.now answer.now → self.new ≡ self.old }
+        ensures kept { DropsNothing ask.now answer.now → self.new ≡ self.old }
     {
         match (ask, answer) {
             (Ask::Write { .. }, Answer::Fault | Answer::Missed(_)) => {

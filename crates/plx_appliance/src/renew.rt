@@ -1,18 +1,24 @@
 //! A renew writes each lease that is held again, up to a later moment.
 ghost use Rattle.std.specs.Prelude.{◌≡◌, Some, None};
+ghost use Rattle.plx_rules.specs.Part.{bytes_out};
+ghost use Rattle.plx_lease.specs.Renewing.{renewal_rest};
 
 use crate::holdings::Holdings;
 use crate::setting::Setting;
+use plx_base::Block;
 use plx_commands::Reply;
 use plx_disk::{Answer, Ask};
 use plx_lease::{LeaseRenewal, RenewalEnd};
 
-/// A renew with the renewal that asks, and those that are left, of which the last one is next.
+/// A renew with the renewal that asks, the bytes of its write, and those that are left, of which the
+/// last one is next.
 #[derive(Drop)]
 pub struct Renew {
     pub setting: Setting,
     pub renewal: LeaseRenewal,
     pub left: Vec<LeaseRenewal>,
+    pub out: Block,
+    ghost spelled: { out ≡ bytes_out (renewal_rest renewal) },
 }
 
 impl Renew {
@@ -21,7 +27,7 @@ impl Renew {
     ghost use Rattle.plx_rules.specs.Ends.{ends};
     ghost use Rattle.plx_rules.specs.Holds.{Hold};
     ghost use Rattle.plx_rules.specs.Machines.{AreWhole};
-    ghost use Rattle.plx_rules.specs.Part.{answered, bytes_out, standing};
+    ghost use Rattle.plx_rules.specs.Part.{answered, standing};
     ghost use Rattle.plx_rules.specs.Session.{Known};
     ghost use Rattle.plx_alloc.specs.Asking.{IsOnDevice};
     ghost use Rattle.plx_appliance.specs.Ending.{part_after};
@@ -45,7 +51,7 @@ impl Renew {
         ensures whole { (known : Known) →
             AreWhole (standing (renew_rest known self.now)) result.now }
     {
-        self.renewal.out()
+        self.out.as_slice()
     }
 
     /// The ask is answered.
@@ -88,6 +94,7 @@ impl Renew {
         let Some(next) = self.left.pop() else {
             return Some(Reply::Renewed);
         };
+        next.spell(&mut self.out);
         self.renewal = next;
         None
     }

@@ -8,11 +8,11 @@ use crate::holdings::Holdings;
 use crate::leased::Leased;
 use crate::retiring::{after_extents, answer_release};
 use crate::setting::Setting;
-use crate::spell::spell_lease;
 use plx_alloc::Retire as SpaceRetire;
 use plx_base::{Block, LeaseRecord, WriteKind};
 use plx_commands::Reply;
 use plx_disk::{Answer, Ask};
+use plx_lease::spell_lease;
 
 /// Where a retire stands.
 #[derive(Drop)]
@@ -49,8 +49,14 @@ impl Retire {
     ghost use Rattle.plx_appliance.specs.Retires.{IsAtImage, image_rest, retire_entered, retire_moves, retire_images_rest, retire_suits, retire_tells};
     ghost use Rattle.plx_appliance.specs.Space.{hand_in};
 
-    /// The retire begins, with a block for the leases, or is over at once.
-    pub fn enter(holdings: &Holdings, spelled: Block) -> Result<Retire, Reply>
+    /// The retire begins, with blocks for the maps that it writes and for the leases of extents and of
+    /// images, or is over at once.
+    pub fn enter(
+        holdings: &Holdings,
+        map: Block,
+        extent_lease: Block,
+        image_lease: Block,
+    ) -> Result<Retire, Reply>
         ensures part { retire_entered (lent_of holdings.now) result
             ≡ retire_part (rules_setting holdings.now.setting) (known_of holdings.now)
             (holds_in holdings.now) (hand_in holdings.now) }
@@ -59,10 +65,10 @@ impl Retire {
             → IfOk result (λ r. retire_tells g r.stage found) }
         ensures suits { IfOk result (λ r. retire_suits holdings.now.space r.setting r.stage) }
     {
-        let mut spelled = spelled;
+        let mut spelled = image_lease;
         spell_lease(&LeaseRecord::Free, &mut spelled);
         let setting = holdings.setting;
-        match SpaceRetire::begin(&holdings.space) {
+        match SpaceRetire::begin(map, extent_lease, &holdings.space) {
             Ok(extents) => Ok(Retire {
                 setting,
                 stage: RetireStage::Extents(extents),

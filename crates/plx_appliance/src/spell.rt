@@ -4,11 +4,9 @@ ghost use Rattle.plx_gate.specs.Descriptors.{IsDescriptor};
 ghost use Rattle.plx_gate.specs.Descriptors.{descriptor_bytes as bytes_of_descriptor};
 ghost use Rattle.plx_gate.specs.Images.{IsImage};
 ghost use Rattle.plx_gate.specs.Images.{image_bytes as bytes_of_image};
-ghost use Rattle.plx_gate.specs.Leases.{IsLease};
-ghost use Rattle.plx_gate.specs.Leases.{lease_bytes as bytes_of_lease};
 
-use plx_base::{BLOCK_LEN, Block, LeaseRecord};
-use plx_gate::{Descriptor, ImageRecord, write_descriptor, write_image, write_lease};
+use plx_base::{BLOCK_LEN, Block};
+use plx_gate::{Descriptor, ImageRecord, write_descriptor, write_image};
 
 /// Makes a block the spelling of a descriptor.
 pub fn spell_descriptor(descriptor: &Descriptor, block: &mut Block)
@@ -28,17 +26,6 @@ pub fn spell_image(image: &ImageRecord, block: &mut Block)
 {
     let mut bytes = [0; BLOCK_LEN];
     write_image(image, &mut bytes);
-    let _old = block.as_slice();
-    block.copy_from(0, &bytes);
-}
-
-/// Makes a block the spelling of a lease.
-pub fn spell_lease(lease: &LeaseRecord, block: &mut Block)
-    requires { IsLease lease.now }
-    ensures { block.new ≡ bytes_of_lease lease.now }
-{
-    let mut bytes = [0; BLOCK_LEN];
-    write_lease(lease, &mut bytes);
     let _old = block.as_slice();
     block.copy_from(0, &bytes);
 }

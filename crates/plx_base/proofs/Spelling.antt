@@ -15,7 +15,7 @@ use Rattle.plx_base.specs.Spelling.{width_of, field_number, with_number, fields_
 use Rattle.plx_base.proofs.Written.{length-written, drop-written, written-past}
 use Rattle.plx_base.proofs.Uniform.{All-replicate, replicate-All}
 use Rattle.plx_base.proofs.Fields.{length-little, number_at-along, number_at-little, little-number_at}
-use Rattle.plx_base.proofs.Tests.{either}
+use Rattle.plx_base.proofs.Tests.{either, and-left, and-right}
 
 -- each field is a number of its width
 abbrev pub AreFields : List Field → Type 0
@@ -254,14 +254,6 @@ only-written (suc sector) at new old low high within =
 
 -- readings are exact
 
-both-left : (a b : Bool) → (a && b) ≡ true → a ≡ true
-both-left true b h = refl
-both-left false b h = cc
-
-both-right : (a b : Bool) → (a && b) ≡ true → b ≡ true
-both-right true b h = h
-both-right false b h = cc
-
 -- a value within its limits is read back from its spelling
 pub read-back : {A : Type 0} (is_within : A → Bool) (spelling : A → List ℕ) (found a : A) → is_within a ≡ true → found ≡ a →
     read_by is_within spelling found (spelling a) ≡ Some a
@@ -295,8 +287,8 @@ pub read-only : {A : Type 0} (is_within : A → Bool) (spelling : A → List ℕ
 read-only is_within spelling found a bytes h = elim (either (is_within found && bytes_eq bytes (spelling found))) [
   | inl taken ↦
       let same : found ≡ a = some-same (read-by-true found _ taken ∙ h) in
-      let within = both-left (is_within found) (bytes_eq bytes (spelling found)) taken in
-      let here = (bytes_eq-Decides bytes (spelling found)).0 (both-right (is_within found) (bytes_eq bytes (spelling found)) taken) in
+      let within = and-left (is_within found) (bytes_eq bytes (spelling found)) taken in
+      let here = (bytes_eq-Decides bytes (spelling found)).0 (and-right (is_within found) (bytes_eq bytes (spelling found)) taken) in
       (ap is_within (sym same) ∙ within, here ∙ ap spelling same, same)
   | inr refused ↦ let bad : None ≡ Some a = sym (read-by-false found _ refused) ∙ h in absurd (cc)
 ]

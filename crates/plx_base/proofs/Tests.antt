@@ -1,6 +1,6 @@
 -- What tests on numbers and flags answer.
 use Rattle.std.proofs.Common.{◌≡◌, ◌≢◌, ℕ, suc, ◌≤◌, ◌<◌, Bool, true, false, refl, arith, inl, inr, ◌⊎◌, ◌+◌, Some}
-use Rattle.std.specs.Prelude.{◌==◌, ◌&&◌, nat_lt, nat_le, not}
+use Rattle.std.specs.Prelude.{◌==◌, ◌&&◌, ◌||◌, nat_lt, nat_le, not}
 use Rattle.std.proofs.lemmas.Bool.Decides.{eqb_tells, leb_tells, nat_tests}
 
 -- two numbers are equal
@@ -84,3 +84,36 @@ below-next k i h = grind arith
 -- a number is below another or isn't
 pub below-or-past : (k n : ℕ) → (k < n) ⊎ (n ≤ k)
 below-or-past k n = grind arith
+
+-- a number is below another, or it isn't
+pub lt-cases : (a b : ℕ) → ((nat_lt a b ≡ true) × (a < b)) ⊎ ((nat_lt a b ≡ false) × (b ≤ a))
+lt-cases a b = elim (leb_tells (suc a) b) [ inl below ↦ inl below | inr above ↦ inr (above.0, omega (arith, above.1)) ]
+
+-- a test has one outcome
+pub clash : (test : Bool) → test ≡ true → test ≡ false → ⊥
+clash test h e = cc
+
+-- both of two tests hold
+pub and-parts : (a b : Bool) → (a && b) ≡ true → (a ≡ true) × (b ≡ true)
+and-parts true b e = (refl, e)
+and-parts false b e = absurd (let P : ⊥ = cc in P)
+
+-- neither of two tests holds
+pub or-parts : (a b : Bool) → (a || b) ≡ false → (a ≡ false) × (b ≡ false)
+or-parts true b e = absurd (let P : ⊥ = cc in P)
+or-parts false b e = (refl, e)
+
+-- what the outcome of a test on numbers tells
+pub eqb-is : (a b : ℕ) → (a == b) ≡ true → a ≡ b
+eqb-is a b e = elim (eqb_tells a b) [ inl same ↦ same.1 | inr other ↦ absurd (let f = other.0 in let P : ⊥ = cc in P) ]
+
+pub eqb-isn't : (a b : ℕ) → (a == b) ≡ false → a ≢ b
+eqb-isn't a b e = elim (eqb_tells a b) [ inl same ↦ absurd (let f = same.0 in let P : ⊥ = cc in P) | inr other ↦ other.1 ]
+
+pub lt-isn't : (a b : ℕ) → nat_lt a b ≡ false → b ≤ a
+lt-isn't a b e = elim (lt-cases a b) [ inl below ↦ absurd (clash (nat_lt a b) below.0 e) | inr above ↦ above.1 ]
+
+-- a flag whose opposite is set
+pub opposite-true : (b : Bool) → not b ≡ true → b ≡ false
+opposite-true true e = cc
+opposite-true false e = refl

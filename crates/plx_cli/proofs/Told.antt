@@ -13,14 +13,14 @@ use Rattle.plx_text.specs.Once.{TraceOnce}
 use Rattle.plx_text.specs.Traces.{trace_lines, trace_text}
 use Rattle.plx_words.specs.Texts.{LinesTell}
 use Rattle.plx_world.specs.Playing.{IsLawful, PlaysAll}
-use Rattle.plx_world.specs.Standing.{Stands}
+use Rattle.plx_world.specs.Standing.{WorldStands}
 use Rattle.plx_world.specs.declared.world.World.{World}
 use Rattle.plx_cli.specs.Program.{IsTold, ToldOnce}
 
 -- the world that the program has stands for one to which the events lead
 pub world-told : ((w : rules.World) → Reached w → IsLawful w) → (first : Geometry × ℕ) (device : Device) (events : List Event) (text : List ℕ) (entries : List Entry) (reachable allocated : ℕ) (begun last : World) →
-    IsGeometry first.0 → 1 ≤ first.1 → first.1 ≤ 8 → IsFormatted first.0 device → Stands begun (first_world first.0 first.1 device) → PlaysAll begun last events → entries ≡ last.trace.items → reachable ≡ 0 →
-    ((w : rules.World) → Reached w → Stands last w → allocated ≡ allocated_in w) → text ≡ trace_text first.0 first.1 entries reachable allocated → LinesTell (trace_lines first.0 first.1 entries reachable allocated) → IsTold first events text
+    IsGeometry first.0 → 1 ≤ first.1 → first.1 ≤ 8 → IsFormatted first.0 device → WorldStands begun (first_world first.0 first.1 device) → PlaysAll begun last events → entries ≡ last.trace.items → reachable ≡ 0 →
+    ((w : rules.World) → Reached w → WorldStands last w → allocated ≡ allocated_in w) → text ≡ trace_text first.0 first.1 entries reachable allocated → LinesTell (trace_lines first.0 first.1 entries reachable allocated) → IsTold first events text
 world-told laws first device events text entries reachable allocated begun last limits low high formatted stands plays same none counts is tells =
     let start = Reached.first limits low high formatted in
     let found = plays (first_world first.0 first.1 device) stands in

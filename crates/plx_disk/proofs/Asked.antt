@@ -3,14 +3,14 @@ use Rattle.std.proofs.Common.{◌≡◌, ℕ, List, Option, Some, None, false, r
 use Rattle.std.specs.Prelude.{slice_get, MatchOption}
 use Rattle.plx_disk.specs.Missing.{IsLeastMissing, IsMissing, MissesNone}
 use Rattle.plx_disk.specs.Writes.{Issued, Surface, all_sectors}
-use Rattle.plx_disk.specs.Standing.{StandForAll, StandsFor}
+use Rattle.plx_disk.specs.Standing.{StandForAll, StandsForIssued}
 use Rattle.plx_disk.specs.declared.write.Write.{Write}
 use Rattle.plx_disk.proofs.Kept.{kept-issued, kept-at}
 
 -- its least missing sector
 pub missing-says : (s : Surface) (kept : List Write) (n : ℕ) (k : Write) (answer : Option ℕ) → StandForAll kept s.writes → slice_get kept n ≡ Some k →
-    ((w : Issued) → StandsFor k w → answer ≡ None → w.cancelled ≡ false → w.landed ≡ all_sectors) →
-    ((w : Issued) → StandsFor k w → (m : ℕ) → answer ≡ Some m → (w.cancelled ≡ false) × IsLeastMissing w.landed m) →
+    ((w : Issued) → StandsForIssued k w → answer ≡ None → w.cancelled ≡ false → w.landed ≡ all_sectors) →
+    ((w : Issued) → StandsForIssued k w → (m : ℕ) → answer ≡ Some m → (w.cancelled ≡ false) × IsLeastMissing w.landed m) →
     MatchOption answer (MissesNone s n) (IsMissing s n)
 missing-says s kept n k None h e none least =
     λ w found not_cancelled. none w (kept-at kept s.writes n k w h e found) refl not_cancelled

@@ -4,7 +4,7 @@ use Rattle.std.specs.Prelude.{slice_get}
 use Rattle.std.proofs.lemmas.Option.{slice_get_within}
 use Rattle.plx_disk.specs.Writes.{Issued, no_sectors, fresh_write, cancelled_at, with_cancel}
 use Rattle.plx_disk.specs.Stored.{Blocks, has_its_place, has_place, is_stored, ArePlaced}
-use Rattle.plx_disk.specs.Standing.{StandForAll, StandsFor}
+use Rattle.plx_disk.specs.Standing.{StandForAll, StandsForIssued}
 use Rattle.plx_base.specs.declared.numbers.Boot.{Boot}
 use Rattle.plx_base.specs.declared.write_kind.WriteKind.{WriteKind}
 use Rattle.plx_disk.specs.declared.write.Progress.{Progress}
@@ -20,34 +20,34 @@ kept-length (k ∷ kept) (w ∷ writes) h = ap suc (kept-length kept writes h.1)
 
 -- the issued write that a kept one stands for
 pub kept-issued : (kept : List Write) (writes : List Issued) (n : ℕ) (k : Write) → StandForAll kept writes → slice_get kept n ≡ Some k →
-    (w : Issued) × (slice_get writes n ≡ Some w) × StandsFor k w
+    (w : Issued) × (slice_get writes n ≡ Some w) × StandsForIssued k w
 kept-issued [] [] n k h e = cc
 kept-issued [] (v ∷ writes) n k h e = absurd h
 kept-issued (j ∷ kept) [] n k h e = absurd h
 kept-issued (j ∷ kept) (v ∷ writes) zero k h e =
-    let P : Write → Type 0 = λ x. StandsFor x v in
+    let P : Write → Type 0 = λ x. StandsForIssued x v in
     let same : j ≡ k = cc in
     (v, refl, subst P same h.0)
 kept-issued (j ∷ kept) (v ∷ writes) (suc n) k h e = kept-issued kept writes n k h.1 e
 
 -- the kept one that stands for an issued write
 pub kept-of : (kept : List Write) (writes : List Issued) (n : ℕ) (w : Issued) → StandForAll kept writes → slice_get writes n ≡ Some w →
-    (k : Write) × (slice_get kept n ≡ Some k) × StandsFor k w
+    (k : Write) × (slice_get kept n ≡ Some k) × StandsForIssued k w
 kept-of [] [] n w h e = cc
 kept-of [] (v ∷ writes) n w h e = absurd h
 kept-of (j ∷ kept) [] n w h e = absurd h
 kept-of (j ∷ kept) (v ∷ writes) zero w h e =
-    let P : Issued → Type 0 = λ x. StandsFor j x in
+    let P : Issued → Type 0 = λ x. StandsForIssued j x in
     let same : v ≡ w = cc in
     (j, refl, subst P same h.0)
 kept-of (j ∷ kept) (v ∷ writes) (suc n) w h e = kept-of kept writes n w h.1 e
 
 -- the issued write with the number of a kept one
 pub kept-at : (kept : List Write) (writes : List Issued) (n : ℕ) (k : Write) (w : Issued) → StandForAll kept writes →
-    slice_get kept n ≡ Some k → slice_get writes n ≡ Some w → StandsFor k w
+    slice_get kept n ≡ Some k → slice_get writes n ≡ Some w → StandsForIssued k w
 kept-at kept writes n k w h ek ew =
     let found = kept-issued kept writes n k h ek in
-    let P : Issued → Type 0 = λ x. StandsFor k x in
+    let P : Issued → Type 0 = λ x. StandsForIssued k x in
     let same : found.0 ≡ w = let f : slice_get writes n ≡ Some found.0 = found.1 in cc in
     subst P same found.2
 
@@ -56,7 +56,7 @@ pub kept-past : (kept : List Write) (writes : List Issued) (n : ℕ) (w : Issued
 kept-past kept writes n w h past e = omega (arith, kept-length kept writes h, slice_get_within writes n w e)
 
 -- one of them changes
-pub kept-set : (kept : List Write) (writes : List Issued) (n : ℕ) (k : Write) (w : Issued) → StandForAll kept writes → StandsFor k w →
+pub kept-set : (kept : List Write) (writes : List Issued) (n : ℕ) (k : Write) (w : Issued) → StandForAll kept writes → StandsForIssued k w →
     StandForAll (slice_set kept n k) (slice_set writes n w)
 kept-set [] [] n k w h e = h
 kept-set [] (v ∷ writes) n k w h e = absurd h
@@ -66,7 +66,7 @@ kept-set (j ∷ kept) (v ∷ writes) (suc n) k w h e = (h.0, kept-set kept write
 
 -- one of them changes, and stands for the same
 pub kept-set_same : (kept : List Write) (writes : List Issued) (n : ℕ) (k : Write) → StandForAll kept writes →
-    ((w : Issued) → slice_get writes n ≡ Some w → StandsFor k w) → StandForAll (slice_set kept n k) writes
+    ((w : Issued) → slice_get writes n ≡ Some w → StandsForIssued k w) → StandForAll (slice_set kept n k) writes
 kept-set_same [] [] n k h e = h
 kept-set_same [] (v ∷ writes) n k h e = absurd h
 kept-set_same (j ∷ kept) [] n k h e = absurd h
@@ -79,14 +79,14 @@ fresh_kept owner kind block bytes guard =
     record { owner = owner; progress = Open (record { kind = kind; block = block; bytes = bytes; guard = guard; landed = no_sectors }) }
 
 pub kept-fresh : (owner : Boot) (kind : WriteKind) (block : ℕ) (given bytes : List ℕ) (guard : ℕ) → given ≡ bytes →
-    StandsFor (fresh_kept owner kind block given guard) (fresh_write owner.0 kind block bytes guard)
+    StandsForIssued (fresh_kept owner kind block given guard) (fresh_write owner.0 kind block bytes guard)
 kept-fresh owner kind block given bytes guard same = record {
   owner = refl;
   progress = record { kind = refl; block = refl; bytes = same; guard = refl; landed = refl; open_yet = refl; not_whole = λ e. cc };
 }
 
 -- one more is issued
-pub kept-push : (kept : List Write) (writes : List Issued) (k : Write) (w : Issued) → StandForAll kept writes → StandsFor k w →
+pub kept-push : (kept : List Write) (writes : List Issued) (k : Write) (w : Issued) → StandForAll kept writes → StandsForIssued k w →
     StandForAll (kept ++ k ∷ []) (writes ++ w ∷ [])
 kept-push [] [] k w h e = (e, tt)
 kept-push [] (v ∷ writes) k w h e = absurd h
@@ -95,7 +95,7 @@ kept-push (j ∷ kept) (v ∷ writes) k w h e = (h.0, kept-push kept writes k w 
 
 -- one of them is cancelled
 pub kept-cancelled : (kept : List Write) (writes : List Issued) (n : ℕ) (k : Write) → StandForAll kept writes →
-    ((w : Issued) → slice_get writes n ≡ Some w → StandsFor k (with_cancel w)) → StandForAll (slice_set kept n k) (cancelled_at writes n)
+    ((w : Issued) → slice_get writes n ≡ Some w → StandsForIssued k (with_cancel w)) → StandForAll (slice_set kept n k) (cancelled_at writes n)
 kept-cancelled [] [] n k h e = h
 kept-cancelled [] (v ∷ writes) n k h e = absurd h
 kept-cancelled (j ∷ kept) [] n k h e = absurd h

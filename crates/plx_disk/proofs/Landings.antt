@@ -3,7 +3,7 @@ use Rattle.std.proofs.Common.{◌≡◌, ◌+◌, ◌≤◌, ℕ, List, Some, su
 use Rattle.std.specs.Prelude.{slice_get, slice_set}
 use Rattle.plx_base.specs.Sectors.{Device, put, with_landed_sector}
 use Rattle.plx_disk.specs.Landing.{MayLandAt}
-use Rattle.plx_disk.specs.Standing.{StandForAll, StandsFor}
+use Rattle.plx_disk.specs.Standing.{StandForAll, StandsForIssued}
 use Rattle.plx_disk.specs.Writes.{Issued, Surface, MayLand, with_sector}
 use Rattle.plx_disk.specs.declared.write.Write.{Write}
 use Rattle.plx_disk.proofs.Devices.{put-along}
@@ -19,9 +19,9 @@ pub record Lands (s : Surface) (new : Device) (kept : List Write) (number sector
 -- from what the one write says
 pub lands : (s : Surface) (old new : Device) (kept : List Write) (number sector time : ℕ) (k changed : Write) →
     StandForAll kept s.writes → slice_get kept number ≡ Some k → time ≡ s.time → ((b : ℕ) → old b ≡ s.device b) →
-    ((w : Issued) → StandsFor k w → MayLandAt w sector time) →
-    ((w : Issued) → StandsFor k w → StandsFor changed (with_sector w sector)) →
-    ((w : Issued) → StandsFor k w → (b : ℕ) → new b ≡ put old w.block (with_landed_sector sector w.bytes (old w.block)) b) →
+    ((w : Issued) → StandsForIssued k w → MayLandAt w sector time) →
+    ((w : Issued) → StandsForIssued k w → StandsForIssued changed (with_sector w sector)) →
+    ((w : Issued) → StandsForIssued k w → (b : ℕ) → new b ≡ put old w.block (with_landed_sector sector w.bytes (old w.block)) b) →
     Lands s new (slice_set kept number changed) number sector
 lands s old new kept number sector time k changed stand at now same allowed becomes bytes =
     let i = kept-issued kept s.writes number k stand at in
@@ -38,7 +38,7 @@ lands s old new kept number sector time k changed stand at now same allowed beco
 -- the write with this number may not land
 pub stays : (s : Surface) (kept : List Write) (number sector time : ℕ) (k : Write) →
     StandForAll kept s.writes → slice_get kept number ≡ Some k → time ≡ s.time →
-    ((w : Issued) → StandsFor k w → MayLandAt w sector time → ⊥) → (w : Issued) → MayLand s number sector w → ⊥
+    ((w : Issued) → StandsForIssued k w → MayLandAt w sector time → ⊥) → (w : Issued) → MayLand s number sector w → ⊥
 stays s kept number sector time k stand at now refused w may =
     let P : ℕ → Type 0 = λ x. x ≤ w.guard + 50 in
     refused w (kept-at kept s.writes number k w stand at may.found)

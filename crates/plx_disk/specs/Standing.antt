@@ -25,7 +25,7 @@ Proceeds Whole write = write.landed ≡ all_sectors
 Proceeds Closed write = (write.cancelled ≡ true) × (write.landed ≢ all_sectors)
 
 -- the code's write stands for an issued one
-pub record StandsFor (kept : Write) (write : Issued) : Type 0 where
+pub record StandsForIssued (kept : Write) (write : Issued) : Type 0 where
   pub owner : kept.owner.0 ≡ write.owner
   pub progress : Proceeds kept.progress write
 
@@ -34,7 +34,7 @@ abbrev pub StandForAll : List Write → List Issued → Type 0
 StandForAll [] [] = Unit {0}
 StandForAll [] (write ∷ writes) = ⊥
 StandForAll (one ∷ kept) [] = ⊥
-StandForAll (one ∷ kept) (write ∷ writes) = StandsFor one write × StandForAll kept writes
+StandForAll (one ∷ kept) (write ∷ writes) = StandsForIssued one write × StandForAll kept writes
 
 -- equal device, issued writes and time
 pub record Stands (disk : Disk) (s : Surface) : Type 0 where

@@ -4,7 +4,7 @@ ghost use Rattle.plx_base.specs.Sectors.{with_landed_sector, put};
 ghost use Rattle.plx_disk.specs.Landing.{MayLandAt};
 ghost use Rattle.plx_disk.specs.Missing.{IsLeastMissing};
 ghost use Rattle.plx_disk.specs.Stored.{Blocks, device_of, has_place, is_stored};
-ghost use Rattle.plx_disk.specs.Standing.{StandsFor};
+ghost use Rattle.plx_disk.specs.Standing.{StandsForIssued};
 ghost use Rattle.plx_disk.specs.Writes.{Issued, all_sectors, with_sector, with_cancel};
 
 use crate::blocks::land_on;
@@ -79,15 +79,15 @@ impl Write {
     /// One sector lands on its block at that time, in milliseconds, if it may.
     pub fn land(&mut self, stored: &mut BTreeMap<u64, Block>, sector: u8, time: u64) -> bool
         requires placed { has_place stored.old self.old.progress ≡ true }
-        ensures allowed { (w : Issued) → StandsFor self.old w → IsTrue result
+        ensures allowed { (w : Issued) → StandsForIssued self.old w → IsTrue result
             → MayLandAt w sector time }
-        ensures landed { (w : Issued) → StandsFor self.old w → IsTrue result
-            → StandsFor self.new (with_sector w sector) }
-        ensures bytes { (w : Issued) → StandsFor self.old w → IsTrue result → (b : ℕ)
+        ensures landed { (w : Issued) → StandsForIssued self.old w → IsTrue result
+            → StandsForIssued self.new (with_sector w sector) }
+        ensures bytes { (w : Issued) → StandsForIssued self.old w → IsTrue result → (b : ℕ)
             → device_of stored.new b ≡ put (device_of stored.old) w.block
             (with_landed_sector sector w.bytes (device_of stored.old w.block)) b }
 
-        ensures refused { (w : Issued) → StandsFor self.old w → result ≡ false
+        ensures refused { (w : Issued) → StandsForIssued self.old w → result ≡ false
             → MayLandAt w sector time → ⊥ }
         ensures same { result ≡ false → (self.new ≡ self.old) × (stored.new ≡ stored.old) }
 
@@ -114,8 +114,8 @@ impl Write {
 
     /// No further sector of it lands.
     pub fn cancel(&mut self)
-        ensures cancelled { (w : Issued) → StandsFor self.old w
-            → StandsFor self.new (with_cancel w) }
+        ensures cancelled { (w : Issued) → StandsForIssued self.old w
+            → StandsForIssued self.new (with_cancel w) }
         ensures place { (blocks : Blocks) → has_place blocks self.old.progress ≡ true
             → has_place blocks self.new.progress ≡ true }
     {
@@ -126,9 +126,10 @@ impl Write {
 
     /// The least sector that hasn't landed, of a write that may still land.
     pub fn missing(&self) -> Option<u8>
-        ensures none { (w : Issued) → StandsFor self.now w → result ≡ None → w.cancelled ≡ false
+        ensures none { (w : Issued) → StandsForIssued self.now w → result ≡ None
+            → w.cancelled ≡ false
             → w.landed ≡ all_sectors }
-        ensures least { (w : Issued) → StandsFor self.now w → (k : ℕ) → result ≡ Some k
+        ensures least { (w : Issued) → StandsForIssued self.now w → (k : ℕ) → result ≡ Some k
             → (w.cancelled ≡ false) × IsLeastMissing w.landed k }
         ensures within { IfSome result (λ sector. sector < 8) }
     {
@@ -141,7 +142,8 @@ impl Write {
 
     /// Whether all its sectors have landed.
     pub fn has_landed(&self) -> bool
-        ensures { (w : Issued) → StandsFor self.now w → (IsTrue result ↔ (w.landed ≡ all_sectors)) }
+        ensures { (w : Issued) → StandsForIssued self.now w
+            → (IsTrue result ↔ (w.landed ≡ all_sectors)) }
     {
         match &self.progress {
             Progress::Open(_) => false,

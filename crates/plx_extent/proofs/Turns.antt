@@ -1,22 +1,15 @@
 -- Changes of maps as named bits that turn, and landings of such changes.
-use Rattle.std.proofs.Common.{◌≡◌, ◌≢◌, ◌⊎◌, inl, inr, ℕ, ◌≤◌, ◌<◌, List, length, get_or, refl, ap, sym, ◌∙◌, arith, Bool, true, false, not}
+use Rattle.std.proofs.Common.{◌≡◌, ◌≢◌, ◌⊎◌, inl, inr, ℕ, ◌≤◌, ◌<◌, List, length, get_or, refl, ap, sym, ◌∙◌, Bool, true, false, not}
 use Rattle.std.specs.Prelude.{◌==◌, ◌&&◌, ◌||◌, slice_set}
 use Rattle.std.proofs.lemmas.Bool.{cases_Bool, cases_eq, and_cases, or_cases}
-use Rattle.std.proofs.lemmas.Bool.Decides.{nat_tests}
 use Rattle.std.proofs.lemmas.List.{get_or-set_same, length-set}
 use Rattle.plx_extent.proofs.Changes.{get_or-kept_map, length-kept_bits, map_bytes-only}
 use Rattle.plx_extent.proofs.Maps.{map_bytes-bit}
 use Rattle.plx_extent.specs.Landing.{LandsBits, TurnsOnly, bit_sector}
 use Rattle.plx_extent.specs.Maps.{bit_of, is_kept, kept_map, map_bytes}
-use Rattle.plx_base.proofs.Tests.{and-left, and-right}
+use Rattle.plx_base.proofs.Tests.{and-left, and-right, eqb-is, eqb-isn't}
 
 -- tests
-
-eq-true : (m n : ℕ) → (m == n) ≡ true → m ≡ n
-eq-true m n h = grind (arith, nat_tests)
-
-eq-false : (m n : ℕ) → (m == n) ≡ false → m ≢ n
-eq-false m n h = grind (arith, nat_tests)
 
 or-false-left : (a b : Bool) → (a || b) ≡ false → a ≡ false
 or-false-left true b h = h
@@ -32,14 +25,14 @@ or-false-right false b h = h
 pub landed-turns : (names : ℕ → Bool) (to : Bool) (sector : ℕ) (new old now : List ℕ) → TurnsOnly names to new old → LandsBits sector new old now →
     TurnsOnly (λ bit. names bit && (bit_sector bit == sector)) to now old
 landed-turns names to sector new old now h lands = record {
-  named = λ bit is. lands.inside bit (eq-true (bit_sector bit) sector (and-right (names bit) (bit_sector bit == sector) is)) ∙ h.named bit (and-left (names bit) (bit_sector bit == sector) is);
+  named = λ bit is. lands.inside bit (eqb-is (bit_sector bit) sector (and-right (names bit) (bit_sector bit == sector) is)) ∙ h.named bit (and-left (names bit) (bit_sector bit == sector) is);
   others = λ bit unnamed. go bit (and_cases (names bit) (bit_sector bit == sector) unnamed) (cases_eq (bit_sector bit) sector);
 }
   where
     go : (bit : ℕ) → (names bit ≡ false) ⊎ ((bit_sector bit == sector) ≡ false) → (bit_sector bit ≡ sector) ⊎ (bit_sector bit ≢ sector) → bit_of now bit ≡ bit_of old bit
     go bit why (inr apart) = lands.outside bit apart
     go bit (inl unnamed) (inl here) = lands.inside bit here ∙ h.others bit unnamed
-    go bit (inr apart) (inl here) = absurd (eq-false (bit_sector bit) sector apart here)
+    go bit (inr apart) (inl here) = absurd (eqb-isn't (bit_sector bit) sector apart here)
 
 -- and what is left of the change turns the same bits
 pub rest-turns : (names : ℕ → Bool) (to : Bool) (sector : ℕ) (new old now : List ℕ) → TurnsOnly names to new old → LandsBits sector new old now → TurnsOnly names to new now
@@ -70,9 +63,9 @@ turns-more names more to newest new old h k = record {
 -- a bit that is set or cleared
 pub turns-set : (bits : List Bool) (k : ℕ) (to : Bool) → length bits ≤ 32768 → k < length bits → TurnsOnly (λ bit. bit == k) to (map_bytes (slice_set bits k to)) (map_bytes bits)
 turns-set bits k to most below = record {
-  named = λ bit is. ap (bit_of (map_bytes (slice_set bits k to))) (eq-true bit k is)
+  named = λ bit is. ap (bit_of (map_bytes (slice_set bits k to))) (eqb-is bit k is)
       ∙ (map_bytes-bit (slice_set bits k to) k (rw (length-set bits k to) most) ∙ get_or-set_same bits k to false below);
-  others = λ bit unnamed. map_bytes-only bits k to most bit (eq-false bit k unnamed);
+  others = λ bit unnamed. map_bytes-only bits k to most bit (eqb-isn't bit k unnamed);
 }
 
 -- the bits that are cleared where only marked blocks stay taken

@@ -3,13 +3,13 @@ use Rattle.std.proofs.Common.{◌≡◌, ◌≢◌, ◌<◌, ◌+◌, ◌*◌, �
 use Rattle.std.proofs.lemmas.Bool.Decides.{eqb_tells}
 use Rattle.plx_base.proofs.Devices.{put-same, put-other, put-all}
 use Rattle.plx_base.specs.Sectors.{Device, put}
-use Rattle.plx_disk.proofs.Kept.{kept-length}
 use Rattle.plx_disk.specs.Standing.{Stands, StandForAll, Turns, device_size, issued_count}
 use Rattle.plx_disk.specs.Filled.{with_block}
 use Rattle.plx_disk.specs.Stored.{device_of}
 use Rattle.plx_disk.specs.Writes.{Surface}
 use Rattle.plx_disk.specs.declared.disk.Disk.{Disk}
 use Rattle.plx_disk.specs.declared.write.Write.{Write}
+use Rattle.plx_disk.proofs.Told.{told-unissued}
 use Rattle.plx_format.specs.Formatting.{put_blocks, with_blocks}
 
 -- a block that was filled
@@ -44,10 +44,6 @@ put-blocks-whole device first stride (suc count) bytes whole all b =
     put-all (λ n x. length x ≡ 4096) (put_blocks device first stride count bytes) (first + count * stride) bytes whole
     (λ n other. put-blocks-whole device first stride count bytes whole all n) b
 
--- where no write is known, none was issued
-pub none-issued : (disk : Disk) (s : Surface) → Stands disk s → s.writes ≡ [] → issued_count disk ≡ 0
-none-issued disk s stands none = kept-length disk.writes.items s.writes stands.writes ∙ ap length none
-
 -- what is stored, with no issued write
 abbrev stored_surface : Disk → Surface
 stored_surface disk = record { blocks = disk.blocks; device = device_of disk.stored; writes = []; time = disk.time }
@@ -71,7 +67,7 @@ module _ (old new : Disk) (block : ℕ) (bytes : List ℕ) (none : issued_count 
   after = turns (stored_surface old) (stands-stored old none)
 
   pub unissued-set : issued_count new ≡ 0
-  unissued-set = none-issued new (with_block (stored_surface old) block bytes) after refl
+  unissued-set = told-unissued new (with_block (stored_surface old) block bytes) after refl
 
   pub size-set : device_size new ≡ device_size old
   size-set = after.blocks

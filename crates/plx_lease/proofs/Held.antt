@@ -106,12 +106,12 @@ write-after last bytes other answer.Fault hold r e = refl
 -- what is held of a lease that is renewed
 pub renewal-holds : (r : LeaseRenewal) (end : Option RenewalEnd) (last : Option ℕ) (a : Answer) (holds : ℕ → Hold) →
     holds (lease_at r.number) ≡ renewal_hold r →
-    LeavesRenewal (lease_after None (renewal_ask r) r.out a (renewal_hold r)) r end →
+    LeavesRenewal (lease_after None (renewal_ask r) (bytes_out (renewal_rest r)) a (renewal_hold r)) r end →
     LeavesRenewal (after_answer last (renewal_ask r) (bytes_out (renewal_rest r)) a holds (lease_at r.number)) r end
 renewal-holds r end last a holds is leaves =
     subst (λ (hold : Hold). LeavesRenewal hold r end)
     (sym (own-after (lease_at r.number) last (renewal_ask r) (bytes_out (renewal_rest r)) a holds (refl, let high = r.high in let after = r.after in omega (arith, high, after))
-    ∙ (ap (λ (hold : Hold). lease_after last (renewal_ask r) (bytes_out (renewal_rest r)) a hold) is ∙ write-after last (bytes_out (renewal_rest r)) r.out a (renewal_hold r) r (sym r.spelled)))) leaves
+    ∙ (ap (λ (hold : Hold). lease_after last (renewal_ask r) (bytes_out (renewal_rest r)) a hold) is ∙ write-after last (bytes_out (renewal_rest r)) (bytes_out (renewal_rest r)) a (renewal_hold r) r refl))) leaves
 
 -- what is held of a lease that is released
 release-after : (last : Option ℕ) (bytes other : List ℕ) (a : Answer) (hold : Hold) (r : LeaseRelease) →

@@ -12,6 +12,7 @@ use Rattle.plx_geom.specs.Geometry.{lease_at}
 use Rattle.plx_rules.specs.Claims.{ClaimEnd, ClaimHeld, ClaimBusy, ClaimLost, ClaimReadFault, ClaimWriteFault, ClaimDamaged, end_of_term}
 use Rattle.plx_rules.specs.Holds.{Hold, Nothing, Seen, Wrote, Waited, Held, hold_after_renewal, hold_after_read, hold_after_reading, hold_after_claim}
 use Rattle.plx_rules.specs.Times.{wait, window}
+use Rattle.law_run.specs.Holdings.{IsNotHeld}
 use Rattle.plx_lease.specs.ClaimEnds.{claim_end}
 use Rattle.plx_lease.specs.declared.claim.ClaimAt.{ClaimAt}
 use Rattle.plx_lease.specs.declared.claim.ClaimAt.TheVariants as at
@@ -40,14 +41,6 @@ other_after (ask.Write kind block guard) answer.Fault hold = Nothing
 other_after (ask.Write kind block guard) (answer.Missed reading) hold = Nothing
 other_after ask (answer.Reading reading) hold = hold_after_reading reading hold
 other_after ask other hold = hold
-
--- the lease isn't held
-abbrev pub IsUnheld : Hold → Type 0
-IsUnheld Nothing = Unit {0}
-IsUnheld (Seen sample) = Unit {0}
-IsUnheld (Wrote claim until) = Unit {0}
-IsUnheld (Waited claim until) = Unit {0}
-IsUnheld (Held claim until) = ⊥
 
 -- how far a claim has come with its lease, by where it stands
 abbrev pub claim_hold_at : ClaimAt → Claim → Hold
@@ -92,10 +85,10 @@ claim_ask c = claim_ask_at c.at c.number c.claim
 abbrev pub HoldsAtEnd : ClaimEnd → Hold → Type 0
 HoldsAtEnd (ClaimHeld claim until) hold = hold ≡ Held claim until
 HoldsAtEnd (ClaimBusy seen) hold = hold ≡ Nothing
-HoldsAtEnd (ClaimLost due reading) hold = IsUnheld hold
-HoldsAtEnd ClaimReadFault hold = IsUnheld hold
-HoldsAtEnd ClaimWriteFault hold = IsUnheld hold
-HoldsAtEnd ClaimDamaged hold = IsUnheld hold
+HoldsAtEnd (ClaimLost due reading) hold = IsNotHeld hold
+HoldsAtEnd ClaimReadFault hold = IsNotHeld hold
+HoldsAtEnd ClaimWriteFault hold = IsNotHeld hold
+HoldsAtEnd ClaimDamaged hold = IsNotHeld hold
 
 -- the last answer was the sample, where the lease is read by it
 abbrev pub IsSampledAt : ClaimAt → Claim → Option ℕ → Type 0

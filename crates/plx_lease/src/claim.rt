@@ -10,9 +10,10 @@ ghost use Rattle.plx_lease.specs.ClaimEnds.{claim_end as claim_end_of};
 
 use crate::claim_end::ClaimEnd;
 use crate::in_use::{InUse, first_reached};
-use plx_base::{BLOCK_LEN, Block, BlockNo, Boot, Claim, LeaseRecord, WriteKind};
+use crate::spell::spell_lease;
+use plx_base::{Block, BlockNo, Boot, Claim, LeaseRecord, WriteKind};
 use plx_disk::{Answer, Ask};
-use plx_gate::{read_lease, write_lease};
+use plx_gate::read_lease;
 use plx_token::{Claimed, LeaseKind, Unconfirmed};
 
 /// A claim's write may land until so long after its sample, in milliseconds.
@@ -55,7 +56,7 @@ pub struct LeaseClaim<K> {
     claim: Claim,
     last: u64,
     others: Option<InUse>,
-    out: [u8; BLOCK_LEN],
+    out: Block,
     ghost boot: { claim.boot.0 < 2 ^ 128 },
     ghost count: { claim.number < 2 ^ 40 },
     ghost sample: { claim.sample < 2 ^ 48 },
@@ -79,14 +80,15 @@ impl<K: LeaseKind> LeaseClaim<K> {
     ghost use Rattle.plx_lease.specs.Claiming.{KeepsLease, claim_rest, claim_read_part, wait_part};
     ghost use Rattle.plx_lease.specs.Holding.{IsSampled, LeavesClaim, claim_ask, claim_hold, claim_sample, lease_after};
 
-    /// The claim of a lease in this block by a boot that began so many claims before; another lease
-    /// may be in use beside it.
+    /// The claim of a lease in this block by a boot that began so many claims before, with a block
+    /// for what it writes; another lease may be in use beside it.
     pub fn begin(
         lease: K,
         block: BlockNo,
         boot: Boot,
         number: u64,
         others: Option<InUse>,
+        out: Block,
     ) -> LeaseClaim<K>
         requires low { 1 ≤ block.0 }
         requires high { block.0 ≤ 2 ^ 32 }
@@ -103,8 +105,8 @@ impl<K: LeaseKind> LeaseClaim<K> {
             number,
             sample: 0,
         };
-        let mut out = [0; BLOCK_LEN];
-        write_lease(&own_record(claim), &mut out);
+        let mut out = out;
+        spell_lease(&own_record(claim), &mut out);
         LeaseClaim {
             at: ClaimAt::Sample,
             lease,
@@ -114,6 +116,39 @@ impl<K: LeaseKind> LeaseClaim<K> {
             others,
             out,
         }
+    }
+
+    /// In place of this claim another one begins.
+    pub fn begin_next(
+        &mut self,
+        lease: K,
+        block: BlockNo,
+        boot: Boot,
+        number: u64,
+        others: Option<InUse>,
+    )
+        requires low { 1 ≤ block.0 }
+        requires high { block.0 ≤ 2 ^ 32 }
+        requires number { number < 2 ^ 40 }
+        ensures rest { (place : ℕ) → block.0 ≡ lease_at place →
+            claim_rest self.new ≡ claim_part boot.0 (uses_of others) place number }
+        ensures hold { claim_hold self.new ≡ Nothing }
+        ensures sampled { (last : Option ℕ) → IsSampled self.new last }
+        ensures lease { self.new.lease ≡ lease }
+        ensures number { (place : ℕ) → block.0 ≡ lease_at place → self.new.number ≡ place }
+    {
+        let claim = Claim {
+            boot,
+            number,
+            sample: 0,
+        };
+        spell_lease(&own_record(claim), &mut self.out);
+        self.at = ClaimAt::Sample;
+        self.lease = lease;
+        self.number = (block.0 - 1) as u32;
+        self.claim = claim;
+        self.last = 0;
+        self.others = others;
     }
 
     /// The ask that stands.
@@ -143,7 +178,7 @@ impl<K: LeaseKind> LeaseClaim<K> {
         ensures whole { AreWhole (standing (claim_rest self.now)) result.now }
     {
         match self.at {
-            ClaimAt::Write => &self.out,
+            ClaimAt::Write => self.out.as_slice(),
             ClaimAt::Sample
             | ClaimAt::Read
             | ClaimAt::Damaged
@@ -204,7 +239,7 @@ impl<K: LeaseKind> LeaseClaim<K> {
         }
         self.claim.sample = reading;
         self.last = reading;
-        write_lease(&own_record(self.claim), &mut self.out);
+        spell_lease(&own_record(self.claim), &mut self.out);
         self.at = ClaimAt::Read;
         None
     }

@@ -3,7 +3,7 @@ ghost use Rattle.std.specs.Prelude.{◌≡◌, ◌≤◌, ◌<◌, ◌^◌, ℕ,
 
 use crate::claim::LeaseClaim;
 use crate::claim_end::ClaimEnd;
-use plx_base::{BlockNo, Boot};
+use plx_base::{Block, BlockNo, Boot};
 use plx_disk::{Answer, Ask, Turn};
 use plx_token::LeaseKind;
 
@@ -26,8 +26,9 @@ impl<K: LeaseKind> Claiming<K> {
     ghost use Rattle.plx_lease.specs.Claiming.{KeepsLease};
     ghost use Rattle.plx_lease.specs.Shells.{claiming_rest};
 
-    /// The claim of a lease in this block by a boot that began so many claims before.
-    pub fn begin(lease: K, block: BlockNo, boot: Boot, number: u64) -> Claiming<K>
+    /// The claim of a lease in this block by a boot that began so many claims before, with a block for
+    /// what it writes.
+    pub fn begin(lease: K, block: BlockNo, boot: Boot, number: u64, out: Block) -> Claiming<K>
         requires low { 1 ≤ block.0 }
         requires high { block.0 ≤ 2 ^ 32 }
         requires number { number < 2 ^ 40 }
@@ -38,7 +39,7 @@ impl<K: LeaseKind> Claiming<K> {
         ensures lease { result.work.lease ≡ lease }
     {
         Claiming {
-            work: LeaseClaim::begin(lease, block, boot, number, None),
+            work: LeaseClaim::begin(lease, block, boot, number, None, out),
             end: None,
         }
     }
@@ -88,7 +89,8 @@ impl<K: LeaseKind> Claiming<K> {
         ensures rules { IsClaimEnd (claiming_rest self) (claim_end result) }
         ensures kept { self.end ≡ Some result }
     {
-        match self.end {
+        let Claiming { work: _work, end } = self;
+        match end {
             Some(end) => end,
             None => unreachable!(),
         }

@@ -9,6 +9,7 @@ mod release;
 mod releasing;
 mod renewal;
 mod renewing;
+mod spell;
 mod tokens;
 
 pub use claim::LeaseClaim;
@@ -19,4 +20,5 @@ pub use release::{LeaseRelease, ReleaseEnd};
 pub use releasing::Releasing;
 pub use renewal::{LeaseRenewal, RenewalEnd, later};
 pub use renewing::{Renewing, RenewingEnd};
+pub use spell::spell_lease;
 pub use tokens::Tokens;

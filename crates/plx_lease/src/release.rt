@@ -4,9 +4,9 @@ ghost use Rattle.plx_base.specs.declared.lease.LeaseRecord.TheVariants.{Free};
 ghost use Rattle.plx_gate.specs.Leases.{lease_bytes};
 
 use crate::in_use::InUse;
-use plx_base::{BLOCK_LEN, BlockNo, LeaseRecord, WriteKind};
+use crate::spell::spell_lease;
+use plx_base::{Block, BlockNo, LeaseRecord, WriteKind};
 use plx_disk::{Answer, Ask};
-use plx_gate::write_lease;
 use plx_token::{Held, LeaseKind};
 
 /// How a release ends.
@@ -25,7 +25,7 @@ pub enum ReleaseEnd {
 pub struct LeaseRelease {
     number: u32,
     until: u64,
-    out: [u8; BLOCK_LEN],
+    out: Block,
     ghost high: { until < 2 ^ 49 },
     ghost spelled: { out ≡ lease_bytes Free },
 }
@@ -41,8 +41,9 @@ impl LeaseRelease {
     ghost use Rattle.plx_lease.specs.Releasing.{release_ask, release_end, release_rest};
     ghost use Rattle.plx_lease.specs.Holding.{lease_after};
 
-    /// The release of a lease that is held, in this block: from here on it isn't.
-    pub fn begin<K: LeaseKind>(held: Held<K>, block: BlockNo) -> LeaseRelease
+    /// The release of a lease that is held, in this block, with a block for what it writes: from here
+    /// on it isn't held.
+    pub fn begin<K: LeaseKind>(held: Held<K>, block: BlockNo, out: Block) -> LeaseRelease
         requires low { 1 ≤ block.0 }
         requires high { block.0 ≤ 2 ^ 32 }
         ensures number { (place : ℕ) → block.0 ≡ lease_at place → result.number ≡ place }
@@ -51,8 +52,8 @@ impl LeaseRelease {
     {
         let until = held.until();
         held.released();
-        let mut out = [0; BLOCK_LEN];
-        write_lease(&LeaseRecord::Free, &mut out);
+        let mut out = out;
+        spell_lease(&LeaseRecord::Free, &mut out);
         LeaseRelease {
             number: (block.0 - 1) as u32,
             until,
@@ -77,7 +78,7 @@ impl LeaseRelease {
         ensures bytes { result.now ≡ bytes_out (release_rest self.now) }
         ensures whole { AreWhole (standing (release_rest self.now)) result.now }
     {
-        &self.out
+        self.out.as_slice()
     }
 
     /// The ask is answered.

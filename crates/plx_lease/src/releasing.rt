@@ -2,7 +2,7 @@
 ghost use Rattle.std.specs.Prelude.{◌≡◌, ◌≤◌, ◌^◌, ℕ, Some, None, []};
 
 use crate::release::{LeaseRelease, ReleaseEnd};
-use plx_base::BlockNo;
+use plx_base::{Block, BlockNo};
 use plx_disk::{Answer, Ask, Turn};
 use plx_token::{Held, LeaseKind};
 use std::marker::PhantomData;
@@ -25,8 +25,9 @@ impl<K: LeaseKind> Releasing<K> {
     ghost use Rattle.plx_lease.specs.Releasing.{release_end};
     ghost use Rattle.plx_lease.specs.Shells.{releasing_rest};
 
-    /// The release of a lease that is held, in this block: from here on it isn't.
-    pub fn begin(held: Held<K>, block: BlockNo) -> Releasing<K>
+    /// The release of a lease that is held, in this block, with a block for what it writes: from here
+    /// on it isn't held.
+    pub fn begin(held: Held<K>, block: BlockNo, out: Block) -> Releasing<K>
         requires low { 1 ≤ block.0 }
         requires high { block.0 ≤ 2 ^ 32 }
         ensures rest { (place : ℕ) → block.0 ≡ lease_at place
@@ -35,7 +36,7 @@ impl<K: LeaseKind> Releasing<K> {
             → HasCome (release_part place held.until) [] (releasing_rest result) }
     {
         Releasing {
-            work: LeaseRelease::begin(held, block),
+            work: LeaseRelease::begin(held, block, out),
             end: None,
             kind: PhantomData,
         }

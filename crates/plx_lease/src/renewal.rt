@@ -5,9 +5,9 @@ ghost use Rattle.plx_gate.specs.Leases.{IsClaimed, lease_bytes};
 ghost use Rattle.plx_rules.specs.Commands.{later_of as later_one};
 
 use crate::in_use::InUse;
-use plx_base::{BLOCK_LEN, BlockNo, Claim, LeaseRecord, WriteKind};
+use crate::spell::spell_lease;
+use plx_base::{Block, BlockNo, Claim, LeaseRecord, WriteKind};
 use plx_disk::{Answer, Ask};
-use plx_gate::write_lease;
 use plx_token::{Held, LeaseKind};
 
 /// How long a lease is renewed from the reading on, in milliseconds.
@@ -25,15 +25,13 @@ pub enum RenewalEnd {
 }
 
 /// The renewal of a held lease, at its write.
-#[derive(Drop)]
+#[derive(Clone, Copy)]
 pub struct LeaseRenewal {
     number: u32,
     claim: Claim,
     until: u64,
     later: u64,
-    out: [u8; BLOCK_LEN],
     ghost limits: { IsClaimed claim later },
-    ghost spelled: { out ≡ lease_bytes (Claimed claim later) },
     ghost after: { until ≤ later },
     ghost high: { later < 2 ^ 49 },
 }
@@ -65,21 +63,11 @@ impl LeaseRenewal {
     {
         let claim = held.claim();
         let until = held.until();
-        let later = later(until, reading + TERM);
-        let mut out = [0; BLOCK_LEN];
-        write_lease(
-            &LeaseRecord::Claimed {
-                claim,
-                until: later,
-            },
-            &mut out,
-        );
         LeaseRenewal {
             number: (block.0 - 1) as u32,
             claim,
             until,
-            later,
-            out,
+            later: later(until, reading + TERM),
         }
     }
 
@@ -116,12 +104,18 @@ impl LeaseRenewal {
         }
     }
 
-    /// The bytes of the write that is asked for.
-    pub fn out(&self) -> &[u8]
-        ensures bytes { result.now ≡ bytes_out (renewal_rest self.now) }
-        ensures whole { AreWhole (standing (renewal_rest self.now)) result.now }
+    /// Makes a block the bytes of the write that is asked for.
+    pub fn spell(&self, block: &mut Block)
+        ensures bytes { block.new ≡ bytes_out (renewal_rest self.now) }
+        ensures whole { AreWhole (standing (renewal_rest self.now)) block.new }
     {
-        &self.out
+        spell_lease(
+            &LeaseRecord::Claimed {
+                claim: self.claim,
+                until: self.later,
+            },
+            block,
+        );
     }
 
     /// The ask is answered.
@@ -129,8 +123,8 @@ impl LeaseRenewal {
         ensures rest { rest_after renewal_end (renewal_rest self.new) result
             ≡ answered (renewal_rest self.old) answer.now }
         ensures hold { Fits (renewal_ask self.old) answer.now →
-            LeavesRenewal (lease_after None (renewal_ask self.old) self.old.out answer.now
-            (renewal_hold self.old)) self.new result }
+            LeavesRenewal (lease_after None (renewal_ask self.old)
+            (bytes_out (renewal_rest self.old)) answer.now (renewal_hold self.old)) self.new result }
         ensures kept { self.new ≡ self.old }
     {
         match answer {

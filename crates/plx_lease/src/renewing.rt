@@ -1,9 +1,11 @@
 //! A renewal as a machine of five calls.
 ghost use Rattle.std.specs.Prelude.{◌≡◌, ◌≤◌, ◌<◌, ◌+◌, ◌^◌, ℕ, Some, None, []};
+ghost use Rattle.plx_rules.specs.Part.{bytes_out};
+ghost use Rattle.plx_lease.specs.Renewing.{renewal_rest};
 
 use crate::in_use::InUse;
 use crate::renewal::{LeaseRenewal, RenewalEnd};
-use plx_base::BlockNo;
+use plx_base::{Block, BlockNo};
 use plx_disk::{Answer, Ask, Turn};
 use plx_token::{Held, LeaseKind};
 
@@ -24,6 +26,8 @@ pub struct Renewing<K> {
     work: LeaseRenewal,
     held: Held<K>,
     end: Option<RenewalEnd>,
+    out: Block,
+    ghost spelled: { out ≡ bytes_out (renewal_rest work) },
     ghost after: { held.until ≤ work.later },
     ghost high: { work.later < 2 ^ 49 },
 }
@@ -31,14 +35,15 @@ pub struct Renewing<K> {
 impl<K: LeaseKind> Renewing<K> {
     ghost use Rattle.plx_disk.specs.declared.turn.Turn.{Turn};
     ghost use Rattle.plx_geom.specs.Geometry.{lease_at};
-    ghost use Rattle.plx_rules.specs.Part.{Ends, answered, standing, bytes_out};
+    ghost use Rattle.plx_rules.specs.Part.{Ends, answered, standing};
     ghost use Rattle.plx_rules.specs.Machines.{turn_of};
     ghost use Rattle.law_run.specs.Machines.{HasCome, MovesOn};
     ghost use Rattle.law_run.specs.Renewals.{IsRenewalAsk, IsRenewalEnd, renewal_part, renewal_until};
     ghost use Rattle.plx_lease.specs.Shells.{IsRenewed, renewing_end, renewing_rest};
 
-    /// The renewal of a lease that is held, in this block, by the command's first reading.
-    pub fn begin(held: Held<K>, block: BlockNo, reading: u64) -> Renewing<K>
+    /// The renewal of a lease that is held, in this block, by the command's first reading, with a
+    /// block for what it writes.
+    pub fn begin(held: Held<K>, block: BlockNo, reading: u64, out: Block) -> Renewing<K>
         requires low { 1 ≤ block.0 }
         requires high { block.0 ≤ 2 ^ 32 }
         requires reading { reading < 2 ^ 48 }
@@ -51,10 +56,13 @@ impl<K: LeaseKind> Renewing<K> {
         ensures later { result.work.later ≡ renewal_until held.until reading }
     {
         let work = LeaseRenewal::begin(&held, block, reading);
+        let mut out = out;
+        work.spell(&mut out);
         Renewing {
             work,
             held,
             end: None,
+            out,
         }
     }
 
@@ -80,7 +88,7 @@ impl<K: LeaseKind> Renewing<K> {
         requires { turn_of (renewing_rest self.now) ≡ Turn.Again }
         ensures { result.now ≡ bytes_out (renewing_rest self.now) }
     {
-        self.work.out()
+        self.out.as_slice()
     }
 
     /// The ask is answered.

@@ -72,21 +72,21 @@ pub below_three : (m : Model) (a : ApplianceNo) (reply : Reply) → a.0 < m.appl
 below_three m a reply at_hand = below_next m (entry.Reply a reply) 2 (below_next m (entry.Reply a reply) 1 (below_one m (entry.Reply a reply)) at_hand) tt
 
 -- the appliance is in this command
-pub record IsIn (m : Model) (a : ApplianceNo) (command : Command) : Type 0 where
+pub record IsInCommand (m : Model) (a : ApplianceNo) (command : Command) : Type 0 where
   pub known : a.0 < m.appliances
   pub runs : m.running a.0 ≡ Some command
 
-pub below_four : (m : Model) (a : ApplianceNo) (command : Command) (reply : Reply) → IsIn m a command → Below m (entry.Reply a reply) 4
+pub below_four : (m : Model) (a : ApplianceNo) (command : Command) (reply : Reply) → IsInCommand m a command → Below m (entry.Reply a reply) 4
 below_four m a command reply is = below_next m (entry.Reply a reply) 3 (below_three m a reply is.known) (is_running _ command is.runs)
 
-pub below_five : (m : Model) (a : ApplianceNo) (command : Command) (reply : Reply) → IsIn m a command → IsListed m a.0 command reply → Below m (entry.Reply a reply) 5
+pub below_five : (m : Model) (a : ApplianceNo) (command : Command) (reply : Reply) → IsInCommand m a command → IsListed m a.0 command reply → Below m (entry.Reply a reply) 5
 below_five m a command reply is h = below_next m (entry.Reply a reply) 4 (below_four m a command reply is) (in_command IsListed m a command reply is.runs h)
 
-pub below_six : (m : Model) (a : ApplianceNo) (command : Command) (reply : Reply) → IsIn m a command → IsListed m a.0 command reply → IsByOwner m a.0 command reply → Below m (entry.Reply a reply) 6
+pub below_six : (m : Model) (a : ApplianceNo) (command : Command) (reply : Reply) → IsInCommand m a command → IsListed m a.0 command reply → IsByOwner m a.0 command reply → Below m (entry.Reply a reply) 6
 below_six m a command reply is row h = below_next m (entry.Reply a reply) 5 (below_five m a command reply is row) (in_command IsByOwner m a command reply is.runs h)
 
-pub below_seven : (m : Model) (a : ApplianceNo) (command : Command) (reply : Reply) → IsIn m a command → IsListed m a.0 command reply → IsByOwner m a.0 command reply → IsValue m a.0 command reply → Below m (entry.Reply a reply) 7
+pub below_seven : (m : Model) (a : ApplianceNo) (command : Command) (reply : Reply) → IsInCommand m a command → IsListed m a.0 command reply → IsByOwner m a.0 command reply → IsValue m a.0 command reply → Below m (entry.Reply a reply) 7
 below_seven m a command reply is row own h = below_next m (entry.Reply a reply) 6 (below_six m a command reply is row own) (in_command IsValue m a command reply is.runs h)
 
-pub below_eight : (m : Model) (a : ApplianceNo) (command : Command) (reply : Reply) → IsIn m a command → IsListed m a.0 command reply → IsByOwner m a.0 command reply → IsValue m a.0 command reply → IsFounded m a.0 command reply → Below m (entry.Reply a reply) 8
+pub below_eight : (m : Model) (a : ApplianceNo) (command : Command) (reply : Reply) → IsInCommand m a command → IsListed m a.0 command reply → IsByOwner m a.0 command reply → IsValue m a.0 command reply → IsFounded m a.0 command reply → Below m (entry.Reply a reply) 8
 below_eight m a command reply is row own has h = below_next m (entry.Reply a reply) 7 (below_seven m a command reply is row own has) (in_command IsFounded m a command reply is.runs h)

@@ -1,25 +1,17 @@
 -- Tables of lists.
-use Rattle.std.proofs.Common.{◌≡◌, ◌≢◌, ◌<◌, ◌≤◌, ℕ, zero, suc, List, length, map, replicate, refl, sym, ap, ◌∙◌, arith, get_or, Bool, true, false, ◌⊎◌, inl, inr}
+use Rattle.std.proofs.Common.{◌≡◌, ◌≢◌, ◌<◌, ◌≤◌, ℕ, List, length, map, replicate, refl, sym, ap, ◌∙◌, get_or, Bool, true, false, ◌⊎◌, inl, inr}
 use Rattle.std.specs.Prelude.{if◌then◌else◌, ◌==◌, slice_set}
 use Rattle.std.proofs.Math.Path.{fun_ext}
 use Rattle.std.proofs.lemmas.Bool.Decides.{eqb_tells}
 use Rattle.std.proofs.lemmas.List.{get_or-set_other, get_or-replicate, get_or_past, length-replicate, get_or-map}
 use Rattle.std.proofs.lemmas.Grind.{get_or-set_at}
+use Rattle.plx_base.proofs.Tests.{below-or-past}
 use Rattle.plx_commands.specs.Places.{at}
 use Rattle.plx_model.specs.Tables.{table}
 
-below_or_past : (k n : ℕ) → (k < n) ⊎ (n ≤ k)
-below_or_past k zero = inr (omega arith)
-below_or_past zero (suc n) = inl (omega arith)
-below_or_past (suc k) (suc n) = or_suc k n (below_or_past k n)
-  where
-    or_suc : (k n : ℕ) → (k < n) ⊎ (n ≤ k) → (suc k < suc n) ⊎ (suc n ≤ suc k)
-    or_suc k n (inl h) = inl (omega arith)
-    or_suc k n (inr h) = inr (omega arith)
-
 -- the table of a list that has everywhere the same
 pub table-replicate : {X : Type 0} (n : ℕ) (x : X) → table (replicate n x) x ≡ (λ k. x)
-table-replicate {X} n x = fun_ext (λ k. each k (below_or_past k n))
+table-replicate {X} n x = fun_ext (λ k. each k (below-or-past k n))
   where
     each : (k : ℕ) → (k < n) ⊎ (n ≤ k) → get_or (replicate n x) k x ≡ x
     each k (inl h) = get_or-replicate n k x x h

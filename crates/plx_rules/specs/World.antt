@@ -139,7 +139,7 @@ pub record IsBack (writes : List Issued) (appliance back number : ℕ) (write : 
   pub newer : issued_by appliance (drop (number + 1) writes) ≡ back
 
 -- a reading of the clock at a time
-pub record IsReading (reading time : ℕ) : Type 0 where
+pub record IsReadingAt (reading time : ℕ) : Type 0 where
   pub early : reading ≤ time + drift
   pub late : time ≤ reading + drift
 
@@ -150,7 +150,7 @@ pub data Step : World → Event → World → Type 0 where
       (stands w appliance.0).place ≡ Idle known → IsWellFormed command → IsBuilt command →
       Step w (event.Start appliance command) (after_start w appliance command)
   begins : {w : World} {appliance : ApplianceNo} {reading : ℕ} (known : Known) (command : Command) → appliance.0 < w.appliances →
-      (stands w appliance.0).place ≡ Begins known command → IsReading reading w.surface.time →
+      (stands w appliance.0).place ≡ Begins known command → IsReadingAt reading w.surface.time →
       Step w (event.Reading appliance reading)
       (goes_on w (event.Reading appliance reading) appliance ask.Clock [] (answer.Reading reading)
       (first_part (setting_of w appliance.0) known reading command (stands w appliance.0)))
@@ -182,15 +182,15 @@ pub data Step : World → Event → World → Type 0 where
   misses : {w : World} {appliance : ApplianceNo} {reading : ℕ} (known : Known) (command : Command) (kind : WriteKind) (block : ℕ) (bytes : List ℕ) (guard : ℕ)
       (done fault : Part End) (missed : ℕ → Part End) → appliance.0 < w.appliances →
       (stands w appliance.0).place ≡ In known command (WriteThen kind block bytes guard done fault missed) →
-      (w.seats appliance.0).pending ≡ None → guard < reading → IsReading reading w.surface.time →
+      (w.seats appliance.0).pending ≡ None → guard < reading → IsReadingAt reading w.surface.time →
       Step w (event.Miss appliance reading)
       (goes_on w (event.Miss appliance reading) appliance (ask.Write kind (record { 0 = block }) guard) bytes (answer.Missed reading) (missed reading))
   clocks : {w : World} {appliance : ApplianceNo} {reading : ℕ} (known : Known) (command : Command) (rest : ℕ → Part End) → appliance.0 < w.appliances →
-      (stands w appliance.0).place ≡ In known command (ClockThen rest) → IsReading reading w.surface.time →
+      (stands w appliance.0).place ≡ In known command (ClockThen rest) → IsReadingAt reading w.surface.time →
       Step w (event.Reading appliance reading) (goes_on w (event.Reading appliance reading) appliance ask.Clock [] (answer.Reading reading) (rest reading))
   waits : {w : World} {appliance : ApplianceNo} {reading : ℕ} (known : Known) (command : Command) (from : ℕ) (rest : ℕ → Part End) →
       appliance.0 < w.appliances →
-      (stands w appliance.0).place ≡ In known command (UntilThen from rest) → IsReading reading w.surface.time → from ≤ reading →
+      (stands w appliance.0).place ≡ In known command (UntilThen from rest) → IsReadingAt reading w.surface.time → from ≤ reading →
       Step w (event.Reading appliance reading) (goes_on w (event.Reading appliance reading) appliance (ask.Until from) [] (answer.Reading reading) (rest reading))
   crashes : {w : World} {appliance : ApplianceNo} → appliance.0 < w.appliances → (w.seats appliance.0).boots + 1 < 2 ^ 32 →
       Step w (event.Crash appliance) (after_crash w appliance)

@@ -1,78 +1,168 @@
 //! A device on which sectors land out of order, late or not at all.
-use plx_base::{Block, BlockNo, Boot, WriteKind};
+use plx_base::{Block, BlockNo, Boot, NoMemory, WriteKind};
 use plx_disk::Disk;
 use std::alloc::Global;
 use std::process::Abort;
-use std::test::Fail;
 
-/// A device of four blocks at time 1,000.
-fn device(alloc: Global) -> Result<Disk, Fail> {
-    Ok(Disk::new(alloc, 4, 1000)?)
+/// What is done with a device of four blocks at time 1,000, and what it tells.
+#[derive(Clone, Copy)]
+enum Deed {
+    /// Block 2 is set to sevens before any write is issued.
+    Sets,
+    /// A write of sevens to block 2 is issued by boot 9, with this guard.
+    Issues(u64),
+    /// A sector of a write lands, or doesn't.
+    Lands(u64, u8, bool),
+    /// A write has landed as a whole, or hasn't.
+    Settles(u64, bool),
+    /// The first sector that a write misses.
+    Misses(u64, Option<u8>),
+    Cancels(u64),
+    /// The boot that issued a write.
+    IsOf(u64, Option<Boot>),
+    /// Which sectors of block 2 are sevens. The others are zeros.
+    Has([bool; 8]),
 }
 
-/// A write of sevens to block 2 is issued.
-fn issue(rt: &impl Abort, alloc: Global, disk: &mut Disk, guard: u64) -> Result<u64, Fail> {
+use Deed::{Cancels, Has, IsOf, Issues, Lands, Misses, Sets, Settles};
+
+/// The deeds are done, one after another.
+fn does(rt: &impl Abort, alloc: Global, deeds: &[Deed]) -> Result<(), NoMemory> {
+    let mut disk = Disk::new(alloc, 4, 1000)?;
+    for deed in deeds {
+        make(rt, alloc, &mut disk, *deed)?;
+    }
+    Ok(())
+}
+
+/// The deed is done.
+fn make(rt: &impl Abort, alloc: Global, disk: &mut Disk, deed: Deed) -> Result<(), NoMemory> {
+    match deed {
+        Sets => set(rt, alloc, disk)?,
+        Issues(guard) => issue(rt, alloc, disk, guard)?,
+        Lands(write, sector, lands) => assert!(rt; disk.land(write, sector) == lands),
+        Settles(write, settles) => assert!(rt; disk.settle(write) == settles),
+        Misses(write, sector) => assert!(rt; disk.missing(write) == sector),
+        Cancels(write) => disk.cancel(write),
+        IsOf(write, boot) => assert!(rt; disk.owner(write) == boot),
+        Has(sectors) => has(rt, alloc, disk, sectors)?,
+    }
+    Ok(())
+}
+
+fn set(rt: &impl Abort, alloc: Global, disk: &mut Disk) -> Result<(), NoMemory> {
     let sevens = Block::filled(alloc, 7)?;
-    assert!(rt; 2 < disk.blocks() && guard < 2000);
-    let kind = WriteKind::Fresh;
-    Ok(disk.issue(Boot(9), kind, BlockNo(2), sevens.as_slice(), guard)?)
+    assert!(rt; disk.issued() == 0);
+    assert!(rt; 2 < disk.blocks());
+    disk.set(BlockNo(2), sevens.as_slice())
 }
 
-/// Which sectors of block 2 are sevens, where each byte is a seven or a zero.
-fn sevens(rt: &impl Abort, alloc: Global, disk: &Disk) -> Result<[bool; 8], Fail> {
+fn issue(rt: &impl Abort, alloc: Global, disk: &mut Disk, guard: u64) -> Result<(), NoMemory> {
+    let sevens = Block::filled(alloc, 7)?;
+    let count = disk.issued();
+    assert!(rt; 2 < disk.blocks());
+    assert!(rt; guard < 2000);
+    let number = disk.issue(
+        Boot(9),
+        WriteKind::Fresh,
+        BlockNo(2),
+        sevens.as_slice(),
+        guard,
+    )?;
+    assert!(rt; number == count);
+    Ok(())
+}
+
+fn has(rt: &impl Abort, alloc: Global, disk: &Disk, sectors: [bool; 8]) -> Result<(), NoMemory> {
     let mut seen = Block::zeros(alloc)?;
     assert!(rt; 2 < disk.blocks());
     disk.read(BlockNo(2), &mut seen);
-    let mut found = [false; 8];
-    for sector in 0..8usize {
-        let bytes = &seen.as_slice()[512 * sector..512 * sector + 512];
-        found[sector] = bytes == [7; 512].as_slice();
-        assert!(rt; found[sector] || bytes == [0; 512].as_slice());
+    assert!(rt; seen.as_slice() == spelled(sectors).as_slice());
+    Ok(())
+}
+
+/// A block of sevens in these sectors, and zeros in the others.
+fn spelled(sectors: [bool; 8]) -> [u8; 4096] {
+    let mut bytes = [0; 4096];
+    for (at, byte) in bytes.iter_mut().enumerate() {
+        if sectors.get(at / 512) == Some(&true) {
+            *byte = 7;
+        }
     }
-    Ok(found)
+    bytes
 }
 
-#[test]
-fn a_block_that_was_set_is_read(rt: HostRuntime) -> Result<(), Fail> {
-    let mut disk = device(rt.alloc())?;
-    let block = Block::filled(rt.alloc(), 7)?;
-    assert_eq!(rt; disk.issued(), 0);
-    assert!(rt; 2 < disk.blocks());
-    disk.set(BlockNo(2), block.as_slice())?;
-    assert_eq!(rt; sevens(&rt, rt.alloc(), &disk)?, [true; 8]);
-    Ok(())
-}
+const ALL: [bool; 8] = [true; 8];
 
 #[test]
-fn sectors_land_in_any_order_and_once(rt: HostRuntime) -> Result<(), Fail> {
-    let mut disk = device(rt.alloc())?;
-    let number = issue(&rt, rt.alloc(), &mut disk, 1000)?;
-    let mut landed = [false; 8];
-    for (sector, missing) in [(5, 0), (0, 1), (7, 1), (1, 2), (3, 2), (2, 4), (6, 4)] {
-        assert!(rt; disk.land(number, sector));
-        assert!(rt; !disk.land(number, sector));
-        landed[sector as usize] = true;
-        assert_eq!(rt; sevens(&rt, rt.alloc(), &disk)?, landed);
-        assert_eq!(rt; disk.missing(number), Some(missing));
-        assert!(rt; !disk.settle(number));
-    }
-    assert!(rt; disk.land(number, 4) && disk.settle(number));
-    assert_eq!(rt; disk.missing(number), None);
-    Ok(())
+fn a_block_that_was_set_is_read(rt: HostRuntime) -> Result<(), NoMemory> {
+    does(&rt, rt.alloc(), &[Sets, Has(ALL)])
 }
 
+/// After each landing of a sector it is there, it can't land again, and the first one that is
+/// missing is told.
+const LANDINGS: &[Deed] = &[
+    Issues(1000),
+    Lands(0, 5, true),
+    Lands(0, 5, false),
+    Has([false, false, false, false, false, true, false, false]),
+    Misses(0, Some(0)),
+    Settles(0, false),
+    Lands(0, 0, true),
+    Lands(0, 0, false),
+    Has([true, false, false, false, false, true, false, false]),
+    Misses(0, Some(1)),
+    Settles(0, false),
+    Lands(0, 7, true),
+    Lands(0, 7, false),
+    Has([true, false, false, false, false, true, false, true]),
+    Misses(0, Some(1)),
+    Settles(0, false),
+    Lands(0, 1, true),
+    Lands(0, 1, false),
+    Has([true, true, false, false, false, true, false, true]),
+    Misses(0, Some(2)),
+    Settles(0, false),
+    Lands(0, 3, true),
+    Lands(0, 3, false),
+    Has([true, true, false, true, false, true, false, true]),
+    Misses(0, Some(2)),
+    Settles(0, false),
+    Lands(0, 2, true),
+    Lands(0, 2, false),
+    Has([true, true, true, true, false, true, false, true]),
+    Misses(0, Some(4)),
+    Settles(0, false),
+    Lands(0, 6, true),
+    Lands(0, 6, false),
+    Has([true, true, true, true, false, true, true, true]),
+    Misses(0, Some(4)),
+    Settles(0, false),
+    Lands(0, 4, true),
+    Settles(0, true),
+    Misses(0, None),
+    Has(ALL),
+];
+
 #[test]
-fn a_late_or_cancelled_write_does_not_land(rt: HostRuntime) -> Result<(), Fail> {
-    let mut disk = device(rt.alloc())?;
-    let late = issue(&rt, rt.alloc(), &mut disk, 949)?;
-    assert!(rt; !disk.land(late, 0));
-    let cancelled = issue(&rt, rt.alloc(), &mut disk, 950)?;
-    assert!(rt; disk.land(cancelled, 6));
-    disk.cancel(cancelled);
-    assert!(rt; !disk.land(cancelled, 0) && !disk.settle(cancelled));
-    let mut landed = [false; 8];
-    landed[6] = true;
-    assert_eq!(rt; sevens(&rt, rt.alloc(), &disk)?, landed);
-    assert_eq!(rt; disk.owner(cancelled), Some(Boot(9)));
-    Ok(())
+fn sectors_land_in_any_order_and_once(rt: HostRuntime) -> Result<(), NoMemory> {
+    does(&rt, rt.alloc(), LANDINGS)
+}
+
+/// A guard of 949 is more than 50 ms ago, and one of 950 isn't.
+const LATE_OR_CANCELLED: &[Deed] = &[
+    Issues(949),
+    Lands(0, 0, false),
+    Issues(950),
+    Lands(1, 6, true),
+    Cancels(1),
+    Lands(1, 0, false),
+    Settles(1, false),
+    Has([false, false, false, false, false, false, true, false]),
+    IsOf(1, Some(Boot(9))),
+];
+
+#[test]
+fn a_late_or_cancelled_write_does_not_land(rt: HostRuntime) -> Result<(), NoMemory> {
+    does(&rt, rt.alloc(), LATE_OR_CANCELLED)
 }

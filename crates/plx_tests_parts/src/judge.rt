@@ -1,9 +1,9 @@
 //! Traces of several images and appliances, with the least rule that each entry breaks.
-use plx_base::{ApplianceNo, BlockNo, Label, LeaseName, LeaseRecord, Payload, SlotNo};
+use plx_base::{ApplianceNo, BlockNo, Label, LeaseName, LeaseRecord, NoMemory, Payload, SlotNo};
 use plx_commands::{Command, Entry, Reply, Report};
 use plx_model::{JudgeError, Model};
+use std::alloc::Global;
 use std::process::Abort;
-use std::test::Fail;
 
 const LAST_GENERATION: u64 = 0xffff_ffff;
 
@@ -182,29 +182,55 @@ fn entry(line: Line) -> Entry {
     }
 }
 
+/// A trace in parts: what it shows, how many images and appliances there are, and the images of
+/// eight blocks that appliance 0 makes first, each with its slot and the byte that it writes to its
+/// block 2.
+type Trace = (
+    &'static str,
+    u32,
+    u32,
+    &'static [(u32, u8)],
+    &'static [&'static [Case]],
+);
+
 /// The cases are judged in order.
-fn judge(rt: &impl Abort, model: &mut Model, cases: &[Case]) {
+fn judge(rt: &impl Abort, model: &mut Model, name: &str, cases: &[Case]) {
     for (at, (wanted, line)) in cases.iter().enumerate() {
         let rule = match model.judge(&entry(*line)) {
             Ok(()) => 0,
             Err(JudgeError::NotPermitted { rule }) => rule,
             Err(JudgeError::NoMemory) => 255,
         };
-        assert_eq!(rt; rule, *wanted, "entry {at}");
+        assert!(rt; rule == *wanted, "{name}: rule {rule} at entry {at}");
     }
 }
 
-/// The appliance makes an image of eight blocks in the slot, and writes its block 2 once.
-fn make(rt: &impl Abort, model: &mut Model, appliance: u32, slot: u32, byte: u8) {
+/// Appliance 0 makes an image of eight blocks in the slot, and writes its block 2 once.
+fn make(rt: &impl Abort, model: &mut Model, slot: u32, byte: u8) {
     let cases = [
-        (0, Start(appliance, Attach(slot))),
-        (0, Answer(appliance, Free(0))),
-        (0, Start(appliance, Create(slot, 8, b"disk"))),
-        (0, Answer(appliance, Created)),
-        (0, Start(appliance, Write(slot, 2, byte))),
-        (0, Answer(appliance, Written(1))),
+        (0, Start(0, Attach(slot))),
+        (0, Answer(0, Free(0))),
+        (0, Start(0, Create(slot, 8, b"disk"))),
+        (0, Answer(0, Created)),
+        (0, Start(0, Write(slot, 2, byte))),
+        (0, Answer(0, Written(1))),
     ];
-    judge(rt, model, &cases);
+    judge(rt, model, "an image is made", &cases);
+}
+
+/// A trace is judged.
+fn judge_trace(rt: &impl Abort, alloc: Global, trace: &Trace) -> Result<(), NoMemory> {
+    let (name, images, appliances, made, parts) = *trace;
+    assert!(rt; 1 <= images && images <= 256);
+    assert!(rt; 1 <= appliances && appliances <= 8);
+    let mut model = Model::new(alloc, images, appliances)?;
+    for (slot, byte) in made {
+        make(rt, &mut model, *slot, *byte);
+    }
+    for part in parts {
+        judge(rt, &mut model, name, part);
+    }
+    Ok(())
 }
 
 const LEAST: &[Case] = &[
@@ -227,13 +253,6 @@ const LEAST: &[Case] = &[
     (5, Answer(1, Data(0))),
     (0, Answer(1, NotAttached)),
 ];
-
-#[test]
-fn each_rule_is_named_where_it_is_the_least(rt: HostRuntime) -> Result<(), Fail> {
-    let mut model = Model::new(rt.alloc(), 3, 2)?;
-    judge(&rt, &mut model, LEAST);
-    Ok(())
-}
 
 const MADE_AGAIN: &[Case] = &[
     (0, Start(0, Write(0, 2, 9))),
@@ -278,42 +297,32 @@ const MADE_AGAIN: &[Case] = &[
     (0, Answer(0, Image(2, 4, 0, b"other"))),
 ];
 
-#[test]
-fn a_slot_is_made_deleted_and_made_again(rt: HostRuntime) -> Result<(), Fail> {
-    let mut model = Model::new(rt.alloc(), 2, 1)?;
-    make(&rt, &mut model, 0, 0, 9);
-    judge(&rt, &mut model, MADE_AGAIN);
-    Ok(())
-}
+const ATTACHED: &[Case] = &[(0, Start(0, Attach(0))), (0, Answer(0, Free(0)))];
 
-#[test]
-fn an_image_that_cannot_be_made_is_refused(rt: HostRuntime) -> Result<(), Fail> {
-    let sizes = [
-        (0, 0, 8),
-        (1, 7, 0),
-        (GREATEST_SIZE, 7, 0),
-        (GREATEST_SIZE + 1, 0, 8),
-    ];
-    for (size, refused, made) in sizes {
-        let mut model = Model::new(rt.alloc(), 1, 1)?;
-        let cases = [
-            (0, Start(0, Attach(0))),
-            (0, Answer(0, Free(0))),
-            (0, Start(0, Create(0, size, b""))),
-            (refused, Answer(0, OutOfRange(GREATEST_SIZE))),
-        ];
-        judge(&rt, &mut model, &cases);
-        let again = [
-            (0, Crash(0)),
-            (0, Start(0, Attach(0))),
-            (0, Answer(0, Free(0))),
-            (0, Start(0, Create(0, size, b""))),
-            (made, Answer(0, Created)),
-        ];
-        judge(&rt, &mut model, &again);
-    }
-    Ok(())
-}
+const ATTACHED_AGAIN: &[Case] = &[
+    (0, Crash(0)),
+    (0, Start(0, Attach(0))),
+    (0, Answer(0, Free(0))),
+];
+
+/// An image of this size is to be made.
+const OF_ZERO: &[Case] = &[(0, Start(0, Create(0, 0, b"")))];
+
+const OF_ONE: &[Case] = &[(0, Start(0, Create(0, 1, b"")))];
+
+const OF_MOST: &[Case] = &[(0, Start(0, Create(0, GREATEST_SIZE, b"")))];
+
+const OF_MORE: &[Case] = &[(0, Start(0, Create(0, GREATEST_SIZE + 1, b"")))];
+
+/// It can't be.
+const IS_REFUSED: &[Case] = &[(0, Answer(0, OutOfRange(GREATEST_SIZE)))];
+
+const IS_NOT_MADE: &[Case] = &[(8, Answer(0, Created))];
+
+/// It can.
+const IS_NOT_REFUSED: &[Case] = &[(7, Answer(0, OutOfRange(GREATEST_SIZE)))];
+
+const IS_MADE: &[Case] = &[(0, Answer(0, Created))];
 
 const NO_SLOT: &[Case] = &[
     (0, Start(0, Attach(2))),
@@ -327,13 +336,6 @@ const NO_SLOT: &[Case] = &[
     (5, Answer(0, Deleted)),
     (0, Answer(0, NotAttached)),
 ];
-
-#[test]
-fn a_slot_that_there_is_not_has_no_image(rt: HostRuntime) -> Result<(), Fail> {
-    let mut model = Model::new(rt.alloc(), 2, 1)?;
-    judge(&rt, &mut model, NO_SLOT);
-    Ok(())
-}
 
 const TAKEN_OVER: &[Case] = &[
     (0, Start(0, Write(1, 2, 9))),
@@ -362,15 +364,6 @@ const TAKEN_OVER: &[Case] = &[
     (0, Answer(2, Data(5))),
 ];
 
-#[test]
-fn another_appliance_takes_an_image_over(rt: HostRuntime) -> Result<(), Fail> {
-    let mut model = Model::new(rt.alloc(), 3, 3)?;
-    make(&rt, &mut model, 0, 1, 7);
-    make(&rt, &mut model, 0, 2, 8);
-    judge(&rt, &mut model, TAKEN_OVER);
-    Ok(())
-}
-
 const OWNER: &[Case] = &[
     (0, Start(0, Write(0, 2, 9))),
     (0, Start(1, Attach(0))),
@@ -387,103 +380,110 @@ const OWNER: &[Case] = &[
     (0, Answer(2, Image(1, 8, 2, b"disk"))),
 ];
 
-#[test]
-fn a_refusal_gives_up_a_change_of_the_owner_alone(rt: HostRuntime) -> Result<(), Fail> {
-    let mut model = Model::new(rt.alloc(), 1, 3)?;
-    make(&rt, &mut model, 0, 0, 7);
-    judge(&rt, &mut model, OWNER);
-    Ok(())
-}
+/// A write of the first image begins.
+const WRITING: &[Case] = &[(0, Start(0, Write(0, 2, 9)))];
 
-#[test]
-fn loss_fault_and_crash_end_all_sessions(rt: HostRuntime) -> Result<(), Fail> {
-    // How many writes the next attach reports, what is read then, and what isn't.
-    for (writes, byte, other) in [(1, 7, 9), (2, 9, 7)] {
-        for end in [
-            (0, Answer(0, Lost)),
-            (0, Answer(0, WriteFault)),
-            (0, Crash(0)),
-        ] {
-            let mut model = Model::new(rt.alloc(), 2, 2)?;
-            make(&rt, &mut model, 0, 0, 7);
-            make(&rt, &mut model, 0, 1, 8);
-            leave_undecided(&rt, &mut model, end);
-            let cases = [
-                (0, Start(1, Attach(0))),
-                (6, Answer(1, Image(1, 8, 3, b"disk"))),
-                (0, Answer(1, Image(1, 8, writes, b"disk"))),
-                (0, Start(1, Read(0, 2))),
-                (6, Answer(1, Data(other))),
-                (0, Answer(1, Data(byte))),
-            ];
-            judge(&rt, &mut model, &cases);
-        }
-    }
-    Ok(())
-}
+/// It is given up with all sessions of its appliance.
+const LOSS: &[Case] = &[(0, Answer(0, Lost))];
 
-/// A write of the first image ends so, and its appliance has no session left.
-fn leave_undecided(rt: &impl Abort, model: &mut Model, end: Case) {
-    let cases = [
-        (0, Start(0, Write(0, 2, 9))),
-        end,
-        (0, Start(0, Read(0, 2))),
-        (5, Answer(0, Data(7))),
-        (0, Answer(0, NotAttached)),
-        (0, Start(0, Read(1, 2))),
-        (0, Answer(0, NotAttached)),
-    ];
-    judge(rt, model, &cases);
-}
+const FAULT: &[Case] = &[(0, Answer(0, WriteFault))];
 
-#[test]
-fn other_refusals_end_no_session(rt: HostRuntime) -> Result<(), Fail> {
-    let mut model = Model::new(rt.alloc(), 2, 1)?;
-    make(&rt, &mut model, 0, 1, 8);
-    for refusal in [Busy, ReadFault, Full, Damaged] {
-        let cases = [
-            (0, Start(0, Flush(1))),
-            (0, Answer(0, refusal)),
-            (0, Start(0, Read(1, 2))),
-            (7, Answer(0, NotAttached)),
-            (0, Answer(0, Data(8))),
-        ];
-        judge(&rt, &mut model, &cases);
-    }
-    Ok(())
-}
+const CRASH: &[Case] = &[(0, Crash(0))];
 
-/// The rule that a reply breaks which says of a command that no claim is left.
-const CLAIMING: [(u8, Asked); 11] = [
-    (0, Attach(0)),
-    (0, Write(0, 2, 1)),
-    (0, Flush(0)),
-    (0, Reserve),
-    (0, Reclaim),
-    (7, Create(0, 8, b"disk")),
-    (4, Detach(0)),
-    (4, Delete(0)),
-    (4, Read(0, 2)),
-    (4, Renew),
-    (4, Retire),
+const NO_SESSION: &[Case] = &[
+    (0, Start(0, Read(0, 2))),
+    (5, Answer(0, Data(7))),
+    (0, Answer(0, NotAttached)),
+    (0, Start(0, Read(1, 2))),
+    (0, Answer(0, NotAttached)),
 ];
 
-#[test]
-fn a_boot_without_claims_says_so_of_commands_that_claim(rt: HostRuntime) -> Result<(), Fail> {
-    let mut model = Model::new(rt.alloc(), 1, 1)?;
-    for (rule, asked) in CLAIMING {
-        let other = if rule == 0 { 7 } else { rule };
-        let cases = [
-            (0, Start(0, asked)),
-            (other, Answer(0, WornOut(LAST_WRITE))),
-            (other, Answer(0, WornOut(LAST_GENERATION))),
-            (rule, Answer(0, WornOut(LAST_CLAIM))),
-            (0, Crash(0)),
-        ];
-        judge(&rt, &mut model, &cases);
-    }
-    Ok(())
-}
+/// The next attach shows that the image doesn't have the write.
+const WITHOUT: &[Case] = &[
+    (0, Start(1, Attach(0))),
+    (6, Answer(1, Image(1, 8, 3, b"disk"))),
+    (0, Answer(1, Image(1, 8, 1, b"disk"))),
+    (0, Start(1, Read(0, 2))),
+    (6, Answer(1, Data(9))),
+    (0, Answer(1, Data(7))),
+];
+
+/// The next attach shows that the image has it.
+const WITH: &[Case] = &[
+    (0, Start(1, Attach(0))),
+    (6, Answer(1, Image(1, 8, 3, b"disk"))),
+    (0, Answer(1, Image(1, 8, 2, b"disk"))),
+    (0, Start(1, Read(0, 2))),
+    (6, Answer(1, Data(7))),
+    (0, Answer(1, Data(9))),
+];
+
+/// A flush of the second image is refused.
+const FLUSHES: &[Case] = &[(0, Start(0, Flush(1)))];
+
+const IS_BUSY: &[Case] = &[(0, Answer(0, Busy))];
+
+const FAILS: &[Case] = &[(0, Answer(0, ReadFault))];
+
+const IS_FULL: &[Case] = &[(0, Answer(0, Full))];
+
+const IS_DAMAGED: &[Case] = &[(0, Answer(0, Damaged))];
+
+const STILL_ATTACHED: &[Case] = &[
+    (0, Start(0, Read(1, 2))),
+    (7, Answer(0, NotAttached)),
+    (0, Answer(0, Data(8))),
+];
+
+/// A command that may say that no claim is left.
+const CLAIMS: &[Case] = &[
+    (7, Answer(0, WornOut(LAST_WRITE))),
+    (7, Answer(0, WornOut(LAST_GENERATION))),
+    (0, Answer(0, WornOut(LAST_CLAIM))),
+    (0, Crash(0)),
+];
+
+/// One that may say that a count is at its end, but not here.
+const COUNTS: &[Case] = &[
+    (7, Answer(0, WornOut(LAST_WRITE))),
+    (7, Answer(0, WornOut(LAST_GENERATION))),
+    (7, Answer(0, WornOut(LAST_CLAIM))),
+    (0, Crash(0)),
+];
+
+/// One that never says so.
+const COUNTS_NOTHING: &[Case] = &[
+    (4, Answer(0, WornOut(LAST_WRITE))),
+    (4, Answer(0, WornOut(LAST_GENERATION))),
+    (4, Answer(0, WornOut(LAST_CLAIM))),
+    (0, Crash(0)),
+];
+
+/// Which commands say that a boot has no claim left.
+const CLAIMING: &[&[Case]] = &[
+    &[(0, Start(0, Attach(0)))],
+    CLAIMS,
+    &[(0, Start(0, Write(0, 2, 1)))],
+    CLAIMS,
+    &[(0, Start(0, Flush(0)))],
+    CLAIMS,
+    &[(0, Start(0, Reserve))],
+    CLAIMS,
+    &[(0, Start(0, Reclaim))],
+    CLAIMS,
+    &[(0, Start(0, Create(0, 8, b"disk")))],
+    COUNTS,
+    &[(0, Start(0, Detach(0)))],
+    COUNTS_NOTHING,
+    &[(0, Start(0, Delete(0)))],
+    COUNTS_NOTHING,
+    &[(0, Start(0, Read(0, 2)))],
+    COUNTS_NOTHING,
+    &[(0, Start(0, Renew))],
+    COUNTS_NOTHING,
+    &[(0, Start(0, Retire))],
+    COUNTS_NOTHING,
+];
 
 const FRESH_BLOCKS: &[Case] = &[
     (0, Start(0, Flush(0))),
@@ -503,10 +503,182 @@ const FRESH_BLOCKS: &[Case] = &[
     (0, Answer(0, Data(7))),
 ];
 
+const MADE_TWO: &[(u32, u8)] = &[(0, 7), (1, 8)];
+
+const TRACES: [&Trace; 18] = [
+    &(
+        "each rule is named where it is the least",
+        3,
+        2,
+        &[],
+        &[LEAST],
+    ),
+    &(
+        "a slot is made, deleted and made again",
+        2,
+        1,
+        &[(0, 9)],
+        &[MADE_AGAIN],
+    ),
+    &(
+        "an image of no block is refused",
+        1,
+        1,
+        &[],
+        &[
+            ATTACHED,
+            OF_ZERO,
+            IS_REFUSED,
+            ATTACHED_AGAIN,
+            OF_ZERO,
+            IS_NOT_MADE,
+        ],
+    ),
+    &(
+        "an image of one block is made",
+        1,
+        1,
+        &[],
+        &[
+            ATTACHED,
+            OF_ONE,
+            IS_NOT_REFUSED,
+            ATTACHED_AGAIN,
+            OF_ONE,
+            IS_MADE,
+        ],
+    ),
+    &(
+        "an image of the most blocks is made",
+        1,
+        1,
+        &[],
+        &[
+            ATTACHED,
+            OF_MOST,
+            IS_NOT_REFUSED,
+            ATTACHED_AGAIN,
+            OF_MOST,
+            IS_MADE,
+        ],
+    ),
+    &(
+        "an image of more blocks is refused",
+        1,
+        1,
+        &[],
+        &[
+            ATTACHED,
+            OF_MORE,
+            IS_REFUSED,
+            ATTACHED_AGAIN,
+            OF_MORE,
+            IS_NOT_MADE,
+        ],
+    ),
+    &(
+        "a slot that there is not has no image",
+        2,
+        1,
+        &[],
+        &[NO_SLOT],
+    ),
+    &(
+        "another appliance takes an image over",
+        3,
+        3,
+        &[(1, 7), (2, 8)],
+        &[TAKEN_OVER],
+    ),
+    &(
+        "a refusal gives up a change of the owner alone",
+        1,
+        3,
+        &[(0, 7)],
+        &[OWNER],
+    ),
+    &(
+        "a loss ends all sessions, and the write isn't there",
+        2,
+        2,
+        MADE_TWO,
+        &[WRITING, LOSS, NO_SESSION, WITHOUT],
+    ),
+    &(
+        "a loss ends all sessions, and the write is there",
+        2,
+        2,
+        MADE_TWO,
+        &[WRITING, LOSS, NO_SESSION, WITH],
+    ),
+    &(
+        "a fault ends all sessions, and the write isn't there",
+        2,
+        2,
+        MADE_TWO,
+        &[WRITING, FAULT, NO_SESSION, WITHOUT],
+    ),
+    &(
+        "a fault ends all sessions, and the write is there",
+        2,
+        2,
+        MADE_TWO,
+        &[WRITING, FAULT, NO_SESSION, WITH],
+    ),
+    &(
+        "a crash ends all sessions, and the write isn't there",
+        2,
+        2,
+        MADE_TWO,
+        &[WRITING, CRASH, NO_SESSION, WITHOUT],
+    ),
+    &(
+        "a crash ends all sessions, and the write is there",
+        2,
+        2,
+        MADE_TWO,
+        &[WRITING, CRASH, NO_SESSION, WITH],
+    ),
+    &(
+        "other refusals end no session",
+        2,
+        1,
+        &[(1, 8)],
+        &[
+            FLUSHES,
+            IS_BUSY,
+            STILL_ATTACHED,
+            FLUSHES,
+            FAILS,
+            STILL_ATTACHED,
+            FLUSHES,
+            IS_FULL,
+            STILL_ATTACHED,
+            FLUSHES,
+            IS_DAMAGED,
+            STILL_ATTACHED,
+        ],
+    ),
+    &(
+        "a boot without claims says so of commands that claim",
+        1,
+        1,
+        &[],
+        CLAIMING,
+    ),
+    &(
+        "the model knows nothing of fresh blocks",
+        1,
+        1,
+        &[(0, 7)],
+        &[FRESH_BLOCKS],
+    ),
+];
+
 #[test]
-fn the_model_knows_nothing_of_fresh_blocks(rt: HostRuntime) -> Result<(), Fail> {
-    let mut model = Model::new(rt.alloc(), 1, 1)?;
-    make(&rt, &mut model, 0, 0, 7);
-    judge(&rt, &mut model, FRESH_BLOCKS);
+fn each_entry_of_a_trace_breaks_its_least_rule(rt: HostRuntime) -> Result<(), NoMemory> {
+    for trace in TRACES {
+        judge_trace(&rt, rt.alloc(), trace)?;
+    }
     Ok(())
 }

@@ -1,26 +1,14 @@
-//! Tests over the public calls of single crates: what no clause says.
+//! Tests over the public calls of single crates below the appliance: what no clause says.
 #![tactic(auto)]
 
 #[cfg(test)]
-mod asks;
-#[cfg(test)]
-mod boot;
-#[cfg(test)]
-mod content;
-#[cfg(test)]
-mod damage;
+mod blocks;
 #[cfg(test)]
 mod device;
-#[cfg(test)]
-mod formatted;
-#[cfg(test)]
-mod gated;
 #[cfg(test)]
 mod geometry;
 #[cfg(test)]
 mod judge;
-#[cfg(test)]
-mod leases;
 #[cfg(test)]
 mod lines;
 #[cfg(test)]
@@ -31,5 +19,3 @@ mod records;
 mod streams;
 #[cfg(test)]
 mod texts;
-#[cfg(test)]
-mod trouble;

@@ -1,48 +1,52 @@
 //! Schedules that are read, line by line, and lines that are refused.
-use plx_base::{Block, NoMemory};
+use plx_base::{Label, NoMemory, Payload};
 use plx_commands::{Command, Event};
-use plx_text::{TextError, read_schedule};
+use plx_geom::Geometry;
+use plx_text::{Schedule, TextError, read_schedule};
 use plx_words::Words;
 use std::alloc::{AllocError, Global};
-use std::test::Fail;
+use std::process::Abort;
 
-/// The number of the first line that is bad, or 0 where none is.
-fn first_bad(alloc: Global, bytes: &[u8]) -> Result<u64, NoMemory> {
-    match read_schedule(alloc, bytes) {
-        Ok(_) => Ok(0),
-        Err(TextError::BadLine { line }) => Ok(line),
+/// A world, and a line of its schedule.
+const WORLD: &[u8] = b"world 1 1 16 2 1\nrun 0\n";
+
+const RUN: &[u8] = b"\nrun 0\n";
+
+/// The bytes of all parts.
+fn joined(alloc: Global, parts: &[&[u8]]) -> Result<Vec<u8>, NoMemory> {
+    let mut bytes = Vec::new(alloc);
+    for part in parts {
+        bytes.extend_from_slice(part)?;
+    }
+    Ok(bytes)
+}
+
+/// The schedule of these parts, or the number of its first line that is bad.
+fn read(alloc: Global, parts: &[&[u8]]) -> Result<Result<Schedule, u64>, NoMemory> {
+    match read_schedule(alloc, joined(alloc, parts)?.as_slice()) {
+        Ok(schedule) => Ok(Ok(schedule)),
+        Err(TextError::BadLine { line }) => Ok(Err(line)),
         Err(TextError::NoMemory) => Err(AllocError),
     }
 }
 
-/// The same, of a schedule that has this line as its third.
-fn first_bad_with(alloc: Global, line: &[u8]) -> Result<u64, NoMemory> {
-    let mut input = Vec::from_slice(alloc, b"world 1 1 16 2 1\nrun 0\n")?;
-    input.extend_from_slice(line)?;
-    input.extend_from_slice(b"\nrun 0\n")?;
-    first_bad(alloc, input.as_slice())
+/// The first line of these parts that is bad is this one, or none is where it is 0.
+fn is_bad(rt: &impl Abort, alloc: Global, parts: &[&[u8]], line: u64) -> Result<(), NoMemory> {
+    let found = read(alloc, parts)?.err().unwrap_or(0);
+    assert_eq!(rt; found, line);
+    Ok(())
 }
 
-/// An event that writes block 3: its DATA is a name, a digit so many times, and a last one.
-fn write_of(
-    alloc: Global,
-    name: &[u8],
-    digit: u8,
-    times: usize,
-    last: &[u8],
-) -> Result<Vec<u8>, NoMemory> {
-    let mut line = Vec::from_slice(alloc, b"start 0 write 0 3 ")?;
-    line.extend_from_slice(name)?;
-    for _ in 0..times {
-        line.push(digit)?;
+/// Each of these lines is refused.
+fn refuses(rt: &impl Abort, alloc: Global, lines: &[&[u8]]) -> Result<(), NoMemory> {
+    for line in lines {
+        is_bad(rt, alloc, &[WORLD, line, RUN], 3)?;
     }
-    line.extend_from_slice(last)?;
-    Ok(line)
+    Ok(())
 }
 
-#[test]
-fn each_line_of_a_schedule_is_read(rt: HostRuntime) -> Result<(), Fail> {
-    let bytes = b"# two hosts
+/// Each kind of line, 33 of them events, with numbers at their limits.
+const EACH: &[u8] = b"# two hosts
 
 world 256 512 32768 64 8
 tick 1
@@ -79,239 +83,279 @@ upto 0 take
 upto 0 give
 upto 0 r-map
 ";
-    let schedule = read_schedule(rt.alloc(), bytes)?;
-    assert_eq!(rt; schedule.geometry.images, 256);
-    assert_eq!(rt; schedule.geometry.extents, 512);
-    assert_eq!(rt; schedule.geometry.extent_blocks, 32_768);
-    assert_eq!(rt; schedule.geometry.slots, 64);
-    assert_eq!(rt; schedule.appliances, 8);
-    assert_eq!(rt; schedule.events.as_slice().len(), 33);
+
+/// The greatest world.
+const GREATEST: Geometry = Geometry {
+    images: 256,
+    extents: 512,
+    extent_blocks: 32_768,
+    slots: 64,
+};
+
+#[test]
+fn each_line_of_a_schedule_is_read(rt: HostRuntime) -> Result<(), NoMemory> {
+    let Ok(schedule) = read(rt.alloc(), &[EACH])? else {
+        panic!(rt; "a schedule");
+    };
+    assert!(rt; schedule.geometry == GREATEST);
+    assert!(rt; schedule.appliances == 8);
+    assert!(rt; schedule.events.len() == 33);
     Ok(())
 }
 
+const WORLDS: &[&[u8]] = &[
+    b"world 0 1 16 2 1\n",
+    b"world 257 1 16 2 1\n",
+    b"world 1 0 16 2 1\n",
+    b"world 1 513 16 2 1\n",
+    b"world 1 1 15 2 1\n",
+    b"world 1 1 32769 2 1\n",
+    b"world 1 1 16 1 1\n",
+    b"world 1 1 16 65 1\n",
+    b"world 1 1 16 2 0\n",
+    b"world 1 1 16 2 9\n",
+    b"world 1 1 16 2\n",
+    b"world 1 1 16 2 1 1\n",
+    b"world 01 1 16 2 1\n",
+    b"worlds 1 1 16 2 1\n",
+    b"run 0\n",
+    b"world 1 1 16 2 1",
+];
+
 #[test]
-fn a_world_outside_its_limits_is_refused(rt: HostRuntime) -> Result<(), Fail> {
-    let cases: [&[u8]; 16] = [
-        b"world 0 1 16 2 1\n",
-        b"world 257 1 16 2 1\n",
-        b"world 1 0 16 2 1\n",
-        b"world 1 513 16 2 1\n",
-        b"world 1 1 15 2 1\n",
-        b"world 1 1 32769 2 1\n",
-        b"world 1 1 16 1 1\n",
-        b"world 1 1 16 65 1\n",
-        b"world 1 1 16 2 0\n",
-        b"world 1 1 16 2 9\n",
-        b"world 1 1 16 2\n",
-        b"world 1 1 16 2 1 1\n",
-        b"world 01 1 16 2 1\n",
-        b"worlds 1 1 16 2 1\n",
-        b"run 0\n",
-        b"world 1 1 16 2 1",
-    ];
-    for text in cases {
-        assert_eq!(rt; first_bad(rt.alloc(), text)?, 1);
+fn a_world_outside_its_limits_is_refused(rt: HostRuntime) -> Result<(), NoMemory> {
+    for &text in WORLDS {
+        is_bad(&rt, rt.alloc(), &[text], 1)?;
     }
     Ok(())
 }
 
+const SKIPPED: &[(&[u8], u64)] = &[
+    (b"# a comment\n\nworld 1 1 16 2 1\n", 0),
+    (b"world 1 1 16 2 1\n#\n\n#start 0 attach 0\n", 0),
+    (b"# a comment\nworld 1 1 16 2 1\ntick 0\n", 3),
+    (b"\n\nworld 1 1 16 65 1\n", 3),
+    (b"#\nrun 0\n", 2),
+    (b"world 1 1 16 2 1\nrun 0\n\n# x\nrun 00\n", 5),
+    (b"world 1 1 16 2 1\nrun 0\nrun 00\nrun 00\n", 3),
+    (b"", 1),
+    (b"\n", 2),
+    (b"#\n\n#\n", 4),
+    (b"#", 1),
+    (b"#\n\n# no end", 3),
+    (b"world 1 1 16 2 1\nrun 0\nrun", 3),
+    (b"world 1 1 16 2 1\nrun 0\nrun 0", 3),
+    (b"world 1 1 16 2 1\n\nrun 0", 3),
+    (b"world 1 1 16 2 1\n\n# no end", 3),
+    (b"world 1 1 16 2 1\n #\n", 2),
+    (b"world 1 1 16 2 1\n \n", 2),
+    (b"world 1 1 16 2 1\n\r\n", 2),
+];
+
 #[test]
-fn the_first_bad_line_is_named_and_skipped_lines_count(rt: HostRuntime) -> Result<(), Fail> {
-    let cases: [(&[u8], u64); 19] = [
-        (b"# a comment\n\nworld 1 1 16 2 1\n", 0),
-        (b"world 1 1 16 2 1\n#\n\n#start 0 attach 0\n", 0),
-        (b"# a comment\nworld 1 1 16 2 1\ntick 0\n", 3),
-        (b"\n\nworld 1 1 16 65 1\n", 3),
-        (b"#\nrun 0\n", 2),
-        (b"world 1 1 16 2 1\nrun 0\n\n# x\nrun 00\n", 5),
-        (b"world 1 1 16 2 1\nrun 0\nrun 00\nrun 00\n", 3),
-        (b"", 1),
-        (b"\n", 2),
-        (b"#\n\n#\n", 4),
-        (b"#", 1),
-        (b"#\n\n# no end", 3),
-        (b"world 1 1 16 2 1\nrun 0\nrun", 3),
-        (b"world 1 1 16 2 1\nrun 0\nrun 0", 3),
-        (b"world 1 1 16 2 1\n\nrun 0", 3),
-        (b"world 1 1 16 2 1\n\n# no end", 3),
-        (b"world 1 1 16 2 1\n #\n", 2),
-        (b"world 1 1 16 2 1\n \n", 2),
-        (b"world 1 1 16 2 1\n\r\n", 2),
-    ];
-    for (input, line) in cases {
-        assert_eq!(rt; first_bad(rt.alloc(), input)?, line);
+fn the_first_bad_line_is_named_and_skipped_lines_count(rt: HostRuntime) -> Result<(), NoMemory> {
+    for &(input, line) in SKIPPED {
+        is_bad(&rt, rt.alloc(), &[input], line)?;
     }
     Ok(())
 }
 
+const OUTSIDE: &[&[u8]] = &[
+    b"world 1 1 16 2 1",
+    b"run  0",
+    b"run 0 ",
+    b" run 0",
+    b"run\t0",
+    b"run 0\r",
+    b"run +1",
+    b"run -1",
+    b"run 18446744073709551616",
+    b"run",
+    b"run ",
+    b"run 0 0",
+    b"RUN 0",
+    b"stop 0",
+    b"tick 0",
+    b"tick 05",
+    b"land 0 0",
+    b"fault",
+    b"fault 0 0",
+    b"miss 0",
+    b"start 0 attach",
+    b"start 0 renew 0",
+    b"start 0 reserve 0",
+    b"start 0 create 0 1",
+    b"start 0 create 0 1 a b",
+    b"start 0 create 0 1 ",
+    b"start 0 create 0 1 abcdefghijklmnopqrstuvwxyzabcdefg",
+    b"start 0 create 0 1 \x7f",
+    b"start 0 write 0 0",
+    b"start 0 write 0 0 all:AB",
+    b"start 0 write 0 0 all:a",
+    b"start 0 write 0 0 all:abc",
+    b"start 0 write 0 0 all:00 all:00",
+    b"start 0 write 0 0 hex:00",
+    b"upto 0",
+    b"upto 0 pool",
+    b"upto 0 jdata 0",
+    b"run 0\0",
+    b"run \xff",
+    b"run \xd9\xa1",
+];
+
 #[test]
-fn a_line_outside_the_grammar_is_refused(rt: HostRuntime) -> Result<(), Fail> {
-    let cases: [&[u8]; 40] = [
-        b"world 1 1 16 2 1",
-        b"run  0",
-        b"run 0 ",
-        b" run 0",
-        b"run\t0",
-        b"run 0\r",
-        b"run +1",
-        b"run -1",
-        b"run 18446744073709551616",
-        b"run",
-        b"run ",
-        b"run 0 0",
-        b"RUN 0",
-        b"stop 0",
-        b"tick 0",
-        b"tick 05",
-        b"land 0 0",
-        b"fault",
-        b"fault 0 0",
-        b"miss 0",
-        b"start 0 attach",
-        b"start 0 renew 0",
-        b"start 0 reserve 0",
-        b"start 0 create 0 1",
-        b"start 0 create 0 1 a b",
-        b"start 0 create 0 1 ",
-        b"start 0 create 0 1 abcdefghijklmnopqrstuvwxyzabcdefg",
-        b"start 0 create 0 1 \x7f",
-        b"start 0 write 0 0",
-        b"start 0 write 0 0 all:AB",
-        b"start 0 write 0 0 all:a",
-        b"start 0 write 0 0 all:abc",
-        b"start 0 write 0 0 all:00 all:00",
-        b"start 0 write 0 0 hex:00",
-        b"upto 0",
-        b"upto 0 pool",
-        b"upto 0 jdata 0",
-        b"run 0\0",
-        b"run \xff",
-        b"run \xd9\xa1",
-    ];
-    for line in cases {
-        assert_eq!(rt; first_bad_with(rt.alloc(), line)?, 3);
+fn a_line_outside_the_grammar_is_refused(rt: HostRuntime) -> Result<(), NoMemory> {
+    refuses(&rt, rt.alloc(), OUTSIDE)
+}
+
+const NOT_BUILT: &[&[u8]] = &[
+    b"start 0 flush 0",
+    b"start 0 reclaim",
+    b"start 0 snap 0",
+    b"upto 0 sweep",
+    b"upto 0 fresh",
+    b"upto 0 link",
+    b"upto 0 overwrite",
+    b"upto 0 log",
+    b"upto 0 r-log",
+    b"upto 0 r-pool",
+];
+
+#[test]
+fn a_line_that_is_not_built_is_refused(rt: HostRuntime) -> Result<(), NoMemory> {
+    refuses(&rt, rt.alloc(), NOT_BUILT)
+}
+
+/// The greatest number and the first too great one: of 32 bits, of a reading, and of 64 bits.
+const SMALL: [&[u8]; 2] = [b"4294967295", b"4294967296"];
+
+const READING: [&[u8]; 2] = [b"281474976710655", b"281474976710656"];
+
+const BACK: [&[u8]; 2] = [b"18446744073709551615", b"18446744073709551616"];
+
+/// What stands before the number, the greatest and the first too great one, what follows.
+const LIMITS: &[(&[u8], [&[u8]; 2], &[u8])] = &[
+    (b"tick ", SMALL, b""),
+    (b"run ", SMALL, b""),
+    (b"crash ", SMALL, b""),
+    (b"fault ", SMALL, b""),
+    (b"start ", SMALL, b" attach 0"),
+    (b"start 1 attach ", SMALL, b""),
+    (b"start 1 detach ", SMALL, b""),
+    (b"start 1 create ", SMALL, b" 8 a"),
+    (b"start 1 create 0 ", SMALL, b" a"),
+    (b"start 1 delete ", SMALL, b""),
+    (b"start 1 reserve ", [b"256", b"257"], b""),
+    (b"start 1 read ", SMALL, b" 0"),
+    (b"start 1 read 0 ", SMALL, b""),
+    (b"start 1 write 0 ", SMALL, b" all:00"),
+    (b"land 0 ", BACK, b" 0"),
+    (b"land 0 0 ", [b"255", b"256"], b""),
+    (b"clock 0 ", READING, b""),
+    (b"miss 0 ", READING, b""),
+    (b"upto ", SMALL, b" jdata"),
+];
+
+/// A line with this number is the first one that is bad, or none is where `bad` is 0.
+fn is_bad_with(
+    rt: &impl Abort,
+    alloc: Global,
+    (before, number, after): (&[u8], &[u8], &[u8]),
+    bad: u64,
+) -> Result<(), NoMemory> {
+    is_bad(rt, alloc, &[WORLD, before, number, after, RUN], bad)
+}
+
+#[test]
+fn each_number_has_its_limit(rt: HostRuntime) -> Result<(), NoMemory> {
+    for &(before, [most, past], after) in LIMITS {
+        is_bad_with(&rt, rt.alloc(), (before, most, after), 0)?;
+        is_bad_with(&rt, rt.alloc(), (before, past, after), 3)?;
+        is_bad_with(&rt, rt.alloc(), (before, b"00", after), 3)?;
+        is_bad_with(&rt, rt.alloc(), (before, b"", after), 3)?;
     }
     Ok(())
 }
 
+/// What stands before the DATA of a write.
+const WRITE: &[u8] = b"start 0 write 0 3 ";
+
+const FIVES: [u8; 8190] = [b'5'; 8190];
+
+/// The last two digits of a block of fives, and its last byte.
+const LAST: &[(&[u8], u8)] = &[(b"55", 0x55), (b"0f", 0x0f)];
+
 #[test]
-fn each_number_has_its_limit(rt: HostRuntime) -> Result<(), Fail> {
+fn a_block_of_digits_is_read(rt: HostRuntime) -> Result<(), NoMemory> {
     let alloc = rt.alloc();
-    let small: (&[u8], &[u8]) = (b"4294967295", b"4294967296");
-    let reading: (&[u8], &[u8]) = (b"281474976710655", b"281474976710656");
-    let back: (&[u8], &[u8]) = (b"18446744073709551615", b"18446744073709551616");
-    // What stands before the number, the greatest and the first too great one, what follows.
-    let cases: [(&[u8], (&[u8], &[u8]), &[u8]); 19] = [
-        (b"tick ", small, b""),
-        (b"run ", small, b""),
-        (b"crash ", small, b""),
-        (b"fault ", small, b""),
-        (b"start ", small, b" attach 0"),
-        (b"start 1 attach ", small, b""),
-        (b"start 1 detach ", small, b""),
-        (b"start 1 create ", small, b" 8 a"),
-        (b"start 1 create 0 ", small, b" a"),
-        (b"start 1 delete ", small, b""),
-        (b"start 1 reserve ", (b"256", b"257"), b""),
-        (b"start 1 read ", small, b" 0"),
-        (b"start 1 read 0 ", small, b""),
-        (b"start 1 write 0 ", small, b" all:00"),
-        (b"land 0 ", back, b" 0"),
-        (b"land 0 0 ", (b"255", b"256"), b""),
-        (b"clock 0 ", reading, b""),
-        (b"miss 0 ", reading, b""),
-        (b"upto ", small, b" jdata"),
-    ];
-    for (before, (most, past), after) in cases {
-        let numbers: [(&[u8], u64); 4] = [(most, 0), (past, 3), (b"00", 3), (b"", 3)];
-        for (number, bad) in numbers {
-            let mut line = Vec::from_slice(alloc, before)?;
-            line.extend_from_slice(number)?;
-            line.extend_from_slice(after)?;
-            assert_eq!(rt; first_bad_with(alloc, line.as_slice())?, bad);
-        }
-    }
-    Ok(())
-}
-
-#[test]
-fn a_block_of_digits_is_read(rt: HostRuntime) -> Result<(), Fail> {
-    let alloc = rt.alloc();
-    for (last, byte) in [(b"55".as_slice(), 0x55), (b"0f".as_slice(), 0x0f)] {
-        let mut input = Vec::from_slice(alloc, b"world 1 1 16 2 1\n")?;
-        let line = write_of(alloc, b"hex:", b'5', 8190, last)?;
-        input.extend_from_slice(line.as_slice())?;
-        input.push(b'\n')?;
-        let schedule = read_schedule(alloc, input.as_slice())?;
-        let Some(
+    for &(last, byte) in LAST {
+        let parts = [b"world 1 1 16 2 1\n", WRITE, b"hex:", &FIVES, last, b"\n"];
+        let Ok(schedule) = read(alloc, &parts)? else {
+            panic!(rt; "a schedule");
+        };
+        let [
             Event::Start {
                 command: Command::Write { payload, .. },
                 ..
             },
-        ) = schedule.events.as_slice().first()
+        ] = schedule.events.as_slice()
         else {
             panic!(rt; "a write");
         };
-        let mut block = Block::filled(alloc, 0x55)?;
-        block.copy_from(4095, &[byte]);
-        assert!(rt; payload.to_block(alloc)?.as_slice() == block.as_slice());
+        assert!(rt; has_fives(alloc, payload, byte)?);
     }
     Ok(())
 }
 
+/// Whether all bytes of the payload are `0x55` but for the last one, which is this one.
+fn has_fives(alloc: Global, payload: &Payload, last: u8) -> Result<bool, NoMemory> {
+    let mut wanted = [0x55; 4096];
+    wanted[4095] = last;
+    Ok(payload.to_block(alloc)?.as_slice() == wanted.as_slice())
+}
+
+const DIGITS: [u8; 8194] = [b'a'; 8194];
+
+/// A DATA of a name, so many digits, and a last one.
+const DATA: &[(&[u8], usize, &[u8])] = &[
+    (b"hex:", 8191, b""),
+    (b"hex:", 8193, b""),
+    (b"hex:", 8194, b""),
+    (b"hex:", 4096, b""),
+    (b"hex:", 0, b""),
+    (b"hex", 0, b""),
+    (b"hex:", 8191, b"A"),
+    (b"hex:", 8191, b"g"),
+    (b"hex: ", 8192, b""),
+    (b"Hex:", 8192, b""),
+    (b"all:", 8192, b""),
+    (b"", 8192, b""),
+];
+
 #[test]
-fn a_block_of_other_digits_is_refused(rt: HostRuntime) -> Result<(), Fail> {
-    let alloc = rt.alloc();
-    let cases: [(&[u8], usize, &[u8]); 12] = [
-        (b"hex:", 8191, b""),
-        (b"hex:", 8193, b""),
-        (b"hex:", 8194, b""),
-        (b"hex:", 4096, b""),
-        (b"hex:", 0, b""),
-        (b"hex", 0, b""),
-        (b"hex:", 8191, b"A"),
-        (b"hex:", 8191, b"g"),
-        (b"hex: ", 8192, b""),
-        (b"Hex:", 8192, b""),
-        (b"all:", 8192, b""),
-        (b"", 8192, b""),
-    ];
-    for (name, times, last) in cases {
-        let line = write_of(alloc, name, b'a', times, last)?;
-        assert_eq!(rt; first_bad_with(alloc, line.as_slice())?, 3);
+fn a_block_of_other_digits_is_refused(rt: HostRuntime) -> Result<(), NoMemory> {
+    for &(name, times, last) in DATA {
+        let digits = DIGITS.get(..times).unwrap_or(&DIGITS);
+        is_bad(&rt, rt.alloc(), &[WORLD, WRITE, name, digits, last, RUN], 3)?;
     }
     Ok(())
 }
 
-#[test]
-fn a_line_that_is_not_built_is_refused(rt: HostRuntime) -> Result<(), Fail> {
-    let cases: [&[u8]; 10] = [
-        b"start 0 flush 0",
-        b"start 0 reclaim",
-        b"start 0 snap 0",
-        b"upto 0 sweep",
-        b"upto 0 fresh",
-        b"upto 0 link",
-        b"upto 0 overwrite",
-        b"upto 0 log",
-        b"upto 0 r-log",
-        b"upto 0 r-pool",
-    ];
-    for line in cases {
-        assert_eq!(rt; first_bad_with(rt.alloc(), line)?, 3);
+/// Whether the label that was read is this one.
+fn is_label(label: Option<Label>, bytes: &[u8]) -> bool {
+    match label {
+        Some(label) => label.as_slice() == bytes,
+        None => false,
     }
-    Ok(())
 }
 
 #[test]
 fn words_are_read_by_name(rt: HostRuntime) {
     let mut words = Words::of(b"size=8 gen=4294967296 label=disk-1 label=- label=");
-    assert_eq!(rt; words.named(b"size=", 8), Some(8));
-    assert_eq!(rt; words.named_small(b"gen="), None);
-    let label = words.label(b"label=");
-    assert!(rt; label.is_some_and(|label| label.as_slice() == b"disk-1".as_slice()));
-    let label = words.label(b"label=");
-    assert!(rt; label.is_some_and(|label| label.as_slice().is_empty()));
+    assert!(rt; words.named(b"size=", 8) == Some(8));
+    assert!(rt; words.named_small(b"gen=") == None);
+    assert!(rt; is_label(words.label(b"label="), b"disk-1"));
+    assert!(rt; is_label(words.label(b"label="), b""));
     assert!(rt; words.label(b"label=").is_none());
-    assert_eq!(rt; words.end(), Some(()));
+    assert!(rt; words.end() == Some(()));
 }

@@ -1,57 +1,45 @@
 //! Maps of extents whose bytes are written out by hand.
 use plx_extent::ExtentMap;
+use std::process::Abort;
 
-/// The block of a map that begins with these bytes; the rest are zeros.
-fn map(front: &[u8; 3]) -> [u8; 4096] {
+/// The block of a map of which bit 0 is the map's own, and blocks 1 to 8 and those of a second byte
+/// are taken.
+fn map(second: u8) -> [u8; 4096] {
     let mut bytes = [0; 4096];
-    bytes[..3].copy_from_slice(front);
+    bytes[0] = 0xff;
+    bytes[1] = second;
     bytes
 }
 
+/// The first block that is free is taken.
+fn take(map: &mut ExtentMap) -> Option<u32> {
+    let free = map.first_free()?;
+    map.set(free);
+    Some(free)
+}
+
+/// The next block, how many are taken then, and the second byte of the map.
+const TAKEN: &[(u32, u32, u8)] = &[
+    (9, 10, 0x07),
+    (11, 11, 0x0f),
+    (12, 12, 0x1f),
+    (13, 13, 0x3f),
+];
+
 #[test]
 fn fresh_blocks_are_taken_in_order(rt: HostRuntime) {
-    // Bit 0 is the map's own; blocks 1 to 8 and 10 of 16 are taken.
-    let Some(mut found) = ExtentMap::read(&map(&[0xff, 0x05, 0]), 16) else {
+    let Some(mut found) = ExtentMap::read(&map(0x05), 16) else {
         panic!(rt; "a map");
     };
-    assert_eq!(rt; found.count(), 9);
-    for (bit, count, second) in [
-        (9, 10, 0x07),
-        (11, 11, 0x0f),
-        (12, 12, 0x1f),
-        (13, 13, 0x3f),
-    ] {
-        assert_eq!(rt; found.first_free(), Some(bit));
-        if let Some(free) = found.first_free() {
-            found.set(free);
-        }
-        assert_eq!(rt; found.count(), count);
-        assert!(rt; found.bytes() == map(&[0xff, second, 0]).as_slice());
+    assert!(rt; found.count() == 9);
+    for &(block, count, second) in TAKEN {
+        assert!(rt; take(&mut found) == Some(block) && found.count() == count);
+        assert!(rt; found.bytes() == map(second).as_slice());
     }
 }
 
-#[test]
-fn a_map_has_its_own_bit_and_none_past_its_extent(rt: HostRuntime) {
-    for (front, is_map) in [
-        ([0x01, 0x00, 0x00], true),
-        ([0xff, 0xff, 0x00], true),
-        ([0xfe, 0xff, 0x00], false),
-        ([0x00, 0x00, 0x00], false),
-        ([0x01, 0x00, 0x01], false),
-        ([0x01, 0x00, 0x80], false),
-    ] {
-        assert_eq!(rt; ExtentMap::read(&map(&front), 16).is_some(), is_map);
-    }
-    assert!(rt; ExtentMap::read(&[1; 4095], 32_768).is_none());
-    let Some(full) = ExtentMap::read(&[0xff; 4096], 32_768) else {
-        panic!(rt; "a map");
-    };
-    assert_eq!(rt; full.first_free(), None);
-    assert_eq!(rt; full.count(), 32_767);
-}
-
-/// A map of so many blocks, all of which are taken as far as whole bytes go, or none but its own; with
-/// this byte at this place.
+/// A map of so many blocks, all of which are taken as far as whole bytes go, or none but its own;
+/// with this byte at this place.
 fn spelled(blocks: u32, all: bool, place: usize, byte: u8) -> [u8; 4096] {
     let mut bytes = [0; 4096];
     bytes[0] = 1;
@@ -66,16 +54,19 @@ fn spelled(blocks: u32, all: bool, place: usize, byte: u8) -> [u8; 4096] {
     bytes
 }
 
-/// How many blocks are taken but for the map's own, and the first that isn't; or none where a bit past the
-/// extent is set.
-const HOLES: [(u32, bool, (usize, u8), Option<(u32, Option<u32>)>); 18] = [
+/// How many blocks are taken but for the map's own, and the first that isn't; or none where a bit
+/// past the extent is set, or the map's own isn't.
+const HOLES: &[(u32, bool, (usize, u8), Option<(u32, Option<u32>)>)] = &[
     (16, true, (0, 0xff), Some((15, None))),
     (16, false, (0, 0x01), Some((0, Some(1)))),
     (16, true, (0, 0xfd), Some((14, Some(1)))),
     (16, true, (1, 0xfe), Some((14, Some(8)))),
     (16, true, (1, 0x7f), Some((14, Some(15)))),
+    (16, true, (0, 0xfe), None),
+    (16, false, (0, 0x00), None),
     (16, true, (2, 0x01), None),
     (16, false, (2, 0x01), None),
+    (16, false, (2, 0x80), None),
     (16, true, (4095, 0x80), None),
     (17, true, (2, 0x01), Some((16, None))),
     (17, true, (2, 0x00), Some((15, Some(16)))),
@@ -89,25 +80,34 @@ const HOLES: [(u32, bool, (usize, u8), Option<(u32, Option<u32>)>); 18] = [
     (32_768, true, (4095, 0x7f), Some((32_766, Some(32_767)))),
 ];
 
+/// How many blocks are taken in the map of these bytes, and the first that isn't, which is filled
+/// and cleared again.
+fn holes(rt: &impl Abort, bytes: &[u8; 4096], blocks: u32) -> Option<(u32, Option<u32>)> {
+    assert!(rt; 16 <= blocks && blocks <= 32_768);
+    let mut map = ExtentMap::read(bytes, blocks)?;
+    let found = (map.count(), map.first_free());
+    assert!(rt; is_filled(&mut map) && map.bytes() == bytes.as_slice());
+    Some(found)
+}
+
+/// Whether the first hole is taken once it is filled, and counted. It is cleared then.
+fn is_filled(map: &mut ExtentMap) -> bool {
+    let count = map.count();
+    let Some(hole) = map.first_free() else {
+        return true;
+    };
+    let was = map.is_taken(hole);
+    map.set(hole);
+    let is = map.is_taken(hole) && map.count() == count.saturating_add(1);
+    map.clear(hole);
+    is && !was
+}
+
 #[test]
 fn the_first_hole_of_a_map_is_found_and_filled(rt: HostRuntime) {
-    for (blocks, all, (place, byte), found) in HOLES {
+    for &(blocks, all, (place, byte), found) in HOLES {
         let bytes = spelled(blocks, all, place, byte);
-        assert!(rt; 16 <= blocks && blocks <= 32_768);
-        let map = ExtentMap::read(&bytes, blocks);
-        assert!(rt; map.is_some() == found.is_some(), "{byte} at {place}");
-        let (Some(mut map), Some((count, hole))) = (map, found) else {
-            continue;
-        };
-        assert_eq!(rt; map.count(), count, "{byte} at {place}");
-        assert_eq!(rt; map.first_free(), hole, "{byte} at {place}");
-        if let Some(free) = map.first_free() {
-            assert!(rt; !map.is_taken(free));
-            map.set(free);
-            assert!(rt; map.is_taken(free));
-            assert_eq!(rt; map.count(), count.saturating_add(1));
-            map.clear(free);
-            assert!(rt; map.bytes() == bytes.as_slice(), "{byte} at {place}");
-        }
+        assert!(rt; holes(&rt, &bytes, blocks) == found, "{byte} at {place}");
     }
+    assert!(rt; ExtentMap::read(&[1; 4095], 32_768).is_none());
 }

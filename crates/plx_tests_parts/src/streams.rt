@@ -1,7 +1,9 @@
 //! Streams that are interrupted, give little, take nothing or fail.
 use plx_port::{Failed, ReadError, ReadSource, WriteSink, read_all, write_all};
+use std::alloc::Global;
 use std::io;
 use std::io::{BufReader, ErrorKind, Read, Write};
+use std::process::Abort;
 use std::test::Fail;
 
 /// What one call of a stream does.
@@ -16,7 +18,7 @@ enum Step {
 /// A stream whose calls do one step after another. After the last it gives and takes nothing.
 #[derive(Drop)]
 struct Script {
-    steps: Vec<Step>,
+    steps: &'static [Step],
     at: usize,
     taken: Vec<u8>,
 }
@@ -54,74 +56,73 @@ impl Write for Script {
     }
 }
 
+/// A stream whose calls do these steps.
+fn doing(alloc: Global, steps: &'static [Step]) -> Script {
+    Script {
+        steps,
+        at: 0,
+        taken: Vec::new(alloc),
+    }
+}
+
+/// A reader of these steps, in pieces of at most `capacity` bytes, fails so often, and then gives
+/// these bytes up to its end.
+fn reads(
+    rt: &impl Abort,
+    alloc: Global,
+    (steps, capacity): (&'static [Step], usize),
+    (faults, bytes): (u32, &[u8]),
+) -> Result<(), Fail> {
+    let reader = BufReader::with_capacity(alloc, capacity, doing(alloc, steps))?;
+    let mut source = ReadSource::new(reader);
+    for _ in 0..faults {
+        assert!(rt; read_all(alloc, &mut source, 9) == Err(ReadError::Failed));
+    }
+    assert!(rt; read_all(alloc, &mut source, 9)?.as_slice() == bytes);
+    Ok(())
+}
+
+const INTERRUPTED: &[Step] = &[
+    Step::Interrupt,
+    Step::Interrupt,
+    Step::Move(1),
+    Step::Interrupt,
+    Step::Interrupt,
+    Step::Move(2),
+    Step::Fail,
+    Step::Move(1),
+];
+
+const LITTLE: &[Step] = &[
+    Step::Move(1),
+    Step::Interrupt,
+    Step::Interrupt,
+    Step::Move(3),
+    Step::Move(1),
+];
+
 #[test]
 fn a_reader_is_read_through_interrupts_and_after_a_fault(rt: HostRuntime) -> Result<(), Fail> {
-    let alloc = rt.alloc();
-    let steps = [
-        Step::Interrupt,
-        Step::Interrupt,
-        Step::Move(1),
-        Step::Interrupt,
-        Step::Interrupt,
-        Step::Move(2),
-        Step::Fail,
-        Step::Move(1),
-    ];
-    let reader = Script {
-        steps: steps.to_vec(alloc)?,
-        at: 0,
-        taken: Vec::new(alloc),
-    };
-    let mut source = ReadSource::new(BufReader::with_capacity(alloc, 4, reader)?);
-    assert_eq!(rt; read_all(alloc, &mut source, 9), Err(ReadError::Failed));
-    let rest = read_all(alloc, &mut source, 9)?;
-    assert_eq!(rt; rest.as_slice(), b"a".as_slice());
-    Ok(())
+    reads(&rt, rt.alloc(), (INTERRUPTED, 4), (1, b"a"))?;
+    reads(&rt, rt.alloc(), (LITTLE, 2), (0, b"aaaa"))
 }
 
-#[test]
-fn all_that_an_interrupted_reader_gives_is_read(rt: HostRuntime) -> Result<(), Fail> {
-    let alloc = rt.alloc();
-    let steps = [
-        Step::Move(1),
-        Step::Interrupt,
-        Step::Interrupt,
-        Step::Move(3),
-        Step::Move(1),
-    ];
-    let reader = Script {
-        steps: steps.to_vec(alloc)?,
-        at: 0,
-        taken: Vec::new(alloc),
-    };
-    let mut source = ReadSource::new(BufReader::with_capacity(alloc, 2, reader)?);
-    let bytes = read_all(alloc, &mut source, 9)?;
-    assert_eq!(rt; bytes.as_slice(), b"aaaa".as_slice());
-    Ok(())
-}
+const TAKING: &[Step] = &[
+    Step::Interrupt,
+    Step::Interrupt,
+    Step::Move(1),
+    Step::Move(2),
+    Step::Fail,
+    Step::Move(9),
+    Step::Move(0),
+];
 
 #[test]
-fn a_writer_is_given_what_it_has_not_taken(rt: HostRuntime) -> Result<(), Fail> {
-    let alloc = rt.alloc();
-    let steps = [
-        Step::Interrupt,
-        Step::Interrupt,
-        Step::Move(1),
-        Step::Move(2),
-        Step::Fail,
-        Step::Move(9),
-        Step::Move(0),
-    ];
-    let mut writer = Script {
-        steps: steps.to_vec(alloc)?,
-        at: 0,
-        taken: Vec::new(alloc),
-    };
+fn a_writer_is_given_what_it_has_not_taken(rt: HostRuntime) {
+    let mut writer = doing(rt.alloc(), TAKING);
     let mut sink = WriteSink::new(&mut writer);
-    assert_eq!(rt; write_all(&mut sink, b"hello"), Err(Failed));
-    assert_eq!(rt; write_all(&mut sink, b"lo"), Ok(()));
-    assert_eq!(rt; write_all(&mut sink, b"you"), Err(Failed));
-    assert_eq!(rt; writer.taken.as_slice(), b"hello".as_slice());
-    assert_eq!(rt; writer.at, 7);
-    Ok(())
+    assert!(rt; write_all(&mut sink, b"hello") == Err(Failed));
+    assert!(rt; write_all(&mut sink, b"lo") == Ok(()));
+    assert!(rt; write_all(&mut sink, b"you") == Err(Failed));
+    assert!(rt; writer.taken.as_slice() == b"hello".as_slice() && writer.at == 7);
 }

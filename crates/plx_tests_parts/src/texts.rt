@@ -5,7 +5,9 @@ use plx_base::{
 };
 use plx_commands::{Command, Entry, Reply, Report};
 use plx_geom::Geometry;
-use plx_text::print_trace;
+use plx_text::{Text, print_trace};
+use std::alloc::Global;
+use std::process::Abort;
 
 const SLOT: SlotNo = SlotNo(3);
 
@@ -15,6 +17,20 @@ const SMALL: Geometry = Geometry {
     extent_blocks: 16,
     slots: 2,
 };
+
+/// The greatest device.
+const GREATEST: Geometry = Geometry {
+    images: 256,
+    extents: 512,
+    extent_blocks: 32_768,
+    slots: 64,
+};
+
+/// The text is spelled so.
+fn is_text(rt: &impl Abort, text: &Text, spelled: &[u8]) {
+    let found = str::from_utf8(text.as_slice()).unwrap_or("");
+    assert!(rt; text.as_slice() == spelled, "{found}");
+}
 
 fn started(command: Command) -> Entry {
     let appliance = ApplianceNo(0);
@@ -50,6 +66,20 @@ fn claimed(boot: u128) -> LeaseRecord {
     }
 }
 
+/// The report of a slot that is free.
+fn free() -> Reply {
+    let report = Report {
+        live: false,
+        generation: 2,
+        size: 0,
+        writes: 0,
+        taken: 0,
+        dropped: 0,
+        label: Label::empty(),
+    };
+    Reply::Attached { report }
+}
+
 /// The report of an image.
 fn live() -> Reply {
     let report = Report {
@@ -64,22 +94,34 @@ fn live() -> Reply {
     Reply::Attached { report }
 }
 
+/// Commands and their replies.
+const COMMANDS: &[u8] = b"world 256 512 32768 64 8
+start 0 attach 3
+reply 7 attached live=0 gen=2 size=0 writes=0 taken=0 dropped=0 label=-
+reply 7 attached live=1 gen=4294967295 size=8 writes=18446744073709551615 taken=2 dropped=1 label=disk-1
+start 0 create 3 134217728 a-b
+reply 7 created
+start 0 create 3 0 -
+reply 7 exists
+start 0 read 3 10
+reply 7 data all:a0
+start 0 write 3 7 all:0f
+reply 7 written 1
+start 0 renew
+reply 7 renewed
+start 0 delete 3
+reply 7 deleted
+start 0 detach 3
+reply 7 detached
+crash 7
+end reachable=20 allocated=3
+";
+
 #[test]
 fn commands_and_their_replies_have_their_words(rt: HostRuntime) -> Result<(), NoMemory> {
-    let alloc = rt.alloc();
-    let mut entries = Vec::new(alloc);
-    let report = Report {
-        live: false,
-        generation: 2,
-        size: 0,
-        writes: 0,
-        taken: 0,
-        dropped: 0,
-        label: Label::empty(),
-    };
-    let list = [
+    let entries = [
         started(Command::Attach { slot: SLOT }),
-        replied(Reply::Attached { report }),
+        replied(free()),
         replied(live()),
         started(Command::Create {
             slot: SLOT,
@@ -116,46 +158,34 @@ fn commands_and_their_replies_have_their_words(rt: HostRuntime) -> Result<(), No
             appliance: ApplianceNo(7),
         },
     ];
-    for entry in list {
-        entries.push(entry)?;
-    }
-    let geometry = Geometry {
-        images: 256,
-        extents: 512,
-        extent_blocks: 32_768,
-        slots: 64,
-    };
-    let text = print_trace(alloc, &geometry, 8, entries.as_slice(), 20, 3)?;
-    let expected = b"world 256 512 32768 64 8
-start 0 attach 3
-reply 7 attached live=0 gen=2 size=0 writes=0 taken=0 dropped=0 label=-
-reply 7 attached live=1 gen=4294967295 size=8 writes=18446744073709551615 taken=2 dropped=1 label=disk-1
-start 0 create 3 134217728 a-b
-reply 7 created
-start 0 create 3 0 -
-reply 7 exists
-start 0 read 3 10
-reply 7 data all:a0
-start 0 write 3 7 all:0f
-reply 7 written 1
-start 0 renew
-reply 7 renewed
-start 0 delete 3
-reply 7 deleted
-start 0 detach 3
-reply 7 detached
-crash 7
-end reachable=20 allocated=3
-";
-    assert_eq!(rt; text.as_slice(), expected.as_slice());
+    let text = print_trace(rt.alloc(), &GREATEST, 8, &entries, 20, 3)?;
+    is_text(&rt, &text, COMMANDS);
     Ok(())
 }
 
+/// Refusals.
+const REFUSALS: &[u8] = b"world 1 1 16 2 1
+reply 7 not-attached
+reply 7 already-attached
+reply 7 no-image
+reply 7 out-of-range size=134217728
+reply 7 busy lease=root free
+reply 7 busy lease=image:3 boot=257 claim=18446744073709551615 sample=5 until=10005
+reply 7 busy lease=extent:511 boot=340282366920938463463374607431768211455 claim=18446744073709551615 sample=5 until=10005
+reply 7 lost lease=root until=1400 reading=1401
+reply 7 lost lease=image:255 until=1400 reading=1401
+reply 7 lost lease=extent:17 until=1400 reading=1401
+reply 7 read-fault block=6
+reply 7 write-fault block=7
+reply 7 full
+reply 7 damaged block=0
+reply 7 worn count=4294967295
+end reachable=0 allocated=0
+";
+
 #[test]
 fn refusals_have_their_words(rt: HostRuntime) -> Result<(), NoMemory> {
-    let alloc = rt.alloc();
-    let mut entries = Vec::new(alloc);
-    let list = [
+    let entries = [
         replied(Reply::NotAttached),
         replied(Reply::AlreadyAttached),
         replied(Reply::NoImage),
@@ -177,49 +207,34 @@ fn refusals_have_their_words(rt: HostRuntime) -> Result<(), NoMemory> {
             count: 4_294_967_295,
         }),
     ];
-    for entry in list {
-        entries.push(entry)?;
-    }
-    let text = print_trace(alloc, &SMALL, 1, entries.as_slice(), 0, 0)?;
-    let expected = b"world 1 1 16 2 1
-reply 7 not-attached
-reply 7 already-attached
-reply 7 no-image
-reply 7 out-of-range size=134217728
-reply 7 busy lease=root free
-reply 7 busy lease=image:3 boot=257 claim=18446744073709551615 sample=5 until=10005
-reply 7 busy lease=extent:511 boot=340282366920938463463374607431768211455 claim=18446744073709551615 sample=5 until=10005
-reply 7 lost lease=root until=1400 reading=1401
-reply 7 lost lease=image:255 until=1400 reading=1401
-reply 7 lost lease=extent:17 until=1400 reading=1401
-reply 7 read-fault block=6
-reply 7 write-fault block=7
-reply 7 full
-reply 7 damaged block=0
-reply 7 worn count=4294967295
-end reachable=0 allocated=0
-";
-    assert_eq!(rt; text.as_slice(), expected.as_slice());
+    let text = print_trace(rt.alloc(), &SMALL, 1, &entries, 0, 0)?;
+    is_text(&rt, &text, REFUSALS);
     Ok(())
 }
+
+/// A block whose bytes are this one but for the last.
+fn data(alloc: Global, byte: u8, last: u8) -> Result<Entry, NoMemory> {
+    let mut block = Block::filled(alloc, byte)?;
+    block.copy_from(4095, &[last]);
+    let payload = Payload::Whole(block);
+    Ok(replied(Reply::Data { payload }))
+}
+
+/// How the trace begins and ends in which a block of one byte and one of two are read.
+const READS: (&[u8], &[u8]) = (
+    b"world 1 1 16 2 1
+reply 7 data all:ff
+reply 7 data hex:ababab",
+    b"abab09\nend reachable=0 allocated=0\n",
+);
 
 #[test]
 fn a_block_is_spelled_by_one_byte_or_by_all(rt: HostRuntime) -> Result<(), NoMemory> {
     let alloc = rt.alloc();
-    let mut block = Block::filled(alloc, 0xab)?;
-    block.copy_from(4095, &[0x09]);
-    let mut entries = Vec::new(alloc);
-    for block in [Block::filled(alloc, 0xff)?, block] {
-        let payload = Payload::Whole(block);
-        entries.push(replied(Reply::Data { payload }))?;
-    }
-    let text = print_trace(alloc, &SMALL, 1, entries.as_slice(), 0, 0)?;
-    let start = b"world 1 1 16 2 1
-reply 7 data all:ff
-reply 7 data hex:ababab";
-    let end = b"abab09\nend reachable=0 allocated=0\n";
-    assert!(rt; text.as_slice().starts_with(start.as_slice()));
-    assert!(rt; text.as_slice().ends_with(end.as_slice()));
-    assert_eq!(rt; text.as_slice().len(), 17 + 20 + 17 + 8192 + 1 + 28);
+    let entries = [data(alloc, 0xff, 0xff)?, data(alloc, 0xab, 0x09)?];
+    let text = print_trace(alloc, &SMALL, 1, &entries, 0, 0)?;
+    let (start, end) = READS;
+    assert!(rt; text.as_slice().starts_with(start) && text.as_slice().ends_with(end));
+    assert!(rt; text.as_slice().len() == 17 + 20 + 17 + 8192 + 1 + 28);
     Ok(())
 }

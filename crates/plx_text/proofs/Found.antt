@@ -6,7 +6,7 @@ use Rattle.plx_base.specs.declared.lease.LeaseName.TheVariants.{Root, Image, Ext
 use Rattle.plx_base.specs.declared.lease.LeaseRecord.TheVariants.{Free, Claimed}
 use Rattle.plx_base.specs.declared.write_kind.WriteKind.TheVariants as kind
 use Rattle.plx_commands.specs.declared.command.Command.{Command}
-use Rattle.plx_commands.specs.declared.command.Command.TheVariants.{Attach, Create, Write, Flush, Reserve, Retire, Reclaim}
+use Rattle.plx_commands.specs.declared.command.Command.TheVariants.{Attach, Create, Write, Flush, Reclaim}
 use Rattle.plx_commands.specs.declared.entry.Entry.{Entry}
 use Rattle.plx_commands.specs.declared.entry.Entry.TheVariants as entry
 use Rattle.plx_commands.specs.declared.event.Event.{Event}

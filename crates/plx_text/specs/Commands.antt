@@ -3,7 +3,7 @@ use Rattle.std.specs.Prelude.{ℕ, List, [], ◌∷◌, ◌++◌, codes, Option,
 use Rattle.plx_base.specs.declared.numbers.SlotNo.{SlotNo}
 use Rattle.plx_commands.specs.declared.command.Command.{Command}
 use Rattle.plx_commands.specs.declared.command.Command.TheVariants.{Attach, Detach, Create, Delete, Read, Write, Flush, Reserve, Renew, Retire, Reclaim}
-use Rattle.plx_words.specs.Candidates.{Reads, by_first, payload_at, label_at, number_at}
+use Rattle.plx_words.specs.Candidates.{Reads, by_first, payload_at, label_at, word_number_at}
 use Rattle.plx_words.specs.Pieces.{Piece, word, number, small, label, data_word, unspelled, Spell}
 
 -- the words of a command, by their pieces
@@ -32,17 +32,17 @@ SpellsCommand command words = Spell (built_line command) words
 
 -- the slot that the word at this place can spell
 abbrev pub slot_at : ℕ → List (List ℕ) → SlotNo
-slot_at k words = record { 0 = number_at k words }
+slot_at k words = record { 0 = word_number_at k words }
 
 -- the commands that words can spell, by the first word
 abbrev pub built_rows : List (List ℕ) → List (List ℕ × Option Command)
 built_rows words = (codes "attach", Some (Attach (slot_at 1 words)))
     ∷ (codes "detach", Some (Detach (slot_at 1 words)))
-    ∷ (codes "create", Some (Create (slot_at 1 words) (number_at 2 words) (label_at [] 3 words)))
+    ∷ (codes "create", Some (Create (slot_at 1 words) (word_number_at 2 words) (label_at [] 3 words)))
     ∷ (codes "delete", Some (Delete (slot_at 1 words)))
-    ∷ (codes "read", Some (Read (slot_at 1 words) (number_at 2 words)))
-    ∷ (codes "write", Some (Write (slot_at 1 words) (number_at 2 words) (payload_at 3 words)))
-    ∷ (codes "reserve", Some (Reserve (number_at 1 words)))
+    ∷ (codes "read", Some (Read (slot_at 1 words) (word_number_at 2 words)))
+    ∷ (codes "write", Some (Write (slot_at 1 words) (word_number_at 2 words) (payload_at 3 words)))
+    ∷ (codes "reserve", Some (Reserve (word_number_at 1 words)))
     ∷ (codes "renew", Some Renew)
     ∷ (codes "retire", Some Retire)
     ∷ []

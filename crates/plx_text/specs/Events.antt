@@ -3,7 +3,7 @@ use Rattle.std.specs.Prelude.{ℕ, ◌^◌, List, [], ◌∷◌, codes, get_or, 
 use Rattle.plx_base.specs.declared.numbers.ApplianceNo.{ApplianceNo}
 use Rattle.plx_commands.specs.declared.event.Event.{Event}
 use Rattle.plx_commands.specs.declared.event.Event.TheVariants as event
-use Rattle.plx_words.specs.Candidates.{Reads, by_first, number_at}
+use Rattle.plx_words.specs.Candidates.{Reads, by_first, word_number_at}
 use Rattle.plx_text.specs.Commands.{built_line, built_of}
 use Rattle.plx_words.specs.Pieces.{Piece, word, number, small, Spell}
 use Rattle.plx_text.specs.Stops.{stop_of, stop_piece}
@@ -29,20 +29,20 @@ SpellsEvent one words = Spell (event_line one) words
 
 -- the appliance that the word at this place can spell
 abbrev pub appliance_at : ℕ → List (List ℕ) → ApplianceNo
-appliance_at k words = record { 0 = number_at k words }
+appliance_at k words = record { 0 = word_number_at k words }
 
 -- the one event that words can spell
 abbrev pub event_of : List (List ℕ) → Option Event
 event_of words = by_first words (
-    (codes "tick", Some (event.Tick (number_at 1 words)))
+    (codes "tick", Some (event.Tick (word_number_at 1 words)))
     ∷ (codes "start", option_map (λ command. event.Start (appliance_at 1 words) command) (built_of (drop 2 words)))
     ∷ (codes "read", Some (event.Read (appliance_at 1 words)))
     ∷ (codes "issue", Some (event.Issue (appliance_at 1 words)))
-    ∷ (codes "land", Some (event.Land (appliance_at 1 words) (number_at 2 words) (number_at 3 words)))
+    ∷ (codes "land", Some (event.Land (appliance_at 1 words) (word_number_at 2 words) (word_number_at 3 words)))
     ∷ (codes "done", Some (event.Done (appliance_at 1 words)))
     ∷ (codes "fault", Some (event.Fault (appliance_at 1 words)))
-    ∷ (codes "miss", Some (event.Miss (appliance_at 1 words) (number_at 2 words)))
-    ∷ (codes "clock", Some (event.Reading (appliance_at 1 words) (number_at 2 words)))
+    ∷ (codes "miss", Some (event.Miss (appliance_at 1 words) (word_number_at 2 words)))
+    ∷ (codes "clock", Some (event.Reading (appliance_at 1 words) (word_number_at 2 words)))
     ∷ (codes "crash", Some (event.Crash (appliance_at 1 words)))
     ∷ (codes "run", Some (event.Run (appliance_at 1 words)))
     ∷ (codes "upto", option_map (λ stop. event.Upto (appliance_at 1 words) stop) (stop_of (get_or words 2 [])))

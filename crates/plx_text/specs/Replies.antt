@@ -10,7 +10,7 @@ use Rattle.plx_base.specs.declared.numbers.BlockNo.{BlockNo}
 use Rattle.plx_commands.specs.declared.reply.Report.{Report}
 use Rattle.plx_commands.specs.declared.reply.Reply.{Reply}
 use Rattle.plx_commands.specs.declared.reply.Reply.TheVariants.{Attached, Detached, Created, Deleted, Data, Written, Flushed, Reserved, Renewed, Retired, Reclaimed, NotAttached, AlreadyAttached, NoImage, Exists, OutOfRange, Busy, Lost, ReadFault, WriteFault, Full, Damaged, WornOut}
-use Rattle.plx_words.specs.Candidates.{by_first, payload_at, label_at, named_at, number_at}
+use Rattle.plx_words.specs.Candidates.{by_first, payload_at, label_at, named_at, word_number_at}
 use Rattle.plx_words.specs.Pieces.{Piece, word, number, named, label, data_word, flag}
 
 -- the word of a lease
@@ -94,7 +94,7 @@ reply_in words = by_first words (
     ∷ (codes "created", Some Created)
     ∷ (codes "deleted", Some Deleted)
     ∷ (codes "data", Some (Data (payload_at 1 words)))
-    ∷ (codes "written", Some (Written (number_at 1 words)))
+    ∷ (codes "written", Some (Written (word_number_at 1 words)))
     ∷ (codes "flushed", Some (Flushed (named_at (codes "applied=") 1 words) (named_at (codes "blocks=") 2 words)))
     ∷ (codes "reserved", Some Reserved)
     ∷ (codes "renewed", Some Renewed)

@@ -2,7 +2,7 @@
 use Rattle.std.specs.Prelude.{◌≡◌, ℕ, List, [], ◌∷◌, Option, Some, codes}
 use Rattle.plx_commands.specs.declared.event.Event.{Event}
 use Rattle.plx_geom.specs.Geometry.{Geometry, geometry_of}
-use Rattle.plx_words.specs.Candidates.{Reads, by_first, number_at}
+use Rattle.plx_words.specs.Candidates.{Reads, by_first, word_number_at}
 use Rattle.plx_text.specs.Events.{SpellsEvent}
 use Rattle.plx_words.specs.Files.{Numbered, Grammar, IsFirstBad, SpellAll, lines_left, unended_text}
 use Rattle.plx_words.specs.Pieces.{Piece, word, number, Spell}
@@ -21,11 +21,11 @@ SpellsWorld world words = Spell (world_line world.0 world.1) words
 
 -- the geometry that words can spell, from the second on
 abbrev pub geometry_at : List (List ℕ) → Geometry
-geometry_at words = geometry_of (number_at 1 words) (number_at 2 words) (number_at 3 words) (number_at 4 words)
+geometry_at words = geometry_of (word_number_at 1 words) (word_number_at 2 words) (word_number_at 3 words) (word_number_at 4 words)
 
 -- the one geometry and the one number of appliances that a first line can give
 abbrev pub world_of : List (List ℕ) → Option (Geometry × ℕ)
-world_of words = by_first words ((codes "world", Some (geometry_at words, number_at 5 words)) ∷ [])
+world_of words = by_first words ((codes "world", Some (geometry_at words, word_number_at 5 words)) ∷ [])
 
 -- what a reader of a world's words gives
 abbrev pub ReadsWorld : Option (Geometry × ℕ) → List (List ℕ) → Type 0

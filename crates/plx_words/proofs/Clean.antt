@@ -1,5 +1,5 @@
 -- Words without a space and without a line feed.
-use Rattle.std.proofs.Common.{◌≡◌, ◌≤◌, ◌<◌, ◌+◌, ◌%◌, ◌/◌, ◌^◌, ℕ, Bool, true, false, ◌&&◌, List, [], ◌∷◌, ◌++◌, get_or, codes, decimal, flat_map, refl, arith}
+use Rattle.std.proofs.Common.{◌≡◌, ◌≤◌, ◌<◌, ◌+◌, ◌%◌, ◌/◌, ◌^◌, ℕ, Bool, true, ◌&&◌, List, [], ◌∷◌, ◌++◌, get_or, codes, decimal, flat_map, refl, arith}
 use Rattle.std.specs.List.{All as Each}
 use Rattle.std.specs.Prelude.{leb}
 use Rattle.std.proofs.lemmas.Bool.{leb-true}
@@ -9,6 +9,7 @@ use Rattle.std.proofs.lemmas.List.Elements.{All-nil, All-cons, All-append}
 use Rattle.plx_base.specs.Labels.{IsLabel}
 use Rattle.plx_base.specs.declared.payload.Payload.{Payload}
 use Rattle.plx_base.specs.declared.payload.Payload.TheVariants.{All, Whole}
+use Rattle.plx_base.proofs.Tests.{and-parts}
 use Rattle.plx_words.specs.Pieces.{AllFit, AllTell, FitsPiece, Piece, Tells, all_spelled, data_spelled, data_word, hex_byte, hex_digit, label, label_spelled, named, number, piece_text, unspelled, word}
 
 -- each byte is printable
@@ -20,14 +21,10 @@ abbrev pub clean : List ℕ → Bool
 clean [] = true
 clean (byte ∷ text) = leb 33 byte && clean text
 
-both : (one other : Bool) → (one && other) ≡ true → (one ≡ true) × (other ≡ true)
-both true other test = (refl, test)
-both false other test = absurd (cc)
-
 pub clean-word : (text : List ℕ) → clean text ≡ true → Is-clean text
 clean-word [] test = All-nil _
 clean-word (byte ∷ text) test =
-    let parts = both (leb 33 byte) (clean text) test in
+    let parts = and-parts (leb 33 byte) (clean text) test in
     All-cons (λ (b : ℕ). 33 ≤ b) byte text (leb-true 33 byte parts.0) (clean-word text parts.1)
 
 clean-append : (one other : List ℕ) → Is-clean one → Is-clean other → Is-clean (one ++ other)
@@ -59,7 +56,7 @@ clean-label : (bytes : List ℕ) → IsLabel bytes → Is-clean (label_spelled b
 clean-label [] fits = clean-word (codes "-") refl
 clean-label (byte ∷ bytes) fits = λ k d below.
     let at = get_or (byte ∷ bytes) k d in
-    leb-true 33 at (both (leb 33 at) (leb at 126) (fits.printable k d below)).0
+    leb-true 33 at (and-parts (leb 33 at) (leb at 126) (fits.printable k d below)).0
 
 -- the words that are written out in a line are clean
 abbrev sound : Piece → Bool
@@ -91,7 +88,7 @@ All-clean (text ∷ texts) = Is-clean text × All-clean texts
 pub clean-line : (pieces : List Piece) → all_sound pieces ≡ true → AllTell pieces → All-clean (all_spelled pieces)
 clean-line [] test tells = tt
 clean-line (piece ∷ pieces) test tells =
-    let parts = both (sound piece) (all_sound pieces) test in
+    let parts = and-parts (sound piece) (all_sound pieces) test in
     (clean-piece piece parts.0 tells.0, clean-line pieces parts.1 tells.1)
 
 -- the numbers of a line have at most 64 digits, by their limits
@@ -117,5 +114,5 @@ fits-tells unspelled test fits = fits
 pub line-tells : (pieces : List Piece) → all_bounded pieces ≡ true → AllFit pieces → AllTell pieces
 line-tells [] test fits = tt
 line-tells (piece ∷ pieces) test fits =
-    let parts = both (bounded piece) (all_bounded pieces) test in
+    let parts = and-parts (bounded piece) (all_bounded pieces) test in
     (fits-tells piece parts.0 fits.0, line-tells pieces parts.1 fits.1)

@@ -50,7 +50,7 @@ seats-changed old new w v n before after at changed seats here g others numbers 
     subst P (sym changed) (set-all (λ k seat. IsSeat v k seat) old n before after at here (λ k seat other found. seat-same w v k seat g (others k other) (numbers k other) (seats k seat found)))
 
 -- what the code's answer has to leave
-pub record Answers (old new : World) (a : ApplianceNo) (before after : Seat) : Type 0 where
+pub record LeavesAnswer (old new : World) (a : ApplianceNo) (before after : Seat) : Type 0 where
   pub geometry : new.geometry ≡ old.geometry
   pub disk : new.disk ≡ old.disk
   pub seats : new.seats.items ≡ slice_set old.seats.items a.0 after
@@ -59,7 +59,7 @@ pub record Answers (old new : World) (a : ApplianceNo) (before after : Seat) : T
   pub kept : KeepsSeat before after
 
 pub answers : (old new : World) (a : ApplianceNo) (given : Answer) (before after : Seat) (reply : Option Reply) → slice_get old.seats.items a.0 ≡ Some before →
-    Answers old new a before after → new.trace.items ≡ old.trace.items ++ told_entries a reply →
+    LeavesAnswer old new a before after → new.trace.items ≡ old.trace.items ++ told_entries a reply →
     ((log : List Happening) (ask : Ask) (bytes : List ℕ) → StandsFor before.appliance log → IsStanding before.appliance log ask bytes → Fits ask given →
     StandsFor after.appliance (Asked ask bytes given ∷ log)) →
     ((log : List Happening) (ask : Ask) (bytes : List ℕ) → StandsFor before.appliance log → IsStanding before.appliance log ask bytes → Fits ask given →

@@ -11,7 +11,7 @@ use Rattle.plx_rules.specs.World as rules
 use Rattle.plx_rules.specs.World.{IsBack, Step, lands, ticks, with_surface}
 use Rattle.plx_world.specs.Backs.{HasNone, IsNth, IsNumber}
 use Rattle.plx_world.specs.Numbers.{own_numbers}
-use Rattle.plx_world.specs.Standing.{IsSeat, Stands, StandsOn, Steps}
+use Rattle.plx_world.specs.Standing.{IsSeat, WorldStands, StandsOn, Steps}
 use Rattle.plx_world.specs.declared.seat.Seat.{Seat}
 use Rattle.plx_world.specs.declared.world.World.{World}
 use Rattle.plx_world.proofs.Inverted.{step-land, step-tick}
@@ -25,8 +25,8 @@ pub record OnlyDisk (old new : World) : Type 0 where
   pub seats : new.seats.items ≡ old.seats.items
   pub trace : new.trace.items ≡ old.trace.items
 
-pub stands-disk : (old new : World) (w : rules.World) (one : Event) (s : Surface) → OnlyDisk old new → Stands old w →
-    ((a : ℕ) → own_numbers a 0 s.writes ≡ own_numbers a 0 w.surface.writes) → DiskStands new.disk s → Stands new (with_surface w one s)
+pub stands-disk : (old new : World) (w : rules.World) (one : Event) (s : Surface) → OnlyDisk old new → WorldStands old w →
+    ((a : ℕ) → own_numbers a 0 s.writes ≡ own_numbers a 0 w.surface.writes) → DiskStands new.disk s → WorldStands new (with_surface w one s)
 stands-disk old new w one s only h numbers surface =
     let P : List Seat → Type 0 = λ xs. (k : ℕ) (seat : Seat) → slice_get xs k ≡ Some seat → IsSeat (with_surface w one s) k seat in
     record {

@@ -1,7 +1,7 @@
 -- The next plain event of a run.
 use Rattle.std.proofs.Common.{◌≡◌, ◌+◌, ◌-◌, ◌≤◌, ◌<◌, ℕ, zero, suc, List, [], ◌∷◌, drop, Option, Some, None, Bool, true, false, if◌then◌else◌, refl, ap, sym, subst, ◌∙◌, inl, inr, arith, add-one}
-use Rattle.std.specs.Prelude.{◌⊎◌, length, slice_get, nat_le, nat_lt, IfOk, MatchBool, Result, Ok, Err}
-use Rattle.std.proofs.lemmas.Bool.{le-leb, ltb-true, lt-ltb}
+use Rattle.std.specs.Prelude.{length, slice_get, nat_le, IfOk, MatchBool, Result, Ok, Err}
+use Rattle.std.proofs.lemmas.Bool.{le-leb, lt-ltb}
 use Rattle.std.proofs.lemmas.Bool.Decides.{leb_tells}
 use Rattle.std.proofs.lemmas.Option.{slice_get_cases, slice_get_within}
 use Rattle.plx_base.specs.declared.numbers.ApplianceNo.{ApplianceNo}
@@ -19,18 +19,18 @@ use Rattle.plx_rules.specs.Boot.{Place, Idle, Begins, In, asks}
 use Rattle.plx_rules.specs.Part.{Ends, ReadThen, WriteThen, ClockThen, UntilThen}
 use Rattle.plx_rules.specs.Sequences.{landing, missing, next_at, next_event, next_landing, next_of_write, next_sector, stops}
 use Rattle.plx_rules.specs.World as rules
-use Rattle.plx_rules.specs.World.{IsReading, Step, is_boot_of, issued_by, stands, with_surface}
+use Rattle.plx_rules.specs.World.{IsReadingAt, Step, is_boot_of, issued_by, stands, with_surface}
 use Rattle.plx_world.specs.Answering.{asked_by, pending_of}
 use Rattle.plx_world.specs.Numbers.{own_numbers}
 use Rattle.plx_world.specs.Running.{AsksClock, RunGoesOn, IsOver, IsWriting, OneMore, StopsAs}
-use Rattle.plx_world.specs.Standing.{Stands, Steps, StandsOn}
+use Rattle.plx_world.specs.Standing.{WorldStands, Steps, StandsOn}
 use Rattle.plx_world.specs.declared.seat.Seat.{Seat}
 use Rattle.plx_world.specs.declared.world.World.{World}
 use Rattle.plx_world.proofs.Cancels.{cancelled-whole}
 use Rattle.plx_world.proofs.Disked.{OnlyDisk, stands-disk, stays-disk}
 use Rattle.plx_world.proofs.Left.{IsLess, less-done, less-fault, less-issue, less-land, less-miss, less-read, less-reading}
 use Rattle.plx_world.proofs.Numbered.{nth-back, own-numbers-set}
-use Rattle.plx_world.proofs.Placed.{AsksClock as AsksClockAt, AsksUntil, AsksWrite, asked-clock, asked-read, asked-until, asked-write, first, later}
+use Rattle.plx_world.proofs.Placed.{AsksClockAt, AsksUntilAt, AsksWriteAt, asked-clock, asked-read, asked-until, asked-write, first, later}
 use Rattle.plx_world.proofs.Seating.{if-none, if-some}
 use Rattle.plx_world.proofs.There.{run-there}
 
@@ -41,11 +41,11 @@ if-ok (Err error) P Q p f = tt
 
 -- what was made of an event, or that it isn't possible
 abbrev pub StepsTo : rules.World → World → Event → Bool → Type 0
-StepsTo w new one made = MatchBool made ((v : rules.World) × Step w one v × Stands new v) (((v : rules.World) → ¬ Step w one v) × Stands new w)
+StepsTo w new one made = MatchBool made ((v : rules.World) × Step w one v × WorldStands new v) (((v : rules.World) → ¬ Step w one v) × WorldStands new w)
 
 -- what was made of the next event of a run, or that it is over
 abbrev pub GoesTo : ApplianceNo → Option Stop → rules.World → World → Bool → Type 0
-GoesTo a stop w new made = MatchBool made ((v : rules.World) × OneMore a stop new w v) (IsOver a stop w × Stands new w)
+GoesTo a stop w new made = MatchBool made ((v : rules.World) × OneMore a stop new w v) (IsOver a stop w × WorldStands new w)
 
 -- some step of an event is possible
 abbrev Possible : rules.World → Event → Type 0
@@ -65,7 +65,7 @@ asks-there w a asked e = if-some a w.appliances (asks (stands w a).place) asked 
 
 -- a read
 pub goes-read : (old new : World) (a : ApplianceNo) (block : BlockNo) (made : Bool) →
-    ((w : rules.World) → Stands old w → Some (ask.Read block) ≡ asked_by w a.0) → Steps old new (event.Read a) made → RunGoesOn a None old new made
+    ((w : rules.World) → WorldStands old w → Some (ask.Read block) ≡ asked_by w a.0) → Steps old new (event.Read a) made → RunGoesOn a None old new made
 goes-read old new a block made asked steps w h =
     let there = asks-there w a.0 (ask.Read block) (sym (asked w h)) in
     let at = asked-read (stands w a.0).place block there.1 in
@@ -73,11 +73,11 @@ goes-read old new a block made asked steps w h =
     (λ v step. less-read step)
 
 -- the time is a reading
-now-read : (time : ℕ) → IsReading time time
+now-read : (time : ℕ) → IsReadingAt time time
 now-read time = record { early = omega arith; late = omega arith }
 
 -- the clock
-goes-timed : (old new : World) (a : ApplianceNo) (time : ℕ) (made : Bool) (w : rules.World) → Stands old w → time ≡ w.surface.time →
+goes-timed : (old new : World) (a : ApplianceNo) (time : ℕ) (made : Bool) (w : rules.World) → WorldStands old w → time ≡ w.surface.time →
     Steps old new (event.Reading a time) made → Possible w (event.Reading a w.surface.time) → next_event w a None ≡ Some (event.Reading a w.surface.time) → GoesTo a None w new made
 goes-timed old new a time made w h now steps possible next =
     let P : ℕ → Type 0 = λ t. StepsTo w new (event.Reading a t) made in
@@ -92,7 +92,7 @@ next-clock w a (first known command at) = ap (next_at w a) at
 next-clock w a (later known command rest at) = ap (next_at w a) at
 
 -- a reading answers a wait that is over
-reading-late : {w : rules.World} {a : ApplianceNo} {reading : ℕ} {v : rules.World} → Step w (event.Reading a reading) v → (from : ℕ) → AsksUntil (stands w a.0).place from → from ≤ reading
+reading-late : {w : rules.World} {a : ApplianceNo} {reading : ℕ} {v : rules.World} → Step w (event.Reading a reading) v → (from : ℕ) → AsksUntilAt (stands w a.0).place from → from ≤ reading
 reading-late (rules.begins known command below here is) from at = let both = sym here ∙ at.at in absurd (let P : ⊥ = cc in P)
 reading-late (rules.clocks known command rest below here is) from at = let both = sym here ∙ at.at in absurd (let P : ⊥ = cc in P)
 reading-late {w} {a} {reading} (rules.waits known command f rest below here is past) from at =
@@ -102,13 +102,13 @@ reading-late {w} {a} {reading} (rules.waits known command f rest below here is p
     subst P same past
 
 -- nothing follows a wait that isn't over
-waits-on : (a : ApplianceNo) (w : rules.World) (new : World) (from time : ℕ) (made : Bool) → AsksUntil (stands w a.0).place from → time < from →
+waits-on : (a : ApplianceNo) (w : rules.World) (new : World) (from time : ℕ) (made : Bool) → AsksUntilAt (stands w a.0).place from → time < from →
     next_event w a None ≡ None → StepsTo w new (event.Reading a time) made → GoesTo a None w new made
 waits-on a w new from time true at early next s = let late = reading-late s.1 from at in absurd (omega (arith, late, early))
 waits-on a w new from time false at early next s = ((λ there. next), s.1)
 
-goes-until : (old new : World) (a : ApplianceNo) (from time : ℕ) (made : Bool) (w : rules.World) → Stands old w → time ≡ w.surface.time →
-    Steps old new (event.Reading a time) made → a.0 < w.appliances → AsksUntil (stands w a.0).place from → GoesTo a None w new made
+goes-until : (old new : World) (a : ApplianceNo) (from time : ℕ) (made : Bool) (w : rules.World) → WorldStands old w → time ≡ w.surface.time →
+    Steps old new (event.Reading a time) made → a.0 < w.appliances → AsksUntilAt (stands w a.0).place from → GoesTo a None w new made
 goes-until old new a from time made w h now steps there at =
     elim (leb_tells from w.surface.time) [
       | inl over ↦ goes-timed old new a time made w h now steps (_, rules.waits at.known at.command from at.rest there at.at (now-read w.surface.time) over.1)
@@ -137,9 +137,9 @@ record Writes (w : rules.World) (a guard : ℕ) : Type 0 where
   there : a < w.appliances
   kind : WriteKind
   block : BlockNo
-  at : AsksWrite (stands w a).place kind block guard
+  at : AsksWriteAt (stands w a).place kind block guard
 
-writes : (world : World) (w : rules.World) (a guard : ℕ) → IsWriting world a guard → Stands world w → Writes w a guard
+writes : (world : World) (w : rules.World) (a guard : ℕ) → IsWriting world a guard → WorldStands world w → Writes w a guard
 writes world w a guard (kind, block, asked) h =
     let there = asks-there w a (ask.Write kind block guard) (asked w h) in
     record { there = there.0; kind = kind; block = block; at = asked-write (stands w a).place kind block guard there.1 }
@@ -156,7 +156,7 @@ next-unissued w a guard writing none early test =
 
 -- it is issued
 pub goes-issue : (old new : World) (a : ApplianceNo) (guard time : ℕ) (made : Bool) → IsWriting old a.0 guard →
-    ((w : rules.World) → Stands old w → (w.seats a.0).pending ≡ None) → time ≡ old.disk.time → time ≤ guard → Steps old new (event.Issue a) made → RunGoesOn a None old new made
+    ((w : rules.World) → WorldStands old w → (w.seats a.0).pending ≡ None) → time ≡ old.disk.time → time ≤ guard → Steps old new (event.Issue a) made → RunGoesOn a None old new made
 goes-issue old new a guard time made writing unissued now early steps w h =
     let to = writes old w a.0 guard writing h in
     let at = to.at in
@@ -167,7 +167,7 @@ goes-issue old new a guard time made writing unissued now early steps w h =
 
 -- it is missed
 pub goes-miss : (old new : World) (a : ApplianceNo) (guard time : ℕ) (made : Bool) → IsWriting old a.0 guard →
-    ((w : rules.World) → Stands old w → (w.seats a.0).pending ≡ None) → time ≡ old.disk.time → guard < time → Steps old new (event.Miss a time) made → RunGoesOn a None old new made
+    ((w : rules.World) → WorldStands old w → (w.seats a.0).pending ≡ None) → time ≡ old.disk.time → guard < time → Steps old new (event.Miss a time) made → RunGoesOn a None old new made
 goes-miss old new a guard time made writing unissued now late steps w h =
     let to = writes old w a.0 guard writing h in
     let at = to.at in
@@ -186,7 +186,7 @@ goes-miss old new a guard time made writing unissued now late steps w h =
 -- ---- a write that is issued
 
 -- the write that is waited for
-record Waits (w : rules.World) (a : ApplianceNo) (guard number : ℕ) : Type 0 where
+record WaitsForWrite (w : rules.World) (a : ApplianceNo) (guard number : ℕ) : Type 0 where
   writes : Writes w a.0 guard
   waited : (w.seats a.0).pending ≡ Some number
   write : Issued
@@ -199,7 +199,7 @@ seat-there seats n below = elim ((slice_get_cases seats n).1) [ inl found ↦ (f
 
 -- it is the newest one of its seat
 waits : (world : World) (w : rules.World) (a : ApplianceNo) (guard number : ℕ) → IsWriting world a.0 guard →
-    ((v : rules.World) → Stands world v → Some number ≡ pending_of v a.0) → Stands world w → Waits w a guard number
+    ((v : rules.World) → WorldStands world v → Some number ≡ pending_of v a.0) → WorldStands world w → WaitsForWrite w a guard number
 waits world w a guard number writing pending h =
     let at = writes world w a.0 guard writing h in
     let there = at.there in
@@ -219,7 +219,7 @@ waits world w a guard number writing pending h =
     record { writes = at; waited = waited; write = back.0; found = back.1.found; own = back.1.owner }
 
 -- what comes next
-next-issued : (w : rules.World) (a : ApplianceNo) (guard number : ℕ) (waiting : Waits w a guard number) (m : Option ℕ) → missing waiting.write.landed ≡ m →
+next-issued : (w : rules.World) (a : ApplianceNo) (guard number : ℕ) (waiting : WaitsForWrite w a guard number) (m : Option ℕ) → missing waiting.write.landed ≡ m →
     next_event w a None ≡ Some (landing w a (issued_by a.0 (drop (number + 1) w.surface.writes)) waiting.write.guard m)
 next-issued w a guard number waiting m is =
     let back = issued_by a.0 (drop (number + 1) w.surface.writes) in
@@ -242,7 +242,7 @@ missing-least (true ∷ flags) (suc k) least =
 
 -- all of it has landed, and it is answered
 pub goes-done : (old new : World) (a : ApplianceNo) (guard number : ℕ) (made : Bool) → IsWriting old a.0 guard →
-    ((w : rules.World) → Stands old w → Some number ≡ pending_of w a.0) → ((s : Surface) → DiskStands old.disk s → MissesNone s number) →
+    ((w : rules.World) → WorldStands old w → Some number ≡ pending_of w a.0) → ((s : Surface) → DiskStands old.disk s → MissesNone s number) →
     Steps old new (event.Done a) made → RunGoesOn a None old new made
 goes-done old new a guard number made writing pending none steps w h =
     let waiting = waits old w a guard number writing pending h in
@@ -253,12 +253,12 @@ goes-done old new a guard number made writing pending none steps w h =
     (_, rules.dones at.known at.command to.kind to.block.0 at.bytes guard at.done at.fault at.missed number to.there at.at waiting.waited (waiting.write, waiting.found, whole))
     (steps w h) (λ v step. less-done step)
   where
-    landed : (waiting : Waits w a guard number) (cancelled : Bool) → waiting.write.cancelled ≡ cancelled → waiting.write.landed ≡ all_sectors
+    landed : (waiting : WaitsForWrite w a guard number) (cancelled : Bool) → waiting.write.cancelled ≡ cancelled → waiting.write.landed ≡ all_sectors
     landed waiting true is = cancelled-whole old.disk w.surface number waiting.write old.uncancelled h.surface waiting.found is
     landed waiting false is = none w.surface h.surface waiting.write waiting.found is
 
 -- its least missing sector
-missing-here : (w : rules.World) (a : ApplianceNo) (guard number sector : ℕ) (waiting : Waits w a guard number) → IsMissing w.surface number sector →
+missing-here : (w : rules.World) (a : ApplianceNo) (guard number sector : ℕ) (waiting : WaitsForWrite w a guard number) → IsMissing w.surface number sector →
     IsLeastMissing waiting.write.landed sector
 missing-here w a guard number sector waiting is =
     let P : Issued → Type 0 = λ x. IsLeastMissing x.landed sector in
@@ -266,7 +266,7 @@ missing-here w a guard number sector waiting is =
 
 -- can't land any more, and the write fails
 goes-fault : (old mid new : World) (a : ApplianceNo) (guard number sector : ℕ) (made : Bool) → IsWriting old a.0 guard →
-    ((w : rules.World) → Stands old w → Some number ≡ pending_of w a.0) → ((s : Surface) → DiskStands old.disk s → IsMissing s number sector) →
+    ((w : rules.World) → WorldStands old w → Some number ≡ pending_of w a.0) → ((s : Surface) → DiskStands old.disk s → IsMissing s number sector) →
     ((s : Surface) → DiskStands old.disk s → (write : Issued) → MayLand s number sector write → ⊥) → StandsOn old mid →
     Steps mid new (event.Fault a) made → RunGoesOn a None old new made
 goes-fault old mid new a guard number sector made writing pending least refused stays steps w h =
@@ -282,10 +282,10 @@ goes-fault old mid new a guard number sector made writing pending least refused 
     (_, rules.write_faults at.known at.command to.kind to.block.0 at.bytes guard at.done at.fault at.missed to.there at.at) (steps w (stays w h))
     (λ v step. less-fault step)
   where
-    uncancelled : (waiting : Waits w a guard number) → IsMissing w.surface number sector → waiting.write.cancelled ≡ false
+    uncancelled : (waiting : WaitsForWrite w a guard number) → IsMissing w.surface number sector → waiting.write.cancelled ≡ false
     uncancelled waiting misses = ap (λ (x : Issued). x.cancelled) (sym (same-found w.surface.writes number misses.write waiting.write misses.found waiting.found)) ∙ misses.open_yet
 
-    late : (waiting : Waits w a guard number) → IsMissing w.surface number sector → IsLeastMissing waiting.write.landed sector → nat_le w.surface.time (waiting.write.guard + 50) ≡ false
+    late : (waiting : WaitsForWrite w a guard number) → IsMissing w.surface number sector → IsLeastMissing waiting.write.landed sector → nat_le w.surface.time (waiting.write.guard + 50) ≡ false
     late waiting misses is = elim (leb_tells w.surface.time (waiting.write.guard + 50)) [
       | inl early ↦ absurd (refused w.surface h.surface waiting.write (record { found = waiting.found; open_yet = uncancelled waiting misses; missing = is.missing; early = early.1 }))
       | inr past ↦ past.0
@@ -293,7 +293,7 @@ goes-fault old mid new a guard number sector made writing pending least refused 
 
 -- where memory was found
 pub ok-fault : {E : Type 0} {mid : World} (old new : World) (a : ApplianceNo) (guard number sector : ℕ) (r : Result Bool E) → IsWriting old a.0 guard →
-    ((w : rules.World) → Stands old w → Some number ≡ pending_of w a.0) → ((s : Surface) → DiskStands old.disk s → IsMissing s number sector) →
+    ((w : rules.World) → WorldStands old w → Some number ≡ pending_of w a.0) → ((s : Surface) → DiskStands old.disk s → IsMissing s number sector) →
     ((s : Surface) → DiskStands old.disk s → (write : Issued) → MayLand s number sector write → ⊥) → OnlyDisk old mid → DiskStays old.disk mid.disk →
     IfOk r (Steps mid new (event.Fault a)) → IfOk r (RunGoesOn a None old new)
 ok-fault {E} {mid} old new a guard number sector (Ok made) writing pending least refused only stays steps =
@@ -302,7 +302,7 @@ ok-fault old new a guard number sector (Err error) writing pending least refused
 
 -- or lands
 pub goes-land : (old new : World) (a : ApplianceNo) (guard number sector : ℕ) → IsWriting old a.0 guard →
-    ((w : rules.World) → Stands old w → Some number ≡ pending_of w a.0) → ((s : Surface) → DiskStands old.disk s → IsMissing s number sector) → sector < 8 →
+    ((w : rules.World) → WorldStands old w → Some number ≡ pending_of w a.0) → ((s : Surface) → DiskStands old.disk s → IsMissing s number sector) → sector < 8 →
     ((s : Surface) → DiskStands old.disk s → (write : Issued) × MayLand s number sector write × DiskStands new.disk (after_landing s number write sector)) →
     OnlyDisk old new → RunGoesOn a None old new true
 goes-land old new a guard number sector writing pending least within landed only w h =
@@ -341,7 +341,7 @@ asks-nothing w a (In known command (WriteThen kind block bytes guard done fault 
 asks-nothing w a (In known command (ClockThen rest)) e = absurd (let P : ⊥ = cc in P)
 asks-nothing w a (In known command (UntilThen from rest)) e = absurd (let P : ⊥ = cc in P)
 
-pub goes-idle : (old : World) (a : ApplianceNo) → ((w : rules.World) → Stands old w → None ≡ asked_by w a.0) → RunGoesOn a None old old false
+pub goes-idle : (old : World) (a : ApplianceNo) → ((w : rules.World) → WorldStands old w → None ≡ asked_by w a.0) → RunGoesOn a None old old false
 goes-idle old a asked w h = (
   (λ there. asks-nothing w a (stands w a.0).place (if-none a.0 w.appliances (asks (stands w a.0).place) there (asked w h))),
   h,
@@ -361,7 +361,7 @@ pub goes-stopped : (stop : Option Stop) (old : World) (a : ApplianceNo) → Stop
 goes-stopped stop old a stopped w h =
     ((λ there. stopped-none (stops w.geometry stop (w.seats a.0).pending (stands w a.0).place) (next_at w a (stands w a.0).place) (stopped w h there)), h)
 
-same-next : (stop : Option Stop) (old : World) (a : ApplianceNo) → StopsAs old a.0 stop false → (w : rules.World) → Stands old w → a.0 < w.appliances →
+same-next : (stop : Option Stop) (old : World) (a : ApplianceNo) → StopsAs old a.0 stop false → (w : rules.World) → WorldStands old w → a.0 < w.appliances →
     next_event w a stop ≡ next_event w a None
 same-next stop old a going w h there = unstopped (stops w.geometry stop (w.seats a.0).pending (stands w a.0).place) (next_at w a (stands w a.0).place) (going w h there)
 

@@ -11,7 +11,7 @@ use Rattle.plx_disk.specs.declared.ask.Ask.TheVariants as ask
 use Rattle.plx_rules.specs.Boot.{Place, Idle, asks}
 use Rattle.plx_rules.specs.Commands.{IsBuilt, IsWellFormed}
 use Rattle.plx_rules.specs.Session.{Known}
-use Rattle.plx_rules.specs.World.{World, IsBack, IsReading, Step, stands, ticks, starts, begins, reads, read_faults, issues, lands, dones, write_faults, misses, clocks, waits, crashes}
+use Rattle.plx_rules.specs.World.{World, IsBack, IsReadingAt, Step, stands, ticks, starts, begins, reads, read_faults, issues, lands, dones, write_faults, misses, clocks, waits, crashes}
 use Rattle.plx_world.specs.Answering.{asked_by, pending_of}
 use Rattle.plx_world.proofs.Seating.{if-below}
 
@@ -67,7 +67,7 @@ step-done {a} {w} (dones known command kind block bytes guard done fault missed 
 )
 
 pub step-miss : {a : ApplianceNo} {reading : ℕ} {w v : World} → Step w (event.Miss a reading) v →
-    (written : Written w a None) × (written.guard < reading) × IsReading reading w.surface.time
+    (written : Written w a None) × (written.guard < reading) × IsReadingAt reading w.surface.time
 step-miss {a} {reading} {w} (misses known command kind block bytes guard done fault missed below at none past is) = (
   record { kind = kind; block = record { 0 = block }; guard = guard; asked = asks-at w a.0 _ _ below at refl; pends = pends-at w a.0 None below none },
   past,
@@ -75,11 +75,11 @@ step-miss {a} {reading} {w} (misses known command kind block bytes guard done fa
 )
 
 -- a reading answers the clock, or waits for a time
-pub data Answers (w : World) (a : ApplianceNo) (reading : ℕ) : Type 0 where
-  clock : asked_by w a.0 ≡ Some ask.Clock → Answers w a reading
-  wait : (from : ℕ) → asked_by w a.0 ≡ Some (ask.Until from) → from ≤ reading → Answers w a reading
+pub data AsksReading (w : World) (a : ApplianceNo) (reading : ℕ) : Type 0 where
+  clock : asked_by w a.0 ≡ Some ask.Clock → AsksReading w a reading
+  wait : (from : ℕ) → asked_by w a.0 ≡ Some (ask.Until from) → from ≤ reading → AsksReading w a reading
 
-pub step-reading : {a : ApplianceNo} {reading : ℕ} {w v : World} → Step w (event.Reading a reading) v → Answers w a reading × IsReading reading w.surface.time
+pub step-reading : {a : ApplianceNo} {reading : ℕ} {w v : World} → Step w (event.Reading a reading) v → AsksReading w a reading × IsReadingAt reading w.surface.time
 step-reading {a} {reading} {w} (begins known command below at is) = (clock (asks-at w a.0 _ _ below at refl), is)
 step-reading {a} {reading} {w} (clocks known command rest below at is) = (clock (asks-at w a.0 _ _ below at refl), is)
 step-reading {a} {reading} {w} (waits known command from rest below at is late) = (wait from (asks-at w a.0 _ _ below at refl) late, is)

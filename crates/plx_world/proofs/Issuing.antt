@@ -32,7 +32,7 @@ use Rattle.plx_world.proofs.Inverted.{step-issue}
 use Rattle.plx_world.proofs.Numbered.{own-push}
 use Rattle.plx_world.proofs.Placed.{asked-write}
 use Rattle.plx_world.proofs.Seating.{asked-absent, asked-there, if-none, pending-there, position-of, seat-at}
-use Rattle.plx_world.proofs.Stepping.{IsAsk, IsPending, asks-there, impossible}
+use Rattle.plx_world.proofs.Stepping.{IsAsk, IsWaitedFor, asks-there, impossible}
 
 -- the boot of an appliance is no other's
 other-boot : (a k boots : ℕ) → a < 8 → k ≢ a → is_boot_of k (boot_number a boots) ≡ false
@@ -72,7 +72,7 @@ pub record Issues (old new : World) (n number : ℕ) (before after : Seat) : Typ
 
 pub issues-write : (old new : World) (a : ApplianceNo) (kind : WriteKind) (block : BlockNo) (guard owner number : ℕ) (bytes : List ℕ) (before after : Seat) →
     slice_get old.seats.items a.0 ≡ Some before → length old.seats.items ≤ 8 → Issues old new a.0 number before after →
-    IsAsk old a (Some (ask.Write kind block guard)) → IsPending old a None → owner ≡ boot_number a.0 before.boots →
+    IsAsk old a (Some (ask.Write kind block guard)) → IsWaitedFor old a None → owner ≡ boot_number a.0 before.boots →
     ((log : List Happening) → StandsFor before.appliance log → bytes ≡ writes_out (position (appliance_setting before.appliance) log).place) →
     ((s : Surface) → DiskStands old.disk s → number ≡ length s.writes) →
     Turns old.disk new.disk (λ s. with_issued s (fresh_write owner kind block.0 bytes guard)) →
@@ -119,7 +119,7 @@ pub issues-none : (old : World) (a : ApplianceNo) (asked : Option Ask) → IsAsk
 issues-none old a asked is none = impossible old old (event.Issue a) (λ w h. h)
     (λ w v h step. let found = step-issue step in none found.kind found.block found.guard (is w h ∙ found.asked))
 
-pub issues-before : (old : World) (a : ApplianceNo) (pending : Option ℕ) → IsPending old a pending → pending ≢ None → Steps old old (event.Issue a) false
+pub issues-before : (old : World) (a : ApplianceNo) (pending : Option ℕ) → IsWaitedFor old a pending → pending ≢ None → Steps old old (event.Issue a) false
 issues-before old a pending pends before = impossible old old (event.Issue a) (λ w h. h)
     (λ w v h step. before (pends w h ∙ (step-issue step).pends))
 
@@ -128,7 +128,7 @@ issues-before old a pending pends before = impossible old old (event.Issue a) (�
 pub asks-it : (world : World) (a : ApplianceNo) (seat : Seat) (asked : Option Ask) → slice_get world.seats.items a.0 ≡ Some seat → AsksAs seat.appliance asked → IsAsk world a asked
 asks-it world a seat asked at is w h = asked-there world w a.0 seat asked at (slice_get_within world.seats.items a.0 seat at) is h
 
-pub pends-it : (world : World) (a : ApplianceNo) (seat : Seat) (pending : Option ℕ) → slice_get world.seats.items a.0 ≡ Some seat → seat.pending ≡ pending → IsPending world a pending
+pub pends-it : (world : World) (a : ApplianceNo) (seat : Seat) (pending : Option ℕ) → slice_get world.seats.items a.0 ≡ Some seat → seat.pending ≡ pending → IsWaitedFor world a pending
 pends-it world a seat pending at is w h = sym is ∙ pending-there world w a.0 seat at (slice_get_within world.seats.items a.0 seat at) h
 
 pub issues-absent : (old : World) (a : ApplianceNo) → length old.seats.items ≤ a.0 → Steps old old (event.Issue a) false

@@ -47,11 +47,6 @@ pub err-upto : {E : Type 0} (old new : World) (one : Event) (a : ApplianceNo) (s
 err-upto old new one a stop (Ok made) is some = tt
 err-upto old new one a stop (Err error) is some = let P : Event → Type 0 = λ e. LeadsPartly old new e in subst P (sym is) (partly-upto old new a stop some)
 
--- where a call found no memory
-pub on-err : {A E : Type 0} (r : Result A E) (P : Type 0) → P → OnErr r P
-on-err (Ok value) P p = tt
-on-err (Err error) P p = p
-
 -- a list, cut at one of its events
 pub cut : (xs : List Event) (i : ℕ) (x : Event) → i < length xs → x ≡ get_or xs i x → take i xs ++ x ∷ drop (suc i) xs ≡ xs
 cut [] i x within is = absurd (omega (arith, within))

@@ -29,7 +29,7 @@ asked-read (In known command (ClockThen rest)) block e = cc
 asked-read (In known command (UntilThen from rest)) block e = cc
 
 -- a write is
-pub record AsksWrite (p : Place) (kind : WriteKind) (block : BlockNo) (guard : ℕ) : Type 0 where
+pub record AsksWriteAt (p : Place) (kind : WriteKind) (block : BlockNo) (guard : ℕ) : Type 0 where
   pub known : Known
   pub command : Command
   pub bytes : List ℕ
@@ -38,7 +38,7 @@ pub record AsksWrite (p : Place) (kind : WriteKind) (block : BlockNo) (guard : �
   pub missed : ℕ → Part End
   pub at : p ≡ In known command (WriteThen kind block.0 bytes guard done fault missed)
 
-pub asked-write : (p : Place) (kind : WriteKind) (block : BlockNo) (guard : ℕ) → asks p ≡ Some (ask.Write kind block guard) → AsksWrite p kind block guard
+pub asked-write : (p : Place) (kind : WriteKind) (block : BlockNo) (guard : ℕ) → asks p ≡ Some (ask.Write kind block guard) → AsksWriteAt p kind block guard
 asked-write (Idle known) kind block guard e = cc
 asked-write (Begins known command) kind block guard e = cc
 asked-write (In known command (Ends end)) kind block guard e = cc
@@ -62,11 +62,11 @@ asked-write (In known command (ClockThen rest)) kind block guard e = cc
 asked-write (In known command (UntilThen from rest)) kind block guard e = cc
 
 -- the clock is, first of all or later
-pub data AsksClock (p : Place) : Type 0 where
-  first : (known : Known) (command : Command) → p ≡ Begins known command → AsksClock p
-  later : (known : Known) (command : Command) (rest : ℕ → Part End) → p ≡ In known command (ClockThen rest) → AsksClock p
+pub data AsksClockAt (p : Place) : Type 0 where
+  first : (known : Known) (command : Command) → p ≡ Begins known command → AsksClockAt p
+  later : (known : Known) (command : Command) (rest : ℕ → Part End) → p ≡ In known command (ClockThen rest) → AsksClockAt p
 
-pub asked-clock : (p : Place) → asks p ≡ Some ask.Clock → AsksClock p
+pub asked-clock : (p : Place) → asks p ≡ Some ask.Clock → AsksClockAt p
 asked-clock (Idle known) e = cc
 asked-clock (Begins known command) e = first known command refl
 asked-clock (In known command (Ends end)) e = cc
@@ -76,13 +76,13 @@ asked-clock (In known command (ClockThen rest)) e = later known command rest ref
 asked-clock (In known command (UntilThen from rest)) e = cc
 
 -- the clock is, from some time on
-pub record AsksUntil (p : Place) (from : ℕ) : Type 0 where
+pub record AsksUntilAt (p : Place) (from : ℕ) : Type 0 where
   pub known : Known
   pub command : Command
   pub rest : ℕ → Part End
   pub at : p ≡ In known command (UntilThen from rest)
 
-pub asked-until : (p : Place) (from : ℕ) → asks p ≡ Some (ask.Until from) → AsksUntil p from
+pub asked-until : (p : Place) (from : ℕ) → asks p ≡ Some (ask.Until from) → AsksUntilAt p from
 asked-until (Idle known) from e = cc
 asked-until (Begins known command) from e = cc
 asked-until (In known command (Ends end)) from e = cc

@@ -60,8 +60,8 @@ module _ (g : Geometry) (extent bit : ℕ) (within : bit < g.extent_blocks) wher
   pub is-map : (block : ℕ) → block ≡ pool_at g extent bit → bit ≡ 0 → is_map g block ≡ true
   is-map block here zero' = elim (eqb_tells ((block - extents_start g) % g.extent_blocks) 0) [ inl same ↦ same.0 | inr other ↦ absurd (other.1 (place block here ∙ zero')) ]
 
-  pub no-map : (block : ℕ) → block ≡ pool_at g extent bit → 1 ≤ bit → is_map g block ≡ false
-  no-map block here low = elim (eqb_tells ((block - extents_start g) % g.extent_blocks) 0) [
+  pub pool-no-map : (block : ℕ) → block ≡ pool_at g extent bit → 1 ≤ bit → is_map g block ≡ false
+  pool-no-map block here low = elim (eqb_tells ((block - extents_start g) % g.extent_blocks) 0) [
     | inl same ↦ absurd (let e : bit ≡ 0 = sym (place block here) ∙ same.1 in omega (arith, e, low))
     | inr other ↦ other.0
   ]
@@ -86,4 +86,4 @@ pub region-pool : (g : Geometry) (r : Region) (block d bit : ℕ) → d < g.exte
     sameb the_type r region.Pool ≡ is_in_region g r block
 region-pool g r block d bit extent low high here =
     let within = pool-within g d bit extent high in
-    in-pool g r block (omega (arith, here)) (omega (arith, within, here)) (no-map g d bit high block (sym here) low)
+    in-pool g r block (omega (arith, here)) (omega (arith, within, here)) (pool-no-map g d bit high block (sym here) low)

@@ -17,10 +17,10 @@ use Rattle.plx_rules.specs.Session.{Known}
 use Rattle.plx_rules.specs.Settings.{Setting}
 use Rattle.plx_rules.specs.World as rules
 use Rattle.plx_rules.specs.World.{setting_at, stands}
-use Rattle.plx_world.specs.Answering.{Runs, asked_by, pending_of}
+use Rattle.plx_world.specs.Answering.{RunsCommand, asked_by, pending_of}
 use Rattle.plx_world.specs.Numbers.{own_numbers}
 use Rattle.plx_world.specs.Seats.{AsksAs}
-use Rattle.plx_world.specs.Standing.{IsSeat, Stands}
+use Rattle.plx_world.specs.Standing.{IsSeat, WorldStands}
 use Rattle.plx_world.specs.Ties.{AreTied}
 use Rattle.plx_world.specs.declared.seat.Seat.{Seat}
 use Rattle.plx_world.specs.declared.world.World.{World}
@@ -64,22 +64,22 @@ position-of w n seat is = ap (λ (s : Setting). position s (w.seats n).log) is.s
 
 -- what it asks
 pub asked-there : (world : World) (w : rules.World) (n : ℕ) (seat : Seat) (asked : Option Ask) → slice_get world.seats.items n ≡ Some seat → n < length world.seats.items →
-    AsksAs seat.appliance asked → Stands world w → asked ≡ asked_by w n
+    AsksAs seat.appliance asked → WorldStands world w → asked ≡ asked_by w n
 asked-there world w n seat asked at below is h =
     let one = h.seats n seat at in
     let count = h.count in
     is (w.seats n).log one.log ∙ ap (λ (p : Position). asks p.place) (position-of w n seat one)
     ∙ sym (if-below n w.appliances (asks (stands w n).place) None (omega (arith, count, below)))
 
-pub asked-absent : (world : World) (w : rules.World) (n : ℕ) → length world.seats.items ≤ n → Stands world w → None ≡ asked_by w n
+pub asked-absent : (world : World) (w : rules.World) (n : ℕ) → length world.seats.items ≤ n → WorldStands world w → None ≡ asked_by w n
 asked-absent world w n past h = let count = h.count in sym (if-past n w.appliances (asks (stands w n).place) None (omega (arith, count, past)))
 
 pub pending-there : (world : World) (w : rules.World) (n : ℕ) (seat : Seat) → slice_get world.seats.items n ≡ Some seat → n < length world.seats.items →
-    Stands world w → seat.pending ≡ pending_of w n
+    WorldStands world w → seat.pending ≡ pending_of w n
 pending-there world w n seat at below h =
     let count = h.count in (h.seats n seat at).pending ∙ sym (if-below n w.appliances (w.seats n).pending None (omega (arith, count, below)))
 
-pub pending-absent : (world : World) (w : rules.World) (n : ℕ) → length world.seats.items ≤ n → Stands world w → None ≡ pending_of w n
+pub pending-absent : (world : World) (w : rules.World) (n : ℕ) → length world.seats.items ≤ n → WorldStands world w → None ≡ pending_of w n
 pending-absent world w n past h = let count = h.count in sym (if-past n w.appliances (w.seats n).pending None (omega (arith, count, past)))
 
 -- ---- what a seat stands for
@@ -121,7 +121,7 @@ tied-set g seats n before after at tied is = set-all (λ k seat. seat.appliance.
 
 -- it runs
 pub running-there : (world : World) (n : ℕ) (seat : Seat) (asked : Option Ask) → slice_get world.seats.items n ≡ Some seat →
-    IfSome asked (λ ask. IsRunning seat.appliance) → IfSome asked (λ ask. Runs world n)
+    IfSome asked (λ ask. IsRunning seat.appliance) → IfSome asked (λ ask. RunsCommand world n)
 running-there world n seat None at runs = tt
 running-there world n seat (Some asked) at runs = record { seat = seat; there = at; running = runs }
 

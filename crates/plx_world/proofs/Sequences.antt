@@ -1,5 +1,5 @@
 -- Runs and schedules, put together from their parts.
-use Rattle.std.proofs.Common.{◌≡◌, ◌+◌, ◌-◌, ◌<◌, ℕ, List, [], ◌∷◌, ◌++◌, Option, Some, None, Bool, true, false, refl, sym, subst, ◌∙◌, arith}
+use Rattle.std.proofs.Common.{◌≡◌, ◌+◌, ◌-◌, ℕ, List, [], ◌∷◌, ◌++◌, Option, Some, None, Bool, true, false, refl, sym, subst, ◌∙◌, arith}
 use Rattle.plx_base.specs.declared.numbers.ApplianceNo.{ApplianceNo}
 use Rattle.plx_commands.specs.declared.event.Event.{Event}
 use Rattle.plx_commands.specs.declared.event.Event.TheVariants as event
@@ -13,7 +13,7 @@ use Rattle.law_lease.proofs.Runs.{played-reached}
 use Rattle.plx_world.specs.Bounds.{most_asks}
 use Rattle.plx_world.specs.Playing.{Leads, LeadsPartly, PlaysAll, PlaysSome}
 use Rattle.plx_world.specs.Running.{RunGoesOn, IsFewer, IsOver, MakesRun, RunsSome, RunsWhole}
-use Rattle.plx_world.specs.Standing.{Stands, StandsOn, Steps}
+use Rattle.plx_world.specs.Standing.{WorldStands, StandsOn, Steps}
 use Rattle.plx_world.specs.declared.world.World.{World}
 use Rattle.plx_world.proofs.Left.{events-most, most-log}
 use Rattle.plx_world.proofs.There.{run-there, step-count}
@@ -90,8 +90,8 @@ plays-to-reached {w} {v} events reached plays = played-reached w v events reache
 -- ---- schedules
 
 -- one more event
-played : (old new : World) (one : Event) (possible : Bool) → Leads old new one possible → (w : rules.World) → Stands old w →
-    (v : rules.World) × IsPlayed w one v × Stands new v
+played : (old new : World) (one : Event) (possible : Bool) → Leads old new one possible → (w : rules.World) → WorldStands old w →
+    (v : rules.World) × IsPlayed w one v × WorldStands new v
 played old new one true leads w h = let found = leads w h in (found.0, made found.1, found.2)
 played old new one false leads w h = let found = leads w h in (w, skipped found.0, found.1)
 
@@ -136,13 +136,13 @@ run-joined (more one next step others) rest = goes one next step (run-joined oth
 -- so far a run made some events, and fewer are left than `most` without them
 pub record IsUnderWay (a : ApplianceNo) (stop : Option Stop) (old : World) (count most : ℕ) (w v : rules.World) : Type 0 where
   pub partly : RunsPartly a stop w v
-  pub stands : Stands old v
+  pub stands : WorldStands old v
   pub left : ℕ
   pub sum : left + count ≡ most
   pub fewer : IsFewer v a left
 
 abbrev pub HasRun : ApplianceNo → Option Stop → World → World → (count most : ℕ) → Type 0
-HasRun a stop first old count most = (w : rules.World) → Stands first w → (v : rules.World) × IsUnderWay a stop old count most w v
+HasRun a stop first old count most = (w : rules.World) → WorldStands first w → (v : rules.World) × IsUnderWay a stop old count most w v
 
 -- it goes on
 pub has-more : (a : ApplianceNo) (stop : Option Stop) (first old new : World) (i most : ℕ) → HasRun a stop first old i most → RunGoesOn a stop old new true →

@@ -7,7 +7,7 @@ use Rattle.plx_disk.specs.Standing.{Stands as DiskStands}
 use Rattle.plx_geom.specs.Geometry.{Geometry}
 use Rattle.plx_rules.specs.World.{first_seat, first_world}
 use Rattle.plx_world.specs.Fresh.{IsFresh}
-use Rattle.plx_world.specs.Standing.{Stands}
+use Rattle.plx_world.specs.Standing.{WorldStands}
 use Rattle.plx_world.specs.Ties.{AreTied}
 use Rattle.plx_world.specs.declared.seat.Seat.{Seat}
 use Rattle.plx_world.specs.declared.world.World.{World}
@@ -46,7 +46,7 @@ tied-new g seats all k seat found = (all k seat found).fresh.layout
 
 -- a world over a device
 pub stands-over : (g : Geometry) (appliances : ℕ) (world : World) (device : Device) → world.geometry ≡ g → length world.seats.items ≡ appliances → AreNew g world.seats.items →
-    world.trace.items ≡ [] → DiskStands world.disk (first_world g appliances device).surface → Stands world (first_world g appliances device)
+    world.trace.items ≡ [] → DiskStands world.disk (first_world g appliances device).surface → WorldStands world (first_world g appliances device)
 stands-over g appliances world device geometry count all trace surface = record {
   geometry = geometry;
   count = count;

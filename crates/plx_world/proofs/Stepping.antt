@@ -14,29 +14,29 @@ use Rattle.plx_disk.specs.declared.ask.Ask.{Ask}
 use Rattle.plx_disk.specs.declared.ask.Ask.TheVariants as ask
 use Rattle.plx_rules.specs.Boot.{asks, replies_at, writes_out, first_part}
 use Rattle.plx_rules.specs.World as rules
-use Rattle.plx_rules.specs.World.{IsReading, Step, stands, setting_of, goes_on, reads, read_faults, write_faults, dones, misses, begins, clocks, waits}
+use Rattle.plx_rules.specs.World.{IsReadingAt, Step, stands, setting_of, goes_on, reads, read_faults, write_faults, dones, misses, begins, clocks, waits}
 use Rattle.plx_world.specs.Answering.{GivesBlock, IsAnswered, asked_by, pending_of}
-use Rattle.plx_world.specs.Standing.{Stands, StandsOn, Steps}
+use Rattle.plx_world.specs.Standing.{WorldStands, StandsOn, Steps}
 use Rattle.plx_world.specs.declared.world.World.{World}
-use Rattle.plx_world.proofs.Inverted.{step-read, step-fault, step-done, step-miss, step-reading, AsksDevice, read, write, Answers, clock, wait}
-use Rattle.plx_world.proofs.Placed.{asked-read, asked-write, asked-clock, asked-until, AsksClock, first, later}
+use Rattle.plx_world.proofs.Inverted.{step-read, step-done, step-miss, step-reading, AsksReading, clock, wait}
+use Rattle.plx_world.proofs.Placed.{asked-read, asked-write, asked-clock, asked-until, AsksClockAt, first, later}
 use Rattle.plx_world.proofs.Seating.{if-none, if-some}
 
 -- what the code has found that an appliance asks
 abbrev pub IsAsk : World → ApplianceNo → Option Ask → Type 0
-IsAsk world a asked = (w : rules.World) → Stands world w → asked ≡ asked_by w a.0
+IsAsk world a asked = (w : rules.World) → WorldStands world w → asked ≡ asked_by w a.0
 
 -- and the write for which it waits
-abbrev pub IsPending : World → ApplianceNo → Option ℕ → Type 0
-IsPending world a pending = (w : rules.World) → Stands world w → pending ≡ pending_of w a.0
+abbrev pub IsWaitedFor : World → ApplianceNo → Option ℕ → Type 0
+IsWaitedFor world a pending = (w : rules.World) → WorldStands world w → pending ≡ pending_of w a.0
 
 -- the appliance is there, and this is what it asks at its place
-pub asks-there : (world : World) (a : ApplianceNo) (asked : Ask) (w : rules.World) → IsAsk world a (Some asked) → Stands world w →
+pub asks-there : (world : World) (a : ApplianceNo) (asked : Ask) (w : rules.World) → IsAsk world a (Some asked) → WorldStands world w →
     (a.0 < w.appliances) × (asks (stands w a.0).place ≡ Some asked)
 asks-there world a asked w is h = if-some a.0 w.appliances (asks (stands w a.0).place) asked (sym (is w h))
 
 -- an event that no world allows
-pub impossible : (old new : World) (one : Event) → StandsOn old new → ((w v : rules.World) → Stands old w → Step w one v → ⊥) → Steps old new one false
+pub impossible : (old new : World) (one : Event) → StandsOn old new → ((w v : rules.World) → WorldStands old w → Step w one v → ⊥) → Steps old new one false
 impossible old new one stays none w h = (λ v step. none w v h step, stays w h)
 
 -- ---- answers that no ask wants
@@ -58,7 +58,7 @@ misses-none old a reading asked is none = impossible old old (event.Miss a readi
     (λ w v h step. let found = step-miss step in none found.0.kind found.0.block found.0.guard (is w h ∙ found.0.asked))
 
 -- the write hasn't landed
-pub dones-unlanded : (old mid : World) (a : ApplianceNo) (number : ℕ) → IsPending old a (Some number) → StandsOn old mid →
+pub dones-unlanded : (old mid : World) (a : ApplianceNo) (number : ℕ) → IsWaitedFor old a (Some number) → StandsOn old mid →
     ((s : Surface) → DiskStands old.disk s → HasLanded s number → ⊥) → Steps old mid (event.Done a) false
 dones-unlanded old mid a number pends stays unlanded = impossible old mid (event.Done a) stays
     (λ w v h step. let found = step-done step in let e : Some number ≡ Some found.0 = pends w h ∙ found.1.pends in let same : found.0 ≡ number = cc in
@@ -85,7 +85,7 @@ clocks-none : (old : World) (a : ApplianceNo) (reading : ℕ) (asked : Option As
     ((from : ℕ) → asked ≢ Some (ask.Until from)) → Steps old old (event.Reading a reading) false
 clocks-none old a reading asked is clockless waitless = impossible old old (event.Reading a reading) (λ w h. h) (λ w v h step. by-answer w h (step-reading step).0)
   where
-    by-answer : (w : rules.World) → Stands old w → Answers w a reading → ⊥
+    by-answer : (w : rules.World) → WorldStands old w → AsksReading w a reading → ⊥
     by-answer w h (clock asks) = clockless (is w h ∙ asks)
     by-answer w h (wait from asks late) = waitless from (is w h ∙ asks)
 
@@ -101,7 +101,7 @@ reads-block old new a block bytes is whole stored answered w h =
     let there = asks-there old a (ask.Read block) w is h in
     let found = asked-read (stands w a.0).place block there.1 in
     let one = event.Read a in
-    let P : List ℕ → Type 0 = λ x. Stands new (goes_on w one a (ask.Read (record { 0 = block.0 })) [] (answer.Bytes x) (found.rest x)) in (
+    let P : List ℕ → Type 0 = λ x. WorldStands new (goes_on w one a (ask.Read (record { 0 = block.0 })) [] (answer.Bytes x) (found.rest x)) in (
       goes_on w one a (ask.Read (record { 0 = block.0 })) [] (answer.Bytes (w.surface.device block.0)) (found.rest (w.surface.device block.0)),
       reads found.known found.command block.0 found.rest found.fault there.0 found.at,
       subst P (stored w.surface h.surface)
@@ -146,7 +146,7 @@ faults-write old new a kind block guard is answered w h =
 -- ---- writes that are done
 
 pub dones-write : (old mid new : World) (a : ApplianceNo) (kind : WriteKind) (block : BlockNo) (guard number : ℕ) → IsAsk old a (Some (ask.Write kind block guard)) →
-    IsPending old a (Some number) → ((s : Surface) → DiskStands old.disk s → HasLanded s number) →
+    IsWaitedFor old a (Some number) → ((s : Surface) → DiskStands old.disk s → HasLanded s number) →
     StandsOn old mid → IsAnswered mid new a answer.Done → Steps old new (event.Done a) true
 dones-write old mid new a kind block guard number is pends landed stays answered w h =
     let there = asks-there old a (ask.Write kind block guard) w is h in
@@ -162,7 +162,7 @@ dones-write old mid new a kind block guard number is pends landed stays answered
 -- ---- writes that are missed
 
 pub misses-write : (old new : World) (a : ApplianceNo) (kind : WriteKind) (block : BlockNo) (guard reading : ℕ) → IsAsk old a (Some (ask.Write kind block guard)) →
-    IsPending old a None → guard < reading → IsReading reading old.disk.time → old.disk.time < 2 ^ 47 → IsAnswered old new a (answer.Missed reading) →
+    IsWaitedFor old a None → guard < reading → IsReadingAt reading old.disk.time → old.disk.time < 2 ^ 47 → IsAnswered old new a (answer.Missed reading) →
     Steps old new (event.Miss a reading) true
 misses-write old new a kind block guard reading is pends past near early answered w h =
     let there = asks-there old a (ask.Write kind block guard) w is h in
@@ -182,8 +182,8 @@ misses-write old new a kind block guard reading is pends past near early answere
 -- ---- readings
 
 clocks-place : (old new : World) (a : ApplianceNo) (reading : ℕ) (w : rules.World) → a.0 < w.appliances → asks (stands w a.0).place ≡ Some ask.Clock →
-    IsReading reading w.surface.time → reading < 2 ^ 48 → Stands old w → IsAnswered old new a (answer.Reading reading) → AsksClock (stands w a.0).place →
-    (v : rules.World) × Step w (event.Reading a reading) v × Stands new v
+    IsReadingAt reading w.surface.time → reading < 2 ^ 48 → WorldStands old w → IsAnswered old new a (answer.Reading reading) → AsksClockAt (stands w a.0).place →
+    (v : rules.World) × Step w (event.Reading a reading) v × WorldStands new v
 clocks-place old new a reading w below asked near soon h answered (first known command at) =
     let one = event.Reading a reading in
     let rest = first_part (setting_of w a.0) known reading command (stands w a.0) in (
@@ -198,7 +198,7 @@ clocks-place old new a reading w below asked near soon h answered (later known c
       answered w one ask.Clock [] (rest reading) h asked (ap writes_out at) soon (ap (replies_at (setting_of w a.0) (answer.Reading reading) (stands w a.0)) at),
     )
 
-pub clocks-now : (old new : World) (a : ApplianceNo) (reading : ℕ) → IsAsk old a (Some ask.Clock) → IsReading reading old.disk.time → old.disk.time < 2 ^ 47 →
+pub clocks-now : (old new : World) (a : ApplianceNo) (reading : ℕ) → IsAsk old a (Some ask.Clock) → IsReadingAt reading old.disk.time → old.disk.time < 2 ^ 47 →
     IsAnswered old new a (answer.Reading reading) → Steps old new (event.Reading a reading) true
 clocks-now old new a reading is near early answered w h =
     let there = asks-there old a ask.Clock w is h in
@@ -207,7 +207,7 @@ clocks-now old new a reading is near early answered w h =
     let high = near.late in
     clocks-place old new a reading w there.0 there.1 (record { early = omega arith; late = omega arith }) (omega arith) h answered (asked-clock (stands w a.0).place there.1)
 
-pub waits-until : (old new : World) (a : ApplianceNo) (from reading : ℕ) → IsAsk old a (Some (ask.Until from)) → IsReading reading old.disk.time → old.disk.time < 2 ^ 47 →
+pub waits-until : (old new : World) (a : ApplianceNo) (from reading : ℕ) → IsAsk old a (Some (ask.Until from)) → IsReadingAt reading old.disk.time → old.disk.time < 2 ^ 47 →
     from ≤ reading → IsAnswered old new a (answer.Reading reading) → Steps old new (event.Reading a reading) true
 waits-until old new a from reading is near early late answered w h =
     let there = asks-there old a (ask.Until from) w is h in

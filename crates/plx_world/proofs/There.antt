@@ -1,5 +1,5 @@
 -- An appliance of which a run makes an event is there.
-use Rattle.std.proofs.Common.{◌≡◌, ◌+◌, ◌<◌, ℕ, List, Option, Some, None, Bool, true, false, if◌then◌else◌, refl, subst}
+use Rattle.std.proofs.Common.{◌≡◌, ◌+◌, ◌<◌, ℕ, Option, Some, None, Bool, true, false, if◌then◌else◌, refl, subst}
 use Rattle.std.specs.Prelude.{drop, slice_get, nat_le}
 use Rattle.plx_base.specs.declared.numbers.ApplianceNo.{ApplianceNo}
 use Rattle.plx_commands.specs.declared.event.Event.{Event}

@@ -22,12 +22,12 @@ use Rattle.plx_rules.specs.Part.{Part}
 use Rattle.plx_rules.specs.World as rules
 use Rattle.plx_rules.specs.World.{goes_on, setting_of, stands}
 use Rattle.plx_world.specs.Seats.{AsksAs}
-use Rattle.plx_world.specs.Standing.{Stands}
+use Rattle.plx_world.specs.Standing.{WorldStands}
 use Rattle.plx_world.specs.declared.seat.Seat.{Seat}
 use Rattle.plx_world.specs.declared.world.World.{World}
 
 -- the appliance of this number is there, and is in a command
-pub record Runs (world : World) (number : ℕ) : Type 0 where
+pub record RunsCommand (world : World) (number : ℕ) : Type 0 where
   pub seat : Seat
   pub there : slice_get world.seats.items number ≡ Some seat
   pub running : IsRunning seat.appliance
@@ -52,10 +52,10 @@ pending_of w number = if nat_lt number w.appliances then (w.seats number).pendin
 -- the ask that stands was answered
 abbrev pub IsAnswered : World → World → ApplianceNo → Answer → Type 0
 IsAnswered old new appliance answer =
-    (w : rules.World) (event : Event) (ask : Ask) (bytes : List ℕ) (rest : Part End) → Stands old w →
+    (w : rules.World) (event : Event) (ask : Ask) (bytes : List ℕ) (rest : Part End) → WorldStands old w →
     asks (stands w appliance.0).place ≡ Some ask → writes_out (stands w appliance.0).place ≡ bytes → Fits ask answer →
     replies (setting_of w appliance.0) answer (stands w appliance.0) ≡ reply_of rest →
-    Stands new (goes_on w event appliance ask bytes answer rest)
+    WorldStands new (goes_on w event appliance ask bytes answer rest)
 
 -- the answer is the bytes that stand in the block, 4,096 of them
 abbrev pub GivesBlock : Disk → ℕ → Answer → Type 0

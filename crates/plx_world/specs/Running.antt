@@ -14,7 +14,7 @@ use Rattle.plx_rules.specs.World as rules
 use Rattle.plx_rules.specs.World.{Step, stands}
 use Rattle.plx_world.specs.Answering.{asked_by}
 use Rattle.plx_world.specs.Bounds.{AtMost, most_asks}
-use Rattle.plx_world.specs.Standing.{Stands}
+use Rattle.plx_world.specs.Standing.{WorldStands}
 use Rattle.plx_world.specs.declared.world.World.{World}
 
 -- a boot is in no command after at most so many answers
@@ -50,7 +50,7 @@ pub record OneMore (appliance : ApplianceNo) (stop : Option Stop) (new : World) 
   pub one : Event
   pub next : next_event w appliance stop ≡ Some one
   pub step : Step w one v
-  pub stands : Stands new v
+  pub stands : WorldStands new v
   pub less : (count : ℕ) → IsFewer w appliance (count + 1) → IsFewer v appliance count
 
 -- a run is over: there is no next event, or no such appliance
@@ -60,42 +60,42 @@ IsOver appliance stop w = appliance.0 < w.appliances → next_event w appliance 
 -- the next plain event of a run was made, or the run is over
 abbrev pub RunGoesOn : ApplianceNo → Option Stop → World → World → Bool → Type 0
 RunGoesOn appliance stop old new made =
-    (w : rules.World) → Stands old w → MatchBool made ((v : rules.World) × OneMore appliance stop new w v) (IsOver appliance stop w × Stands new w)
+    (w : rules.World) → WorldStands old w → MatchBool made ((v : rules.World) × OneMore appliance stop new w v) (IsOver appliance stop w × WorldStands new w)
 
 -- a run of an appliance that is there went to its end
 abbrev pub RunsWhole : ApplianceNo → Option Stop → World → World → Type 0
-RunsWhole appliance stop old new = (w : rules.World) → Stands old w → appliance.0 < w.appliances → (v : rules.World) × Runs appliance stop w v × Stands new v
+RunsWhole appliance stop old new = (w : rules.World) → WorldStands old w → appliance.0 < w.appliances → (v : rules.World) × Runs appliance stop w v × WorldStands new v
 
 -- some plain events of a run were made
 abbrev pub RunsSome : ApplianceNo → Option Stop → World → World → Type 0
-RunsSome appliance stop old new = (w : rules.World) → Stands old w → (v : rules.World) × RunsPartly appliance stop w v × Stands new v
+RunsSome appliance stop old new = (w : rules.World) → WorldStands old w → (v : rules.World) × RunsPartly appliance stop w v × WorldStands new v
 
 -- a run of one plain event or more went to its end
-pub record IsRun (appliance : ApplianceNo) (stop : Option Stop) (new : World) (w v : rules.World) : Type 0 where
+pub record RunsToEnd (appliance : ApplianceNo) (stop : Option Stop) (new : World) (w v : rules.World) : Type 0 where
   pub one : Event
   pub after : rules.World
   pub next : next_event w appliance stop ≡ Some one
   pub step : Step w one after
   pub rest : Runs appliance stop after v
-  pub stands : Stands new v
+  pub stands : WorldStands new v
 
 -- a run from each world that the old one stands for to one that the new one stands for, or none where it makes no event
 abbrev pub MakesRun : ApplianceNo → Option Stop → World → World → Bool → Type 0
 MakesRun appliance stop old new made =
-    (w : rules.World) → Stands old w → MatchBool made ((v : rules.World) × IsRun appliance stop new w v) (IsOver appliance stop w × Stands new w)
+    (w : rules.World) → WorldStands old w → MatchBool made ((v : rules.World) × RunsToEnd appliance stop new w v) (IsOver appliance stop w × WorldStands new w)
 
 -- the appliance asks for a write with this guard
 abbrev pub IsWriting : World → (number guard : ℕ) → Type 0
 IsWriting world number guard =
-    (kind : WriteKind) × (block : BlockNo) × ((w : rules.World) → Stands world w → asked_by w number ≡ Some (ask.Write kind block guard))
+    (kind : WriteKind) × (block : BlockNo) × ((w : rules.World) → WorldStands world w → asked_by w number ≡ Some (ask.Write kind block guard))
 
 -- the appliance asks for the clock, now or from some time on
 abbrev pub AsksClock : World → (number : ℕ) → Type 0
 AsksClock world number =
-    ((w : rules.World) → Stands world w → asked_by w number ≡ Some ask.Clock)
-    ⊎ ((from : ℕ) × ((w : rules.World) → Stands world w → asked_by w number ≡ Some (ask.Until from)))
+    ((w : rules.World) → WorldStands world w → asked_by w number ≡ Some ask.Clock)
+    ⊎ ((from : ℕ) × ((w : rules.World) → WorldStands world w → asked_by w number ≡ Some (ask.Until from)))
 
 -- whether a run of the appliance stops before its ask is answered; one that isn't there asks nothing
 abbrev pub StopsAs : World → (number : ℕ) → Option Stop → Bool → Type 0
 StopsAs world number stop result =
-    (w : rules.World) → Stands world w → number < w.appliances → result ≡ stops w.geometry stop (w.seats number).pending (stands w number).place
+    (w : rules.World) → WorldStands world w → number < w.appliances → result ≡ stops w.geometry stop (w.seats number).pending (stands w number).place

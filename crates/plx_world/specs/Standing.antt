@@ -23,7 +23,7 @@ pub record IsSeat (w : rules.World) (number : ℕ) (seat : Seat) : Type 0 where
   pub issued : seat.issued.items ≡ own_numbers number 0 w.surface.writes
 
 -- equal layout, device, issued writes, time and trace, and each seat stands for the appliance of its number
-pub record Stands (world : World) (w : rules.World) : Type 0 where
+pub record WorldStands (world : World) (w : rules.World) : Type 0 where
   pub geometry : world.geometry ≡ w.geometry
   pub count : length world.seats.items ≡ w.appliances
   pub surface : DiskStands world.disk w.surface
@@ -32,10 +32,10 @@ pub record Stands (world : World) (w : rules.World) : Type 0 where
 
 -- the new one stands for what the old one stood for
 abbrev pub StandsOn : World → World → Type 0
-StandsOn old new = (w : rules.World) → Stands old w → Stands new w
+StandsOn old new = (w : rules.World) → WorldStands old w → WorldStands new w
 
 -- each world that the old one stands for leads by a plain event to one that the new one stands for, where the event is possible; else it isn't possible in any
 abbrev pub Steps : World → World → Event → Bool → Type 0
 Steps old new event possible =
-    (w : rules.World) → Stands old w →
-    MatchBool possible ((v : rules.World) × Step w event v × Stands new v) (((v : rules.World) → ¬ Step w event v) × Stands new w)
+    (w : rules.World) → WorldStands old w →
+    MatchBool possible ((v : rules.World) × Step w event v × WorldStands new v) (((v : rules.World) → ¬ Step w event v) × WorldStands new w)

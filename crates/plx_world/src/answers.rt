@@ -2,7 +2,7 @@
 ghost use Rattle.std.specs.Prelude.{◌≡◌, ◌<◌, ◌^◌, ◌++◌, ◌∷◌, [], OnOk, IsTrue, ◌↔◌};
 ghost use Rattle.std.specs.Vec.{vec_capacity, vec_len};
 ghost use Rattle.plx_disk.specs.Standing.{device_size};
-ghost use Rattle.plx_rules.specs.World.{IsReading};
+ghost use Rattle.plx_rules.specs.World.{IsReadingAt};
 ghost use Rattle.plx_world.specs.Answering.{GivesBlock, told_entries};
 
 use crate::world::World;
@@ -17,12 +17,12 @@ const DRIFT: u64 = 50;
 impl World {
     ghost use Rattle.std.specs.Prelude.{IfOk, OnErr};
     ghost use Rattle.plx_commands.specs.declared.event.Event.TheVariants as event;
-    ghost use Rattle.plx_world.specs.Answering.{IsAnswered, Runs};
+    ghost use Rattle.plx_world.specs.Answering.{IsAnswered, RunsCommand};
     ghost use Rattle.plx_world.specs.Standing.{StandsOn, Steps};
 
     // The ask that stands is answered, and the reply told to which that leads.
     fn answer(&mut self, appliance: ApplianceNo, answer: &Answer) -> Result<(), NoMemory>
-        requires { Runs self.old appliance.0 }
+        requires { RunsCommand self.old appliance.0 }
         ensures ok { OnOk result (IsAnswered self.old self.new appliance answer.now) }
         ensures err { OnErr result (StandsOn self.old self.new) }
     {
@@ -154,7 +154,7 @@ impl World {
 // Whether a clock can show this reading at that time.
 fn is_near(reading: u64, time: u64) -> bool
     requires { time < 2 ^ 47 }
-    ensures { IsTrue result ↔ IsReading reading time }
+    ensures { IsTrue result ↔ IsReadingAt reading time }
 {
     reading <= time + DRIFT && time <= reading.saturating_add(DRIFT)
 }

@@ -16,7 +16,7 @@ impl World {
     ghost use Rattle.plx_commands.specs.declared.event.Stop.TheVariants as stop_is;
     ghost use Rattle.plx_rules.specs.World as rules;
     ghost use Rattle.plx_world.specs.Running.{AsksClock, RunGoesOn, IsWriting, MakesRun, RunsSome, RunsWhole, StopsAs};
-    ghost use Rattle.plx_world.specs.Standing.{Stands, StandsOn};
+    ghost use Rattle.plx_world.specs.Standing.{WorldStands, StandsOn};
 
     // A run, until the appliance's reply or until it stops. False, and nothing changes, where it makes no event.
     pub(crate) fn run(
@@ -116,7 +116,7 @@ impl World {
     // A write that isn't issued yet is issued, or missed where the time is past its guard.
     fn issue_or_miss(&mut self, appliance: ApplianceNo, guard: u64) -> Result<bool, NoMemory>
         requires writing { IsWriting self.old appliance.0 guard }
-        requires unissued { (w : rules.World) → Stands self.old w
+        requires unissued { (w : rules.World) → WorldStands self.old w
             → (w.seats appliance.0).pending ≡ None }
         ensures ok { IfOk result (RunGoesOn appliance None self.old self.new) }
         ensures err { OnErr result (StandsOn self.old self.new) }

@@ -42,16 +42,16 @@ impl World {
     ghost use Rattle.plx_rules.specs.World as rules;
     ghost use Rattle.plx_rules.specs.Pools.{allocated_in};
     ghost use Rattle.plx_rules.specs.World.{Reached, first_world};
-    ghost use Rattle.plx_world.specs.Answering.{Runs, asked_by, pending_of};
+    ghost use Rattle.plx_world.specs.Answering.{RunsCommand, asked_by, pending_of};
     ghost use Rattle.plx_world.specs.Cancels.{NeverCancels};
-    ghost use Rattle.plx_world.specs.Standing.{Stands, entries_of};
+    ghost use Rattle.plx_world.specs.Standing.{WorldStands, entries_of};
 
     /// A formatted device at time 1,000 milliseconds, and so many appliances, 1 to 8, each asked nothing yet.
     pub fn new(alloc: Global, geometry: Geometry, appliances: u32) -> Result<World, NoMemory>
         requires low { 1 ≤ appliances }
         requires high { appliances ≤ 8 }
         ensures { IfOk result (λ world. (device : Device) × IsFormatted geometry device
-            × Stands world (first_world geometry appliances device)) }
+            × WorldStands world (first_world geometry appliances device)) }
     {
         let disk = formatted_disk(alloc, &geometry, FIRST_TIME)?;
         World::over(alloc, geometry, appliances, disk)
@@ -69,7 +69,7 @@ impl World {
         requires uncancelled { NeverCancels disk }
         ensures { IfOk result (λ world. (device : Device)
             → DiskStands disk (first_world geometry appliances device).surface
-            → Stands world (first_world geometry appliances device)) }
+            → WorldStands world (first_world geometry appliances device)) }
     {
         let mut seats = Vec::new(alloc);
         for number in 0..appliances {
@@ -93,7 +93,7 @@ impl World {
 
     /// The time, in milliseconds.
     pub fn time(&self) -> u64
-        ensures { (w : rules.World) → Stands self.now w → result ≡ w.surface.time }
+        ensures { (w : rules.World) → WorldStands self.now w → result ≡ w.surface.time }
     {
         self.disk.time()
     }
@@ -108,7 +108,7 @@ impl World {
     /// How many blocks of the pool are allocated on the device: those whose bits are set in the maps of their extents. The blocks
     /// of maps don't count.
     pub fn allocated(&self) -> u64
-        ensures { (w : rules.World) → Reached w → Stands self.now w → result ≡ allocated_in w }
+        ensures { (w : rules.World) → Reached w → WorldStands self.now w → result ≡ allocated_in w }
     {
         maps_stay();
         allocated(&self.disk, &self.geometry)
@@ -116,8 +116,8 @@ impl World {
 
     // What an appliance asks, if it is there and a command runs.
     pub(crate) fn asked(&self, appliance: ApplianceNo) -> Option<Ask>
-        ensures ask { (w : rules.World) → Stands self.now w → result ≡ asked_by w appliance.0 }
-        ensures running { IfSome result (λ ask. Runs self.now appliance.0) }
+        ensures ask { (w : rules.World) → WorldStands self.now w → result ≡ asked_by w appliance.0 }
+        ensures running { IfSome result (λ ask. RunsCommand self.now appliance.0) }
         ensures within { IfSome result (IsOnDevice self.now.geometry) }
     {
         let index = appliance.0 as usize;
@@ -129,7 +129,7 @@ impl World {
 
     // The number of the write for which an appliance waits, if it is there and waits for one.
     pub(crate) fn pending(&self, appliance: ApplianceNo) -> Option<u64>
-        ensures { (w : rules.World) → Stands self.now w → result ≡ pending_of w appliance.0 }
+        ensures { (w : rules.World) → WorldStands self.now w → result ≡ pending_of w appliance.0 }
     {
         let index = appliance.0 as usize;
         if index >= self.seats.len() {

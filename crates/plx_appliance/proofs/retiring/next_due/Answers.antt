@@ -1,4 +1,4 @@
-use Rattle.std.proofs.Common.{◌≡◌, ℕ, ◌+◌, ◌<◌, sym, ap, ◌∙◌, arith}
+use Rattle.std.proofs.Common.{◌+◌, ◌<◌, sym, ap, ◌∙◌, arith}
 use Rattle.plx_base.specs.declared.numbers.SlotNo.{SlotNo}
 use Rattle.plx_rules.specs.Space.{release_then}
 use Rattle.plx_appliance.specs.Giving.{rules_setting}

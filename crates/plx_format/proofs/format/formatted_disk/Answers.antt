@@ -1,14 +1,15 @@
 use Rattle.std.proofs.Common.{◌≡◌, ◌+◌, ◌∙◌, refl, rules}
 use Rattle.plx_disk.specs.Standing.{Stands}
 use Rattle.plx_disk.specs.Writes.{blank}
-use Rattle.plx_format.proofs.Filled.{filled-so, none-issued}
+use Rattle.plx_disk.proofs.Told.{told-unissued}
+use Rattle.plx_format.proofs.Filled.{filled-so}
 use Rattle.plx_format.proofs.FormattedDevice.{with_super, with_leases, with_records, with_maps, with-maps-is}
 use Rattle.plx_geom.specs.Geometry.{lease_count}
 use Rattle.plx_geom.specs.Superblock.{superblock_bytes}
 use Rattle.plx_format.proofs.format.formatted_disk.Goals as goal
 
 pub fill-requires-clause-unissued : goal.fill-requires-clause-unissued
-fill-requires-clause-unissued c = none-issued c.in_ok-disk.disk (blank c.blocks-2.result c.args.time) c.in_ok-disk.ensures.blank refl
+fill-requires-clause-unissued c = told-unissued c.in_ok-disk.disk (blank c.blocks-2.result c.args.time) c.in_ok-disk.ensures.blank refl
 
 pub returns-clause-formatted : goal.returns-clause-formatted
 returns-clause-formatted c =

@@ -4,7 +4,7 @@ use Rattle.plx_base.specs.declared.numbers.BlockNo.{BlockNo}
 use Rattle.plx_commands.specs.Replies.{is_in}
 use Rattle.plx_alloc.specs.Pools.{AreInPool}
 use Rattle.plx_alloc.specs.Tables.{numbers}
-use Rattle.plx_alloc.proofs.Keeping.{IsKept, kept-all, kept-less, kept-more, kept-none}
+use Rattle.plx_alloc.proofs.Keeping.{AreKeptBlocks, kept-all, kept-less, kept-more, kept-none}
 use Rattle.plx_alloc.proofs.allocator.Allocator.give.Goals.{then-not-is_among, else-not-is_among}
 use Rattle.plx_alloc.proofs.allocator.Allocator.give.Goals as goal
 
@@ -12,7 +12,7 @@ pub loop-block-init : goal.loop-block-init
 loop-block-init c =
     let a = c.args.self.now in
     let p : ℕ → Bool = λ block. not (is_in block (numbers c.args.blocks.now.items)) in
-    subst (λ kept. IsKept p a.geometry c.as_slice-block-items.result.now 0 kept) (sym c.new-kept.ensures) (kept-none p a.geometry c.as_slice-block-items.result.now)
+    subst (λ kept. AreKeptBlocks p a.geometry c.as_slice-block-items.result.now 0 kept) (sym c.new-kept.ensures) (kept-none p a.geometry c.as_slice-block-items.result.now)
 
 pub push-requires : goal.push-requires
 push-requires c =

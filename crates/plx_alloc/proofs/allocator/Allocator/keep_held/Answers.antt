@@ -5,7 +5,7 @@ use Rattle.plx_rules.specs.Hands.{is_held}
 use Rattle.plx_rules.specs.Rests.{extent_of}
 use Rattle.plx_alloc.specs.Pools.{AreInPool}
 use Rattle.plx_alloc.specs.Tables.{extent_leases, numbers}
-use Rattle.plx_alloc.proofs.Keeping.{IsKept, kept-all, kept-less, kept-more, kept-none}
+use Rattle.plx_alloc.proofs.Keeping.{AreKeptBlocks, kept-all, kept-less, kept-more, kept-none}
 use Rattle.plx_alloc.proofs.allocator.Allocator.keep_held.Goals.{then-is_some, else-is_some}
 use Rattle.plx_alloc.proofs.allocator.Allocator.keep_held.Goals as goal
 
@@ -13,7 +13,7 @@ pub loop-block-init : goal.loop-block-init
 loop-block-init c =
     let a = c.args.self.now in
     let p : ℕ → Bool = λ block. is_held (extent_leases a (extent_of a.geometry block)) in
-    subst (λ kept. IsKept p a.geometry c.as_slice-block-items.result.now 0 kept) (sym c.new-kept.ensures) (kept-none p a.geometry c.as_slice-block-items.result.now)
+    subst (λ kept. AreKeptBlocks p a.geometry c.as_slice-block-items.result.now 0 kept) (sym c.new-kept.ensures) (kept-none p a.geometry c.as_slice-block-items.result.now)
 
 pub push-requires : goal.push-requires
 push-requires c =

@@ -1,7 +1,9 @@
-use Rattle.std.proofs.Common.{ap, sym, ◌+◌, ◌∙◌}
+use Rattle.std.proofs.Common.{rules, ap, sym, ◌+◌, ◌∙◌}
 use Rattle.plx_base.specs.declared.numbers.ExtentNo.{ExtentNo}
 use Rattle.plx_alloc.specs.Ending.{space_end}
 use Rattle.plx_alloc.specs.Gives.{around_known, give_from, giving_rest}
+use Rattle.law_run.proofs.Machines.{moves-on}
+use Rattle.plx_alloc.proofs.GiveBackRules.{give-back-end}
 use Rattle.plx_alloc.proofs.Released.{gives-past}
 use Rattle.plx_alloc.proofs.give_back.GiveBack.answer.Goals as goal
 
@@ -12,7 +14,7 @@ returns-in-Some-Done-clause-rest c = λ o.
     let m = c.args.self.now.giving in
     let e = c.answer.ensures in
     c.go_on.ensures.rest o
-    ∙ (ap (λ (x : ExtentNo). give_from o b (x.0 + 1)) e.extent.extent
+    ∙ (ap (λ (x : ExtentNo). give_from o b (x.0 + 1)) (c.extent-given.ensures ∙ e.extent.extent)
     ∙ (gives-past o a b m.extent.0 e.same e.claims e.leases e.others
     ∙ (ap (λ end. space_end (give_from o a (m.extent.0 + 1)) (around_known o b) end) (sym c.in-Some-Done.field-0-is)
     ∙ c.in-Some-Done.ensures.rest (record o { rest = give_from o a (m.extent.0 + 1) }))))
@@ -27,3 +29,25 @@ returns-in-None-clause-rest c = λ o.
     ap (λ next. giving_rest (record o { rest = next }) b new)
     (ap (λ (x : ExtentNo). give_from o b (x.0 + 1)) e.extent.extent ∙ gives-past o a b m.extent.0 e.same e.claims e.leases e.others)
     ∙ c.in-None.ensures.rest (record o { rest = give_from o a (m.extent.0 + 1) })
+
+-- so it moves on, and where it has ended, the end keeps the rules
+pub returns-in-Some-Done-clause-log : goal.returns-in-Some-Done-clause-log
+returns-in-Some-Done-clause-log c = λ o. moves-on _ _ _ (returns-in-Some-Done-clause-rest c o)
+
+pub returns-in-Some-Done-clause-rules : goal.returns-in-Some-Done-clause-rules
+returns-in-Some-Done-clause-rules c = λ o end over. give-back-end _ end over
+
+pub returns-in-None-clause-log : goal.returns-in-None-clause-log
+returns-in-None-clause-log c = λ o. moves-on _ _ _ (returns-in-None-clause-rest c o)
+
+pub returns-in-None-clause-rules : goal.returns-in-None-clause-rules
+returns-in-None-clause-rules c = λ o end over. give-back-end _ end over
+
+pub returns-in-Some-Refused-clause-rest : goal.returns-in-Some-Refused-clause-rest
+returns-in-Some-Refused-clause-rest c = search rules
+
+pub returns-in-Some-Refused-clause-log : goal.returns-in-Some-Refused-clause-log
+returns-in-Some-Refused-clause-log c = λ o. moves-on _ _ _ (returns-in-Some-Refused-clause-rest c o)
+
+pub returns-in-Some-Refused-clause-rules : goal.returns-in-Some-Refused-clause-rules
+returns-in-Some-Refused-clause-rules c = λ o end over. give-back-end _ end over

@@ -45,8 +45,8 @@ found-bits c =
     let blocks : c.blocks-2.inside.extent_blocks ≡ c.args.space.now.geometry.extent_blocks = search rules in
     subst (λ n. IsMap n c.in-Some.bits) blocks c.in-Some.ensures.0
 
-out-bits : (c : goal.After-self-2-1) → c.copy_from_slice.new.self ≡ map_bytes c.clear-self.new.bits
-out-bits c = c.copy_from_slice.ensures.after ∙ c.bytes.ensures.same
+out-bits : (c : goal.After-self-2-1) → c.spell_map.new.block ≡ map_bytes c.clear-self.new.bits
+out-bits c = c.spell_map.ensures
 
 pub returns-clause-rest : goal.returns-clause-rest
 returns-clause-rest c = λ o.
@@ -60,7 +60,7 @@ returns-clause-rest c = λ o.
     let mine = in_extent g e (hand_numbers a) in
     let is = found-bits c in
     let read : read_map g.extent_blocks c.args.bytes.now ≡ Some bits = map-read-found g.extent_blocks c.args.bytes.now (Some bits) a.limits.blocks_high (is, sym c.as_slice.ensures.same ∙ c.in-Some.ensures.1) in
-    let out : c.copy_from_slice.new.self ≡ map_bytes (with_clear mine (map_at g e) bits) =
+    let out : c.spell_map.new.block ≡ map_bytes (with_clear mine (map_at g e) bits) =
     out-bits c ∙ (ap map_bytes c.clear-self.ensures.cleared
     ∙ (ap (λ hand. map_bytes (with_clear hand m.map.0 bits)) c.hand.ensures.blocks
     ∙ (ap (λ block. map_bytes (with_clear (hand_numbers a) block bits)) c.requires.suits.map
@@ -89,5 +89,5 @@ returns-clause-tells c = λ hand.
     let m = c.args.self.now in
     let bits = c.in-Some.bits in
     let long : length c.clear-self.new.bits ≡ length bits = ap length c.clear-self.ensures.cleared ∙ length-with_clear (numbers c.hand.result.now) m.map.0 bits in
-    tells-given a.geometry.extent_blocks m.map.0 bits c.clear-self.new.bits (numbers c.clear-self.result.items) c.args.bytes.now c.copy_from_slice.new.self hand
+    tells-given a.geometry.extent_blocks m.map.0 bits c.clear-self.new.bits (numbers c.clear-self.result.items) c.args.bytes.now c.spell_map.new.block hand
     a.limits.blocks_high (found-bits c) (sym c.as_slice.ensures.same ∙ c.in-Some.ensures.1) (out-bits c) long c.clear-self.ensures.given

@@ -19,7 +19,8 @@ use Rattle.plx_alloc.specs.declared.reserve.Reserve.{Reserve}
 use Rattle.plx_alloc.specs.declared.reserve.ReserveAt.TheVariants as at
 use Rattle.plx_alloc.proofs.Reading.{map-read-found}
 use Rattle.plx_alloc.proofs.Suited.{hand-same, hold-none, next-none, next-some, numbers-length}
-use Rattle.plx_alloc.proofs.Taking.{knowing, claims-nothing-free, free-some, look-stands, looked-rest, lt-tells}
+use Rattle.plx_base.proofs.Tests.{nat_le-false}
+use Rattle.plx_alloc.proofs.Taking.{knowing, claims-nothing-free, free-some, look-stands, looked-rest}
 use Rattle.plx_alloc.proofs.reserve.Reserve.after_look.Goals as goal
 
 pub returns-in_default-clause-rest : goal.returns-in_default-clause-rest
@@ -83,7 +84,7 @@ returns-in_default-next_claim-clause-rest c = λ o.
     let m = c.args.self.now in
     let s = allocator_setting o.appliance a in
     let worn : a.claims ≡ last_claim = next-none a.claims (sym c.in_default-next_claim.is ∙ c.next_claim.ensures.number) in
-    let over : nat_lt a.claims last_claim ≡ false = lt-tells (suc a.claims) last_claim (omega (arith, worn)) in
+    let over : nat_lt a.claims last_claim ≡ false = nat_le-false (suc a.claims) last_claim (omega (arith, worn)) in
     ap (λ n. ends (reply.WornOut last_claim) (knowing o n)) (c.next_claim.ensures.claims ∙ ap (claims_after a.claims) c.in_default-next_claim.is)
     ∙ sym (ap (λ found. other_found s m.count m.extent.0 found (next_rest o a m) (taking_of o a m)) (found-worn c)
     ∙ (free-some s m.count m.extent.0 (free_from (hand_numbers a) (map_at a.geometry m.extent.0) c.in-Some.bits) (next_rest o a m) (taking_of o a m) (free-worn c)
@@ -119,11 +120,11 @@ returns-clause-rest c = λ o.
     let less : a.claims < last_claim = omega (arith, ne, most) in
     let lease : c.lease_number.result ≡ extent_lease a.geometry m.extent.0 = c.lease_number.ensures ∙ ap (λ g. extent_lease g m.extent.0) e.same.geometry in
     let place : 1 + c.from.result ≡ lease_at (extent_lease a.geometry m.extent.0) = ap (λ n. 1 + n) (c.from.ensures ∙ lease) in
-    let claim : claim_rest c.begin-self.result ≡ claim_part a.boot.0 (uses_of m.claimed) (extent_lease a.geometry m.extent.0) a.claims =
-    c.begin-self.ensures.rest (extent_lease a.geometry m.extent.0) place
+    let claim : claim_rest c.begin_next.new.self ≡ claim_part a.boot.0 (uses_of m.claimed) (extent_lease a.geometry m.extent.0) a.claims =
+    c.begin_next.ensures.rest (extent_lease a.geometry m.extent.0) place
     ∙ (ap (λ (boot : Boot). claim_part boot.0 (uses_of m.claimed) (extent_lease a.geometry m.extent.0) c.in-Some-next_claim.number) (c.boot.ensures ∙ e.same.boot)
     ∙ ap (claim_part a.boot.0 (uses_of m.claimed) (extent_lease a.geometry m.extent.0)) next.0) in
-    let new : Reserve = record m { at = at.Claim; claim = c.begin-self.result } in
+    let new : Reserve = record m { at = at.Claim; claim = c.begin_next.new.self } in
     looked-rest o a b m new e.same e.leases e.hand claims less refl refl refl refl refl refl claim
     ∙ sym (ap (λ found. other_found s m.count m.extent.0 found (next_rest o a m) (taking_of o a m)) (found-claim c)
     ∙ free-some s m.count m.extent.0 (free_from (hand_numbers a) (map_at a.geometry m.extent.0) c.in-Some.bits) (next_rest o a m) (taking_of o a m) (free-claim c))
@@ -156,8 +157,8 @@ returns-clause-suits c = λ none.
           free = hold-none (held_of b m.extent.0) (ap (λ (table : ℕ → Hold). table m.extent.0) e.leases ∙ ap extent_hold stands.free);
           none_yet = stands.none_yet;
         };
-        lease = ap (λ (k : Extent). k.0) c.begin-self.ensures.lease;
-        number = c.begin-self.ensures.number (extent_lease a.geometry m.extent.0) place ∙ ap (λ g. extent_lease g m.extent.0) (sym e.same.geometry);
+        lease = ap (λ (k : Extent). k.0) c.begin_next.ensures.lease;
+        number = c.begin_next.ensures.number (extent_lease a.geometry m.extent.0) place ∙ ap (λ g. extent_lease g m.extent.0) (sym e.same.geometry);
       };
     }
 
@@ -170,8 +171,8 @@ returns-clause-starts c = λ none'.
     let lease : c.lease_number.result ≡ extent_lease a.geometry m.extent.0 = c.lease_number.ensures ∙ ap (λ g. extent_lease g m.extent.0) e.same.geometry in
     let place : 1 + c.from.result ≡ lease_at (extent_lease a.geometry m.extent.0) = ap (λ n. 1 + n) (c.from.ensures ∙ lease) in
     record {
-      number = c.begin-self.ensures.number (extent_lease a.geometry m.extent.0) place;
+      number = c.begin_next.ensures.number (extent_lease a.geometry m.extent.0) place;
       none = ap (λ (table : ℕ → Hold). table m.extent.0) e.leases ∙ ap extent_hold stands.free;
-      fresh = c.begin-self.ensures.hold;
-      sampled = c.begin-self.ensures.sampled;
+      fresh = c.begin_next.ensures.hold;
+      sampled = c.begin_next.ensures.sampled;
     }

@@ -1,4 +1,4 @@
-use Rattle.std.proofs.Common.{◌≡◌, ◌∙◌, ap, sym, refl, subst, ℕ, List, Option, Some}
+use Rattle.std.proofs.Common.{rules, ◌≡◌, ◌∙◌, ap, sym, refl, subst, ℕ, List, Option, Some}
 use Rattle.plx_lease.proofs.Asking.{claim-asks}
 use Rattle.plx_rules.proofs.Nested.{nested}
 use Rattle.plx_rules.specs.Ends.{lost}
@@ -9,6 +9,7 @@ use Rattle.plx_geom.specs.Geometry.{Geometry}
 use Rattle.plx_alloc.specs.declared.reserve.Reserve.{Reserve}
 use Rattle.plx_alloc.specs.declared.reserve.ReserveAt.{ReserveAt}
 use Rattle.plx_alloc.specs.declared.reserve.ReserveAt.TheVariants as at
+use Rattle.plx_alloc.proofs.TakeEnds.{moves-on-rightly}
 use Rattle.plx_alloc.proofs.reserve.Reserve.answer.Goals as goal
 
 -- what was found tells what is taken
@@ -70,3 +71,30 @@ returns-in-Some-clause-leases c =
       ends = λ none' here. absurd (not-claim c.claim_over.new.self.at (k.reads none') here);
       goes_on = λ none'. (k.reads none', k.goes_on none');
     })
+
+pub returns-in-Map-Bytes-clause-rules : goal.returns-in-Map-Bytes-clause-rules
+returns-in-Map-Bytes-clause-rules c = λ o. moves-on-rightly _ _ _ (search rules)
+
+pub returns-in-Look-Bytes-clause-rules : goal.returns-in-Look-Bytes-clause-rules
+returns-in-Look-Bytes-clause-rules c = λ o. moves-on-rightly _ _ _ (search rules)
+
+pub returns-in-Write-Done-clause-rules : goal.returns-in-Write-Done-clause-rules
+returns-in-Write-Done-clause-rules c = λ o. moves-on-rightly _ _ _ (search rules)
+
+pub returns-in-Write-Fault-clause-rules : goal.returns-in-Write-Fault-clause-rules
+returns-in-Write-Fault-clause-rules c = λ o. moves-on-rightly _ _ _ (search rules)
+
+pub returns-in-Some-clause-rules : goal.returns-in-Some-clause-rules
+returns-in-Some-clause-rules c = λ o. moves-on-rightly _ _ _ (search rules)
+
+pub returns-in-Damaged-Reading-clause-rules : goal.returns-in-Damaged-Reading-clause-rules
+returns-in-Damaged-Reading-clause-rules c = λ o. moves-on-rightly _ _ _ (search rules)
+
+pub returns-in-Map-Fault-clause-rules : goal.returns-in-Map-Fault-clause-rules
+returns-in-Map-Fault-clause-rules c = λ o. moves-on-rightly _ _ _ (search rules)
+
+pub returns-in-Write-Missed-clause-rules : goal.returns-in-Write-Missed-clause-rules
+returns-in-Write-Missed-clause-rules c = λ o. moves-on-rightly _ _ _ (returns-in-Write-Missed-clause-rest c o)
+
+pub returns-in-None-clause-rules : goal.returns-in-None-clause-rules
+returns-in-None-clause-rules c = λ o. moves-on-rightly _ _ _ (returns-in-None-clause-rest c o)

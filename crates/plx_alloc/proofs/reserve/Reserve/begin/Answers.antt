@@ -1,10 +1,11 @@
-use Rattle.std.proofs.Common.{◌≡◌, ◌-◌, ◌∙◌, ap, sym, arith}
+use Rattle.std.proofs.Common.{rules, ◌≡◌, ◌-◌, ◌∙◌, ap, sym, arith}
 use Rattle.plx_rules.specs.Part.{Part}
 use Rattle.plx_rules.specs.Ends.{End}
 use Rattle.plx_rules.specs.Space.{first_taking, take_held, take_others, taken_part}
 use Rattle.plx_alloc.specs.Ending.{space_end}
 use Rattle.plx_alloc.specs.Tables.{allocator_setting, hand_numbers, holds_of}
 use Rattle.plx_alloc.specs.Takes.{outer_known}
+use Rattle.plx_alloc.proofs.TakeEnds.{begins-rightly}
 use Rattle.plx_alloc.proofs.reserve.Reserve.begin.Goals as goal
 
 pub returns-in-Some-clause-rest : goal.returns-in-Some-clause-rest
@@ -16,3 +17,9 @@ returns-in-Some-clause-rest c = λ o.
     ∙ (c.in-Some.ensures.rest o
     ∙ ap (λ left. take_held s c.args.count (holds_of a) left 0 (take_others s c.args.count (holds_of a) a.geometry.extents 0 (taken_part s c.args.count o.rest))
     (first_taking (outer_known o a) (hand_numbers a))) all)
+
+pub returns-in-Some-clause-rules : goal.returns-in-Some-clause-rules
+returns-in-Some-clause-rules c = λ o. begins-rightly _ _ (returns-in-Some-clause-rest c o)
+
+pub returns-in-None-clause-rules : goal.returns-in-None-clause-rules
+returns-in-None-clause-rules c = λ o. begins-rightly _ _ (search rules)

@@ -97,10 +97,10 @@ returns-clause-rest c = λ o.
     let next = next_rest o a m in
     let t = taking_of o a m in
     let some : length items ≢ 0 = search rules in
-    let out : c.copy_from_slice.new.self ≡ map_bytes (with_set (numbers items) (map_at a.geometry m.extent.0) c.in-Some.bits) =
-    c.copy_from_slice.ensures.after ∙ (c.bytes.ensures.same ∙ (ap map_bytes c.choose-self.ensures.set
-    ∙ ap (λ block. map_bytes (with_set (numbers items) block c.in-Some.bits)) c.requires.suits.map)) in
-    ap (λ block. write_then s known own kind.Take block c.copy_from_slice.new.self (next (with_taken t (numbers items)))) c.requires.suits.map
+    let out : c.spell_map.new.block ≡ map_bytes (with_set (numbers items) (map_at a.geometry m.extent.0) c.in-Some.bits) =
+    c.spell_map.ensures ∙ (ap map_bytes c.choose-self.ensures.set
+    ∙ ap (λ block. map_bytes (with_set (numbers items) block c.in-Some.bits)) c.requires.suits.map) in
+    ap (λ block. write_then s known own kind.Take block c.spell_map.new.block (next (with_taken t (numbers items)))) c.requires.suits.map
     ∙ (ap (λ bytes. write_then s known own kind.Take (map_at a.geometry m.extent.0) bytes (next (with_taken t (numbers items)))) out
     ∙ sym (ap (λ found. take_found s m.count m.extent.0 m.until found next t) (found-some c)
     ∙ (ap (λ blocks. set_part s m.extent.0 m.until c.in-Some.bits blocks next t) (sym (taken-some c))
@@ -137,8 +137,8 @@ returns-clause-tells c = λ none' hand.
     let blocks : c.blocks-2.inside.extent_blocks ≡ g.extent_blocks = search rules in
     let is : IsMap g.extent_blocks c.in-Some.bits = subst (λ n. IsMap n c.in-Some.bits) blocks c.in-Some.ensures.0 in
     let bytes : c.args.bytes.now ≡ map_bytes c.in-Some.bits = sym c.as_slice.ensures.same ∙ c.in-Some.ensures.1 in
-    let out : c.copy_from_slice.new.self ≡ map_bytes (with_set (numbers items) map c.in-Some.bits) =
-    c.copy_from_slice.ensures.after ∙ (c.bytes.ensures.same ∙ ap map_bytes c.choose-self.ensures.set) in
+    let out : c.spell_map.new.block ≡ map_bytes (with_set (numbers items) map c.in-Some.bits) =
+    c.spell_map.ensures ∙ (ap map_bytes c.choose-self.ensures.set) in
     let taken : numbers items ≡ take n (free_from (hand_numbers a) map c.in-Some.bits) =
     taken-some c ∙ ap (λ block. take n (free_from (hand_numbers a) block c.in-Some.bits)) (sym c.requires.suits.map) in
-    tells-taken g.extent_blocks (hand_numbers a) n map c.in-Some.bits (numbers items) c.args.bytes.now c.copy_from_slice.new.self hand a.limits.blocks_high is bytes out taken
+    tells-taken g.extent_blocks (hand_numbers a) n map c.in-Some.bits (numbers items) c.args.bytes.now c.spell_map.new.block hand a.limits.blocks_high is bytes out taken

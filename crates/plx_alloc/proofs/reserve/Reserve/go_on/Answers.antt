@@ -7,9 +7,9 @@ use Rattle.plx_alloc.specs.declared.reserve.Reserve.{Reserve}
 use Rattle.plx_alloc.specs.declared.reserve.ReserveAt.TheVariants as at
 use Rattle.plx_alloc.proofs.Hands.{held-some}
 use Rattle.plx_alloc.proofs.Passes.{first-extent-is}
-use Rattle.plx_alloc.proofs.Taking.{lt-tells, maps-first, pass-enough, pass-held}
+use Rattle.plx_alloc.proofs.Taking.{maps-first, pass-enough, pass-held}
 use Rattle.plx_alloc.proofs.reserve.Reserve.go_on.Goals as goal
-use Rattle.plx_base.proofs.Tests.{nat_le-true}
+use Rattle.plx_base.proofs.Tests.{nat_le-true, nat_le-false}
 
 pub returns-then-in_hand-self-clause-rest : goal.returns-then-in_hand-self-clause-rest
 returns-then-in_hand-self-clause-rest c = λ o.
@@ -22,7 +22,7 @@ pub returns-in_default-next_extent-clause-rest : goal.returns-in_default-next_ex
 returns-in_default-next_extent-clause-rest c = λ o.
     let a = c.args.space.now in
     let m = c.args.self.now in
-    let few : nat_le m.count (length (hand_numbers a)) ≡ false = lt-tells m.count (length (hand_numbers a)) (subst (λ n. n < m.count) c.in_hand.ensures c.if-in_hand-self.false) in
+    let few : nat_le m.count (length (hand_numbers a)) ≡ false = nat_le-false m.count (length (hand_numbers a)) (subst (λ n. n < m.count) c.in_hand.ensures c.if-in_hand-self.false) in
     c.go_on_others-in_default-next_extent.ensures.rest o
     ∙ sym (ap (λ p. pass_rest p (allocator_setting o.appliance a) (holds_of a) m.count c.args.from o.rest (taking_of o a m)) c.in_default.is
     ∙ pass-held o a m.count c.args.from (taking_of o a m) None c.requires.from few c.in_default-next_extent.ensures)
@@ -39,7 +39,7 @@ returns-clause-rest c = λ o.
     let a = c.args.space.now in
     let m = c.args.self.now in
     let token = c.unwrap.result.now in
-    let few : nat_le m.count (length (hand_numbers a)) ≡ false = lt-tells m.count (length (hand_numbers a)) (subst (λ n. n < m.count) c.in_hand.ensures c.if-in_hand-self.false) in
+    let few : nat_le m.count (length (hand_numbers a)) ≡ false = nat_le-false m.count (length (hand_numbers a)) (subst (λ n. n < m.count) c.in_hand.ensures c.if-in_hand-self.false) in
     let is : held_of a c.in-Some.extent.0 ≡ Some token = search rules in
     let hold : extent_leases a c.in-Some.extent.0 ≡ Held token.claim c.until-until.result = ap extent_hold is ∙ ap (λ n. Held token.claim n) (sym c.until-until.ensures) in
     let high : c.until-until.result < 562949953421312 = subst (λ n. n < 562949953421312) (sym c.until-until.ensures) token.high in

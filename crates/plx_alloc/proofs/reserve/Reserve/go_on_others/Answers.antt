@@ -7,14 +7,15 @@ use Rattle.plx_alloc.specs.declared.reserve.Reserve.{Reserve}
 use Rattle.plx_alloc.specs.declared.reserve.ReserveAt.TheVariants as at
 use Rattle.plx_alloc.proofs.Passes.{first-extent-is}
 use Rattle.plx_alloc.proofs.Suited.{numbers-length}
-use Rattle.plx_alloc.proofs.Taking.{looks-first, lt-tells, not-held-none, not-set, pass-others, taken-few}
+use Rattle.plx_base.proofs.Tests.{nat_le-false, opposite-true}
+use Rattle.plx_alloc.proofs.Taking.{looks-first, not-held-none, pass-others, taken-few}
 use Rattle.plx_alloc.proofs.reserve.Reserve.go_on_others.Goals as goal
 
 pub returns-in_default-clause-rest : goal.returns-in_default-clause-rest
 returns-in_default-clause-rest c = λ o.
     let a = c.args.space.now in
     let m = c.args.self.now in
-    let few : nat_le m.count (length (hand_numbers a)) ≡ false = lt-tells m.count (length (hand_numbers a)) c.requires.need in
+    let few : nat_le m.count (length (hand_numbers a)) ≡ false = nat_le-false m.count (length (hand_numbers a)) c.requires.need in
     c.refusal.ensures o (reserve_follows o a m)
     ∙ sym (pass-others o a m.count c.args.from (taking_of o a m) None c.requires.from few c.in_default.ensures ∙ taken-few (allocator_setting o.appliance a) m.count o.rest (taking_of o a m) few)
 
@@ -30,9 +31,9 @@ pub returns-clause-rest : goal.returns-clause-rest
 returns-clause-rest c = λ o.
     let a = c.args.space.now in
     let m = c.args.self.now in
-    let few : nat_le m.count (length (hand_numbers a)) ≡ false = lt-tells m.count (length (hand_numbers a)) c.requires.need in
+    let few : nat_le m.count (length (hand_numbers a)) ≡ false = nat_le-false m.count (length (hand_numbers a)) c.requires.need in
     let h = first-extent-is (λ extent. is_as false (extent_leases a extent)) (a.geometry.extents - c.args.from) c.args.from c.in-Some.extent.0 (sym c.in-Some.ensures) in
-    let free : is_held (extent_leases a c.in-Some.extent.0) ≡ false = not-set (is_held (extent_leases a c.in-Some.extent.0)) h.so in
+    let free : is_held (extent_leases a c.in-Some.extent.0) ≡ false = opposite-true (is_held (extent_leases a c.in-Some.extent.0)) h.so in
     let new : Reserve = record m { at = at.Look; extent = c.in-Some.extent; map = c.map_block-self.result } in
     looks-first o a new refl c.map_block-self.ensures c.requires.others free
     ∙ sym (pass-others o a m.count c.args.from (taking_of o a m) (Some c.in-Some.extent.0) c.requires.from few c.in-Some.ensures)
@@ -52,5 +53,5 @@ returns-clause-suits c = λ none.
       map = c.map_block-self.ensures;
       room = omega (arith, room, need, long, most);
       held = c.requires.held;
-      stands = record { pass = c.requires.others; free = not-held-none (held_of a c.in-Some.extent.0) (not-set (is_held (extent_leases a c.in-Some.extent.0)) h.so); none_yet = room };
+      stands = record { pass = c.requires.others; free = not-held-none (held_of a c.in-Some.extent.0) (opposite-true (is_held (extent_leases a c.in-Some.extent.0)) h.so); none_yet = room };
     }

@@ -1,4 +1,6 @@
-use Rattle.std.proofs.Common.{ap, sym, ◌∙◌}
+use Rattle.std.proofs.Common.{rules, ap, sym, ◌∙◌}
+use Rattle.law_run.proofs.Machines.{moves-on}
+use Rattle.law_run.proofs.RetireRules.{retire-end}
 use Rattle.plx_rules.specs.Ends.{lost}
 use Rattle.plx_rules.specs.Part.{answered}
 use Rattle.plx_alloc.specs.Ending.{space_end}
@@ -38,3 +40,49 @@ returns-in-Release-Missed-clause-rest c = λ o.
     let known = around_known o a in
     rw (c.in-Release-Missed.is-0, c.in-Release-Missed.is-1)
     (c.lost.ensures s o.rest known (sym c.geometry.ensures) ∙ ap (λ due. lost s known due c.in-Release-Missed.reading) c.own_use.ensures)
+
+-- so it moves on, and where it has ended, the end keeps the rules
+pub returns-in-Some-Done-clause-log : goal.returns-in-Some-Done-clause-log
+returns-in-Some-Done-clause-log c = λ o. moves-on _ _ _ (returns-in-Some-Done-clause-rest c o)
+
+pub returns-in-Some-Done-clause-rules : goal.returns-in-Some-Done-clause-rules
+returns-in-Some-Done-clause-rules c = λ o end over. retire-end _ end over
+
+pub returns-in-None-clause-log : goal.returns-in-None-clause-log
+returns-in-None-clause-log c = λ o. moves-on _ _ _ (returns-in-None-clause-rest c o)
+
+pub returns-in-None-clause-rules : goal.returns-in-None-clause-rules
+returns-in-None-clause-rules c = λ o end over. retire-end _ end over
+
+pub returns-in-Release-Missed-clause-log : goal.returns-in-Release-Missed-clause-log
+returns-in-Release-Missed-clause-log c = λ o. moves-on _ _ _ (returns-in-Release-Missed-clause-rest c o)
+
+pub returns-in-Release-Missed-clause-rules : goal.returns-in-Release-Missed-clause-rules
+returns-in-Release-Missed-clause-rules c = λ o end over. retire-end _ end over
+
+pub returns-in-Some-Refused-clause-rest : goal.returns-in-Some-Refused-clause-rest
+returns-in-Some-Refused-clause-rest c = search rules
+
+pub returns-in-Some-Refused-clause-log : goal.returns-in-Some-Refused-clause-log
+returns-in-Some-Refused-clause-log c = λ o. moves-on _ _ _ (returns-in-Some-Refused-clause-rest c o)
+
+pub returns-in-Some-Refused-clause-rules : goal.returns-in-Some-Refused-clause-rules
+returns-in-Some-Refused-clause-rules c = λ o end over. retire-end _ end over
+
+pub returns-in-Release-Done-clause-rest : goal.returns-in-Release-Done-clause-rest
+returns-in-Release-Done-clause-rest c = search rules
+
+pub returns-in-Release-Done-clause-log : goal.returns-in-Release-Done-clause-log
+returns-in-Release-Done-clause-log c = λ o. moves-on _ _ _ (returns-in-Release-Done-clause-rest c o)
+
+pub returns-in-Release-Done-clause-rules : goal.returns-in-Release-Done-clause-rules
+returns-in-Release-Done-clause-rules c = λ o end over. retire-end _ end over
+
+pub returns-in-Release-Fault-clause-rest : goal.returns-in-Release-Fault-clause-rest
+returns-in-Release-Fault-clause-rest c = search rules
+
+pub returns-in-Release-Fault-clause-log : goal.returns-in-Release-Fault-clause-log
+returns-in-Release-Fault-clause-log c = λ o. moves-on _ _ _ (returns-in-Release-Fault-clause-rest c o)
+
+pub returns-in-Release-Fault-clause-rules : goal.returns-in-Release-Fault-clause-rules
+returns-in-Release-Fault-clause-rules c = λ o end over. retire-end _ end over

@@ -1,11 +1,10 @@
-use Rattle.std.proofs.Common.{◌≡◌, ℕ, List, [], ◌∷◌, sym, ap, ◌∙◌, subst}
+use Rattle.std.proofs.Common.{[], ◌∷◌, sym, ap, ◌∙◌, subst}
 use Rattle.plx_disk.specs.declared.ask.Ask.TheVariants as ask
 use Rattle.plx_disk.specs.declared.ask.Answer.TheVariants as answer
 use Rattle.plx_rules.specs.Boot.{Asked, position}
-use Rattle.plx_appliance.specs.Appliance.{IsIn, StandsAt}
+use Rattle.plx_appliance.specs.Appliance.{StandsAt}
 use Rattle.plx_appliance.specs.Ending.{hand_after_reply, leases_after}
 use Rattle.plx_appliance.specs.Giving.{rules_setting}
-use Rattle.plx_appliance.specs.Kept.{known_of}
 use Rattle.plx_appliance.specs.Lent.{lent_of}
 use Rattle.plx_appliance.specs.declared.appliance.Stage.{Stage}
 use Rattle.plx_appliance.proofs.Stood.{first-stands, last-stands, stood-in, stood-ends}

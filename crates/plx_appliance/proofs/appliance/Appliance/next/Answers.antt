@@ -1,11 +1,10 @@
-use Rattle.std.proofs.Common.{◌≡◌, ◌∷◌, ℕ, List, Some, None, refl, sym, ap, ◌∙◌, subst}
+use Rattle.std.proofs.Common.{◌≡◌, ◌∷◌, Some, None, refl, sym, ap, ◌∙◌, subst}
 use Rattle.plx_disk.specs.declared.ask.Ask.{Ask}
 use Rattle.plx_rules.specs.Boot.{Asked, position}
-use Rattle.plx_appliance.specs.Appliance.{IsIn, StandsAt, appliance_setting}
+use Rattle.plx_appliance.specs.Appliance.{IsInWork, appliance_setting}
 use Rattle.plx_appliance.specs.Ending.{hand_after_reply, known_after, leases_after}
 use Rattle.plx_appliance.specs.Giving.{rules_setting}
-use Rattle.plx_appliance.specs.Holding.{IsKept, image_leases_after_write, dropped_hand}
-use Rattle.plx_appliance.specs.Kept.{known_of}
+use Rattle.plx_appliance.specs.Holding.{DropsNothing, image_leases_after_write, dropped_hand}
 use Rattle.plx_appliance.specs.Lent.{lent_of}
 use Rattle.plx_appliance.specs.Space.{extents_in, hand_in}
 use Rattle.plx_appliance.specs.Ties.{stage_setting, stage_slots}
@@ -22,17 +21,17 @@ pub returns-in-None-clause-log : goal.returns-in-None-clause-log
 returns-in-None-clause-log c = λ log ask bytes work is stands standing fits.
     let a = c.args.self.now in
     let h = c.answer-reply.new.holdings in
-    let w = c.in-In.running in
+    let w = c.in-In.work in
     let new = c.answer-reply.new.self in
     let found = c.args.answer.now in
     let x = c.in-None.ensures in
-    let by = answered-by a w new log c.ask-ask.result ask bytes found h None (sym c.in-In.ensures.value) stands standing fits c.ask-ask.ensures.ask c.ask-ask.ensures.spare
+    let by = answered-by a w new log c.ask-ask.result ask bytes found h None c.in-In.is stands standing fits c.ask-ask.ensures.ask c.ask-ask.ensures.spare
     x.moves x.setting x.kept x.suits in
     let went = went-in (appliance_setting a) (lent_of a.holdings) (lent_of h) w new log ask bytes found (keeps_of a.holdings) (keeps_of h) by.1 x.rest in
     let kept = work-kept (lent_of a.holdings) (lent_of h) w new c.ask-ask.result found (c.ask-ask.ensures.ask (lent_of a.holdings)) x.rest in
     let same = c.drop_failed.ensures.kept kept in
-    let stood = subst (λ (k : Holdings). Stood k (position (rules_setting k.setting) (Asked ask bytes found ∷ log)) (λ lent. IsIn lent new (position (rules_setting k.setting) (Asked ask bytes found ∷ log)))) (sym same)
-    (stands-in a h new log ask bytes found x.setting (subst (λ (q : Ask). IsKept q found) by.0 kept) went) in
+    let stood = subst (λ (k : Holdings). Stood k (position (rules_setting k.setting) (Asked ask bytes found ∷ log)) (λ lent. IsInWork lent new (position (rules_setting k.setting) (Asked ask bytes found ∷ log)))) (sym same)
+    (stands-in a h new log ask bytes found x.setting (subst (λ (q : Ask). DropsNothing q found) by.0 kept) went) in
     record { at = stood.at; held = stood.held; hand = stood.hand }
 
 pub returns-in-None-clause-reply : goal.returns-in-None-clause-reply
@@ -41,9 +40,9 @@ returns-in-None-clause-reply c = λ log ask bytes work is stands standing fits.
     let h = c.answer-reply.new.holdings in
     let found = c.args.answer.now in
     let x = c.in-None.ensures in
-    let by = answered-by a c.in-In.running c.answer-reply.new.self log c.ask-ask.result ask bytes found h None (sym c.in-In.ensures.value) stands standing fits c.ask-ask.ensures.ask c.ask-ask.ensures.spare
+    let by = answered-by a c.in-In.work c.answer-reply.new.self log c.ask-ask.result ask bytes found h None c.in-In.is stands standing fits c.ask-ask.ensures.ask c.ask-ask.ensures.spare
     x.moves x.setting x.kept x.suits in
-    (went-in (appliance_setting a) (lent_of a.holdings) (lent_of h) c.in-In.running c.answer-reply.new.self log ask bytes found (keeps_of a.holdings) (keeps_of h) by.1 x.rest).no_reply
+    (went-in (appliance_setting a) (lent_of a.holdings) (lent_of h) c.in-In.work c.answer-reply.new.self log ask bytes found (keeps_of a.holdings) (keeps_of h) by.1 x.rest).no_reply
 
 pub returns-in-Some-clause-log : goal.returns-in-Some-clause-log
 returns-in-Some-clause-log c = λ log ask bytes work is stands standing fits.
@@ -55,9 +54,9 @@ returns-in-Some-clause-log c = λ log ask bytes work is stands standing fits.
     let d = c.drop_failed.ensures in
     let e = c.settle.ensures in
     let x = c.in-Some.ensures in
-    let by = answered-by a c.in-In.running c.answer-reply.new.self log c.ask-ask.result ask bytes found h (Some r) (sym c.in-In.ensures.value) stands standing fits c.ask-ask.ensures.ask c.ask-ask.ensures.spare
+    let by = answered-by a c.in-In.work c.answer-reply.new.self log c.ask-ask.result ask bytes found h (Some r) c.in-In.is stands standing fits c.ask-ask.ensures.ask c.ask-ask.ensures.spare
     x.moves x.setting x.kept x.suits in
-    let went = went-out (appliance_setting a) (lent_of a.holdings) (lent_of h) c.in-In.running c.answer-reply.new.self r log ask bytes found (keeps_of a.holdings) (keeps_of h) by.1 x.rest in
+    let went = went-out (appliance_setting a) (lent_of a.holdings) (lent_of h) c.in-In.work c.answer-reply.new.self r log ask bytes found (keeps_of a.holdings) (keeps_of h) by.1 x.rest in
     let stood = stands-out a h k r log ask bytes found (record {
       setting = e.setting ∙ d.setting ∙ x.setting;
       known = e.known ∙ ap (known_after r) d.known;
@@ -66,7 +65,7 @@ returns-in-Some-clause-log c = λ log ask bytes work is stands standing fits.
       hand = e.hand ∙ ap (hand_after_reply r) (d.hand ∙ ap (λ (q : Ask). dropped_hand q found (hand_in h)) by.0);
     }) went in
     record {
-      at = subst (λ (st : Stage). StandsAt (rules_setting k.setting) (lent_of k) st (position (rules_setting k.setting) (Asked ask bytes found ∷ log))) (sym c.replace.ensures.after) stood.at;
+      at = stood.at;
       held = stood.held;
       hand = stood.hand;
     }
@@ -78,20 +77,20 @@ returns-in-Some-clause-reply c = λ log ask bytes work is stands standing fits.
     let found = c.args.answer.now in
     let r = c.in-Some.reply in
     let x = c.in-Some.ensures in
-    let by = answered-by a c.in-In.running c.answer-reply.new.self log c.ask-ask.result ask bytes found h (Some r) (sym c.in-In.ensures.value) stands standing fits c.ask-ask.ensures.ask c.ask-ask.ensures.spare
+    let by = answered-by a c.in-In.work c.answer-reply.new.self log c.ask-ask.result ask bytes found h (Some r) c.in-In.is stands standing fits c.ask-ask.ensures.ask c.ask-ask.ensures.spare
     x.moves x.setting x.kept x.suits in
-    (went-out (appliance_setting a) (lent_of a.holdings) (lent_of h) c.in-In.running c.answer-reply.new.self r log ask bytes found (keeps_of a.holdings) (keeps_of h) by.1 x.rest).replied
+    (went-out (appliance_setting a) (lent_of a.holdings) (lent_of h) c.in-In.work c.answer-reply.new.self r log ask bytes found (keeps_of a.holdings) (keeps_of h) by.1 x.rest).replied
 
-pub invariant_of-self : goal.invariant_of-self
-invariant_of-self c =
+pub invariant_of-self-in-None : goal.invariant_of-self-in-None
+invariant_of-self-in-None c =
     let a = c.args.self.now in
-    let w = c.in-In.running in
+    let w = c.in-In.work in
     let new = c.answer-reply.new.self in
     let x = c.in-None.ensures in
     let kept = work-kept (lent_of a.holdings) (lent_of c.answer-reply.new.holdings) w new c.ask-ask.result c.args.answer.now (c.ask-ask.ensures.ask (lent_of a.holdings)) x.rest in
     let same = c.drop_failed.ensures.kept kept in
-    let tied = subst (λ (st : Stage). stage_setting a.holdings.setting st ≡ a.holdings.setting) (sym c.in-In.ensures.value) a.same in
-    let room = subst (λ (st : Stage). stage_slots a.holdings.setting.geometry.slots st ≡ a.holdings.setting.geometry.slots) (sym c.in-In.ensures.value) a.room in
+    let tied = subst (λ (st : Stage). stage_setting a.holdings.setting st ≡ a.holdings.setting) c.in-In.is a.same in
+    let room = subst (λ (st : Stage). stage_slots a.holdings.setting.geometry.slots st ≡ a.holdings.setting.geometry.slots) c.in-In.is a.room in
     let set = c.drop_failed.ensures.setting ∙ x.setting in
     record {
       same = x.kept refl ∙ tied ∙ sym set;

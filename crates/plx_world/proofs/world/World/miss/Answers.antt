@@ -1,7 +1,7 @@
 use Rattle.std.proofs.Common.{◌≡◌, Option, false, true, ℕ, arith, subst}
 use Rattle.std.specs.Prelude.{is_some}
-use Rattle.plx_rules.specs.World.{IsReading}
-use Rattle.plx_world.proofs.Stepping.{IsPending, misses-clock, misses-early, misses-read, misses-until, misses-write, none-pending}
+use Rattle.plx_rules.specs.World.{IsReadingAt}
+use Rattle.plx_world.proofs.Stepping.{IsWaitedFor, misses-clock, misses-early, misses-read, misses-until, misses-write, none-pending}
 use Rattle.plx_world.proofs.world.World.miss.Goals as goal
 
 pub returns-in_ok-answer-in-Some-Write-clause-ok : goal.returns-in_ok-answer-in-Some-Write-clause-ok
@@ -10,9 +10,9 @@ returns-in_ok-answer-in-Some-Write-clause-ok c =
     let asked = c.in-Some-Write in
     let near : c.is_near.result ≡ true = let no = c.if-not-is_near.false in cc in
     let none : is_some c.pending.result ≡ false = let is = c.is_some.ensures in let no = c.if-is_some.false in cc in
-    let P : Option ℕ → Type 0 = λ p. IsPending old c.args.appliance p in
+    let P : Option ℕ → Type 0 = λ p. IsWaitedFor old c.args.appliance p in
     let now = c.time.ensures.time in
-    let Q : ℕ → Type 0 = λ t. IsReading c.args.reading t in
+    let Q : ℕ → Type 0 = λ t. IsReadingAt c.args.reading t in
     misses-write old c.answer.new.self c.args.appliance asked.field-0-0 asked.field-0-1 asked.guard c.args.reading (λ w h. cc (asked.ensures.ask w h))
     (subst P (none-pending c.pending.result none) c.pending.ensures) (omega arith) (subst Q now (c.is_near.ensures.0 near)) (let e = c.time.ensures.early in omega arith)
     c.in_ok-answer-in-Some-Write.ensures.ok

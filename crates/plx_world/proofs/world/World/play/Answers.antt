@@ -2,7 +2,8 @@ use Rattle.std.proofs.Common.{◌<◌, List, arith, drop, length, subst, suc, ta
 use Rattle.std.proofs.lemmas.List.{take_more}
 use Rattle.plx_commands.specs.declared.event.Event.{Event}
 use Rattle.plx_world.specs.Playing.{PlaysSome}
-use Rattle.plx_world.proofs.Made.{cut, laws-plays, laws-some, on-err}
+use Rattle.plx_world.proofs.Answered.{on-err}
+use Rattle.plx_world.proofs.Made.{cut, laws-plays, laws-some}
 use Rattle.plx_world.proofs.Sequences.{plays-more, plays-none, plays-some}
 use Rattle.plx_world.proofs.world.World.play.Goals as goal
 

@@ -1,5 +1,5 @@
 use Rattle.std.proofs.Common.{◌≡◌, true, ℕ, arith, subst}
-use Rattle.plx_rules.specs.World.{IsReading}
+use Rattle.plx_rules.specs.World.{IsReadingAt}
 use Rattle.plx_world.proofs.Stepping.{clocks-now, clocks-write, waits-until}
 use Rattle.plx_world.proofs.world.World.reading.Goals as goal
 
@@ -7,7 +7,7 @@ pub returns-in_ok-answer-in-Some-Clock-clause-ok : goal.returns-in_ok-answer-in-
 returns-in_ok-answer-in-Some-Clock-clause-ok c =
     let near : c.is_near.result ≡ true = let no = c.if-not-is_near.false in cc in
     let now = c.time.ensures.time in
-    let Q : ℕ → Type 0 = λ t. IsReading c.args.reading t in
+    let Q : ℕ → Type 0 = λ t. IsReadingAt c.args.reading t in
     clocks-now c.args.self.now c.answer.new.self c.args.appliance c.args.reading (λ w h. cc (c.in-Some-Clock.ensures.ask w h)) (subst Q now (c.is_near.ensures.0 near))
     (let e = c.time.ensures.early in omega arith) c.in_ok-answer-in-Some-Clock.ensures.ok
 
@@ -15,7 +15,7 @@ pub returns-in_ok-answer-in-Some-Until-clause-ok : goal.returns-in_ok-answer-in-
 returns-in_ok-answer-in-Some-Until-clause-ok c =
     let near : c.is_near.result ≡ true = let no = c.if-not-is_near.false in cc in
     let now = c.time.ensures.time in
-    let Q : ℕ → Type 0 = λ t. IsReading c.args.reading t in
+    let Q : ℕ → Type 0 = λ t. IsReadingAt c.args.reading t in
     waits-until c.args.self.now c.answer-in-Some-Until.new.self c.args.appliance c.in-Some-Until.from c.args.reading (λ w h. cc (c.in-Some-Until.ensures.ask w h))
     (subst Q now (c.is_near.ensures.0 near)) (let e = c.time.ensures.early in omega arith) (omega arith) c.in_ok-answer-in-Some-Until.ensures.ok
 

@@ -1,6 +1,6 @@
 use Rattle.std.proofs.Common.{◌≡◌, Bool, true, subst}
 use Rattle.plx_world.specs.Running.{RunGoesOn}
-use Rattle.plx_world.proofs.Made.{on-err}
+use Rattle.plx_world.proofs.Answered.{on-err}
 use Rattle.plx_world.proofs.Sequences.{run-none, run-some, run-whole}
 use Rattle.plx_world.proofs.world.World.run.Goals as goal
 

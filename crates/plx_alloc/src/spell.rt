@@ -1,0 +1,14 @@
+//! Maps as blocks.
+ghost use Rattle.std.specs.Prelude.{◌≡◌};
+ghost use Rattle.plx_extent.specs.Maps.{map_bytes as bytes_of_map};
+
+use plx_base::Block;
+use plx_extent::ExtentMap;
+
+/// Makes a block the spelling of a map.
+pub(crate) fn spell_map(map: &ExtentMap, block: &mut Block)
+    ensures { block.new ≡ bytes_of_map map.now }
+{
+    let _old = block.as_slice();
+    block.copy_from(0, map.bytes());
+}
