@@ -24,6 +24,15 @@ pub enum Stage {
     In(Work),
 }
 
+impl Stage {
+    // The next stage stands, and the one that stood is dropped.
+    fn set(&mut self, next: Stage)
+        ensures { self.new ≡ next }
+    {
+        *self = next;
+    }
+}
+
 /// One boot of an appliance: what it keeps between commands, and the command that runs.
 #[derive(Drop)]
 pub struct Appliance {
@@ -93,7 +102,7 @@ impl Appliance {
         ensures setting { self.new.holdings.setting ≡ self.old.holdings.setting }
     {
         let begun = Begun::begin(alloc, &self.holdings.setting, command)?;
-        self.stage = Stage::Begun(begun);
+        self.stage.set(Stage::Begun(begun));
         Ok(())
     }
 
@@ -184,7 +193,7 @@ impl Appliance {
                 self.holdings.drop_expired(reading);
                 match enter(begun, &mut self.holdings, reading) {
                     Ok(work) => {
-                        self.stage = Stage::In(work);
+                        self.stage.set(Stage::In(work));
                         None
                     }
                     Err(reply) => {
@@ -194,7 +203,7 @@ impl Appliance {
                 }
             }
             other => {
-                self.stage = other;
+                self.stage.set(other);
                 None
             }
         }
@@ -225,7 +234,7 @@ impl Appliance {
         match reply {
             None => None,
             Some(reply) => {
-                self.stage = Stage::Idle;
+                self.stage.set(Stage::Idle);
                 self.holdings.settle(&reply);
                 Some(reply)
             }

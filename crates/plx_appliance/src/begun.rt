@@ -23,14 +23,14 @@ pub struct Room {
 impl Room {
     ghost use Rattle.std.specs.Prelude.{IfOk};
 
-    /// The memory of an attach of an image with so many journal slots.
-    pub fn new(alloc: Global, slots: u32) -> Result<Room, NoMemory>
+    /// The memory of an attach of an image with so many journal slots, where this block is its claim's.
+    pub fn new(alloc: Global, slots: u32, lease: Block) -> Result<Room, NoMemory>
         ensures { IfOk result (λ r. r.slots ≡ slots) }
     {
         Ok(Room {
             slots,
             session: Session::new(alloc, slots)?,
-            lease: Block::zeros(alloc)?,
+            lease,
             alloc,
         })
     }
@@ -112,29 +112,28 @@ impl Begun {
         ensures leases { IfOk result (λ b. begun_leases (lease_count setting.now.geometry) b
             ≡ lease_count setting.now.geometry) }
     {
+        // Each command reads or writes at least one block.
+        let block = Block::zeros(alloc)?;
         let begun = match command {
             Command::Attach { slot } => Begun::Attach {
                 slot,
-                room: Room::new(alloc, setting.geometry.slots)?,
+                room: Room::new(alloc, setting.geometry.slots, block)?,
             },
-            Command::Detach { slot } => Begun::Detach {
-                slot,
-                lease: Block::zeros(alloc)?,
-            },
+            Command::Detach { slot } => Begun::Detach { slot, lease: block },
             Command::Create { slot, size, label } => Begun::Create {
                 slot,
                 size,
                 label,
-                record: Block::zeros(alloc)?,
+                record: block,
             },
             Command::Delete { slot } => Begun::Delete {
                 slot,
-                record: Block::zeros(alloc)?,
+                record: block,
             },
             Command::Read { slot, vblock } => Begun::Read {
                 slot,
                 vblock,
-                block: Block::zeros(alloc)?,
+                block,
             },
             Command::Write {
                 slot,
@@ -144,21 +143,21 @@ impl Begun {
                 slot,
                 vblock,
                 block: payload.to_block(alloc)?,
-                descriptor: Block::zeros(alloc)?,
+                descriptor: block,
             },
             Command::Renew => Begun::Renew {
                 renewals: Renewals::new(alloc, setting.lease_count())?,
-                lease: Block::zeros(alloc)?,
+                lease: block,
             },
             Command::Reserve { count } => Begun::Reserve {
                 need: Need { count },
                 map: Block::zeros(alloc)?,
-                lease: Block::zeros(alloc)?,
+                lease: block,
             },
             Command::Retire => Begun::Retire {
                 map: Block::zeros(alloc)?,
                 extent_lease: Block::zeros(alloc)?,
-                image_lease: Block::zeros(alloc)?,
+                image_lease: block,
             },
             Command::Flush { .. } | Command::Reclaim => unreachable!(),
         };

@@ -5,7 +5,9 @@ ghost use Rattle.plx_cli.specs.Program.{IsOutcome, IsTold};
 
 use crate::status::Status;
 use plx_base::NoMemory;
-use plx_text::{Schedule, Text, TextError, print_bad_line, print_trace, read_schedule};
+use plx_commands::Event;
+use plx_geom::Geometry;
+use plx_text::{Text, TextError, print_bad_line, print_trace, read_schedule};
 use plx_world::{World, laws};
 use std::alloc::{AllocError, Global};
 
@@ -22,7 +24,12 @@ pub(crate) fn replay(alloc: Global, bytes: &[u8]) -> Result<Answer, NoMemory>
 {
     match read_schedule(alloc, bytes) {
         Ok(schedule) => {
-            let text = play(alloc, &schedule)?;
+            let text = play(
+                alloc,
+                schedule.geometry,
+                schedule.appliances,
+                schedule.events.as_slice(),
+            )?;
             Ok(Answer {
                 status: Status::Done,
                 text,
@@ -40,22 +47,26 @@ pub(crate) fn replay(alloc: Global, bytes: &[u8]) -> Result<Answer, NoMemory>
 }
 
 // The trace of the world to which the events of a schedule lead.
-fn play(alloc: Global, schedule: &Schedule) -> Result<Text, NoMemory>
-    requires geometry { IsGeometry schedule.now.geometry }
-    requires low { 1 ≤ schedule.now.appliances }
-    requires high { schedule.now.appliances ≤ 8 }
-    ensures { IfOk result (λ text. IsTold (schedule.now.geometry, schedule.now.appliances)
-        schedule.now.events.items text) }
+fn play(
+    alloc: Global,
+    geometry: Geometry,
+    appliances: u32,
+    events: &[Event],
+) -> Result<Text, NoMemory>
+    requires geometry { IsGeometry geometry }
+    requires low { 1 ≤ appliances }
+    requires high { appliances ≤ 8 }
+    ensures { IfOk result (λ text. IsTold (geometry, appliances) events.now text) }
 {
     laws();
-    let mut world = World::new(alloc, schedule.geometry, schedule.appliances)?;
-    world.play(schedule.events.as_slice())?;
+    let mut world = World::new(alloc, geometry, appliances)?;
+    world.play(events)?;
     let reachable = world.reachable()?;
     let allocated = world.allocated();
     print_trace(
         alloc,
-        &schedule.geometry,
-        schedule.appliances,
+        &geometry,
+        appliances,
         world.trace(),
         reachable,
         allocated,

@@ -1,9 +1,9 @@
 -- Tables of lists.
-use Rattle.std.proofs.Common.{◌≡◌, ◌≢◌, ◌<◌, ◌≤◌, ℕ, List, length, map, replicate, refl, sym, ap, ◌∙◌, get_or, Bool, true, false, ◌⊎◌, inl, inr}
+use Rattle.std.proofs.Common.{◌≡◌, ◌≢◌, ◌<◌, ◌≤◌, ℕ, List, length, map, replicate, refl, sym, ap, ◌∙◌, get_or, ◌+◌, ◌++◌, ◌∷◌, [], Bool, true, false, ◌⊎◌, inl, inr}
 use Rattle.std.specs.Prelude.{if◌then◌else◌, ◌==◌, slice_set}
 use Rattle.std.proofs.Math.Path.{fun_ext}
 use Rattle.std.proofs.lemmas.Bool.Decides.{eqb_tells}
-use Rattle.std.proofs.lemmas.List.{get_or-set_other, get_or-replicate, get_or_past, length-replicate, get_or-map}
+use Rattle.std.proofs.lemmas.List.{get_or-set_other, get_or-replicate, get_or_past, length-replicate, get_or-map, map-append, replicate_more}
 use Rattle.std.proofs.lemmas.Grind.{get_or-set_at}
 use Rattle.plx_base.proofs.Tests.{below-or-past}
 use Rattle.plx_commands.specs.Places.{at}
@@ -44,3 +44,8 @@ at-again {X} f k x e = fun_ext (λ j. each j (eqb_tells j k))
     each : (j : ℕ) → (((j == k) ≡ true) × (j ≡ k)) ⊎ (((j == k) ≡ false) × (j ≢ k)) → (if j == k then x else f j) ≡ f j
     each j (inl h) = rw h.0 (sym e ∙ ap f (sym h.1))
     each j (inr h) = rw h.0 refl
+
+-- a list that shows everywhere the same does so with one more that shows it
+pub same-more : {X Y : Type 0} (f : X → Y) (xs : List X) (x : X) (n : ℕ) (y : Y) (more : List X) → more ≡ xs ++ x ∷ [] → map f xs ≡ replicate n y → f x ≡ y → map f more ≡ replicate (n + 1) y
+same-more f xs x n y more is same one =
+    ap (map f) is ∙ (map-append f xs (x ∷ []) ∙ (ap (λ ys. ys ++ f x ∷ []) same ∙ (ap (λ z. replicate n y ++ z ∷ []) one ∙ replicate_more n y)))

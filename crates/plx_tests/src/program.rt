@@ -7,12 +7,56 @@ use std::test::Fail;
 /// What a run gave: its status, and what it wrote.
 #[derive(Drop)]
 pub(crate) struct Outcome {
-    pub(crate) status: Status,
-    pub(crate) written: Vec<u8>,
+    status: Status,
+    written: Vec<u8>,
+}
+
+impl Outcome {
+    /// The run ended so, and wrote this.
+    pub(crate) fn is(&self, rt: &impl Abort, status: Status, written: &[u8]) {
+        let found = self.written.as_slice();
+        assert_eq!(rt; self.status, status);
+        assert!(rt; found == written, "{}", as_text(found));
+    }
+}
+
+/// The streams of a run: the input, how many bytes each call gives or takes at most, and the numbers of
+/// the calls that fail.
+#[derive(Clone, Copy)]
+pub(crate) struct Streams<'a> {
+    pub(crate) input: &'a [u8],
+    pub(crate) gives: usize,
+    pub(crate) takes: usize,
+    pub(crate) failed_reads: &'a [u64],
+    pub(crate) failed_writes: &'a [u64],
+}
+
+impl<'a> Streams<'a> {
+    /// An input, where no call fails.
+    pub(crate) fn of(input: &'a [u8]) -> Streams<'a> {
+        Streams {
+            input,
+            gives: 4096,
+            takes: 4096,
+            failed_reads: &[],
+            failed_writes: &[],
+        }
+    }
+
+    fn source(&self, alloc: Global) -> Result<MemSource, AllocError> {
+        let failed = Vec::from_slice(alloc, self.failed_reads)?;
+        let input = Vec::from_slice(alloc, self.input)?;
+        Ok(MemSource::new(input, self.gives.max(1), failed))
+    }
+
+    fn sink(&self, alloc: Global) -> Result<MemSink, AllocError> {
+        let failed = Vec::from_slice(alloc, self.failed_writes)?;
+        MemSink::new(alloc, self.takes.max(1), 1 << 20, failed)
+    }
 }
 
 /// The program's name, and these words.
-pub(crate) fn words(alloc: Global, given: &[&str]) -> Result<Vec<String>, AllocError> {
+fn words(alloc: Global, given: &[&str]) -> Result<Vec<String>, AllocError> {
     let mut words = Vec::new(alloc);
     words.push(String::from_str(alloc, "plx")?)?;
     for word in given {
@@ -21,24 +65,23 @@ pub(crate) fn words(alloc: Global, given: &[&str]) -> Result<Vec<String>, AllocE
     Ok(words)
 }
 
-/// A run on an input, where each call of the streams gives or takes at most `piece` bytes.
-pub(crate) fn run_in_memory(
+/// A run with these words between the streams.
+pub(crate) fn run_with(
     alloc: Global,
-    words: &Vec<String>,
-    input: &[u8],
-    piece: usize,
+    given: &[&str],
+    streams: Streams,
 ) -> Result<Outcome, AllocError> {
-    let piece = piece.max(1);
-    let mut source = MemSource::new(Vec::from_slice(alloc, input)?, piece, Vec::new(alloc));
-    let mut sink = MemSink::new(alloc, piece, 1 << 20, Vec::new(alloc))?;
-    let status = run(alloc, words, &mut source, &mut sink);
+    let words = words(alloc, given)?;
+    let mut source = streams.source(alloc)?;
+    let mut sink = streams.sink(alloc)?;
+    let status = run(alloc, &words, &mut source, &mut sink);
     let written = Vec::from_slice(alloc, sink.held())?;
     Ok(Outcome { status, written })
 }
 
-/// `replay` of an input.
-pub(crate) fn replay(alloc: Global, input: &[u8]) -> Result<Outcome, AllocError> {
-    run_in_memory(alloc, &words(alloc, &["replay"])?, input, 4096)
+/// `replay` between the streams.
+pub(crate) fn replay(alloc: Global, streams: Streams) -> Result<Outcome, AllocError> {
+    run_with(alloc, &["replay"], streams)
 }
 
 /// A line of a story. Appliances, commands and replies are spelled as in schedules and traces.
@@ -194,22 +237,21 @@ impl Story {
     /// The schedule gives the trace, where so many blocks of the pool are allocated at its end, and each
     /// call of the streams gives or takes at most `piece` bytes.
     pub(crate) fn ends(
-        mut self,
+        &mut self,
         rt: &impl Abort,
         allocated: &[u8],
         piece: usize,
-    ) -> Result<(), Fail> {
+    ) -> Result<(), AllocError> {
         self.tell(b"end reachable=0 allocated=")?;
         self.tell(allocated)?;
         self.tell(b"\n")?;
-        let words = words(self.alloc, &["replay"])?;
-        let outcome = run_in_memory(self.alloc, &words, self.schedule.as_slice(), piece)?;
-        assert_eq!(rt; outcome.status, Status::Done);
-        assert_eq!(rt;
-            as_text(outcome.written.as_slice()),
-            as_text(self.trace.as_slice())
-        );
-        Ok(())
+        let streams = Streams {
+            gives: piece,
+            takes: piece,
+            ..Streams::of(self.schedule.as_slice())
+        };
+        let outcome = replay(self.alloc, streams)?;
+        Ok(outcome.is(rt, Status::Done, self.trace.as_slice()))
     }
 }
 
@@ -237,7 +279,7 @@ pub(crate) fn plays_to(
             story.play_line(line)?;
         }
     }
-    story.ends(rt, allocated, 4096)
+    Ok(story.ends(rt, allocated, 4096)?)
 }
 
 /// The bytes as text.

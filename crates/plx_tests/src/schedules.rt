@@ -1,7 +1,9 @@
 //! Whole schedules of one appliance and their traces, written out by hand from the rules.
 use crate::program::Line::{Call, Crash, Fault, Open, Play, Reply, Start, Wait};
-use crate::program::{FREE, Line, plays, replay};
+use crate::program::{FREE, Line, Streams, plays, replay};
 use plx_cli::Status;
+use std::alloc::{AllocError, Global};
+use std::process::Abort;
 use std::test::Fail;
 
 /// What an attach finds of a lease that was claimed at 1,000 ms by the first boot of appliance 0.
@@ -14,18 +16,16 @@ const WRITTEN_ONCE: &[u8] = b"attached live=1 gen=1 size=8 writes=1 taken=0 drop
 
 const WRITTEN_TWICE: &[u8] = b"attached live=1 gen=1 size=8 writes=2 taken=0 dropped=0 label=a";
 
-/// A schedule that makes an image, writes it once and reads it. Its first and its last part are parted
-/// by the DATA of the write.
+/// A schedule that makes an image, writes it once and reads it: its first line, and what stands before
+/// the DATA of the write and after it.
 const FIRST: (&[u8], &[u8], &[u8]) = (
     b"world 1 1 16 2 1\n",
     b"start 0 attach 0\nrun 0\ntick 601\nrun 0\nstart 0 create 0 8 a\nrun 0\nstart 0 write 0 0 ",
     b"\nrun 0\nstart 0 read 0 0\nrun 0\nstart 0 read 0 1\nrun 0\n",
 );
 
-#[test]
-fn a_block_is_written_and_read_back(rt: HostRuntime) -> Result<(), Fail> {
-    let alloc = rt.alloc();
-    let trace = b"world 1 1 16 2 1
+/// The trace of that schedule where the write fills the block with the byte 5a.
+const FIRST_TRACE: &[u8] = b"world 1 1 16 2 1
 start 0 attach 0
 reply 0 attached live=0 gen=0 size=0 writes=0 taken=0 dropped=0 label=-
 start 0 create 0 8 a
@@ -38,26 +38,45 @@ start 0 read 0 1
 reply 0 data all:00
 end reachable=0 allocated=0
 ";
+
+/// The DATA of a block of the byte 5a, digit by digit.
+fn digits(alloc: Global) -> Result<Vec<u8>, AllocError> {
     let mut digits = Vec::from_slice(alloc, b"hex:")?;
     for _ in 0..4096 {
         digits.extend_from_slice(b"5a")?;
     }
+    Ok(digits)
+}
+
+/// The first schedule, with these lines that are skipped, and this DATA.
+fn first(alloc: Global, skipped: &[u8], data: &[u8]) -> Result<Vec<u8>, AllocError> {
     let (world, before, after) = FIRST;
-    let cases: [(&[u8], &[u8]); 3] = [
-        (b"", b"all:5a"),
-        (b"\n# an image of eight blocks\n", b"all:5a"),
-        (b"", digits.as_slice()),
-    ];
-    for (skipped, data) in cases {
-        let mut schedule = Vec::from_slice(alloc, world)?;
-        for part in [skipped, before, data, after] {
-            schedule.extend_from_slice(part)?;
-        }
-        let outcome = replay(alloc, schedule.as_slice())?;
-        assert_eq!(rt; outcome.status, Status::Done);
-        assert_eq!(rt; outcome.written.as_slice(), trace.as_slice());
-    }
-    Ok(())
+    let mut schedule = Vec::from_slice(alloc, world)?;
+    schedule.extend_from_slice(skipped)?;
+    schedule.extend_from_slice(before)?;
+    schedule.extend_from_slice(data)?;
+    schedule.extend_from_slice(after)?;
+    Ok(schedule)
+}
+
+/// That schedule has its trace.
+fn first_plays(
+    rt: &impl Abort,
+    alloc: Global,
+    skipped: &[u8],
+    data: &[u8],
+) -> Result<(), AllocError> {
+    let schedule = first(alloc, skipped, data)?;
+    let outcome = replay(alloc, Streams::of(schedule.as_slice()))?;
+    Ok(outcome.is(rt, Status::Done, FIRST_TRACE))
+}
+
+#[test]
+fn a_block_is_written_and_read_back(rt: HostRuntime) -> Result<(), Fail> {
+    let alloc = rt.alloc();
+    first_plays(&rt, alloc, b"", b"all:5a")?;
+    first_plays(&rt, alloc, b"\n# an image of eight blocks\n", b"all:5a")?;
+    Ok(first_plays(&rt, alloc, b"", digits(alloc)?.as_slice())?)
 }
 
 const FULL: &[Line] = &[
@@ -156,24 +175,33 @@ const NOT_COMMITTED: &[Line] = &[
     Call(b"0", b"read 0 1", b"data all:00"),
 ];
 
+/// The first so many of the eight sectors land.
+fn landings(count: usize) -> &'static [Line] {
+    SECTORS.get(..count).unwrap_or(SECTORS)
+}
+
+// The data's eight sectors land before the descriptor's eight, the first of which commits the write.
 #[test]
-fn a_crash_after_each_landing_leaves_a_write_whole_or_not_at_all(
-    rt: HostRuntime,
-) -> Result<(), Fail> {
-    // The data's eight sectors land before the descriptor's eight, the first of which commits the write.
-    for landed in 0..9usize {
-        let data = SECTORS.get(..landed).unwrap_or(SECTORS);
-        let lines = [SECOND_WRITE, data, CRASH, NOT_COMMITTED];
+fn a_crash_before_the_commit_leaves_nothing_of_a_write(rt: HostRuntime) -> Result<(), Fail> {
+    for landed in 0..9 {
+        let lines = [SECOND_WRITE, landings(landed), CRASH, NOT_COMMITTED];
         plays(&rt, rt.alloc(), b"1 1 16 2 1", &lines)?;
     }
-    for landed in 0..9usize {
-        let descriptor = SECTORS.get(..landed).unwrap_or(SECTORS);
-        let end = if landed == 0 {
-            NOT_COMMITTED
-        } else {
-            COMMITTED
-        };
-        let lines = [SECOND_WRITE, SECTORS, DESCRIPTOR, descriptor, CRASH, end];
+    let lines = [SECOND_WRITE, SECTORS, DESCRIPTOR, CRASH, NOT_COMMITTED];
+    plays(&rt, rt.alloc(), b"1 1 16 2 1", &lines)
+}
+
+#[test]
+fn a_crash_after_the_commit_leaves_the_whole_write(rt: HostRuntime) -> Result<(), Fail> {
+    for landed in 1..9 {
+        let lines = [
+            SECOND_WRITE,
+            SECTORS,
+            DESCRIPTOR,
+            landings(landed),
+            CRASH,
+            COMMITTED,
+        ];
         plays(&rt, rt.alloc(), b"1 1 16 2 1", &lines)?;
     }
     Ok(())

@@ -1,11 +1,15 @@
 //! How a run of the program ends: its status, and what it wrote.
-use crate::program::{replay, run_in_memory, words};
-use plx_cli::{MemSink, MemSource, Status, run};
+use crate::program::{Streams, replay, run_with};
+use plx_cli::Status;
 use std::test::Fail;
+
+/// A world without events, and its trace.
+const WORLD: &[u8] = b"world 1 1 16 2 1\n";
+
+const WORLD_TRACE: &[u8] = b"world 1 1 16 2 1\nend reachable=0 allocated=0\n";
 
 #[test]
 fn words_that_are_not_known_are_refused(rt: HostRuntime) -> Result<(), Fail> {
-    let alloc = rt.alloc();
     let cases: [&[&str]; 7] = [
         &[],
         &["replay", "x"],
@@ -15,11 +19,8 @@ fn words_that_are_not_known_are_refused(rt: HostRuntime) -> Result<(), Fail> {
         &["check"],
         &[""],
     ];
-    for case in cases {
-        let words = words(alloc, case)?;
-        let outcome = run_in_memory(alloc, &words, b"world 1 1 16 2 1\n", 4096)?;
-        assert_eq!(rt; outcome.status, Status::Usage);
-        assert_eq!(rt; outcome.written.as_slice(), b"".as_slice());
+    for words in cases {
+        run_with(rt.alloc(), words, Streams::of(WORLD))?.is(&rt, Status::Usage, b"");
     }
     Ok(())
 }
@@ -37,9 +38,7 @@ fn a_bad_line_is_told_alone(rt: HostRuntime) -> Result<(), Fail> {
         (b"#\n\n", b"bad line 3\n"),
     ];
     for (input, want) in cases {
-        let outcome = replay(rt.alloc(), input)?;
-        assert_eq!(rt; outcome.status, Status::BadLine);
-        assert_eq!(rt; outcome.written.as_slice(), want);
+        replay(rt.alloc(), Streams::of(input))?.is(&rt, Status::BadLine, want);
     }
     Ok(())
 }
@@ -47,60 +46,41 @@ fn a_bad_line_is_told_alone(rt: HostRuntime) -> Result<(), Fail> {
 #[test]
 fn a_world_without_events_has_a_trace(rt: HostRuntime) -> Result<(), Fail> {
     let cases: [(&[u8], &[u8]); 2] = [
-        (
-            b"world 1 1 16 2 1\n",
-            b"world 1 1 16 2 1\nend reachable=0 allocated=0\n",
-        ),
+        (WORLD, WORLD_TRACE),
         (
             b"\n# all limits\nworld 256 512 32768 64 8\n",
             b"world 256 512 32768 64 8\nend reachable=0 allocated=0\n",
         ),
     ];
     for (input, want) in cases {
-        let outcome = replay(rt.alloc(), input)?;
-        assert_eq!(rt; outcome.status, Status::Done);
-        assert_eq!(rt; outcome.written.as_slice(), want);
+        replay(rt.alloc(), Streams::of(input))?.is(&rt, Status::Done, want);
     }
     Ok(())
 }
 
 #[test]
 fn a_source_that_fails_at_any_call_gives_nothing(rt: HostRuntime) -> Result<(), Fail> {
-    let alloc = rt.alloc();
-    let words = words(alloc, &["replay"])?;
     for call in 0..18u64 {
-        let mut source = MemSource::new(
-            Vec::from_slice(alloc, b"world 1 1 16 2 1\n")?,
-            1,
-            Vec::from_slice(alloc, &[call])?,
-        );
-        let mut sink = MemSink::new(alloc, 8, 64, Vec::new(alloc))?;
-        assert_eq!(rt;
-            run(alloc, &words, &mut source, &mut sink),
-            Status::SourceFault
-        );
-        assert_eq!(rt; sink.held(), b"".as_slice());
+        let streams = Streams {
+            gives: 1,
+            failed_reads: &[call],
+            ..Streams::of(WORLD)
+        };
+        replay(rt.alloc(), streams)?.is(&rt, Status::SourceFault, b"");
     }
     Ok(())
 }
 
 #[test]
 fn a_sink_that_fails_at_any_call_holds_a_front_of_the_trace(rt: HostRuntime) -> Result<(), Fail> {
-    let alloc = rt.alloc();
-    let words = words(alloc, &["replay"])?;
-    let whole = b"world 1 1 16 2 1\nend reachable=0 allocated=0\n".as_slice();
-    for call in 0..45u64 {
-        let mut source = MemSource::new(
-            Vec::from_slice(alloc, b"world 1 1 16 2 1\n")?,
-            64,
-            Vec::new(alloc),
-        );
-        let mut sink = MemSink::new(alloc, 1, 64, Vec::from_slice(alloc, &[call])?)?;
-        assert_eq!(rt;
-            run(alloc, &words, &mut source, &mut sink),
-            Status::SinkFault
-        );
-        assert_eq!(rt; Some(sink.held()), whole.get(..call as usize));
+    for call in 0..45usize {
+        let streams = Streams {
+            takes: 1,
+            failed_writes: &[call as u64],
+            ..Streams::of(WORLD)
+        };
+        let front = WORLD_TRACE.get(..call).unwrap_or(WORLD_TRACE);
+        replay(rt.alloc(), streams)?.is(&rt, Status::SinkFault, front);
     }
     Ok(())
 }

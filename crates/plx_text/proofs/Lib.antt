@@ -1,5 +1,6 @@
 mod Found
 mod OnceSchedule
 mod OnceTrace
+pub mod Rows
 pub mod ScheduleFiles
 pub mod Worlds

@@ -20,9 +20,9 @@ pub after-four : (words one two three four more : List (List ℕ)) (a b c d x y 
     → words ≡ x ∷ y ∷ z ∷ u ∷ more → four ≡ more
 after-four words one two three four more a b c d x y z u first second third fourth same = cc
 
-pub six-words : (words one two three four five six : List (List ℕ)) (a b c d e f : List ℕ) → words ≡ a ∷ one → one ≡ b ∷ two → two ≡ c ∷ three → three ≡ d ∷ four
-    → four ≡ e ∷ five → five ≡ f ∷ six → six ≡ [] → words ≡ a ∷ b ∷ c ∷ d ∷ e ∷ f ∷ []
-six-words words one two three four five six a b c d e f first second third fourth fifth sixth none = cc
+pub six-words : (words one two three four five : List (List ℕ)) (a b c d e f : List ℕ) → words ≡ a ∷ one → one ≡ b ∷ two → two ≡ c ∷ three → three ≡ d ∷ four
+    → four ≡ e ∷ five → five ≡ f ∷ [] → words ≡ a ∷ b ∷ c ∷ d ∷ e ∷ f ∷ []
+six-words words one two three four five a b c d e f first second third fourth fifth sixth = cc
 
 -- a geometry that is spelled is within its limits
 world-limits : (world : Geometry × ℕ) (words : List (List ℕ)) → SpellsWorld world words → IsGeometry world.0

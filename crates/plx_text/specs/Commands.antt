@@ -34,18 +34,22 @@ SpellsCommand command words = Spell (built_line command) words
 abbrev pub slot_at : ℕ → List (List ℕ) → SlotNo
 slot_at k words = record { 0 = word_number_at k words }
 
+-- the commands that name a slot alone, by the first word
+abbrev pub slot_rows : List (List ℕ) → List (List ℕ × Option Command)
+slot_rows words = (codes "attach", Some (Attach (slot_at 1 words)))
+    ∷ (codes "detach", Some (Detach (slot_at 1 words)))
+    ∷ (codes "delete", Some (Delete (slot_at 1 words)))
+    ∷ []
+
 -- the commands that words can spell, by the first word
 abbrev pub built_rows : List (List ℕ) → List (List ℕ × Option Command)
-built_rows words = (codes "attach", Some (Attach (slot_at 1 words)))
-    ∷ (codes "detach", Some (Detach (slot_at 1 words)))
-    ∷ (codes "create", Some (Create (slot_at 1 words) (word_number_at 2 words) (label_at [] 3 words)))
-    ∷ (codes "delete", Some (Delete (slot_at 1 words)))
+built_rows words = (codes "create", Some (Create (slot_at 1 words) (word_number_at 2 words) (label_at [] 3 words)))
     ∷ (codes "read", Some (Read (slot_at 1 words) (word_number_at 2 words)))
     ∷ (codes "write", Some (Write (slot_at 1 words) (word_number_at 2 words) (payload_at 3 words)))
     ∷ (codes "reserve", Some (Reserve (word_number_at 1 words)))
     ∷ (codes "renew", Some Renew)
     ∷ (codes "retire", Some Retire)
-    ∷ []
+    ∷ slot_rows words
 
 -- the same of commands that aren't built yet
 abbrev pub other_rows : List (List ℕ) → List (List ℕ × Option Command)

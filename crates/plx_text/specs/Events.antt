@@ -31,22 +31,26 @@ SpellsEvent one words = Spell (event_line one) words
 abbrev pub appliance_at : ℕ → List (List ℕ) → ApplianceNo
 appliance_at k words = record { 0 = word_number_at k words }
 
+-- the events that name an appliance alone, by the first word
+abbrev pub bare_rows : List (List ℕ) → List (List ℕ × Option Event)
+bare_rows words = (codes "read", Some (event.Read (appliance_at 1 words)))
+    ∷ (codes "issue", Some (event.Issue (appliance_at 1 words)))
+    ∷ (codes "done", Some (event.Done (appliance_at 1 words)))
+    ∷ (codes "fault", Some (event.Fault (appliance_at 1 words)))
+    ∷ (codes "crash", Some (event.Crash (appliance_at 1 words)))
+    ∷ (codes "run", Some (event.Run (appliance_at 1 words)))
+    ∷ []
+
 -- the one event that words can spell
 abbrev pub event_of : List (List ℕ) → Option Event
 event_of words = by_first words (
     (codes "tick", Some (event.Tick (word_number_at 1 words)))
     ∷ (codes "start", option_map (λ command. event.Start (appliance_at 1 words) command) (built_of (drop 2 words)))
-    ∷ (codes "read", Some (event.Read (appliance_at 1 words)))
-    ∷ (codes "issue", Some (event.Issue (appliance_at 1 words)))
     ∷ (codes "land", Some (event.Land (appliance_at 1 words) (word_number_at 2 words) (word_number_at 3 words)))
-    ∷ (codes "done", Some (event.Done (appliance_at 1 words)))
-    ∷ (codes "fault", Some (event.Fault (appliance_at 1 words)))
     ∷ (codes "miss", Some (event.Miss (appliance_at 1 words) (word_number_at 2 words)))
     ∷ (codes "clock", Some (event.Reading (appliance_at 1 words) (word_number_at 2 words)))
-    ∷ (codes "crash", Some (event.Crash (appliance_at 1 words)))
-    ∷ (codes "run", Some (event.Run (appliance_at 1 words)))
     ∷ (codes "upto", option_map (λ stop. event.Upto (appliance_at 1 words) stop) (stop_of (get_or words 2 [])))
-    ∷ [])
+    ∷ bare_rows words)
 
 -- what a reader of an event's words gives
 abbrev pub ReadsEvent : Option Event → List (List ℕ) → Type 0

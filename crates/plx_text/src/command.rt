@@ -1,8 +1,11 @@
 //! The words of commands.
 
-ghost use Rattle.std.specs.Prelude.{◌∷◌, IfOk, codes};
-ghost use Rattle.plx_text.specs.Commands.{ReadsCommand};
+ghost use Rattle.std.specs.Prelude.{◌≡◌, ◌∷◌, IfOk, codes, false};
+ghost use Rattle.std.specs.Str.{bytes_eq};
+ghost use Rattle.plx_text.specs.Commands.{ReadsCommand, SpellsCommand, slot_rows};
+ghost use Rattle.plx_words.specs.Candidates.{Reads, by_word};
 
+use crate::word::is;
 use plx_base::{NoMemory, SlotNo};
 use plx_commands::Command;
 use plx_words::{Words, read_data};
@@ -15,50 +18,51 @@ pub(crate) fn read_command(alloc: Global, words: &mut Words) -> Result<Option<Co
     let Some(word) = words.next() else {
         return Ok(None);
     };
-    if word == b"attach".as_slice() {
-        return Ok(read_attach(words));
-    }
-    if word == b"detach".as_slice() {
-        return Ok(read_detach(words));
-    }
-    if word == b"create".as_slice() {
-        return Ok(read_create(words));
-    }
-    if word == b"delete".as_slice() {
-        return Ok(read_delete(words));
-    }
-    if word == b"read".as_slice() {
-        return Ok(read_read(words));
-    }
-    if word == b"write".as_slice() {
+    if is(word, b"write") {
         return read_write(alloc, words);
     }
-    if word == b"reserve".as_slice() {
-        return Ok(read_reserve(words));
-    }
-    if word == b"renew".as_slice() {
-        return Ok(read_renew(words));
-    }
-    if word == b"retire".as_slice() {
-        return Ok(read_retire(words));
-    }
-    Ok(None)
+    Ok(read_dataless(word, words))
 }
 
-fn read_attach(words: &mut Words) -> Option<Command>
-    ensures { ReadsCommand result (codes "attach" ∷ words.old) }
+// The command that this word begins, but for `write`, which alone has data.
+fn read_dataless(word: &[u8], words: &mut Words) -> Option<Command>
+    requires { bytes_eq word.now (codes "write") ≡ false }
+    ensures { ReadsCommand result (word.now ∷ words.old) }
 {
-    let slot = SlotNo(words.small()?);
-    words.end()?;
-    Some(Command::Attach { slot })
+    if is(word, b"create") {
+        return read_create(words);
+    }
+    if is(word, b"read") {
+        return read_read(words);
+    }
+    if is(word, b"reserve") {
+        return read_reserve(words);
+    }
+    if is(word, b"renew") {
+        return read_renew(words);
+    }
+    if is(word, b"retire") {
+        return read_retire(words);
+    }
+    read_bare(word, words)
 }
 
-fn read_detach(words: &mut Words) -> Option<Command>
-    ensures { ReadsCommand result (codes "detach" ∷ words.old) }
+// The command that this word begins, where it names a slot alone.
+fn read_bare(word: &[u8], words: &mut Words) -> Option<Command>
+    ensures { Reads result (by_word word.now (slot_rows (word.now ∷ words.old)))
+        (λ command. SpellsCommand command (word.now ∷ words.old)) }
 {
-    let slot = SlotNo(words.small()?);
-    words.end()?;
-    Some(Command::Detach { slot })
+    let slot = SlotNo(words.last_small()?);
+    if is(word, b"attach") {
+        return Some(Command::Attach { slot });
+    }
+    if is(word, b"detach") {
+        return Some(Command::Detach { slot });
+    }
+    if is(word, b"delete") {
+        return Some(Command::Delete { slot });
+    }
+    None
 }
 
 fn read_create(words: &mut Words) -> Option<Command>
@@ -71,20 +75,11 @@ fn read_create(words: &mut Words) -> Option<Command>
     Some(Command::Create { slot, size, label })
 }
 
-fn read_delete(words: &mut Words) -> Option<Command>
-    ensures { ReadsCommand result (codes "delete" ∷ words.old) }
-{
-    let slot = SlotNo(words.small()?);
-    words.end()?;
-    Some(Command::Delete { slot })
-}
-
 fn read_read(words: &mut Words) -> Option<Command>
     ensures { ReadsCommand result (codes "read" ∷ words.old) }
 {
     let slot = SlotNo(words.small()?);
-    let vblock = words.small()?;
-    words.end()?;
+    let vblock = words.last_small()?;
     Some(Command::Read { slot, vblock })
 }
 
@@ -114,8 +109,7 @@ fn read_write(alloc: Global, words: &mut Words) -> Result<Option<Command>, NoMem
 fn read_reserve(words: &mut Words) -> Option<Command>
     ensures { ReadsCommand result (codes "reserve" ∷ words.old) }
 {
-    let count = words.number(1, 256)? as u16;
-    words.end()?;
+    let count = words.last_number(1, 256)? as u16;
     Some(Command::Reserve { count })
 }
 

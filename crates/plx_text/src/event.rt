@@ -1,12 +1,15 @@
 //! The lines of events.
 
-ghost use Rattle.std.specs.Prelude.{◌∷◌, IfOk, codes};
-ghost use Rattle.plx_text.specs.Events.{ReadsEvent};
+ghost use Rattle.std.specs.Prelude.{◌≡◌, ◌∷◌, IfOk, codes, false};
+ghost use Rattle.std.specs.Str.{bytes_eq};
+ghost use Rattle.plx_text.specs.Events.{ReadsEvent, SpellsEvent, bare_rows};
 ghost use Rattle.plx_text.specs.Schedules.{ReadsWorld};
+ghost use Rattle.plx_words.specs.Candidates.{Reads, by_word};
 ghost use Rattle.plx_words.specs.Words.{words_of};
 
 use crate::command::read_command;
 use crate::stop::read_stop;
+use crate::word::is;
 use plx_base::{ApplianceNo, NoMemory};
 use plx_commands::Event;
 use plx_geom::Geometry;
@@ -30,50 +33,66 @@ pub(crate) fn read_event(alloc: Global, line: &[u8]) -> Result<Option<Event>, No
     let Some(word) = words.next() else {
         return Ok(None);
     };
-    if word == b"tick".as_slice() {
-        return Ok(read_tick(&mut words));
-    }
-    if word == b"start".as_slice() {
+    if is(word, b"start") {
         return read_start(alloc, &mut words);
     }
-    if word == b"read".as_slice() {
-        return Ok(read_read(&mut words));
+    Ok(read_commandless(word, &mut words))
+}
+
+// The event that this word begins, but for `start`, which alone has a command.
+fn read_commandless(word: &[u8], words: &mut Words) -> Option<Event>
+    requires { bytes_eq word.now (codes "start") ≡ false }
+    ensures { ReadsEvent result (word.now ∷ words.old) }
+{
+    if is(word, b"tick") {
+        return read_tick(words);
     }
-    if word == b"issue".as_slice() {
-        return Ok(read_issue(&mut words));
+    if is(word, b"land") {
+        return read_land(words);
     }
-    if word == b"land".as_slice() {
-        return Ok(read_land(&mut words));
+    if is(word, b"miss") {
+        return read_miss(words);
     }
-    if word == b"done".as_slice() {
-        return Ok(read_done(&mut words));
+    if is(word, b"clock") {
+        return read_clock(words);
     }
-    if word == b"fault".as_slice() {
-        return Ok(read_fault(&mut words));
+    if is(word, b"upto") {
+        return read_upto(words);
     }
-    if word == b"miss".as_slice() {
-        return Ok(read_miss(&mut words));
+    read_bare(word, words)
+}
+
+// The event that this word begins, where it names an appliance alone.
+fn read_bare(word: &[u8], words: &mut Words) -> Option<Event>
+    ensures { Reads result (by_word word.now (bare_rows (word.now ∷ words.old)))
+        (λ one. SpellsEvent one (word.now ∷ words.old)) }
+{
+    let appliance = ApplianceNo(words.last_small()?);
+    if is(word, b"read") {
+        return Some(Event::Read { appliance });
     }
-    if word == b"clock".as_slice() {
-        return Ok(read_clock(&mut words));
+    if is(word, b"issue") {
+        return Some(Event::Issue { appliance });
     }
-    if word == b"crash".as_slice() {
-        return Ok(read_crash(&mut words));
+    if is(word, b"done") {
+        return Some(Event::Done { appliance });
     }
-    if word == b"run".as_slice() {
-        return Ok(read_run(&mut words));
+    if is(word, b"fault") {
+        return Some(Event::Fault { appliance });
     }
-    if word == b"upto".as_slice() {
-        return Ok(read_upto(&mut words));
+    if is(word, b"crash") {
+        return Some(Event::Crash { appliance });
     }
-    Ok(None)
+    if is(word, b"run") {
+        return Some(Event::Run { appliance });
+    }
+    None
 }
 
 fn read_tick(words: &mut Words) -> Option<Event>
     ensures { ReadsEvent result (codes "tick" ∷ words.old) }
 {
-    let by = words.number(1, MOST_SMALL)?;
-    words.end()?;
+    let by = words.last_number(1, MOST_SMALL)?;
     Some(Event::Tick { by: by as u32 })
 }
 
@@ -90,29 +109,12 @@ fn read_start(alloc: Global, words: &mut Words) -> Result<Option<Event>, NoMemor
     Ok(Some(Event::Start { appliance, command }))
 }
 
-fn read_read(words: &mut Words) -> Option<Event>
-    ensures { ReadsEvent result (codes "read" ∷ words.old) }
-{
-    let appliance = ApplianceNo(words.small()?);
-    words.end()?;
-    Some(Event::Read { appliance })
-}
-
-fn read_issue(words: &mut Words) -> Option<Event>
-    ensures { ReadsEvent result (codes "issue" ∷ words.old) }
-{
-    let appliance = ApplianceNo(words.small()?);
-    words.end()?;
-    Some(Event::Issue { appliance })
-}
-
 fn read_land(words: &mut Words) -> Option<Event>
     ensures { ReadsEvent result (codes "land" ∷ words.old) }
 {
     let appliance = ApplianceNo(words.small()?);
     let back = words.number(0, u64::MAX)?;
-    let sector = words.number(0, u64::from(u8::MAX))?;
-    words.end()?;
+    let sector = words.last_number(0, u64::from(u8::MAX))?;
     Some(Event::Land {
         appliance,
         back,
@@ -120,28 +122,11 @@ fn read_land(words: &mut Words) -> Option<Event>
     })
 }
 
-fn read_done(words: &mut Words) -> Option<Event>
-    ensures { ReadsEvent result (codes "done" ∷ words.old) }
-{
-    let appliance = ApplianceNo(words.small()?);
-    words.end()?;
-    Some(Event::Done { appliance })
-}
-
-fn read_fault(words: &mut Words) -> Option<Event>
-    ensures { ReadsEvent result (codes "fault" ∷ words.old) }
-{
-    let appliance = ApplianceNo(words.small()?);
-    words.end()?;
-    Some(Event::Fault { appliance })
-}
-
 fn read_miss(words: &mut Words) -> Option<Event>
     ensures { ReadsEvent result (codes "miss" ∷ words.old) }
 {
     let appliance = ApplianceNo(words.small()?);
-    let reading = words.number(0, MOST_READING)?;
-    words.end()?;
+    let reading = words.last_number(0, MOST_READING)?;
     Some(Event::Miss { appliance, reading })
 }
 
@@ -149,25 +134,8 @@ fn read_clock(words: &mut Words) -> Option<Event>
     ensures { ReadsEvent result (codes "clock" ∷ words.old) }
 {
     let appliance = ApplianceNo(words.small()?);
-    let reading = words.number(0, MOST_READING)?;
-    words.end()?;
+    let reading = words.last_number(0, MOST_READING)?;
     Some(Event::Reading { appliance, reading })
-}
-
-fn read_crash(words: &mut Words) -> Option<Event>
-    ensures { ReadsEvent result (codes "crash" ∷ words.old) }
-{
-    let appliance = ApplianceNo(words.small()?);
-    words.end()?;
-    Some(Event::Crash { appliance })
-}
-
-fn read_run(words: &mut Words) -> Option<Event>
-    ensures { ReadsEvent result (codes "run" ∷ words.old) }
-{
-    let appliance = ApplianceNo(words.small()?);
-    words.end()?;
-    Some(Event::Run { appliance })
 }
 
 fn read_upto(words: &mut Words) -> Option<Event>
@@ -182,14 +150,19 @@ fn read_upto(words: &mut Words) -> Option<Event>
 pub(crate) fn read_world(line: &[u8]) -> Option<(Geometry, u32)>
     ensures { ReadsWorld result (words_of line.now) }
 {
-    let mut words = Words::of(line);
+    read_parts(&mut Words::of(line))
+}
+
+// The same of its words.
+fn read_parts(words: &mut Words) -> Option<(Geometry, u32)>
+    ensures { ReadsWorld result words.old }
+{
     words.exactly(b"world")?;
     let images = words.small()?;
     let extents = words.small()?;
     let extent_blocks = words.small()?;
     let slots = words.small()?;
-    let appliances = words.number(1, MOST_APPLIANCES)?;
-    words.end()?;
+    let appliances = words.last_number(1, MOST_APPLIANCES)?;
     let Ok(geometry) = Geometry::new(images, extents, extent_blocks, slots) else {
         return None;
     };

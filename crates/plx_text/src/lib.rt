@@ -5,10 +5,12 @@ mod command;
 mod event;
 mod once;
 mod print;
+mod print_command;
 mod print_reply;
 mod read;
 mod schedule;
 mod stop;
+mod word;
 
 pub use once::{schedule_once, trace_once};
 pub use plx_words::Text;

@@ -1,14 +1,14 @@
 //! How traces are printed.
 ghost use Rattle.std.specs.Prelude.{◌≡◌, IfOk, OnOk};
-ghost use Rattle.plx_text.specs.Commands.{command_line};
 ghost use Rattle.plx_text.specs.Schedules.{world_line};
-ghost use Rattle.plx_text.specs.Traces.{bad_line_text, end_line, entry_line, plain_command, entry_lines, plain_entry, trace_lines, trace_text};
+ghost use Rattle.plx_text.specs.Traces.{bad_line_text, end_line, entry_line, entry_lines, plain_entry, trace_lines, trace_text};
 ghost use Rattle.plx_words.specs.Texts.{LinesTell};
-ghost use Rattle.plx_words.specs.Written.{AddsLine, AddsLines, AddsWords};
+ghost use Rattle.plx_words.specs.Written.{AddsLine, AddsLines};
 
+use crate::print_command::push_command;
 use crate::print_reply::push_reply;
 use plx_base::NoMemory;
-use plx_commands::{Command, Entry};
+use plx_commands::Entry;
 use plx_geom::Geometry;
 use plx_words::{Text, Word};
 use std::alloc::Global;
@@ -97,47 +97,5 @@ fn push_entry(text: &mut Text, entry: &Entry) -> Result<(), NoMemory>
             text.end()
         }
         Entry::Crash { appliance } => text.line(b"crash", &[Word::Small(appliance.0)]),
-    }
-}
-
-fn push_command(text: &mut Text, command: &Command) -> Result<(), NoMemory>
-    ensures { OnOk result (AddsWords text.old text.new (command_line (plain_command command.now))) }
-{
-    match command {
-        Command::Attach { slot } => text.words(&[Word::Plain(b"attach"), Word::Small(slot.0)]),
-        Command::Detach { slot } => text.words(&[Word::Plain(b"detach"), Word::Small(slot.0)]),
-        Command::Create { slot, size, label } => text.words(&[
-            Word::Plain(b"create"),
-            Word::Small(slot.0),
-            Word::Small(*size),
-            Word::Label(b"", label),
-        ]),
-        Command::Delete { slot } => text.words(&[Word::Plain(b"delete"), Word::Small(slot.0)]),
-        Command::Read { slot, vblock } => {
-            text.words(&[
-                Word::Plain(b"read"),
-                Word::Small(slot.0),
-                Word::Small(*vblock),
-            ])
-        }
-        Command::Write {
-            slot,
-            vblock,
-            payload,
-        } => {
-            text.words(&[
-                Word::Plain(b"write"),
-                Word::Small(slot.0),
-                Word::Small(*vblock),
-                Word::Data(payload),
-            ])
-        }
-        Command::Flush { slot } => text.words(&[Word::Plain(b"flush"), Word::Small(slot.0)]),
-        Command::Reserve { count } => {
-            text.words(&[Word::Plain(b"reserve"), Word::Small(u32::from(*count))])
-        }
-        Command::Renew => text.words(&[Word::Plain(b"renew")]),
-        Command::Retire => text.words(&[Word::Plain(b"retire")]),
-        Command::Reclaim => text.words(&[Word::Plain(b"reclaim")]),
     }
 }

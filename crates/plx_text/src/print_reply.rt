@@ -1,9 +1,11 @@
 //! How replies are printed.
-ghost use Rattle.std.specs.Prelude.{◌≡◌, OnOk};
+ghost use Rattle.std.specs.Prelude.{◌≡◌, ◌^◌, ◌∷◌, [], OnOk, codes};
 ghost use Rattle.plx_text.specs.Replies.{lease_piece, reply_line};
 ghost use Rattle.plx_text.specs.Traces.{plain, plain_reply};
+ghost use Rattle.plx_words.specs.Pieces.{named, word};
 ghost use Rattle.plx_words.specs.Written.{AddsWords, piece_of};
 
+use crate::word::push_word;
 use plx_base::{BlockNo, LeaseName, LeaseRecord, NoMemory, Payload};
 use plx_commands::{Reply, Report};
 use plx_words::{Text, Word};
@@ -14,24 +16,24 @@ pub(crate) fn push_reply(text: &mut Text, reply: &Reply) -> Result<(), NoMemory>
 {
     match reply {
         Reply::Attached { report } => push_attached(text, report),
-        Reply::Detached => push_detached(text),
-        Reply::Created => push_created(text),
-        Reply::Deleted => push_deleted(text),
+        Reply::Detached => push_word(text, b"detached"),
+        Reply::Created => push_word(text, b"created"),
+        Reply::Deleted => push_word(text, b"deleted"),
         Reply::Data { payload } => push_data(text, payload),
         Reply::Written { number } => push_written(text, *number),
         Reply::Flushed { applied, blocks } => push_flushed(text, *applied, *blocks),
-        Reply::Reserved => push_reserved(text),
-        Reply::Renewed => push_renewed(text),
-        Reply::Retired => push_retired(text),
+        Reply::Reserved => push_word(text, b"reserved"),
+        Reply::Renewed => push_word(text, b"renewed"),
+        Reply::Retired => push_word(text, b"retired"),
         Reply::Reclaimed {
             covered,
             freed,
             reads,
         } => push_reclaimed(text, *covered, *freed, *reads),
-        Reply::NotAttached => push_not_attached(text),
-        Reply::AlreadyAttached => push_already_attached(text),
-        Reply::NoImage => push_no_image(text),
-        Reply::Exists => push_exists(text),
+        Reply::NotAttached => push_word(text, b"not-attached"),
+        Reply::AlreadyAttached => push_word(text, b"already-attached"),
+        Reply::NoImage => push_word(text, b"no-image"),
+        Reply::Exists => push_word(text, b"exists"),
         Reply::OutOfRange { size } => push_out_of_range(text, *size),
         Reply::Busy { lease, seen } => push_busy(text, *lease, seen),
         Reply::Lost {
@@ -39,12 +41,20 @@ pub(crate) fn push_reply(text: &mut Text, reply: &Reply) -> Result<(), NoMemory>
             until,
             reading,
         } => push_lost(text, *lease, *until, *reading),
-        Reply::ReadFault { block } => push_read_fault(text, *block),
-        Reply::WriteFault { block } => push_write_fault(text, *block),
-        Reply::Full => push_full(text),
-        Reply::Damaged { block } => push_damaged(text, *block),
+        Reply::ReadFault { block } => push_block(text, b"read-fault", *block),
+        Reply::WriteFault { block } => push_block(text, b"write-fault", *block),
+        Reply::Full => push_word(text, b"full"),
+        Reply::Damaged { block } => push_block(text, b"damaged", *block),
         Reply::WornOut { count } => push_worn(text, *count),
     }
+}
+
+// A reply that names a block.
+fn push_block(text: &mut Text, letters: &[u8], block: BlockNo) -> Result<(), NoMemory>
+    ensures { OnOk result (AddsWords text.old text.new
+        (word letters.now ∷ named (codes "block=") (2 ^ 64) block.0 ∷ [])) }
+{
+    text.words(&[Word::Plain(letters), Word::Named(b"block=", block.0)])
 }
 
 fn push_attached(text: &mut Text, report: &Report) -> Result<(), NoMemory>
@@ -60,24 +70,6 @@ fn push_attached(text: &mut Text, report: &Report) -> Result<(), NoMemory>
         Word::NamedSmall(b"dropped=", report.dropped),
         Word::Label(b"label=", &report.label),
     ])
-}
-
-fn push_detached(text: &mut Text) -> Result<(), NoMemory>
-    ensures { OnOk result (AddsWords text.old text.new (reply_line Reply.Detached)) }
-{
-    text.words(&[Word::Plain(b"detached")])
-}
-
-fn push_created(text: &mut Text) -> Result<(), NoMemory>
-    ensures { OnOk result (AddsWords text.old text.new (reply_line Reply.Created)) }
-{
-    text.words(&[Word::Plain(b"created")])
-}
-
-fn push_deleted(text: &mut Text) -> Result<(), NoMemory>
-    ensures { OnOk result (AddsWords text.old text.new (reply_line Reply.Deleted)) }
-{
-    text.words(&[Word::Plain(b"deleted")])
 }
 
 fn push_data(text: &mut Text, payload: &Payload) -> Result<(), NoMemory>
@@ -104,24 +96,6 @@ fn push_flushed(text: &mut Text, applied: u64, blocks: u32) -> Result<(), NoMemo
     ])
 }
 
-fn push_reserved(text: &mut Text) -> Result<(), NoMemory>
-    ensures { OnOk result (AddsWords text.old text.new (reply_line Reply.Reserved)) }
-{
-    text.words(&[Word::Plain(b"reserved")])
-}
-
-fn push_renewed(text: &mut Text) -> Result<(), NoMemory>
-    ensures { OnOk result (AddsWords text.old text.new (reply_line Reply.Renewed)) }
-{
-    text.words(&[Word::Plain(b"renewed")])
-}
-
-fn push_retired(text: &mut Text) -> Result<(), NoMemory>
-    ensures { OnOk result (AddsWords text.old text.new (reply_line Reply.Retired)) }
-{
-    text.words(&[Word::Plain(b"retired")])
-}
-
 fn push_reclaimed(text: &mut Text, covered: u32, freed: u64, reads: u64) -> Result<(), NoMemory>
     ensures { OnOk result
         (AddsWords text.old text.new (reply_line (Reply.Reclaimed covered freed reads))) }
@@ -132,30 +106,6 @@ fn push_reclaimed(text: &mut Text, covered: u32, freed: u64, reads: u64) -> Resu
         Word::Named(b"freed=", freed),
         Word::Named(b"reads=", reads),
     ])
-}
-
-fn push_not_attached(text: &mut Text) -> Result<(), NoMemory>
-    ensures { OnOk result (AddsWords text.old text.new (reply_line Reply.NotAttached)) }
-{
-    text.words(&[Word::Plain(b"not-attached")])
-}
-
-fn push_already_attached(text: &mut Text) -> Result<(), NoMemory>
-    ensures { OnOk result (AddsWords text.old text.new (reply_line Reply.AlreadyAttached)) }
-{
-    text.words(&[Word::Plain(b"already-attached")])
-}
-
-fn push_no_image(text: &mut Text) -> Result<(), NoMemory>
-    ensures { OnOk result (AddsWords text.old text.new (reply_line Reply.NoImage)) }
-{
-    text.words(&[Word::Plain(b"no-image")])
-}
-
-fn push_exists(text: &mut Text) -> Result<(), NoMemory>
-    ensures { OnOk result (AddsWords text.old text.new (reply_line Reply.Exists)) }
-{
-    text.words(&[Word::Plain(b"exists")])
 }
 
 fn push_out_of_range(text: &mut Text, size: u32) -> Result<(), NoMemory>
@@ -197,30 +147,6 @@ fn push_lost(text: &mut Text, lease: LeaseName, until: u64, reading: u64) -> Res
         Word::Named(b"until=", until),
         Word::Named(b"reading=", reading),
     ])
-}
-
-fn push_read_fault(text: &mut Text, block: BlockNo) -> Result<(), NoMemory>
-    ensures { OnOk result (AddsWords text.old text.new (reply_line (Reply.ReadFault block))) }
-{
-    text.words(&[Word::Plain(b"read-fault"), Word::Named(b"block=", block.0)])
-}
-
-fn push_write_fault(text: &mut Text, block: BlockNo) -> Result<(), NoMemory>
-    ensures { OnOk result (AddsWords text.old text.new (reply_line (Reply.WriteFault block))) }
-{
-    text.words(&[Word::Plain(b"write-fault"), Word::Named(b"block=", block.0)])
-}
-
-fn push_full(text: &mut Text) -> Result<(), NoMemory>
-    ensures { OnOk result (AddsWords text.old text.new (reply_line Reply.Full)) }
-{
-    text.words(&[Word::Plain(b"full")])
-}
-
-fn push_damaged(text: &mut Text, block: BlockNo) -> Result<(), NoMemory>
-    ensures { OnOk result (AddsWords text.old text.new (reply_line (Reply.Damaged block))) }
-{
-    text.words(&[Word::Plain(b"damaged"), Word::Named(b"block=", block.0)])
 }
 
 fn push_worn(text: &mut Text, count: u64) -> Result<(), NoMemory>

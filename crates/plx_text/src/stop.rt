@@ -2,6 +2,7 @@
 
 ghost use Rattle.plx_text.specs.Stops.{ReadsStop};
 
+use crate::word::is;
 use plx_base::WriteKind;
 use plx_commands::{Region, Stop};
 
@@ -9,40 +10,40 @@ use plx_commands::{Region, Stop};
 pub(crate) fn read_stop(word: &[u8]) -> Option<Stop>
     ensures { ReadsStop result word.now }
 {
-    if word == b"claim".as_slice() {
+    if is(word, b"claim") {
         return Some(Stop::Write(WriteKind::Claim));
     }
-    if word == b"renew".as_slice() {
+    if is(word, b"renew") {
         return Some(Stop::Write(WriteKind::Renew));
     }
-    if word == b"release".as_slice() {
+    if is(word, b"release") {
         return Some(Stop::Write(WriteKind::Release));
     }
-    if word == b"take".as_slice() {
+    if is(word, b"take") {
         return Some(Stop::Write(WriteKind::Take));
     }
-    if word == b"give".as_slice() {
+    if is(word, b"give") {
         return Some(Stop::Write(WriteKind::Give));
     }
-    if word == b"record".as_slice() {
+    if is(word, b"record") {
         return Some(Stop::Write(WriteKind::Record));
     }
-    if word == b"jdata".as_slice() {
+    if is(word, b"jdata") {
         return Some(Stop::Write(WriteKind::JData));
     }
-    if word == b"jcommit".as_slice() {
+    if is(word, b"jcommit") {
         return Some(Stop::Write(WriteKind::JCommit));
     }
-    if word == b"r-lease".as_slice() {
+    if is(word, b"r-lease") {
         return Some(Stop::Read(Region::Lease));
     }
-    if word == b"r-record".as_slice() {
+    if is(word, b"r-record") {
         return Some(Stop::Read(Region::Record));
     }
-    if word == b"r-journal".as_slice() {
+    if is(word, b"r-journal") {
         return Some(Stop::Read(Region::Journal));
     }
-    if word == b"r-map".as_slice() {
+    if is(word, b"r-map") {
         return Some(Stop::Read(Region::Map));
     }
     None

@@ -115,29 +115,15 @@ impl Text {
             Word::Small(number) => self.push_number(u64::from(*number)),
             Word::Named(name, number) => self.push_field(name, *number),
             Word::NamedSmall(name, number) => self.push_field(name, u64::from(*number)),
-            Word::NamedWide(name, number) => {
-                self.push(name)?;
-                self.push_wide(*number)
-            }
+            Word::NamedWide(name, number) => self.push_wide_field(name, *number),
             Word::Flag(name, flag) => self.push_field(name, u64::from(*flag)),
-            Word::Label(name, label) => {
-                self.push(name)?;
-                self.push_label(label)
-            }
+            Word::Label(name, label) => self.push_label(name, label),
             Word::Data(payload) => push_data(self, payload),
         }
     }
 
     // The digits of a number at the end.
     fn push_number(&mut self, number: u64) -> Result<(), NoMemory>
-        ensures { OnOk result (self.new ≡ self.old ++ decimal number) }
-    {
-        let mut buffer = Buffer::new();
-        self.push(buffer.format(number).as_bytes())
-    }
-
-    // The same of a number below 2^128.
-    fn push_wide(&mut self, number: u128) -> Result<(), NoMemory>
         ensures { OnOk result (self.new ≡ self.old ++ decimal number) }
     {
         let mut buffer = Buffer::new();
@@ -152,10 +138,22 @@ impl Text {
         self.push_number(number)
     }
 
-    fn push_label(&mut self, label: &Label) -> Result<(), NoMemory>
-        ensures text { OnOk result (self.new ≡ self.old ++ label_spelled label.now) }
-        ensures fits { IsLabel label.now }
+    // The same of a number below 2^128.
+    fn push_wide_field(&mut self, name: &[u8], number: u128) -> Result<(), NoMemory>
+        ensures { OnOk result (self.new ≡ self.old ++ (name.now ++ decimal number)) }
     {
+        self.push(name)?;
+        let mut buffer = Buffer::new();
+        self.push(buffer.format(number).as_bytes())
+    }
+
+    // A name and a label at the end.
+    fn push_label(&mut self, name: &[u8], label: &Label) -> Result<(), NoMemory>
+        ensures text { OnOk result
+            (self.new ≡ self.old ++ (name.now ++ label_spelled label.now)) }
+        ensures fits { OnOk result (IsLabel label.now) }
+    {
+        self.push(name)?;
         let bytes = label.as_slice();
         if bytes.is_empty() {
             return self.push(b"-");

@@ -102,6 +102,25 @@ impl<'a> Words<'a> {
         Some(value as u32)
     }
 
+    /// Takes a number from the least one to the most, if no other word is left.
+    pub fn last_number(&mut self, least: u64, most: u64) -> Option<u64>
+        ensures some { IfSome result
+            (λ n. (least ≤ n) × (n ≤ most) × (self.old ≡ decimal n ∷ [])) }
+        ensures none { IfNone result ((n : ℕ) → least ≤ n → n ≤ most
+            → self.old ≢ decimal n ∷ []) }
+    {
+        number(self.last()?, least, most)
+    }
+
+    /// Takes a number below 2^32, if no other word is left.
+    pub fn last_small(&mut self) -> Option<u32>
+        ensures some { IfSome result (λ n. (n < 2 ^ 32) × (self.old ≡ decimal n ∷ [])) }
+        ensures none { IfNone result ((n : ℕ) → n < 2 ^ 32 → self.old ≢ decimal n ∷ []) }
+    {
+        let value = self.last_number(0, u64::from(u32::MAX))?;
+        Some(value as u32)
+    }
+
     /// Takes a name and a number that is at most this.
     pub fn named(&mut self, name: &[u8], most: u64) -> Option<u64>
         ensures some { IfSome result
@@ -111,8 +130,7 @@ impl<'a> Words<'a> {
     {
         let word = self.next()?;
         let digits = after(word, name)?;
-        let value = number(digits, 0, most)?;
-        Some(value)
+        number(digits, 0, most)
     }
 
     /// Takes a name and a number below 2^32.
@@ -135,8 +153,7 @@ impl<'a> Words<'a> {
     {
         let word = self.next()?;
         let bytes = after(word, name)?;
-        let label = read_label(bytes)?;
-        Some(label)
+        read_label(bytes)
     }
 }
 

@@ -2,7 +2,7 @@
 use Rattle.std.proofs.Common.{◌≡◌, ◌≢◌, ℕ, List, [], ◌∷◌, ◌++◌, length, reverse, Option, Some, None, refl, ap, sym, subst, ◌∙◌, append-nil}
 use Rattle.std.specs.Prelude.{OnErr, Result, Ok, Err, slice_get, slice_set}
 use Rattle.std.proofs.lemmas.Grind.{reverse_onto}
-use Rattle.plx_appliance.specs.Appliance.{IsStanding, StandsFor, appliance_setting}
+use Rattle.plx_appliance.specs.Appliance.{IsStanding, appliance_setting}
 use Rattle.plx_appliance.specs.Giving as giving
 use Rattle.plx_appliance.specs.declared.setting.Setting.{Setting as Own}
 use Rattle.plx_base.specs.declared.numbers.ApplianceNo.{ApplianceNo}
@@ -12,9 +12,8 @@ use Rattle.plx_commands.specs.declared.entry.Entry.TheVariants as entry
 use Rattle.plx_commands.specs.declared.reply.Reply.{Reply}
 use Rattle.plx_disk.specs.Standing.{Stands as DiskStands}
 use Rattle.plx_disk.specs.declared.ask.Answer.{Answer}
-use Rattle.plx_disk.specs.declared.ask.Ask.{Ask}
 use Rattle.plx_disk.specs.declared.disk.Disk.{Disk}
-use Rattle.plx_rules.specs.Boot.{Asked, Fits, Happening, Position, asks, position, replies, reply_of, writes_out}
+use Rattle.plx_rules.specs.Boot.{Asked, Position, asks, position, replies, reply_of, writes_out}
 use Rattle.plx_rules.specs.Ends.{End}
 use Rattle.plx_rules.specs.Part.{Part, Ends, ReadThen, WriteThen, ClockThen, UntilThen}
 use Rattle.plx_rules.specs.Settings.{Setting}
@@ -22,8 +21,8 @@ use Rattle.plx_rules.specs.World as rules
 use Rattle.plx_rules.specs.World.{goes_on, stands, with_reply_of, with_happening}
 use Rattle.plx_world.specs.Answering.{IsAnswered, told_entries}
 use Rattle.plx_world.specs.Numbers.{own_numbers}
-use Rattle.plx_world.specs.Seats.{KeepsSeat}
-use Rattle.plx_world.specs.Standing.{IsSeat}
+use Rattle.plx_world.specs.Seats.{KeepsSeat, TakesAnswer}
+use Rattle.plx_world.specs.Standing.{IsSeat, StandsOn}
 use Rattle.plx_world.specs.declared.seat.Seat.{Seat}
 use Rattle.plx_world.specs.declared.world.World.{World}
 use Rattle.plx_world.proofs.Seating.{position-of, seat-at, seat-same, set-all}
@@ -60,41 +59,53 @@ pub record LeavesAnswer (old new : World) (a : ApplianceNo) (before after : Seat
 
 pub answers : (old new : World) (a : ApplianceNo) (given : Answer) (before after : Seat) (reply : Option Reply) → slice_get old.seats.items a.0 ≡ Some before →
     LeavesAnswer old new a before after → new.trace.items ≡ old.trace.items ++ told_entries a reply →
-    ((log : List Happening) (ask : Ask) (bytes : List ℕ) → StandsFor before.appliance log → IsStanding before.appliance log ask bytes → Fits ask given →
-    StandsFor after.appliance (Asked ask bytes given ∷ log)) →
-    ((log : List Happening) (ask : Ask) (bytes : List ℕ) → StandsFor before.appliance log → IsStanding before.appliance log ask bytes → Fits ask given →
-    reply ≡ replies (appliance_setting before.appliance) given (position (appliance_setting before.appliance) log)) →
+    TakesAnswer before.appliance after.appliance given reply →
     IsAnswered old new a given
-answers old new a given before after reply at left trace longer replied w event ask bytes rest h asked out fits leads =
-    let n = a.0 in
-    let log = (w.seats n).log in
-    let one = h.seats n before at in
-    let where-is : position (appliance_setting before.appliance) log ≡ stands w n = position-of w n before one in
-    let standing : IsStanding before.appliance log ask bytes = record {
-      ask_is = ap (λ (p : Position). asks p.place) where-is ∙ asked;
-      bytes_are = ap (λ (p : Position). writes_out p.place) where-is ∙ out;
-    } in
-    let same : appliance_setting after.appliance ≡ appliance_setting before.appliance = ap (λ (s : Own). giving.rules_setting s) left.kept.setting in
-    let reply-is : reply ≡ reply_of rest =
-    replied log ask bytes one.log standing fits
-    ∙ ap (λ (p : Position). replies (appliance_setting before.appliance) given p) where-is
-    ∙ ap (λ (s : Setting). replies s given (stands w n)) one.setting
-    ∙ leads in
-    let v = goes_on w event a ask bytes given rest in
-    let s = with_happening (w.seats n) (Asked ask bytes given) in
-    let D : Disk → Type 0 = λ x. DiskStands x w.surface in
-    record {
-      geometry = left.geometry ∙ h.geometry;
-      count = left.count ∙ h.count;
-      surface = subst D (sym left.disk) h.surface;
-      seats = seats-changed old.seats.items new.seats.items w v n before after at left.seats h.seats
-          (seat-at v n s after (at-same w.seats n s) (same ∙ one.setting) (left.kept.boots ∙ one.boots) (longer log ask bytes one.log standing fits) left.pending (left.kept.issued ∙ one.issued))
-          refl
-          (λ k other. at-other w.seats n k s other) (λ k other. refl);
-      trace = told-entries-more a rest new.trace.items old.trace.items w.trace (trace ∙ ap (λ (r : Option Reply). old.trace.items ++ told_entries a r) reply-is) h.trace;
-    }
+answers old new a given before after reply at left trace taken = record {
+  leads = λ w event ask bytes rest h asked out fits leads.
+      let n = a.0 in
+      let log = (w.seats n).log in
+      let one = h.seats n before at in
+      let where-is : position (appliance_setting before.appliance) log ≡ stands w n = position-of w n before one in
+      let standing : IsStanding before.appliance log ask bytes = record {
+        ask_is = ap (λ (p : Position). asks p.place) where-is ∙ asked;
+        bytes_are = ap (λ (p : Position). writes_out p.place) where-is ∙ out;
+      } in
+      let same : appliance_setting after.appliance ≡ appliance_setting before.appliance = ap (λ (s : Own). giving.rules_setting s) left.kept.setting in
+      let reply-is : reply ≡ reply_of rest =
+      taken.reply log ask bytes one.log standing fits
+      ∙ ap (λ (p : Position). replies (appliance_setting before.appliance) given p) where-is
+      ∙ ap (λ (s : Setting). replies s given (stands w n)) one.setting
+      ∙ leads in
+      let v = goes_on w event a ask bytes given rest in
+      let s = with_happening (w.seats n) (Asked ask bytes given) in
+      let D : Disk → Type 0 = λ x. DiskStands x w.surface in
+      record {
+        geometry = left.geometry ∙ h.geometry;
+        count = left.count ∙ h.count;
+        surface = subst D (sym left.disk) h.surface;
+        seats = seats-changed old.seats.items new.seats.items w v n before after at left.seats h.seats
+            (seat-at v n s after (at-same w.seats n s) (same ∙ one.setting) (left.kept.boots ∙ one.boots) (taken.log log ask bytes one.log standing fits) left.pending (left.kept.issued ∙ one.issued))
+            refl
+            (λ k other. at-other w.seats n k s other) (λ k other. refl);
+        trace = told-entries-more a rest new.trace.items old.trace.items w.trace (trace ∙ ap (λ (r : Option Reply). old.trace.items ++ told_entries a r) reply-is) h.trace;
+      };
+}
 
 -- where a call found no memory
 pub on-err : {A E : Type 0} (r : Result A E) (P : Type 0) → P → OnErr r P
 on-err (Ok value) P p = tt
 on-err (Err error) P p = p
+
+-- there is no room for an entry
+pub entries-stay : (old new : World) → new.geometry ≡ old.geometry → new.disk ≡ old.disk → new.seats.items ≡ old.seats.items → new.trace.items ≡ old.trace.items → StandsOn old new
+entries-stay old new geometry disk seats trace w h =
+    let D : Disk → Type 0 = λ x. DiskStands x w.surface in
+    let S : List Seat → Type 0 = λ v. (k : ℕ) (seat : Seat) → slice_get v k ≡ Some seat → IsSeat w k seat in
+    record {
+      geometry = geometry ∙ h.geometry;
+      count = ap (λ (v : List Seat). length v) seats ∙ h.count;
+      surface = subst D (sym disk) h.surface;
+      seats = subst S (sym seats) h.seats;
+      trace = trace ∙ h.trace;
+    }

@@ -49,11 +49,11 @@ pub record Leaves (old new : World) (n : ℕ) (after : Seat) : Type 0 where
   pub count : length new.seats.items ≡ length old.seats.items
 
 -- a command begins
-pub starts-command : (old new : World) (a : ApplianceNo) (c told given : Command) (before after : Seat) → slice_get old.seats.items a.0 ≡ Some before → a.0 < length old.seats.items →
-    told ≡ c → given ≡ c → IsIdle before.appliance → IsBuilt c → IsWellFormed c → Changes old new a.0 after → KeepsSeat before after → after.pending ≡ None →
+pub starts-command : (old new : World) (a : ApplianceNo) (c told : Command) (before after : Seat) → slice_get old.seats.items a.0 ≡ Some before → a.0 < length old.seats.items →
+    told ≡ c → IsIdle before.appliance → IsBuilt c → IsWellFormed c → Changes old new a.0 after → KeepsSeat before after → after.pending ≡ None →
     new.trace.items ≡ old.trace.items ++ entry.Start a told ∷ [] →
-    ((log : List Happening) → StandsFor before.appliance log → StandsFor after.appliance (Began given ∷ log)) → Steps old new (event.Start a c) true
-starts-command old new a c told given before after at below told-is given-is idle built formed left kept pending trace begins w h =
+    ((log : List Happening) → StandsFor before.appliance log → StandsFor after.appliance (Began c ∷ log)) → Steps old new (event.Start a c) true
+starts-command old new a c told before after at below told-is idle built formed left kept pending trace begins w h =
     let n = a.0 in
     let one = h.seats n before at in
     let count = h.count in
@@ -62,7 +62,6 @@ starts-command old new a c told given before after at below told-is given-is idl
     let place = idle-at w n before one idle in
     let same : appliance_setting after.appliance ≡ appliance_setting before.appliance = ap (λ (s : Own). giving.rules_setting s) kept.setting in
     let D : Disk → Type 0 = λ x. DiskStands x w.surface in
-    let B : Command → Type 0 = λ x. StandsFor after.appliance (Began x ∷ (w.seats n).log) in
     let T : Command → Type 0 = λ x. new.trace.items ≡ old.trace.items ++ entry.Start a x ∷ [] in (
       v,
       starts place.0 (omega (arith, count, below)) place.1 formed built,
@@ -71,7 +70,7 @@ starts-command old new a c told given before after at below told-is given-is idl
         count = left.count ∙ h.count;
         surface = subst D (sym left.disk) h.surface;
         seats = seats-changed old.seats.items new.seats.items w v n before after at left.seats h.seats
-            (seat-at v n s after (at-same w.seats n s) (same ∙ one.setting) (kept.boots ∙ one.boots) (subst B given-is (begins (w.seats n).log one.log)) pending (kept.issued ∙ one.issued))
+            (seat-at v n s after (at-same w.seats n s) (same ∙ one.setting) (kept.boots ∙ one.boots) (begins (w.seats n).log one.log) pending (kept.issued ∙ one.issued))
             refl
             (λ k other. at-other w.seats n k s other) (λ k other. refl);
         trace = one-more new.trace.items old.trace.items w.trace (entry.Start a c) (subst T told-is trace) h.trace;
@@ -99,6 +98,15 @@ seat-stays old new n before after at left kept pending trace stays w h =
           (λ k other. refl) (λ k other. refl);
       trace = trace ∙ h.trace;
     }
+
+-- the same, where the seat is what it was
+pub same-stays : (old new : World) (n : ℕ) (before after : Seat) → slice_get old.seats.items n ≡ Some before → Leaves old new n after → after ≡ before →
+    new.trace.items ≡ old.trace.items → StandsOn old new
+same-stays old new n before after at left same trace =
+    let K : Seat → Type 0 = λ s. KeepsSeat before s in
+    let L : List Happening → Seat → Type 0 = λ log s. StandsFor s.appliance log in
+    seat-stays old new n before after at left (subst K (sym same) (record { setting = refl; boots = refl; issued = refl })) (ap (λ (s : Seat). s.pending) same) trace
+    (λ log stands. subst (L log) (sym same) stands)
 
 -- ---- a boot is lost
 

@@ -32,7 +32,7 @@ use Rattle.plx_world.proofs.Inverted.{step-issue}
 use Rattle.plx_world.proofs.Numbered.{own-push}
 use Rattle.plx_world.proofs.Placed.{asked-write}
 use Rattle.plx_world.proofs.Seating.{asked-absent, asked-there, if-none, pending-there, position-of, seat-at}
-use Rattle.plx_world.proofs.Stepping.{IsAsk, IsWaitedFor, asks-there, impossible}
+use Rattle.plx_world.proofs.Stepping.{IsAsk, IsWaitedFor, apart, asks-there, asks_write, impossible}
 
 -- the boot of an appliance is no other's
 other-boot : (a k boots : ℕ) → a < 8 → k ≢ a → is_boot_of k (boot_number a boots) ≡ false
@@ -114,10 +114,9 @@ issues-write old new a kind block guard owner number bytes before after at many 
     )
 
 -- none is asked for, or it was issued before
-pub issues-none : (old : World) (a : ApplianceNo) (asked : Option Ask) → IsAsk old a asked →
-    ((kind : WriteKind) (block : BlockNo) (guard : ℕ) → asked ≢ Some (ask.Write kind block guard)) → Steps old old (event.Issue a) false
+pub issues-none : (old : World) (a : ApplianceNo) (asked : Option Ask) → IsAsk old a asked → asks_write asked ≡ false → Steps old old (event.Issue a) false
 issues-none old a asked is none = impossible old old (event.Issue a) (λ w h. h)
-    (λ w v h step. let found = step-issue step in none found.kind found.block found.guard (is w h ∙ found.asked))
+    (λ w v h step. let found = step-issue step in apart asks_write asked (Some (ask.Write found.kind found.block found.guard)) none refl (is w h ∙ found.asked))
 
 pub issues-before : (old : World) (a : ApplianceNo) (pending : Option ℕ) → IsWaitedFor old a pending → pending ≢ None → Steps old old (event.Issue a) false
 issues-before old a pending pends before = impossible old old (event.Issue a) (λ w h. h)
@@ -132,4 +131,4 @@ pub pends-it : (world : World) (a : ApplianceNo) (seat : Seat) (pending : Option
 pends-it world a seat pending at is w h = sym is ∙ pending-there world w a.0 seat at (slice_get_within world.seats.items a.0 seat at) h
 
 pub issues-absent : (old : World) (a : ApplianceNo) → length old.seats.items ≤ a.0 → Steps old old (event.Issue a) false
-issues-absent old a past = issues-none old a None (λ w h. asked-absent old w a.0 past h) (λ kind block guard e. cc)
+issues-absent old a past = issues-none old a None (λ w h. asked-absent old w a.0 past h) refl

@@ -17,4 +17,5 @@ mod Seating
 mod Sequences
 mod Starting
 mod Stepping
+mod Stopping
 mod There

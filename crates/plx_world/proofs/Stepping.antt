@@ -1,5 +1,5 @@
 -- Each answer of the program's world is an event of the world that it stands for.
-use Rattle.std.proofs.Common.{◌≡◌, ◌≢◌, ◌^◌, ◌≤◌, ◌<◌, ℕ, List, [], length, Option, Some, None, true, false, refl, ap, sym, subst, ◌∙◌, arith}
+use Rattle.std.proofs.Common.{◌≡◌, ◌≢◌, ◌^◌, ◌≤◌, ◌<◌, ℕ, List, [], length, Option, Some, None, Bool, true, false, refl, ap, sym, subst, ◌∙◌, arith}
 use Rattle.std.specs.Prelude.{is_some}
 use Rattle.plx_base.specs.declared.numbers.ApplianceNo.{ApplianceNo}
 use Rattle.plx_base.specs.declared.numbers.BlockNo.{BlockNo}
@@ -41,21 +41,44 @@ impossible old new one stays none w h = (λ v step. none w v h step, stays w h)
 
 -- ---- answers that no ask wants
 
+-- whether a read is asked for
+abbrev pub asks_read : Option Ask → Bool
+asks_read (Some (ask.Read block)) = true
+asks_read other = false
+
+-- whether a write is
+abbrev pub asks_write : Option Ask → Bool
+asks_write (Some (ask.Write kind block guard)) = true
+asks_write other = false
+
+-- whether a reading is
+abbrev pub asks_reading : Option Ask → Bool
+asks_reading (Some ask.Clock) = true
+asks_reading (Some (ask.Until from)) = true
+asks_reading other = false
+
+-- one ask that passes a test and one that doesn't
+pub apart : (test : Option Ask → Bool) (asked other : Option Ask) → test asked ≡ false → test other ≡ true → asked ≢ other
+apart test asked other fails holds e = let both : test asked ≡ test other = ap test e in cc
+
+-- what the code has found is this
+pub known-ask : (world : World) (a : ApplianceNo) (asked one : Ask) → IsAsk world a (Some asked) → asked ≡ one → IsAsk world a (Some one)
+known-ask world a asked one is known = subst (λ (x : Ask). IsAsk world a (Some x)) known is
+
 -- no read is asked for
-pub reads-none : (old : World) (a : ApplianceNo) (asked : Option Ask) → IsAsk old a asked → ((block : BlockNo) → asked ≢ Some (ask.Read block)) →
-    Steps old old (event.Read a) false
-reads-none old a asked is none = impossible old old (event.Read a) (λ w h. h) (λ w v h step. let found = step-read step in none found.0 (is w h ∙ found.1))
+pub reads-none : (old : World) (a : ApplianceNo) (asked : Option Ask) → IsAsk old a asked → asks_read asked ≡ false → Steps old old (event.Read a) false
+reads-none old a asked is none = impossible old old (event.Read a) (λ w h. h)
+    (λ w v h step. let found = step-read step in apart asks_read asked (Some (ask.Read found.0)) none refl (is w h ∙ found.1))
 
 -- no write is
-pub dones-none : (old : World) (a : ApplianceNo) (asked : Option Ask) → IsAsk old a asked →
-    ((kind : WriteKind) (block : BlockNo) (guard : ℕ) → asked ≢ Some (ask.Write kind block guard)) → Steps old old (event.Done a) false
+pub dones-none : (old : World) (a : ApplianceNo) (asked : Option Ask) → IsAsk old a asked → asks_write asked ≡ false → Steps old old (event.Done a) false
 dones-none old a asked is none = impossible old old (event.Done a) (λ w h. h)
-    (λ w v h step. let found = step-done step in none found.1.kind found.1.block found.1.guard (is w h ∙ found.1.asked))
+    (λ w v h step. let found = (step-done step).1 in apart asks_write asked (Some (ask.Write found.kind found.block found.guard)) none refl (is w h ∙ found.asked))
 
-misses-none : (old : World) (a : ApplianceNo) (reading : ℕ) (asked : Option Ask) → IsAsk old a asked →
-    ((kind : WriteKind) (block : BlockNo) (guard : ℕ) → asked ≢ Some (ask.Write kind block guard)) → Steps old old (event.Miss a reading) false
+pub misses-none : (old : World) (a : ApplianceNo) (reading : ℕ) (asked : Option Ask) → IsAsk old a asked → asks_write asked ≡ false →
+    Steps old old (event.Miss a reading) false
 misses-none old a reading asked is none = impossible old old (event.Miss a reading) (λ w h. h)
-    (λ w v h step. let found = step-miss step in none found.0.kind found.0.block found.0.guard (is w h ∙ found.0.asked))
+    (λ w v h step. let found = (step-miss step).0 in apart asks_write asked (Some (ask.Write found.kind found.block found.guard)) none refl (is w h ∙ found.asked))
 
 -- the write hasn't landed
 pub dones-unlanded : (old mid : World) (a : ApplianceNo) (number : ℕ) → IsWaitedFor old a (Some number) → StandsOn old mid →
@@ -64,15 +87,6 @@ dones-unlanded old mid a number pends stays unlanded = impossible old mid (event
     (λ w v h step. let found = step-done step in let e : Some number ≡ Some found.0 = pends w h ∙ found.1.pends in let same : found.0 ≡ number = cc in
     unlanded w.surface h.surface (subst (λ (n : ℕ). HasLanded w.surface n) same found.2))
 
-pub misses-read : (old : World) (a : ApplianceNo) (reading : ℕ) (block : BlockNo) → IsAsk old a (Some (ask.Read block)) → Steps old old (event.Miss a reading) false
-misses-read old a reading block is = misses-none old a reading (Some (ask.Read block)) is (λ kind b guard e. cc)
-
-pub misses-clock : (old : World) (a : ApplianceNo) (reading : ℕ) → IsAsk old a (Some ask.Clock) → Steps old old (event.Miss a reading) false
-misses-clock old a reading is = misses-none old a reading (Some ask.Clock) is (λ kind b guard e. cc)
-
-pub misses-until : (old : World) (a : ApplianceNo) (reading from : ℕ) → IsAsk old a (Some (ask.Until from)) → Steps old old (event.Miss a reading) false
-misses-until old a reading from is = misses-none old a reading (Some (ask.Until from)) is (λ kind b guard e. cc)
-
 -- a write is, and its guard isn't past
 pub misses-early : (old : World) (a : ApplianceNo) (reading : ℕ) (kind : WriteKind) (block : BlockNo) (guard : ℕ) →
     IsAsk old a (Some (ask.Write kind block guard)) → reading ≤ guard → Steps old old (event.Miss a reading) false
@@ -80,18 +94,38 @@ misses-early old a reading kind block guard is early = impossible old old (event
     (λ w v h step. let found = step-miss step in let e : Some (ask.Write kind block guard) ≡ Some (ask.Write found.0.kind found.0.block found.0.guard) = is w h ∙ found.0.asked in
     let same : guard ≡ found.0.guard = cc in let past = found.1 in absurd (omega (arith, early, past, same)))
 
+-- a clock shows it at the time of the program's world
+near-then : (old : World) (w : rules.World) (reading : ℕ) → WorldStands old w → IsReadingAt reading w.surface.time → IsReadingAt reading old.disk.time
+near-then old w reading h near =
+    let now = h.surface.time in
+    let low = near.early in
+    let high = near.late in record { early = omega arith; late = omega arith }
+
 -- no reading is
-clocks-none : (old : World) (a : ApplianceNo) (reading : ℕ) (asked : Option Ask) → IsAsk old a asked → asked ≢ Some ask.Clock →
-    ((from : ℕ) → asked ≢ Some (ask.Until from)) → Steps old old (event.Reading a reading) false
-clocks-none old a reading asked is clockless waitless = impossible old old (event.Reading a reading) (λ w h. h) (λ w v h step. by-answer w h (step-reading step).0)
+pub clocks-none : (old : World) (a : ApplianceNo) (reading : ℕ) (asked : Option Ask) → IsAsk old a asked → asks_reading asked ≡ false →
+    Steps old old (event.Reading a reading) false
+clocks-none old a reading asked is none = impossible old old (event.Reading a reading) (λ w h. h) (λ w v h step. by-answer w h (step-reading step).0)
   where
     by-answer : (w : rules.World) → WorldStands old w → AsksReading w a reading → ⊥
-    by-answer w h (clock asks) = clockless (is w h ∙ asks)
-    by-answer w h (wait from asks late) = waitless from (is w h ∙ asks)
+    by-answer w h (clock asks) = apart asks_reading asked (Some ask.Clock) none refl (is w h ∙ asks)
+    by-answer w h (wait from asks late) = apart asks_reading asked (Some (ask.Until from)) none refl (is w h ∙ asks)
 
-pub clocks-write : (old : World) (a : ApplianceNo) (reading : ℕ) (kind : WriteKind) (block : BlockNo) (guard : ℕ) →
-    IsAsk old a (Some (ask.Write kind block guard)) → Steps old old (event.Reading a reading) false
-clocks-write old a reading kind block guard is = clocks-none old a reading (Some (ask.Write kind block guard)) is (λ e. cc) (λ from e. cc)
+-- a later one is waited for
+pub clocks-early : (old : World) (a : ApplianceNo) (from reading : ℕ) → IsAsk old a (Some (ask.Until from)) → reading < from → Steps old old (event.Reading a reading) false
+clocks-early old a from reading is early = impossible old old (event.Reading a reading) (λ w h. h) (λ w v h step. by-answer w h (step-reading step).0)
+  where
+    by-answer : (w : rules.World) → WorldStands old w → AsksReading w a reading → ⊥
+    by-answer w h (clock asks) = let e : Some (ask.Until from) ≡ Some ask.Clock = is w h ∙ asks in cc
+    by-answer w h (wait other asks late) =
+        let e : Some (ask.Until from) ≡ Some (ask.Until other) = is w h ∙ asks in
+        let same : from ≡ other = cc in absurd (omega (arith, early, late, same))
+
+-- no clock shows it
+pub clocks-far : (old : World) (a : ApplianceNo) (reading time : ℕ) (near : Bool) → time ≡ old.disk.time → near ≡ false → (IsReadingAt reading time → near ≡ true) →
+    Steps old old (event.Reading a reading) false
+clocks-far old a reading time near now far shown = impossible old old (event.Reading a reading) (λ w h. h) (λ w v h step.
+    let P : ℕ → Type 0 = λ t. IsReadingAt reading t in
+    let both : true ≡ false = sym (shown (subst P (sym now) (near-then old w reading h (step-reading step).1))) ∙ far in cc)
 
 -- ---- reads
 
@@ -105,7 +139,7 @@ reads-block old new a block bytes is whole stored answered w h =
       goes_on w one a (ask.Read (record { 0 = block.0 })) [] (answer.Bytes (w.surface.device block.0)) (found.rest (w.surface.device block.0)),
       reads found.known found.command block.0 found.rest found.fault there.0 found.at,
       subst P (stored w.surface h.surface)
-          (answered w one (ask.Read (record { 0 = block.0 })) [] (found.rest bytes) h there.1 (ap writes_out found.at) whole
+          (answered.leads w one (ask.Read (record { 0 = block.0 })) [] (found.rest bytes) h there.1 (ap writes_out found.at) whole
           (ap (replies_at (setting_of w a.0) (answer.Bytes bytes) (stands w a.0)) found.at)),
     )
 
@@ -127,7 +161,7 @@ faults-read old new a block is answered w h =
     let one = event.Fault a in (
       goes_on w one a (ask.Read (record { 0 = block.0 })) [] answer.Fault found.fault,
       read_faults found.known found.command block.0 found.rest found.fault there.0 found.at,
-      answered w one (ask.Read (record { 0 = block.0 })) [] found.fault h there.1 (ap writes_out found.at) tt
+      answered.leads w one (ask.Read (record { 0 = block.0 })) [] found.fault h there.1 (ap writes_out found.at) tt
           (ap (replies_at (setting_of w a.0) answer.Fault (stands w a.0)) found.at),
     )
 
@@ -139,7 +173,7 @@ faults-write old new a kind block guard is answered w h =
     let one = event.Fault a in (
       goes_on w one a (ask.Write kind (record { 0 = block.0 }) guard) found.bytes answer.Fault found.fault,
       write_faults found.known found.command kind block.0 found.bytes guard found.done found.fault found.missed there.0 found.at,
-      answered w one (ask.Write kind (record { 0 = block.0 }) guard) found.bytes found.fault h there.1 (ap writes_out found.at) tt
+      answered.leads w one (ask.Write kind (record { 0 = block.0 }) guard) found.bytes found.fault h there.1 (ap writes_out found.at) tt
           (ap (replies_at (setting_of w a.0) answer.Fault (stands w a.0)) found.at),
     )
 
@@ -155,7 +189,7 @@ dones-write old mid new a kind block guard number is pends landed stays answered
     let one = event.Done a in (
       goes_on w one a (ask.Write kind (record { 0 = block.0 }) guard) found.bytes answer.Done found.done,
       dones found.known found.command kind block.0 found.bytes guard found.done found.fault found.missed number there.0 found.at pending.1 (landed w.surface h.surface),
-      answered w one (ask.Write kind (record { 0 = block.0 }) guard) found.bytes found.done (stays w h) there.1 (ap writes_out found.at) tt
+      answered.leads w one (ask.Write kind (record { 0 = block.0 }) guard) found.bytes found.done (stays w h) there.1 (ap writes_out found.at) tt
           (ap (replies_at (setting_of w a.0) answer.Done (stands w a.0)) found.at),
     )
 
@@ -175,7 +209,7 @@ misses-write old new a kind block guard reading is pends past near early answere
       goes_on w one a (ask.Write kind (record { 0 = block.0 }) guard) found.bytes (answer.Missed reading) (found.missed reading),
       misses found.known found.command kind block.0 found.bytes guard found.done found.fault found.missed there.0 found.at pending past
           (record { early = omega arith; late = omega arith }),
-      answered w one (ask.Write kind (record { 0 = block.0 }) guard) found.bytes (found.missed reading) h there.1 (ap writes_out found.at) (past, omega arith)
+      answered.leads w one (ask.Write kind (record { 0 = block.0 }) guard) found.bytes (found.missed reading) h there.1 (ap writes_out found.at) (past, omega arith)
           (ap (replies_at (setting_of w a.0) (answer.Missed reading) (stands w a.0)) found.at),
     )
 
@@ -189,13 +223,13 @@ clocks-place old new a reading w below asked near soon h answered (first known c
     let rest = first_part (setting_of w a.0) known reading command (stands w a.0) in (
       goes_on w one a ask.Clock [] (answer.Reading reading) rest,
       begins known command below at near,
-      answered w one ask.Clock [] rest h asked (ap writes_out at) soon (ap (replies_at (setting_of w a.0) (answer.Reading reading) (stands w a.0)) at),
+      answered.leads w one ask.Clock [] rest h asked (ap writes_out at) soon (ap (replies_at (setting_of w a.0) (answer.Reading reading) (stands w a.0)) at),
     )
 clocks-place old new a reading w below asked near soon h answered (later known command rest at) =
     let one = event.Reading a reading in (
       goes_on w one a ask.Clock [] (answer.Reading reading) (rest reading),
       clocks known command rest below at near,
-      answered w one ask.Clock [] (rest reading) h asked (ap writes_out at) soon (ap (replies_at (setting_of w a.0) (answer.Reading reading) (stands w a.0)) at),
+      answered.leads w one ask.Clock [] (rest reading) h asked (ap writes_out at) soon (ap (replies_at (setting_of w a.0) (answer.Reading reading) (stands w a.0)) at),
     )
 
 pub clocks-now : (old new : World) (a : ApplianceNo) (reading : ℕ) → IsAsk old a (Some ask.Clock) → IsReadingAt reading old.disk.time → old.disk.time < 2 ^ 47 →
@@ -218,7 +252,7 @@ waits-until old new a from reading is near early late answered w h =
     let one = event.Reading a reading in (
       goes_on w one a (ask.Until from) [] (answer.Reading reading) (found.rest reading),
       waits found.known found.command from found.rest there.0 found.at (record { early = omega arith; late = omega arith }) late,
-      answered w one (ask.Until from) [] (found.rest reading) h there.1 (ap writes_out found.at) (late, omega arith)
+      answered.leads w one (ask.Until from) [] (found.rest reading) h there.1 (ap writes_out found.at) (late, omega arith)
           (ap (replies_at (setting_of w a.0) (answer.Reading reading) (stands w a.0)) found.at),
     )
 

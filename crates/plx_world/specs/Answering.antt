@@ -50,12 +50,11 @@ abbrev pub pending_of : rules.World → (number : ℕ) → Option ℕ
 pending_of w number = if nat_lt number w.appliances then (w.seats number).pending else None
 
 -- the ask that stands was answered
-abbrev pub IsAnswered : World → World → ApplianceNo → Answer → Type 0
-IsAnswered old new appliance answer =
-    (w : rules.World) (event : Event) (ask : Ask) (bytes : List ℕ) (rest : Part End) → WorldStands old w →
-    asks (stands w appliance.0).place ≡ Some ask → writes_out (stands w appliance.0).place ≡ bytes → Fits ask answer →
-    replies (setting_of w appliance.0) answer (stands w appliance.0) ≡ reply_of rest →
-    WorldStands new (goes_on w event appliance ask bytes answer rest)
+pub record IsAnswered (old new : World) (appliance : ApplianceNo) (answer : Answer) : Type 0 where
+  pub leads : (w : rules.World) (event : Event) (ask : Ask) (bytes : List ℕ) (rest : Part End) → WorldStands old w →
+      asks (stands w appliance.0).place ≡ Some ask → writes_out (stands w appliance.0).place ≡ bytes → Fits ask answer →
+      replies (setting_of w appliance.0) answer (stands w appliance.0) ≡ reply_of rest →
+      WorldStands new (goes_on w event appliance ask bytes answer rest)
 
 -- the answer is the bytes that stand in the block, 4,096 of them
 abbrev pub GivesBlock : Disk → ℕ → Answer → Type 0

@@ -4,7 +4,6 @@ ghost use Rattle.plx_base.specs.Payload.{bytes_of};
 ghost use Rattle.plx_rules.specs.Commands.{IsBuilt, IsWellFormed};
 
 use crate::answers::add;
-use crate::seat::first_of_boot;
 use crate::world::World;
 use plx_base::{ApplianceNo, NoMemory, Payload};
 use plx_commands::{Command, Entry};
@@ -33,10 +32,9 @@ impl World {
         if !self.seats[index].appliance.is_idle() {
             return Ok(false);
         }
-        let told = command.copy(self.alloc)?;
-        let given = command.copy(self.alloc)?;
         self.trace.reserve(1)?;
-        self.seats[index].begin(self.alloc, given)?;
+        let told = command.copy(self.alloc)?;
+        self.seats[index].begin(self.alloc, command)?;
         add(
             &mut self.trace,
             Entry::Start {
@@ -56,13 +54,12 @@ impl World {
         if index >= self.seats.len() {
             return Ok(false);
         }
-        let boots = self.seats[index].boots;
-        if boots == u32::MAX {
+        if self.seats[index].boots == u32::MAX {
             return Ok(false);
         }
-        let fresh = first_of_boot(self.alloc, self.geometry, appliance, boots + 1)?;
-        self.trace.push(Entry::Crash { appliance })?;
-        self.seats[index].restart(fresh);
+        self.trace.reserve(1)?;
+        self.seats[index].restart(self.alloc, self.geometry, appliance)?;
+        add(&mut self.trace, Entry::Crash { appliance });
         Ok(true)
     }
 }

@@ -39,7 +39,7 @@ impl Seat {
     ghost use Rattle.plx_rules.specs.Boot.{Asked, Began, Fits, Happening, asks, position, replies};
     ghost use Rattle.plx_rules.specs.Commands.{IsBuilt, IsWellFormed};
     ghost use Rattle.plx_rules.specs.World.{setting_at};
-    ghost use Rattle.plx_world.specs.Seats.{AsksAs, KeepsSeat};
+    ghost use Rattle.plx_world.specs.Seats.{AsksAs, KeepsSeat, TakesAnswer};
 
     /// An appliance that was asked nothing yet.
     pub(crate) fn new(
@@ -76,15 +76,7 @@ impl Seat {
     /// The ask that stands is answered, with the reply to which that leads.
     pub(crate) fn answer(&mut self, answer: &Answer) -> Option<Reply>
         requires { IsRunning self.old.appliance }
-        ensures log { (log : List Happening) (ask : Ask) (bytes : List ℕ)
-            → StandsFor self.old.appliance log → IsStanding self.old.appliance log ask bytes
-            → Fits ask answer.now → StandsFor self.new.appliance
-            (Asked ask bytes answer.now ∷ log) }
-        ensures reply { (log : List Happening) (ask : Ask) (bytes : List ℕ)
-            → StandsFor self.old.appliance log → IsStanding self.old.appliance log ask bytes
-            → Fits ask answer.now → result
-            ≡ replies (appliance_setting self.old.appliance) answer.now
-            (position (appliance_setting self.old.appliance) log) }
+        ensures taken { TakesAnswer self.old.appliance self.new.appliance answer.now result }
         ensures pending { self.new.pending ≡ None }
         ensures kept { KeepsSeat self.old self.new }
     {
@@ -93,18 +85,26 @@ impl Seat {
         self.appliance.answer(answer)
     }
 
-    /// The appliance of the next boot is there, and waits for no write.
-    pub(crate) fn restart(&mut self, fresh: Appliance)
-        requires log { HasLog fresh }
+    /// The appliance of the next boot is there, and waits for no write. Without memory nothing changes.
+    pub(crate) fn restart(
+        &mut self,
+        alloc: Global,
+        geometry: Geometry,
+        appliance: ApplianceNo,
+    ) -> Result<(), NoMemory>
         requires few { self.old.boots + 1 < 2 ^ 32 }
-        ensures appliance { self.new.appliance ≡ fresh }
-        ensures boots { self.new.boots ≡ self.old.boots + 1 }
-        ensures pending { self.new.pending ≡ None }
-        ensures issued { self.new.issued.items ≡ self.old.issued.items }
+        ensures fresh { OnOk result (IsFresh geometry appliance.0 (self.old.boots + 1)
+            self.new.appliance) }
+        ensures boots { OnOk result (self.new.boots ≡ self.old.boots + 1) }
+        ensures pending { OnOk result (self.new.pending ≡ None) }
+        ensures issued { OnOk result (self.new.issued.items ≡ self.old.issued.items) }
+        ensures err { OnErr result (self.new ≡ self.old) }
     {
-        let _lost = mem::replace(&mut self.appliance, fresh);
+        let fresh = first_of_boot(alloc, geometry, appliance, self.boots + 1)?;
+        drop(mem::replace(&mut self.appliance, fresh));
         self.boots += 1;
         self.pending = None;
+        Ok(())
     }
 
     /// There is room for the number of one more write. Nothing else changes.
@@ -135,23 +135,27 @@ impl Seat {
     }
 
     /// A command begins. Without memory nothing changes.
-    pub(crate) fn begin(&mut self, alloc: Global, command: Command) -> Result<(), NoMemory>
+    pub(crate) fn begin(&mut self, alloc: Global, command: &Command) -> Result<(), NoMemory>
         requires idle { IsIdle self.old.appliance }
-        requires built { IsBuilt command }
-        requires formed { IsWellFormed command }
+        requires built { IsBuilt command.now }
+        requires formed { IsWellFormed command.now }
         ensures ok { OnOk result ((log : List Happening) → StandsFor self.old.appliance log
-            → StandsFor self.new.appliance (Began command ∷ log)) }
+            → StandsFor self.new.appliance (Began command.now ∷ log)) }
         ensures pending { OnOk result (self.new.pending ≡ None) }
         ensures err { OnErr result ((log : List Happening) → StandsFor self.old.appliance log
             → StandsFor self.new.appliance log) }
         ensures waits { OnErr result (self.new.pending ≡ self.old.pending) }
         ensures kept { KeepsSeat self.old self.new }
     {
-        self.appliance.begin(alloc, command)?;
+        let given = command.copy(alloc)?;
+        self.appliance.begin(alloc, given)?;
         self.pending = None;
         Ok(())
     }
 }
+
+/// A value is dropped.
+fn drop<T: Drop>(_value: T) {}
 
 /// The appliance of a boot that was asked nothing yet, where so many boots came before.
 pub(crate) fn first_of_boot(

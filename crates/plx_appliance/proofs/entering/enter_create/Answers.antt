@@ -1,24 +1,55 @@
-use Rattle.std.proofs.Common.{◌≡◌, ◌<◌, ◌∙◌, refl, arith}
+use Rattle.std.proofs.Common.{ℕ, ◌<◌, refl, subst}
 use Rattle.plx_rules.specs.Commands.{create_part}
 use Rattle.plx_appliance.specs.Giving.{rules_setting}
 use Rattle.plx_appliance.specs.Kept.{known_of, session_of}
-use Rattle.plx_appliance.specs.Space.{extents_in}
-use Rattle.plx_appliance.specs.Tokens.{image_leases}
-use Rattle.plx_appliance.proofs.Entered.{attached-some}
+use Rattle.plx_appliance.specs.RenewStarts.{holds_in}
+use Rattle.plx_appliance.proofs.Entered.{attached-none, by-lease, entered}
 use Rattle.plx_appliance.proofs.entering.enter_create.Goals as goal
+
+pub leased-requires : goal.leased-requires
+leased-requires c =
+    let same = c.args.holdings.now.images in
+    subst (λ (count : ℕ). c.args.slot.0 < count) same c.in-Some.ensures.1
+
+pub returns-in-Ok-create-clause-part : goal.returns-in-Ok-create-clause-part
+returns-in-Ok-create-clause-part c =
+    let h = c.args.holdings.now in
+    let k = known_of h in
+    let session = session_of c.in-Some.session.now in
+    let some = c.in-Some.ensures.0 in
+    let slot = c.in-Ok.ensures.slot c.in-Ok.image refl in
+    let setting = c.in-Ok.ensures.setting c.in-Ok.image refl in
+    entered h c.args.reading c.args.slot session c.in-Ok.image
+    (λ s image. create_part s k image c.args.size c.args.label)
+    (c.in-Ok-create.ensures.part k (rw slot some)) slot setting
+    (c.in-Ok.ensures.part k) some c.in-Some.ensures.1
 
 pub returns-in-Err-create-clause-part : goal.returns-in-Err-create-clause-part
 returns-in-Err-create-clause-part c =
     let h = c.args.holdings.now in
-    let s = rules_setting h.setting in
     let k = known_of h in
-    let image = c.in-Ok.image in
     let session = session_of c.in-Some.session.now in
-    let slot = c.in-Ok.ensures.slot image refl in
-    let setting = c.in-Ok.ensures.setting image refl in
-    let within : c.args.slot.0 < h.setting.geometry.images = omega (arith, c.in-Some.ensures.1, h.images) in
-    let same : create_part (rules_setting image.setting) k image.slot.0 c.args.size c.args.label session image.until ≡ create_part s k c.args.slot.0 c.args.size c.args.label session image.until = rw (slot, setting) refl in
-    c.in-Err-create.ensures.part k (rw slot c.in-Some.ensures.0)
-    ∙ same
-    ∙ c.in-Ok.ensures.part k (create_part s k c.args.slot.0 c.args.size c.args.label session)
-    ∙ attached-some s k (image_leases h.leases.leases.items) (extents_in h) c.args.reading c.args.slot.0 session (create_part s k c.args.slot.0 c.args.size c.args.label) c.in-Some.ensures.0 within
+    let some = c.in-Some.ensures.0 in
+    let slot = c.in-Ok.ensures.slot c.in-Ok.image refl in
+    let setting = c.in-Ok.ensures.setting c.in-Ok.image refl in
+    entered h c.args.reading c.args.slot session c.in-Ok.image
+    (λ s image. create_part s k image c.args.size c.args.label)
+    (c.in-Err-create.ensures.part k (rw slot some)) slot setting
+    (c.in-Ok.ensures.part k) some c.in-Some.ensures.1
+
+pub returns-in-Err-clause-part : goal.returns-in-Err-clause-part
+returns-in-Err-clause-part c =
+    let h = c.args.holdings.now in
+    let k = known_of h in
+    let session = session_of c.in-Some.session.now in
+    let rest = create_part (rules_setting h.setting) k c.args.slot.0 c.args.size c.args.label in
+    by-lease h c.args.reading c.args.slot session rest
+    (c.in-Err.ensures.part k (rest session)) c.in-Some.ensures.0 c.in-Some.ensures.1
+
+pub returns-in_default-clause-part : goal.returns-in_default-clause-part
+returns-in_default-clause-part c =
+    let h = c.args.holdings.now in
+    let s = rules_setting h.setting in
+    let rest = create_part s (known_of h) c.args.slot.0 c.args.size c.args.label in
+    attached-none s (known_of h) (holds_in h) c.args.reading c.args.slot.0 rest
+    c.in_default.ensures

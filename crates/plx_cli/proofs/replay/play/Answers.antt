@@ -1,6 +1,4 @@
-use Rattle.std.proofs.Common.{List, ℕ, Result, Ok, Err, IfOk, subst}
-use Rattle.plx_commands.specs.declared.event.Event.{Event}
-use Rattle.plx_world.specs.Playing.{PlaysAll}
+use Rattle.std.proofs.Common.{List, ℕ, Result, Ok, Err, IfOk}
 use Rattle.plx_rules.specs.World as rules
 use Rattle.plx_world.proofs.Made.{lawful}
 use Rattle.plx_cli.proofs.Told.{world-told}
@@ -14,9 +12,7 @@ at-ok P Q R (Err e) step h k = tt
 pub returns : goal.returns
 returns c =
     let made = c.in_ok-world.ensures in
-    let P : List Event → Type 0 = λ events. PlaysAll c.in_ok-world.world c.play.new.self events in
-    let plays = subst P c.as_slice.ensures.value c.in_ok-play.ensures.ok in
     at-ok _ _ _ c.print_trace.result
     (λ text is tells. world-told (λ (w : rules.World) reached. lawful c.laws.ensures reached) _ made.0 _ text _ _ _ c.in_ok-world.world c.play.new.self
-    c.requires.geometry c.requires.low c.requires.high made.1 made.2 plays c.trace.ensures c.in_ok-reachable.ensures c.allocated-allocated.ensures is tells)
+    c.requires.geometry c.requires.low c.requires.high made.1 made.2 c.in_ok-play.ensures.ok c.trace.ensures c.in_ok-reachable.ensures c.allocated-allocated.ensures is tells)
     c.print_trace.ensures.text c.print_trace.ensures.tells

@@ -1,4 +1,4 @@
-use Rattle.std.proofs.Common.{rules, ap, sym, ◌+◌, ◌∙◌}
+use Rattle.std.proofs.Common.{ap, sym, ◌+◌, ◌∙◌}
 use Rattle.plx_base.specs.declared.numbers.ExtentNo.{ExtentNo}
 use Rattle.plx_alloc.specs.Ending.{space_end}
 use Rattle.plx_alloc.specs.Gives.{around_known, give_from, giving_rest}
@@ -44,7 +44,12 @@ pub returns-in-None-clause-rules : goal.returns-in-None-clause-rules
 returns-in-None-clause-rules c = λ o end over. give-back-end _ end over
 
 pub returns-in-Some-Refused-clause-rest : goal.returns-in-Some-Refused-clause-rest
-returns-in-Some-Refused-clause-rest c = search rules
+returns-in-Some-Refused-clause-rest c = λ o.
+    let a = c.args.space.now in
+    let m = c.args.self.now.giving in
+    let next = give_from o a (m.extent.0 + 1) in
+    ap (λ end. space_end next (around_known o c.answer.new.space) end) (sym c.in-Some-Refused.field-0-is)
+    ∙ c.in-Some-Refused.ensures.rest (record o { rest = next })
 
 pub returns-in-Some-Refused-clause-log : goal.returns-in-Some-Refused-clause-log
 returns-in-Some-Refused-clause-log c = λ o. moves-on _ _ _ (returns-in-Some-Refused-clause-rest c o)

@@ -1,4 +1,4 @@
-use Rattle.std.proofs.Common.{subst, ap, sym, ◌∙◌, ◌<◌}
+use Rattle.std.proofs.Common.{subst, ap, refl, sym, ◌∙◌, ◌<◌}
 use Rattle.plx_geom.specs.Geometry.{extent_lease, map_at}
 use Rattle.plx_rules.specs.Ends.{lost}
 use Rattle.plx_rules.specs.Space.{in_extent}
@@ -43,3 +43,18 @@ returns-in-Write-Missed-clause-rest c = λ o.
     let known = around_known o a in
     rw (c.in-Write-Missed.is-0, c.in-Write-Missed.is-1)
     (c.lost.ensures s o.rest known (sym c.geometry.ensures) ∙ ap (λ due. lost s known due c.in-Write-Missed.reading) c.own_use.ensures)
+
+pub returns-in-Map-Bytes-clause-rest : goal.returns-in-Map-Bytes-clause-rest
+returns-in-Map-Bytes-clause-rest c = λ o. rw (c.in-Map-Bytes.is-0, c.in-Map-Bytes.is-1) (c.found.ensures.rest o)
+
+pub returns-in-Map-Fault-clause-rest : goal.returns-in-Map-Fault-clause-rest
+returns-in-Map-Fault-clause-rest c = λ o. rw (c.in-Map-Fault.is-0, c.in-Map-Fault.is-1) refl
+
+pub returns-in-Write-Done-clause-rest : goal.returns-in-Write-Done-clause-rest
+returns-in-Write-Done-clause-rest c = λ o. rw (c.in-Write-Done.is-0, c.in-Write-Done.is-1) refl
+
+pub returns-in-Write-Fault-clause-rest : goal.returns-in-Write-Fault-clause-rest
+returns-in-Write-Fault-clause-rest c = λ o. rw (c.in-Write-Fault.is-0, c.in-Write-Fault.is-1) refl
+
+pub returns-in-Damaged-Reading-clause-rest : goal.returns-in-Damaged-Reading-clause-rest
+returns-in-Damaged-Reading-clause-rest c = λ o. rw (c.in-Damaged-Reading.is-0, c.in-Damaged-Reading.is-1) (c.damaged.ensures o)

@@ -72,26 +72,49 @@ returns-in-Some-clause-leases c =
       goes_on = λ none'. (k.reads none', k.goes_on none');
     })
 
+pub returns-in-Map-Bytes-clause-rest : goal.returns-in-Map-Bytes-clause-rest
+returns-in-Map-Bytes-clause-rest c = λ o. rw (c.in-Map-Bytes.is-0, c.in-Map-Bytes.is-1) (c.found.ensures.rest o)
+
 pub returns-in-Map-Bytes-clause-rules : goal.returns-in-Map-Bytes-clause-rules
-returns-in-Map-Bytes-clause-rules c = λ o. moves-on-rightly _ _ _ (search rules)
+returns-in-Map-Bytes-clause-rules c = λ o. moves-on-rightly _ _ _ (returns-in-Map-Bytes-clause-rest c o)
+
+pub returns-in-Look-Bytes-clause-rest : goal.returns-in-Look-Bytes-clause-rest
+returns-in-Look-Bytes-clause-rest c = λ o. rw (c.in-Look-Bytes.is-0, c.in-Look-Bytes.is-1) (c.after_look.ensures.rest o)
 
 pub returns-in-Look-Bytes-clause-rules : goal.returns-in-Look-Bytes-clause-rules
-returns-in-Look-Bytes-clause-rules c = λ o. moves-on-rightly _ _ _ (search rules)
+returns-in-Look-Bytes-clause-rules c = λ o. moves-on-rightly _ _ _ (returns-in-Look-Bytes-clause-rest c o)
+
+pub returns-in-Write-Done-clause-rest : goal.returns-in-Write-Done-clause-rest
+returns-in-Write-Done-clause-rest c = λ o. rw (c.in-Write-Done.is-0, c.in-Write-Done.is-1) (c.after_write.ensures.rest o)
 
 pub returns-in-Write-Done-clause-rules : goal.returns-in-Write-Done-clause-rules
-returns-in-Write-Done-clause-rules c = λ o. moves-on-rightly _ _ _ (search rules)
+returns-in-Write-Done-clause-rules c = λ o. moves-on-rightly _ _ _ (returns-in-Write-Done-clause-rest c o)
+
+pub returns-in-Write-Fault-clause-rest : goal.returns-in-Write-Fault-clause-rest
+returns-in-Write-Fault-clause-rest c = λ o. rw (c.in-Write-Fault.is-0, c.in-Write-Fault.is-1) refl
 
 pub returns-in-Write-Fault-clause-rules : goal.returns-in-Write-Fault-clause-rules
-returns-in-Write-Fault-clause-rules c = λ o. moves-on-rightly _ _ _ (search rules)
+returns-in-Write-Fault-clause-rules c = λ o. moves-on-rightly _ _ _ (returns-in-Write-Fault-clause-rest c o)
+
+pub returns-in-Some-clause-rest : goal.returns-in-Some-clause-rest
+returns-in-Some-clause-rest c = λ o.
+    rw c.in-Claim-default.is-0
+    (c.claim_over.ensures.rest o ∙ nested _ _ _ _ (claim-asks c.args.self.now.claim) c.in-Some.ensures.rest)
 
 pub returns-in-Some-clause-rules : goal.returns-in-Some-clause-rules
-returns-in-Some-clause-rules c = λ o. moves-on-rightly _ _ _ (search rules)
+returns-in-Some-clause-rules c = λ o. moves-on-rightly _ _ _ (returns-in-Some-clause-rest c o)
+
+pub returns-in-Damaged-Reading-clause-rest : goal.returns-in-Damaged-Reading-clause-rest
+returns-in-Damaged-Reading-clause-rest c = λ o. rw (c.in-Damaged-Reading.is-0, c.in-Damaged-Reading.is-1) (c.damaged.ensures o)
 
 pub returns-in-Damaged-Reading-clause-rules : goal.returns-in-Damaged-Reading-clause-rules
-returns-in-Damaged-Reading-clause-rules c = λ o. moves-on-rightly _ _ _ (search rules)
+returns-in-Damaged-Reading-clause-rules c = λ o. moves-on-rightly _ _ _ (returns-in-Damaged-Reading-clause-rest c o)
+
+pub returns-in-Map-Fault-clause-rest : goal.returns-in-Map-Fault-clause-rest
+returns-in-Map-Fault-clause-rest c = search rules
 
 pub returns-in-Map-Fault-clause-rules : goal.returns-in-Map-Fault-clause-rules
-returns-in-Map-Fault-clause-rules c = λ o. moves-on-rightly _ _ _ (search rules)
+returns-in-Map-Fault-clause-rules c = λ o. moves-on-rightly _ _ _ (returns-in-Map-Fault-clause-rest c o)
 
 pub returns-in-Write-Missed-clause-rules : goal.returns-in-Write-Missed-clause-rules
 returns-in-Write-Missed-clause-rules c = λ o. moves-on-rightly _ _ _ (returns-in-Write-Missed-clause-rest c o)

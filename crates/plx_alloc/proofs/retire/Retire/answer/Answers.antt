@@ -1,8 +1,10 @@
-use Rattle.std.proofs.Common.{rules, ap, sym, ◌∙◌}
+use Rattle.std.proofs.Common.{ap, sym, ◌∙◌}
+use Rattle.plx_commands.specs.declared.reply.Reply.TheVariants as reply
 use Rattle.law_run.proofs.Machines.{moves-on}
 use Rattle.law_run.proofs.RetireRules.{retire-end}
-use Rattle.plx_rules.specs.Ends.{lost}
+use Rattle.plx_rules.specs.Ends.{ends, lost}
 use Rattle.plx_rules.specs.Part.{answered}
+use Rattle.plx_rules.specs.Session.{nothing_known}
 use Rattle.plx_alloc.specs.Ending.{space_end}
 use Rattle.plx_alloc.specs.Gives.{around_known, giving_rest}
 use Rattle.plx_alloc.specs.Retires.{release_next, retire_at}
@@ -61,7 +63,12 @@ pub returns-in-Release-Missed-clause-rules : goal.returns-in-Release-Missed-clau
 returns-in-Release-Missed-clause-rules c = λ o end over. retire-end _ end over
 
 pub returns-in-Some-Refused-clause-rest : goal.returns-in-Some-Refused-clause-rest
-returns-in-Some-Refused-clause-rest c = search rules
+returns-in-Some-Refused-clause-rest c = λ o.
+    let a = c.args.space.now in
+    let m = c.args.self.now.giving in
+    rw c.in-Give-default.is-0
+    (ap (λ end. space_end (release_next o a m) (around_known o c.answer.new.space) end) (sym c.in-Some-Refused.field-0-is)
+    ∙ c.in-Some-Refused.ensures.rest (record o { rest = release_next o a m }))
 
 pub returns-in-Some-Refused-clause-log : goal.returns-in-Some-Refused-clause-log
 returns-in-Some-Refused-clause-log c = λ o. moves-on _ _ _ (returns-in-Some-Refused-clause-rest c o)
@@ -70,7 +77,7 @@ pub returns-in-Some-Refused-clause-rules : goal.returns-in-Some-Refused-clause-r
 returns-in-Some-Refused-clause-rules c = λ o end over. retire-end _ end over
 
 pub returns-in-Release-Done-clause-rest : goal.returns-in-Release-Done-clause-rest
-returns-in-Release-Done-clause-rest c = search rules
+returns-in-Release-Done-clause-rest c = λ o. rw (c.in-Release-Done.is-0, c.in-Release-Done.is-1) (c.released.ensures.rest o)
 
 pub returns-in-Release-Done-clause-log : goal.returns-in-Release-Done-clause-log
 returns-in-Release-Done-clause-log c = λ o. moves-on _ _ _ (returns-in-Release-Done-clause-rest c o)
@@ -79,7 +86,10 @@ pub returns-in-Release-Done-clause-rules : goal.returns-in-Release-Done-clause-r
 returns-in-Release-Done-clause-rules c = λ o end over. retire-end _ end over
 
 pub returns-in-Release-Fault-clause-rest : goal.returns-in-Release-Fault-clause-rest
-returns-in-Release-Fault-clause-rest c = search rules
+returns-in-Release-Fault-clause-rest c = λ o.
+    let known = nothing_known c.args.space.now.claims in
+    rw (c.in-Release-Fault.is-0, c.in-Release-Fault.is-1)
+    (ap (λ block. ends (reply.WriteFault (record { 0 = block })) known) c.lease_block.ensures)
 
 pub returns-in-Release-Fault-clause-log : goal.returns-in-Release-Fault-clause-log
 returns-in-Release-Fault-clause-log c = λ o. moves-on _ _ _ (returns-in-Release-Fault-clause-rest c o)

@@ -21,7 +21,14 @@ returns-in-Ok-clause-log c = λ log begun is stands.
     let first = stood-in a c.in-Begun.begun log c.args.reading h e c.in-Ok.work (sym c.in-Begun.ensures.value) stands (hand-of a.holdings).within
     (record { setting = d.setting; known = d.known; leases = d.leases; extents = d.extents; hand = d.hand }) x.part x.leases x.tied x.inside in
     let stood = first-stands a h e c.in-Ok.work log c.args.reading (x.setting ∙ d.setting) x.extents x.hand first in
-    record { at = stood.at; held = stood.held; hand = stood.hand }
+    let asked = Asked ask.Clock [] (answer.Reading c.args.reading) in
+    let p = position (rules_setting e.setting) (asked ∷ log) in
+    record {
+      at = subst (λ (st : Stage). StandsAt (rules_setting e.setting) (lent_of e) st p)
+          (sym c.set.ensures) stood.at;
+      held = stood.held;
+      hand = stood.hand;
+    }
 
 pub returns-in-Ok-clause-reply : goal.returns-in-Ok-clause-reply
 returns-in-Ok-clause-reply c = λ log begun is stands.

@@ -1,7 +1,7 @@
 use Rattle.std.proofs.Common.{◌≡◌, ◌∷◌, Some, None, refl, sym, ap, ◌∙◌, subst}
 use Rattle.plx_disk.specs.declared.ask.Ask.{Ask}
 use Rattle.plx_rules.specs.Boot.{Asked, position}
-use Rattle.plx_appliance.specs.Appliance.{IsInWork, appliance_setting}
+use Rattle.plx_appliance.specs.Appliance.{IsInWork, StandsAt, appliance_setting}
 use Rattle.plx_appliance.specs.Ending.{hand_after_reply, known_after, leases_after}
 use Rattle.plx_appliance.specs.Giving.{rules_setting}
 use Rattle.plx_appliance.specs.Holding.{DropsNothing, image_leases_after_write, dropped_hand}
@@ -64,8 +64,10 @@ returns-in-Some-clause-log c = λ log ask bytes work is stands standing fits.
       extents = e.extents ∙ ap (leases_after r) (d.extents ∙ ap (λ (q : Ask). image_leases_after_write q found (extents_in h)) by.0);
       hand = e.hand ∙ ap (hand_after_reply r) (d.hand ∙ ap (λ (q : Ask). dropped_hand q found (hand_in h)) by.0);
     }) went in
+    let p = position (rules_setting k.setting) (Asked ask bytes found ∷ log) in
     record {
-      at = stood.at;
+      at = subst (λ (st : Stage). StandsAt (rules_setting k.setting) (lent_of k) st p)
+          (sym c.set.ensures) stood.at;
       held = stood.held;
       hand = stood.hand;
     }

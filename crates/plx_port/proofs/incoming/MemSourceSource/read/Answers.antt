@@ -1,6 +1,6 @@
 use Rattle.std.proofs.Common.{◌≡◌, ◌<◌, ◌≤◌, ◌++◌, ◌+◌, ◌-◌, ℕ, List, [], length, take, drop, min, ap, sym, ◌∙◌, arith, take-append-drop, length-append, length-drop, length-take, length-take-le, drop_of_length-le}
 use Rattle.std.proofs.Math.Seq.{take-append_seam}
-use Rattle.std.proofs.lemmas.List.{drop-drop, take_rest}
+use Rattle.std.proofs.lemmas.List.{drop-drop, drop_at, take_rest}
 use Rattle.plx_port.proofs.incoming.MemSourceSource.read.Goals as goal
 
 -- what is left is the bytes given, and what is behind them
@@ -33,3 +33,34 @@ returns-clause-given c =
       given at n bytes c.copy_from_slice.new.self _ (omega (arith, least, count)) front,
       at_end at n _ _ c.args.into.now c.copy_from_slice.new.self bytes count least c.self.invariant.1 c.copy_from_slice.ensures.len,
     )
+
+pub returns-clause-length : goal.returns-clause-length
+returns-clause-length c =
+    let at = c.self.inside.at in
+    let bytes = c.self.inside.bytes.items in
+    let left = λ (l : List ℕ). take (length l - at) (drop at l) in
+    let part : left c.deref-2.result.now ≡ drop at bytes = ap left c.deref-2.ensures.value ∙ take_rest bytes at in
+    let least = c.min.ensures ∙ ap (λ l. min c.self.inside.piece (length l)) part in
+    rw (← c.self.view_is) (c.min-count.ensures ∙ ap (min (length c.args.into.now)) least)
+
+pub returns-clause-bytes : goal.returns-clause-bytes
+returns-clause-bytes c =
+    let at = c.self.inside.at in
+    let n = c.min-count.result in
+    let bytes = c.self.inside.bytes.items in
+    let left = λ (l : List ℕ). take (length l - at) (drop at l) in
+    let part : left c.deref-2.result.now ≡ drop at bytes = ap left c.deref-2.ensures.value ∙ take_rest bytes at in
+    let front : c.copy_from_slice.new.self ≡ take n (drop at bytes) = c.copy_from_slice.ensures.after ∙ ap (take n) part in
+    rw (← c.self.view_is) (ap (λ l. l ++ drop n c.args.into.now) front)
+
+pub returns-clause-rest : goal.returns-clause-rest
+returns-clause-rest c =
+    let at = c.self.inside.at in
+    let n = c.min-count.result in
+    let bytes = c.self.inside.bytes.items in
+    let left = λ (l : List ℕ). take (length l - at) (drop at l) in
+    let part : left c.deref-2.result.now ≡ drop at bytes = ap left c.deref-2.ensures.value ∙ take_rest bytes at in
+    let front : c.copy_from_slice.new.self ≡ take n (drop at bytes) = c.copy_from_slice.ensures.after ∙ ap (take n) part in
+    let least = c.min.ensures ∙ ap (λ l. min c.self.inside.piece (length l)) part in
+    let short : n ≤ length (drop at bytes) = omega (arith, least, c.min-count.ensures) in
+    drop_at c.copy_from_slice.new.self (drop n c.args.into.now) n (ap length front ∙ length-take-le n (drop at bytes) short)

@@ -7,3 +7,6 @@ invariant_of-self c = record {
       (λ log ask bytes stands standing no. (c.answer.ensures.unfit log ask bytes stands standing no).0);
   newest = λ number e. cc;
 }
+
+pub returns-clause-taken : goal.returns-clause-taken
+returns-clause-taken c = record { log = c.answer.ensures.log; reply = c.answer.ensures.reply }

@@ -1,4 +1,5 @@
+use Rattle.std.proofs.Common.{[]}
 use Rattle.plx_world.proofs.seat.Seat.restart.Goals as goal
 
 pub invariant_of-self : goal.invariant_of-self
-invariant_of-self c = record { logged = rw c.replace-lost.ensures.after c.requires.log; newest = λ number e. cc }
+invariant_of-self c = let first = c.in_ok-fresh.ensures in record { logged = rw c.replace.ensures.after (∣ ([], first.log) ∣₁); newest = λ number e. cc }

@@ -2,7 +2,7 @@ use Rattle.std.proofs.Common.{◌≡◌, ◌∙◌, ◌++◌, List, Some, ap, re
 use Rattle.std.specs.Prelude.{slice_get}
 use Rattle.plx_commands.specs.declared.entry.Entry.{Entry}
 use Rattle.plx_world.specs.Answering.{told_entries}
-use Rattle.plx_world.proofs.Answered.{answers}
+use Rattle.plx_world.proofs.Answered.{answers, entries-stay, on-err}
 use Rattle.plx_world.proofs.Seating.{get-same, set-count}
 use Rattle.plx_world.proofs.world.World.answer.Goals as goal
 
@@ -22,4 +22,7 @@ returns-clause-ok c =
       kept = c.answer-reply.ensures.kept;
     })
     (c.tell.ensures ∙ ap (λ (xs : List Entry). xs ++ told_entries a c.answer-reply.result) c.in_ok-reserve.ensures.items)
-    c.answer-reply.ensures.log c.answer-reply.ensures.reply
+    c.answer-reply.ensures.taken
+
+pub returns-in_err-reserve-clause-err : goal.returns-in_err-reserve-clause-err
+returns-in_err-reserve-clause-err c = on-err _ _ (entries-stay c.args.self.now _ refl refl refl c.in_err-reserve.ensures.items)

@@ -1,11 +1,11 @@
-use Rattle.std.proofs.Common.{◌≡◌, Some, arith, false, refl, ◌∙◌, subst, sym, true}
+use Rattle.std.proofs.Common.{◌≡◌, Some, ap, arith, false, refl, ◌∙◌, subst, sym, true}
 use Rattle.std.specs.Prelude.{is_some, slice_get}
 use Rattle.std.proofs.lemmas.Option.{slice_get_read}
 use Rattle.plx_alloc.specs.Asking.{IsOnDevice}
 use Rattle.plx_disk.specs.declared.ask.Ask.{Ask}
 use Rattle.plx_world.proofs.Issuing.{asks-it, issues-absent, issues-before, issues-none, pends-it}
 use Rattle.plx_world.proofs.Seating.{within-there}
-use Rattle.plx_world.proofs.Stepping.{none-pending, some-pending}
+use Rattle.plx_world.proofs.Stepping.{asks_write, none-pending, some-pending}
 use Rattle.plx_world.proofs.world.World.issue.Goals as goal
 
 pub returns-then-index-len-clause-ok : goal.returns-then-index-len-clause-ok
@@ -35,7 +35,7 @@ issue_write-requires c =
       there = at;
       running = c.in-Some-Write.ensures.running;
       unissued = none-pending seat.pending none;
-      asked = λ log stands. cc (c.in-Some-Write.ensures.ask log stands);
+      asked = λ log stands. ap (λ (x : Ask). Some x) (sym c.in-Some-Write.field-0-is) ∙ c.in-Some-Write.ensures.ask log stands;
       within = subst D c.in-Some-Write.field-0-is (within-there old.geometry v.items n seat (Some c.in-Some-Write.field-0) at old.tied c.in-Some-Write.ensures.within);
     }
 
@@ -45,7 +45,7 @@ returns-in-Some-Read-clause-ok c =
     let v = old.seats in
     let seat = c.index-seat.result.now in
     let at : slice_get v.items c.args.appliance.0 ≡ Some seat = slice_get_read v.items c.len.result c.args.appliance.0 seat (omega (arith, v.ok.0)) (omega arith) c.index-seat.ensures in
-    issues-none old c.args.appliance _ (asks-it old c.args.appliance seat c.asked.result at c.asked.ensures.ask) (λ kind block guard e. let is = c.in-Some-Read.is in cc)
+    issues-none old c.args.appliance _ (asks-it old c.args.appliance seat c.asked.result at c.asked.ensures.ask) (ap asks_write (c.in-Some-Read.is ∙ ap (λ (x : Ask). Some x) c.in-Some-Read.field-0-is))
 
 pub returns-in-Some-Clock-clause-ok : goal.returns-in-Some-Clock-clause-ok
 returns-in-Some-Clock-clause-ok c =
@@ -53,7 +53,7 @@ returns-in-Some-Clock-clause-ok c =
     let v = old.seats in
     let seat = c.index-seat.result.now in
     let at : slice_get v.items c.args.appliance.0 ≡ Some seat = slice_get_read v.items c.len.result c.args.appliance.0 seat (omega (arith, v.ok.0)) (omega arith) c.index-seat.ensures in
-    issues-none old c.args.appliance _ (asks-it old c.args.appliance seat c.asked.result at c.asked.ensures.ask) (λ kind block guard e. let is = c.in-Some-Clock.is in cc)
+    issues-none old c.args.appliance _ (asks-it old c.args.appliance seat c.asked.result at c.asked.ensures.ask) (ap asks_write (c.in-Some-Clock.is ∙ ap (λ (x : Ask). Some x) c.in-Some-Clock.field-0-is))
 
 pub returns-in-Some-Until-clause-ok : goal.returns-in-Some-Until-clause-ok
 returns-in-Some-Until-clause-ok c =
@@ -61,7 +61,7 @@ returns-in-Some-Until-clause-ok c =
     let v = old.seats in
     let seat = c.index-seat.result.now in
     let at : slice_get v.items c.args.appliance.0 ≡ Some seat = slice_get_read v.items c.len.result c.args.appliance.0 seat (omega (arith, v.ok.0)) (omega arith) c.index-seat.ensures in
-    issues-none old c.args.appliance _ (asks-it old c.args.appliance seat c.asked.result at c.asked.ensures.ask) (λ kind block guard e. let is = c.in-Some-Until.is in cc)
+    issues-none old c.args.appliance _ (asks-it old c.args.appliance seat c.asked.result at c.asked.ensures.ask) (ap asks_write (c.in-Some-Until.is ∙ ap (λ (x : Ask). Some x) c.in-Some-Until.field-0-is))
 
 pub returns-in-None-clause-ok : goal.returns-in-None-clause-ok
 returns-in-None-clause-ok c =
@@ -69,4 +69,4 @@ returns-in-None-clause-ok c =
     let v = old.seats in
     let seat = c.index-seat.result.now in
     let at : slice_get v.items c.args.appliance.0 ≡ Some seat = slice_get_read v.items c.len.result c.args.appliance.0 seat (omega (arith, v.ok.0)) (omega arith) c.index-seat.ensures in
-    issues-none old c.args.appliance _ (asks-it old c.args.appliance seat c.asked.result at c.asked.ensures.ask) (λ kind block guard e. let is = c.in-None.is in cc)
+    issues-none old c.args.appliance _ (asks-it old c.args.appliance seat c.asked.result at c.asked.ensures.ask) (ap asks_write c.in-None.is)

@@ -88,6 +88,19 @@ returns-in_err-make_room-clause-err c =
     (record { setting = ap (λ (a : Appliance). a.holdings.setting) left.appliance; boots = left.boots; issued = left.issued })
     left.pending refl (subst A left.appliance (λ log stands. stands)))
 
+pub invariant_of-self : goal.invariant_of-self
+invariant_of-self c =
+    let old = c.args.self.now in
+    let v = old.seats in
+    let n = c.args.appliance.0 in
+    let at : slice_get v.items n ≡ Some c.index_mut.result.now = get-same v.items n c.requires.seat c.index_mut.result.now c.requires.there c.index_mut.ensures.value in
+    record {
+      many = many-set v.items n c.make_room.new.self old.many;
+      sized = old.sized;
+      uncancelled = old.uncancelled;
+      tied = tied-kept old.geometry v.items n c.index_mut.result.now c.make_room.new.self at old.tied (ap (λ (a : Appliance). a.holdings.setting) c.make_room.ensures.appliance);
+    }
+
 pub invariant_of-self-in-Break-branch-2 : goal.invariant_of-self-in-Break-branch-2
 invariant_of-self-in-Break-branch-2 c =
     let old = c.args.self.now in

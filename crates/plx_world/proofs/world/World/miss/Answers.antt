@@ -1,7 +1,7 @@
-use Rattle.std.proofs.Common.{◌≡◌, Option, false, true, ℕ, arith, subst}
+use Rattle.std.proofs.Common.{◌≡◌, None, Option, false, true, ℕ, arith, refl, subst}
 use Rattle.std.specs.Prelude.{is_some}
 use Rattle.plx_rules.specs.World.{IsReadingAt}
-use Rattle.plx_world.proofs.Stepping.{IsWaitedFor, misses-clock, misses-early, misses-read, misses-until, misses-write, none-pending}
+use Rattle.plx_world.proofs.Stepping.{IsWaitedFor, known-ask, misses-early, misses-none, misses-write, none-pending}
 use Rattle.plx_world.proofs.world.World.miss.Goals as goal
 
 pub returns-in_ok-answer-in-Some-Write-clause-ok : goal.returns-in_ok-answer-in-Some-Write-clause-ok
@@ -17,18 +17,25 @@ returns-in_ok-answer-in-Some-Write-clause-ok c =
     (subst P (none-pending c.pending.result none) c.pending.ensures) (omega arith) (subst Q now (c.is_near.ensures.0 near)) (let e = c.time.ensures.early in omega arith)
     c.in_ok-answer-in-Some-Write.ensures.ok
 
-pub returns-in-Some-Read-clause-ok : goal.returns-in-Some-Read-clause-ok
-returns-in-Some-Read-clause-ok c =
-    misses-read c.args.self.now c.args.appliance c.args.reading c.in-Some-Read.field-0-0 (λ w h. cc (c.in-Some-Read.ensures.ask w h))
-
-pub returns-in-Some-Clock-clause-ok : goal.returns-in-Some-Clock-clause-ok
-returns-in-Some-Clock-clause-ok c = misses-clock c.args.self.now c.args.appliance c.args.reading (λ w h. cc (c.in-Some-Clock.ensures.ask w h))
-
-pub returns-in-Some-Until-clause-ok : goal.returns-in-Some-Until-clause-ok
-returns-in-Some-Until-clause-ok c =
-    misses-until c.args.self.now c.args.appliance c.args.reading c.in-Some-Until.field-0-0 (λ w h. cc (c.in-Some-Until.ensures.ask w h))
-
 pub returns-then-reading-guard-clause-ok : goal.returns-then-reading-guard-clause-ok
 returns-then-reading-guard-clause-ok c =
     let asked = c.in-Some-Write in
     misses-early c.args.self.now c.args.appliance c.args.reading asked.field-0-0 asked.field-0-1 asked.guard (λ w h. cc (asked.ensures.ask w h)) (omega arith)
+
+pub returns-in-Some-Read-clause-ok : goal.returns-in-Some-Read-clause-ok
+returns-in-Some-Read-clause-ok c =
+    let found = c.in-Some-Read in
+    misses-none c.args.self.now c.args.appliance c.args.reading _ (known-ask c.args.self.now c.args.appliance found.field-0 _ found.ensures.ask found.field-0-is) refl
+
+pub returns-in-Some-Clock-clause-ok : goal.returns-in-Some-Clock-clause-ok
+returns-in-Some-Clock-clause-ok c =
+    let found = c.in-Some-Clock in
+    misses-none c.args.self.now c.args.appliance c.args.reading _ (known-ask c.args.self.now c.args.appliance found.field-0 _ found.ensures.ask found.field-0-is) refl
+
+pub returns-in-Some-Until-clause-ok : goal.returns-in-Some-Until-clause-ok
+returns-in-Some-Until-clause-ok c =
+    let found = c.in-Some-Until in
+    misses-none c.args.self.now c.args.appliance c.args.reading _ (known-ask c.args.self.now c.args.appliance found.field-0 _ found.ensures.ask found.field-0-is) refl
+
+pub returns-in-None-clause-ok : goal.returns-in-None-clause-ok
+returns-in-None-clause-ok c = misses-none c.args.self.now c.args.appliance c.args.reading None c.in-None.ensures.ask refl

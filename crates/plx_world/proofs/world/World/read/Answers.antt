@@ -1,4 +1,5 @@
-use Rattle.plx_world.proofs.Stepping.{gives-block, reads-none}
+use Rattle.std.proofs.Common.{None, refl}
+use Rattle.plx_world.proofs.Stepping.{gives-block, known-ask, reads-none}
 use Rattle.plx_world.proofs.world.World.read.Goals as goal
 
 pub returns-in_ok-answer-in-Some-Read-clause-ok : goal.returns-in_ok-answer-in-Some-Read-clause-ok
@@ -7,10 +8,19 @@ returns-in_ok-answer-in-Some-Read-clause-ok c =
     c.in_ok-answer-in-Some-Read.ensures.ok
 
 pub returns-in-Some-Write-clause-ok : goal.returns-in-Some-Write-clause-ok
-returns-in-Some-Write-clause-ok c = reads-none c.args.self.now c.args.appliance c.asked.result c.asked.ensures.ask (λ block e. let is = c.in-Some-Write.is in cc)
+returns-in-Some-Write-clause-ok c =
+    let found = c.in-Some-Write in
+    reads-none c.args.self.now c.args.appliance _ (known-ask c.args.self.now c.args.appliance found.field-0 _ found.ensures.ask found.field-0-is) refl
 
 pub returns-in-Some-Clock-clause-ok : goal.returns-in-Some-Clock-clause-ok
-returns-in-Some-Clock-clause-ok c = reads-none c.args.self.now c.args.appliance c.asked.result c.asked.ensures.ask (λ block e. let is = c.in-Some-Clock.is in cc)
+returns-in-Some-Clock-clause-ok c =
+    let found = c.in-Some-Clock in
+    reads-none c.args.self.now c.args.appliance _ (known-ask c.args.self.now c.args.appliance found.field-0 _ found.ensures.ask found.field-0-is) refl
 
 pub returns-in-Some-Until-clause-ok : goal.returns-in-Some-Until-clause-ok
-returns-in-Some-Until-clause-ok c = reads-none c.args.self.now c.args.appliance c.asked.result c.asked.ensures.ask (λ block e. let is = c.in-Some-Until.is in cc)
+returns-in-Some-Until-clause-ok c =
+    let found = c.in-Some-Until in
+    reads-none c.args.self.now c.args.appliance _ (known-ask c.args.self.now c.args.appliance found.field-0 _ found.ensures.ask found.field-0-is) refl
+
+pub returns-in-None-clause-ok : goal.returns-in-None-clause-ok
+returns-in-None-clause-ok c = reads-none c.args.self.now c.args.appliance None c.in-None.ensures.ask refl
