@@ -33,7 +33,7 @@ fi
 
 room=$(mktemp -d) || exit 1
 trap 'rm -rf "$room"' EXIT
-tar -c --exclude=out crates crates.txt HANDLES | tar -x -C "$room" || exit 1
+tar -c --anchored --no-wildcards-match-slash --exclude='crates/*/out' crates crates.txt HANDLES | tar -x -C "$room" || exit 1
 names=("$@")
 [ "$#" -gt 0 ] || names=($(ls edits))
 for name in "${names[@]}"; do

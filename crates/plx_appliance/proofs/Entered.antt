@@ -1,9 +1,10 @@
 -- A command of an attached image at its first reading.
 use Rattle.std.proofs.Common.{◌≡◌, ℕ, ◌+◌, ◌-◌, ◌<◌, Some, None, refl, ap, ◌∙◌, subst, arith}
-use Rattle.std.specs.Prelude.{Bool, if◌then◌else◌}
+use Rattle.std.specs.Prelude.{Bool, nat_lt, if◌then◌else◌}
 use Rattle.plx_commands.specs.declared.reply.Reply.TheVariants as reply
 use Rattle.plx_geom.specs.Geometry.{Geometry, extent_lease, image_lease, root_lease, lease_at}
 use Rattle.plx_rules.specs.Part.{Part}
+use Rattle.plx_rules.specs.Attaching.{attach_held, attach_part}
 use Rattle.plx_rules.specs.Commands.{held_part, of_attached}
 use Rattle.plx_rules.specs.Ends.{End, ends}
 use Rattle.plx_rules.specs.Holds.{Hold, Nothing}
@@ -43,6 +44,17 @@ held-extent g leases extents extent =
   where
     back : (images extent : ℕ) → 1 + (1 + images + extent) - (2 + images) ≡ extent
     back images extent = omega arith
+
+-- an attach of an image without a session, by what is held of the image's lease
+pub attach-within : (h : Holdings) (image : ℕ) → image < h.setting.geometry.images →
+    attach_part (rules_setting h.setting) (known_of h) image None
+    (nat_lt image h.setting.geometry.images) (holds_in h (lease_at (image_lease image)))
+    ≡ attach_held (rules_setting h.setting) (known_of h) image
+    (image_leases h.leases.leases.items image)
+attach-within h image within =
+    let g = h.setting.geometry in
+    let held = held-image g (image_leases h.leases.leases.items) (extents_in h) image within in
+    rw (nat_lt-true image g.images within, held) refl
 
 -- an image without a session
 pub attached-none : (s : Setting) (known : Known) (holds : ℕ → Hold) (reading image : ℕ) (rest : Session → (until : ℕ) → Part End) →

@@ -1,9 +1,10 @@
 -- A command that has begun: what it asks after its first reading.
-use Rattle.std.specs.Prelude.{ℕ, List, nat_lt}
+use Rattle.std.specs.Prelude.{◌≡◌, ℕ, List, nat_lt}
+use Rattle.plx_commands.specs.declared.command.Command.{Command}
 use Rattle.plx_geom.specs.Geometry.{image_lease, lease_at}
 use Rattle.plx_rules.specs.Part.{Part}
 use Rattle.plx_rules.specs.Attaching.{attach_part}
-use Rattle.plx_rules.specs.Commands.{create_part, delete_part, detach_part, of_attached, read_part, write_part}
+use Rattle.plx_rules.specs.Commands.{command_part, create_part, delete_part, detach_part, of_attached, read_part, write_part}
 use Rattle.plx_rules.specs.Ends.{End}
 use Rattle.plx_rules.specs.Holds.{Hold}
 use Rattle.plx_rules.specs.Session.{Known}
@@ -35,3 +36,15 @@ begun_slots slots other = slots
 abbrev pub begun_leases : ℕ → Begun → ℕ
 begun_leases leases (begun.Renew renewals lease) = renewals.leases
 begun_leases leases other = leases
+
+-- after its first reading it asks what this command does
+abbrev pub WaitsAs : Command → Begun → Type 0
+WaitsAs command b =
+    (s : Setting) (known : Known) (holds : ℕ → Hold) (hand : List ℕ) (reading : ℕ) →
+    waiting_part s known holds hand reading b ≡ command_part s known holds hand reading command
+
+-- it is this command, begun with memory for so many journal slots and leases
+pub record BeginsAs (slots leases : ℕ) (command : Command) (b : Begun) : Type 0 where
+  pub part : WaitsAs command b
+  pub room : begun_slots slots b ≡ slots
+  pub renewals : begun_leases leases b ≡ leases

@@ -5,7 +5,7 @@ ghost use Rattle.std.specs.Vec.{vec_len};
 use crate::renewals::Renewals;
 use crate::session::Session;
 use crate::setting::Setting;
-use plx_base::{Block, Label, NoMemory, SlotNo};
+use plx_base::{Block, Label, NoMemory, Payload, SlotNo};
 use plx_commands::Command;
 use std::alloc::Global;
 
@@ -23,14 +23,14 @@ pub struct Room {
 impl Room {
     ghost use Rattle.std.specs.Prelude.{IfOk};
 
-    /// The memory of an attach of an image with so many journal slots, where this block is its claim's.
-    pub fn new(alloc: Global, slots: u32, lease: Block) -> Result<Room, NoMemory>
+    /// The memory of an attach of an image with so many journal slots.
+    pub fn new(alloc: Global, slots: u32) -> Result<Room, NoMemory>
         ensures { IfOk result (λ r. r.slots ≡ slots) }
     {
         Ok(Room {
             slots,
             session: Session::new(alloc, slots)?,
-            lease,
+            lease: Block::zeros(alloc)?,
             alloc,
         })
     }
@@ -98,7 +98,7 @@ impl Begun {
     ghost use Rattle.plx_rules.specs.Holds.{Hold};
     ghost use Rattle.plx_rules.specs.Session.{Known};
     ghost use Rattle.plx_rules.specs.Settings.{Setting as Given};
-    ghost use Rattle.plx_appliance.specs.Begins.{begun_leases, waiting_part, begun_slots};
+    ghost use Rattle.plx_appliance.specs.Begins.{BeginsAs, begun_leases, waiting_part, begun_slots};
 
     /// A command begins, with all the memory that it can need.
     pub fn begin(alloc: Global, setting: &Setting, command: Command) -> Result<Begun, NoMemory>
@@ -112,55 +112,122 @@ impl Begun {
         ensures leases { IfOk result (λ b. begun_leases (lease_count setting.now.geometry) b
             ≡ lease_count setting.now.geometry) }
     {
-        // Each command reads or writes at least one block.
-        let block = Block::zeros(alloc)?;
-        let begun = match command {
-            Command::Attach { slot } => Begun::Attach {
-                slot,
-                room: Room::new(alloc, setting.geometry.slots, block)?,
-            },
-            Command::Detach { slot } => Begun::Detach { slot, lease: block },
-            Command::Create { slot, size, label } => Begun::Create {
-                slot,
-                size,
-                label,
-                record: block,
-            },
-            Command::Delete { slot } => Begun::Delete {
-                slot,
-                record: block,
-            },
-            Command::Read { slot, vblock } => Begun::Read {
-                slot,
-                vblock,
-                block,
-            },
+        match command {
+            Command::Attach { slot } => Begun::attach(alloc, setting, slot),
+            Command::Detach { slot } => Begun::detach(alloc, slot),
+            Command::Create { slot, size, label } => Begun::create(alloc, slot, size, label),
+            Command::Delete { slot } => Begun::delete(alloc, slot),
+            Command::Read { slot, vblock } => Begun::read(alloc, slot, vblock),
             Command::Write {
                 slot,
                 vblock,
                 payload,
-            } => Begun::Write {
-                slot,
-                vblock,
-                block: payload.to_block(alloc)?,
-                descriptor: block,
-            },
-            Command::Renew => Begun::Renew {
-                renewals: Renewals::new(alloc, setting.lease_count())?,
-                lease: block,
-            },
-            Command::Reserve { count } => Begun::Reserve {
-                need: Need { count },
-                map: Block::zeros(alloc)?,
-                lease: block,
-            },
-            Command::Retire => Begun::Retire {
-                map: Block::zeros(alloc)?,
-                extent_lease: Block::zeros(alloc)?,
-                image_lease: block,
-            },
+            } => Begun::write(alloc, slot, vblock, &payload),
+            Command::Renew => Begun::renew(alloc, setting),
+            Command::Reserve { count } => Begun::reserve(alloc, Need { count }),
+            Command::Retire => Begun::retire(alloc),
             Command::Flush { .. } | Command::Reclaim => unreachable!(),
-        };
-        Ok(begun)
+        }
+    }
+
+    // An attach: room for the session, and a block for its claim.
+    fn attach(alloc: Global, setting: &Setting, slot: SlotNo) -> Result<Begun, NoMemory>
+        ensures { (leases : ℕ) → IfOk result (BeginsAs setting.now.geometry.slots leases
+            (Command.Attach slot)) }
+    {
+        let room = Room::new(alloc, setting.geometry.slots)?;
+        Ok(Begun::Attach { slot, room })
+    }
+
+    // A detach: a block for the lease that is released.
+    fn detach(alloc: Global, slot: SlotNo) -> Result<Begun, NoMemory>
+        ensures { (slots leases : ℕ) → IfOk result (BeginsAs slots leases (Command.Detach slot)) }
+    {
+        let lease = Block::zeros(alloc)?;
+        Ok(Begun::Detach { slot, lease })
+    }
+
+    // A create: a block for the record.
+    fn create(alloc: Global, slot: SlotNo, size: u32, label: Label) -> Result<Begun, NoMemory>
+        ensures { (slots leases : ℕ) → IfOk result (BeginsAs slots leases
+            (Command.Create slot size label)) }
+    {
+        let record = Block::zeros(alloc)?;
+        Ok(Begun::Create {
+            slot,
+            size,
+            label,
+            record,
+        })
+    }
+
+    // A delete: a block for the record.
+    fn delete(alloc: Global, slot: SlotNo) -> Result<Begun, NoMemory>
+        ensures { (slots leases : ℕ) → IfOk result (BeginsAs slots leases (Command.Delete slot)) }
+    {
+        let record = Block::zeros(alloc)?;
+        Ok(Begun::Delete { slot, record })
+    }
+
+    // A read: a block for the data.
+    fn read(alloc: Global, slot: SlotNo, vblock: u32) -> Result<Begun, NoMemory>
+        ensures { (slots leases : ℕ) → IfOk result (BeginsAs slots leases
+            (Command.Read slot vblock)) }
+    {
+        let block = Block::zeros(alloc)?;
+        Ok(Begun::Read {
+            slot,
+            vblock,
+            block,
+        })
+    }
+
+    // A write: its data, and a block for the descriptor.
+    fn write(alloc: Global, slot: SlotNo, vblock: u32, payload: &Payload) -> Result<Begun, NoMemory>
+        ensures { (slots leases : ℕ) → IfOk result (BeginsAs slots leases
+            (Command.Write slot vblock payload.now)) }
+    {
+        let block = payload.to_block(alloc)?;
+        let descriptor = Block::zeros(alloc)?;
+        Ok(Begun::Write {
+            slot,
+            vblock,
+            block,
+            descriptor,
+        })
+    }
+
+    // A renew: the leases that are to be renewed, and a block for each in turn.
+    fn renew(alloc: Global, setting: &Setting) -> Result<Begun, NoMemory>
+        ensures { (slots : ℕ) → IfOk result (BeginsAs slots (lease_count setting.now.geometry)
+            Command.Renew) }
+    {
+        let renewals = Renewals::new(alloc, setting.lease_count())?;
+        let lease = Block::zeros(alloc)?;
+        Ok(Begun::Renew { renewals, lease })
+    }
+
+    // A reserve: a block for maps, and one for leases.
+    fn reserve(alloc: Global, need: Need) -> Result<Begun, NoMemory>
+        ensures { (slots leases : ℕ) → IfOk result (BeginsAs slots leases
+            (Command.Reserve need.count)) }
+    {
+        let map = Block::zeros(alloc)?;
+        let lease = Block::zeros(alloc)?;
+        Ok(Begun::Reserve { need, map, lease })
+    }
+
+    // A retire: a block for maps, and one for the leases of each kind.
+    fn retire(alloc: Global) -> Result<Begun, NoMemory>
+        ensures { (slots leases : ℕ) → IfOk result (BeginsAs slots leases Command.Retire) }
+    {
+        let map = Block::zeros(alloc)?;
+        let extent_lease = Block::zeros(alloc)?;
+        let image_lease = Block::zeros(alloc)?;
+        Ok(Begun::Retire {
+            map,
+            extent_lease,
+            image_lease,
+        })
     }
 }

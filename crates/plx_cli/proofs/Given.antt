@@ -1,16 +1,18 @@
 -- What is read of a source that tells what it has left, and which statuses follow.
-use Rattle.std.proofs.Common.{◌≡◌, ◌≤◌, ◌+◌, ◌∙◌, ◌⊎◌, inl, inr, ℕ, List, Option, None, Some, length, ap, sym, subst, arith}
+use Rattle.std.proofs.Common.{◌≡◌, ◌≤◌, ◌+◌, ◌∙◌, ◌⊎◌, ◌≢◌, inl, inr, ℕ, List, Option, None, Some, String, Global, false, true, length, refl, ap, sym, subst, arith}
 use Rattle.std.proofs.lemmas.List.{drop_all}
 use Rattle.plx_commands.specs.declared.event.Event.{Event}
 use Rattle.plx_geom.specs.Geometry.{Geometry}
 use Rattle.plx_port.specs.Faults.{Rose}
+use Rattle.plx_port.specs.declared.reading.ReadError.{ReadError}
+use Rattle.plx_port.specs.declared.reading.ReadError.TheVariants as reading
 use Rattle.plx_port.specs.Streams.{ReadsToEnd, TakesCount}
 use Rattle.plx_text.proofs.ScheduleFiles.{no-schedule}
 use Rattle.plx_text.specs.Schedules.{IsSchedule, schedule_grammar}
 use Rattle.plx_words.specs.Files.{IsFirstBad}
 use Rattle.plx_cli.specs.declared.status.Status.{Status}
 use Rattle.plx_cli.specs.declared.status.Status.TheVariants.{Done, BadLine, SinkFault, NoMemory}
-use Rattle.plx_cli.specs.Program.{Appended, IsBad, IsGiven, IsTrace, input_limit}
+use Rattle.plx_cli.specs.Program.{Appended, IsBad, IsGiven, IsReplay, IsTrace, input_limit}
 
 -- what was read to the end was taken, byte for byte
 pub ends-taken : (old new : Option (List ℕ)) (bytes : List ℕ) → ReadsToEnd old new bytes → TakesCount old new (length bytes)
@@ -33,6 +35,32 @@ not-long (Some left) new bytes before after taken given =
     let tells : Some left ≡ Some bytes = given.tells in
     let same : left ≡ bytes = cc in
     omega (arith, taken.0, given.short, ap length same)
+
+-- where nothing was read, nothing was taken
+pub takes-none : (left : Option (List ℕ)) →
+    (n : ℕ) × (n ≤ input_limit) × TakesCount left left n
+takes-none None = (0, omega arith, tt)
+takes-none (Some left) = (0, omega arith, (omega arith, refl))
+
+-- what was read to the end, as its slice
+pub slice-ends : (old new : Option (List ℕ)) (slice bytes : List ℕ) → slice ≡ bytes →
+    ReadsToEnd old new bytes → ReadsToEnd old new slice
+slice-ends old new slice bytes same ends = subst (λ l. ReadsToEnd old new l) (sym same) ends
+
+-- a source that failed, or for which memory ran out, wasn't read past the limit
+pub stops : (cause : ReadError) → (cause ≡ reading.Failed) ⊎ (cause ≡ reading.NoMemory) →
+    cause ≢ reading.TooLong
+stops cause (inl is) late = let P : ⊥ = cc in P
+stops cause (inr is) late = let P : ⊥ = cc in P
+
+-- what was found of the slice of the words holds of the words
+module _ {A : Type 0} (slice words : List (String Global)) (same : slice ≡ words) where
+  pub fits-not : (IsReplay slice → false ≡ true) → IsReplay words → A
+  fits-not unfit fits =
+      absurd (let met = unfit (subst IsReplay (sym same) fits) in let P : ⊥ = cc in P)
+
+  pub fits-so : IsReplay slice → ¬ IsReplay words → A
+  fits-so fits unfit = absurd (unfit (subst IsReplay same fits))
 
 module _ (status : Status) (read bytes : List ℕ) (held held' : Option (List ℕ)) where
   -- where there is a bad line, the work isn't done

@@ -3,7 +3,7 @@ use Rattle.std.specs.Prelude.{◌≡◌, ◌<◌, ℕ, List, [], ◌∷◌, ◌+
 use Rattle.std.specs.Ordering.{nat_cmp}
 use Rattle.std.specs.BTreeMap.{BTreeMap, get}
 use Rattle.plx_base.specs.Blocks.{zeros}
-use Rattle.plx_commands.specs.Facts.{where_holds, IsAmong}
+use Rattle.plx_commands.specs.Facts.{IsAmong, of_block, of_generation, of_none, of_size, of_some, of_writes, where_holds}
 use Rattle.plx_commands.specs.Images.{Frozen, Image, free_image, new_image, report_of}
 use Rattle.plx_commands.specs.Limits.{last_generation, last_write, last_claim}
 use Rattle.plx_commands.specs.Model.{Slot, Model, first_slot}
@@ -11,7 +11,7 @@ use Rattle.plx_commands.specs.Places.{at}
 use Rattle.plx_commands.specs.Replies.{number_of, rests_on_fact}
 use Rattle.plx_commands.specs.Reports.{same_report}
 use Rattle.plx_commands.specs.declared.command.Command.{Command}
-use Rattle.plx_commands.specs.declared.command.Command.TheVariants.{Create, Delete, Write}
+use Rattle.plx_commands.specs.declared.command.Command.TheVariants.{Create, Delete, Read, Write, Flush}
 use Rattle.plx_commands.specs.declared.reply.Reply.{Reply}
 use Rattle.plx_commands.specs.declared.reply.Reply.TheVariants.{NotAttached, AlreadyAttached, NoImage, Exists, OutOfRange, WornOut}
 use Rattle.plx_commands.specs.declared.reply.Report.{Report}
@@ -99,6 +99,15 @@ beyond (Some size) = OutOfRange size ∷ []
 abbrev pub worn : Option ℕ → List Reply
 worn None = []
 worn (Some count) = WornOut count ∷ []
+
+-- the refusals of a command by the image in the slot that it names
+abbrev pub of_image : Image → Command → List Reply
+of_image image (Create slot size label) = of_some image ++ (of_size size ++ of_generation image)
+of_image image (Delete slot) = of_none image
+of_image image (Read slot vblock) = of_none image ++ of_block image vblock
+of_image image (Write slot vblock payload) = of_none image ++ (of_block image vblock ++ of_writes image)
+of_image image (Flush slot) = of_none image
+of_image image command = []
 
 -- the refusals by images whose facts hold, in their order
 abbrev pub listed_images : ImageRefusals → List Reply

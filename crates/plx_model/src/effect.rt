@@ -76,34 +76,13 @@ pub fn of_owner(command: &Command) -> Option<u32>
     ensures { slot_list result ≡ of_owner command.now }
 {
     match command {
-        Command::Attach { .. } => None,
-        Command::Detach { .. } => None,
-        Command::Create { slot, .. } => Some(slot.0),
-        Command::Delete { slot } => Some(slot.0),
-        Command::Read { slot, .. } => Some(slot.0),
-        Command::Write { slot, .. } => Some(slot.0),
-        Command::Flush { slot } => Some(slot.0),
-        Command::Reserve { .. } => None,
-        Command::Renew => None,
-        Command::Retire => None,
-        Command::Reclaim => None,
+        Command::Attach { .. } | Command::Detach { .. } => None,
+        _ => named(command),
     }
 }
 // Whether the command is an attach.
 pub fn is_attach(command: &Command) -> bool
     ensures { result ≡ is_attach command.now }
 {
-    match command {
-        Command::Attach { .. } => true,
-        Command::Detach { .. } => false,
-        Command::Create { .. } => false,
-        Command::Delete { .. } => false,
-        Command::Read { .. } => false,
-        Command::Write { .. } => false,
-        Command::Flush { .. } => false,
-        Command::Reserve { .. } => false,
-        Command::Renew => false,
-        Command::Retire => false,
-        Command::Reclaim => false,
-    }
+    matches!(command, Command::Attach { .. })
 }

@@ -89,7 +89,7 @@ impl Model {
         } }
     {
         let seat = &mut self.seats[appliance.0 as usize];
-        seat.running = command;
+        seat.run(command);
     }
 
     // The model moves by a reply that it accepts.
@@ -148,31 +148,16 @@ impl Model {
             ≡ model_after_effect (model_of_tables self.old) appliance.0 effect reply.now) }
         ensures err { OnErr result (model_of_tables self.new ≡ model_of_tables self.old) }
     {
-        match effect {
-            Effect::Enter(slot) => self.attach(appliance, slot, reply),
-            Effect::Leave(slot) => {
+        match (effect, reply) {
+            (Effect::Enter(slot), Reply::Attached { report }) => {
+                self.enter(appliance, slot, report)
+            }
+            (Effect::Leave(slot), _) => {
                 self.leave(appliance, slot);
                 Ok(())
             }
-            Effect::Change(slot) => self.make(appliance, slot),
-            Effect::Rest => {
-                self.run(appliance, None);
-                Ok(())
-            }
-        }
-    }
-
-    fn attach(&mut self, appliance: ApplianceNo, slot: u32, reply: &Reply) -> Result<(), NoMemory>
-        requires known { appliance.0 < length self.old.seats.items }
-        requires within { slot < length self.old.slots.items }
-        ensures ok { OnOk result (model_of_tables self.new
-            ≡ model_after_effect (model_of_tables self.old) appliance.0
-            (Effect.Enter slot) reply.now) }
-        ensures err { OnErr result (model_of_tables self.new ≡ model_of_tables self.old) }
-    {
-        match reply {
-            Reply::Attached { report } => self.enter(appliance, slot, report),
-            _ => {
+            (Effect::Change(slot), _) => self.make(appliance, slot),
+            (Effect::Enter(_) | Effect::Rest, _) => {
                 self.run(appliance, None);
                 Ok(())
             }
@@ -192,7 +177,7 @@ impl Model {
         state.attach(alloc, report, appliance.0)?;
         let seat = &mut self.seats[appliance.0 as usize];
         seat.open(slot);
-        seat.running = None;
+        seat.run(None);
         Ok(())
     }
 
@@ -205,7 +190,7 @@ impl Model {
         self.disown(appliance, slot);
         let seat = &mut self.seats[appliance.0 as usize];
         seat.close(slot);
-        seat.running = None;
+        seat.run(None);
     }
 
     fn disown(&mut self, appliance: ApplianceNo, slot: u32)
@@ -238,7 +223,7 @@ impl Model {
         let state = &mut self.slots[slot as usize];
         state.make(alloc)?;
         let seat = &mut self.seats[appliance.0 as usize];
-        seat.running = None;
+        seat.run(None);
         Ok(())
     }
 

@@ -60,18 +60,7 @@ pub fn ok_of(reply: &Reply) -> Option<u8>
         Reply::Renewed => Some(12),
         Reply::Retired => Some(13),
         Reply::Reclaimed { .. } => Some(14),
-        Reply::NotAttached => None,
-        Reply::AlreadyAttached => None,
-        Reply::NoImage => None,
-        Reply::Exists => None,
-        Reply::OutOfRange { .. } => None,
-        Reply::Busy { .. } => None,
-        Reply::Lost { .. } => None,
-        Reply::ReadFault { .. } => None,
-        Reply::WriteFault { .. } => None,
-        Reply::Full => None,
-        Reply::Damaged { .. } => None,
-        Reply::WornOut { .. } => None,
+        _ => None,
     }
 }
 

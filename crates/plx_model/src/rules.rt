@@ -79,23 +79,27 @@ impl Model {
     fn has_value(&self, command: &Command, reply: &Reply) -> bool
         ensures { IsTrue result ↔ HasValue (model_of_tables self.now) command.now reply.now }
     {
-        match command {
-            Command::Attach { slot } => self.is_attached(*slot, reply),
-            Command::Detach { .. } => matches!(reply, Reply::Detached),
-            Command::Create { slot, .. } => {
-                matches!(reply, Reply::Created) && self.is_slot(*slot)
+        match (command, reply) {
+            (Command::Attach { slot }, Reply::Attached { report }) => {
+                self.is_reported(*slot, report)
             }
-            Command::Delete { slot } => matches!(reply, Reply::Deleted) && self.is_slot(*slot),
-            Command::Read { slot, vblock } => self.is_data(*slot, *vblock, reply),
-            Command::Write { slot, .. } => match reply {
-                Reply::Written { number } => self.is_next(*slot, *number),
-                _ => false,
-            },
-            Command::Flush { slot } => self.is_flushed(*slot, reply),
-            Command::Reserve { .. } => matches!(reply, Reply::Reserved),
-            Command::Renew => matches!(reply, Reply::Renewed),
-            Command::Retire => matches!(reply, Reply::Retired),
-            Command::Reclaim => matches!(reply, Reply::Reclaimed { .. }),
+            (Command::Detach { .. }, Reply::Detached) => true,
+            (Command::Create { slot, .. }, Reply::Created) => self.is_slot(*slot),
+            (Command::Delete { slot }, Reply::Deleted) => self.is_slot(*slot),
+            (Command::Read { slot, vblock }, Reply::Data { payload }) => {
+                self.is_content(*slot, *vblock, payload)
+            }
+            (Command::Write { slot, .. }, Reply::Written { number }) => {
+                self.is_next(*slot, *number)
+            }
+            (Command::Flush { slot }, Reply::Flushed { applied, .. }) => {
+                self.is_last(*slot, *applied)
+            }
+            (Command::Reserve { .. }, Reply::Reserved) => true,
+            (Command::Renew, Reply::Renewed) => true,
+            (Command::Retire, Reply::Retired) => true,
+            (Command::Reclaim, Reply::Reclaimed { .. }) => true,
+            _ => false,
         }
     }
 
@@ -105,17 +109,7 @@ impl Model {
         (slot.0 as usize) < self.slots.len()
     }
 
-    // Whether the reply is a report of the image in the slot, or of its change.
-    fn is_attached(&self, slot: SlotNo, reply: &Reply) -> bool
-        ensures { IsTrue result ↔ HasValue (model_of_tables self.now)
-            (Command.Attach slot) reply.now }
-    {
-        match reply {
-            Reply::Attached { report } => self.is_reported(slot, report),
-            _ => false,
-        }
-    }
-
+    // Whether the report is of the image in the slot, or of its change.
     fn is_reported(&self, slot: SlotNo, report: &Report) -> bool
         ensures { IsTrue result ↔ ((slot.0 < length self.now.slots.items) × IsReported
             ((model_of_tables self.now).slots slot.0).image
@@ -128,17 +122,7 @@ impl Model {
         }
     }
 
-    // Whether the reply has the bytes of the virtual block.
-    fn is_data(&self, slot: SlotNo, vblock: u32, reply: &Reply) -> bool
-        ensures { IsTrue result ↔ HasValue (model_of_tables self.now)
-            (Command.Read slot vblock) reply.now }
-    {
-        match reply {
-            Reply::Data { payload } => self.is_content(slot, vblock, payload),
-            _ => false,
-        }
-    }
-
+    // Whether the bytes are those of the virtual block.
     fn is_content(&self, slot: SlotNo, vblock: u32, payload: &Payload) -> bool
         ensures { IsTrue result ↔ ((slot.0 < length self.now.slots.items)
             × (bytes_of payload.now
@@ -161,17 +145,7 @@ impl Model {
         }
     }
 
-    // Whether the reply has the number of the image's last write.
-    fn is_flushed(&self, slot: SlotNo, reply: &Reply) -> bool
-        ensures { IsTrue result ↔ HasValue (model_of_tables self.now)
-            (Command.Flush slot) reply.now }
-    {
-        match reply {
-            Reply::Flushed { applied, .. } => self.is_last(slot, *applied),
-            _ => false,
-        }
-    }
-
+    // Whether the number is that of the image's last write.
     fn is_last(&self, slot: SlotNo, number: u64) -> bool
         ensures { IsTrue result ↔ ((slot.0 < length self.now.slots.items)
             × (number ≡ ((model_of_tables self.now).slots slot.0).image.writes)) }
@@ -206,55 +180,29 @@ impl Model {
             (slot_list slot) }
     {
         match slot {
-            Some(slot) => self.has_session(appliance, slot),
+            Some(slot) => {
+                let seat = &self.seats[appliance.0 as usize];
+                seat.has(slot)
+            }
             None => true,
         }
-    }
-
-    fn has_session(&self, appliance: ApplianceNo, slot: u32) -> bool
-        requires { appliance.0 < length self.now.seats.items }
-        ensures { result ≡ (model_of_tables self.now).sessions appliance.0 slot }
-    {
-        let seat = &self.seats[appliance.0 as usize];
-        seat.has(slot)
     }
 
     // Which refusals' facts hold of the image in the slot that the command names.
     fn of_images(&self, command: &Command) -> ImageRefusals
         ensures { listed_images result ≡ of_images (model_of_tables self.now) command.now }
     {
-        match command {
-            Command::Attach { slot } => ImageRefusals {
-                no_image: self.slots.len() <= slot.0 as usize,
+        let Some(slot) = named(command) else {
+            return ImageRefusals::none();
+        };
+        match self.state(slot) {
+            Some(state) => state.of_command(command),
+            None => ImageRefusals {
+                no_image: is_attach(command),
                 exists: false,
                 range: None,
                 worn: None,
             },
-            Command::Create { slot, size, .. } => match self.state(slot.0) {
-                Some(state) => state.of_create(*size),
-                None => ImageRefusals::none(),
-            },
-            Command::Delete { slot } => match self.state(slot.0) {
-                Some(state) => state.of_use(),
-                None => ImageRefusals::none(),
-            },
-            Command::Read { slot, vblock } => match self.state(slot.0) {
-                Some(state) => state.of_read(*vblock),
-                None => ImageRefusals::none(),
-            },
-            Command::Write { slot, vblock, .. } => match self.state(slot.0) {
-                Some(state) => state.of_write(*vblock),
-                None => ImageRefusals::none(),
-            },
-            Command::Flush { slot } => match self.state(slot.0) {
-                Some(state) => state.of_use(),
-                None => ImageRefusals::none(),
-            },
-            Command::Detach { .. } => ImageRefusals::none(),
-            Command::Reserve { .. } => ImageRefusals::none(),
-            Command::Renew => ImageRefusals::none(),
-            Command::Retire => ImageRefusals::none(),
-            Command::Reclaim => ImageRefusals::none(),
         }
     }
 }

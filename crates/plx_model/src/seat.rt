@@ -59,6 +59,14 @@ impl Seat {
         }
     }
 
+    // The appliance is in this command, or in none, and the one that it was in is dropped.
+    pub fn run(&mut self, command: Option<Command>)
+        ensures sessions { seat_sessions self.new ≡ seat_sessions self.old }
+        ensures running { self.new.running ≡ command }
+    {
+        self.running = command;
+    }
+
     // The appliance has no session, and is in no command.
     pub fn forget(&mut self)
         ensures sessions { seat_sessions self.new ≡ (λ slot. false) }

@@ -44,7 +44,7 @@ pub struct SlotState {
 }
 
 impl SlotState {
-    ghost use Rattle.std.specs.Prelude.{◌≡◌, ◌++◌, ◌↔◌, [], IsTrue, OnOk, OnErr, IfOk, Some};
+    ghost use Rattle.std.specs.Prelude.{◌≡◌, ◌++◌, ◌↔◌, [], IsTrue, OnOk, OnErr, IfOk, None, Some};
     ghost use Rattle.plx_base.specs.Blocks.{zeros};
     ghost use Rattle.plx_commands.specs.Facts.{of_block, of_generation, of_none, of_size, of_some, of_writes};
     ghost use Rattle.plx_commands.specs.Images.{report_of};
@@ -52,7 +52,7 @@ impl SlotState {
     ghost use Rattle.plx_commands.specs.Moves.{slot_after_attach, slot_without_owner, given_up, slot_after_change, under_way};
     ghost use Rattle.plx_commands.specs.Reports.{IsReported};
     ghost use Rattle.plx_commands.specs.Slots.{image_after};
-    ghost use Rattle.plx_model.specs.Shown.{CanChange, changed_by, changed_image, shown_image, listed_images, is_report_of, slot_of};
+    ghost use Rattle.plx_model.specs.Shown.{CanChange, changed_by, changed_image, shown_image, listed_images, is_report_of, of_image, slot_of};
 
     // A slot before the first entry.
     pub fn new(alloc: Global) -> SlotState
@@ -187,14 +187,7 @@ impl SlotState {
                     block,
                 }))
             }
-            Command::Attach { .. } => Ok(None),
-            Command::Detach { .. } => Ok(None),
-            Command::Read { .. } => Ok(None),
-            Command::Flush { .. } => Ok(None),
-            Command::Reserve { .. } => Ok(None),
-            Command::Renew => Ok(None),
-            Command::Retire => Ok(None),
-            Command::Reclaim => Ok(None),
+            _ => Ok(None),
         }
     }
 
@@ -206,7 +199,7 @@ impl SlotState {
         ensures err { OnErr result (slot_of self.new ≡ slot_of self.old) }
     {
         let change = self.change_by(alloc, command)?;
-        self.change = change;
+        self.set_change(change);
         Ok(())
     }
 
@@ -214,7 +207,16 @@ impl SlotState {
     pub fn give_up(&mut self)
         ensures { slot_of self.new ≡ given_up (slot_of self.old) }
     {
-        self.change = None;
+        self.set_change(None);
+    }
+
+    // This change is under way, or none, and the one that was is dropped.
+    fn set_change(&mut self, change: Option<Change>)
+        ensures { slot_of self.new ≡ record (slot_of self.old) {
+          change = changed_by (shown_image self.old) change;
+        } }
+    {
+        self.change = change;
     }
 
     // The change under way is made.
@@ -230,21 +232,7 @@ impl SlotState {
                     vblock,
                     block,
                 },
-            ) => match self.content.insert(vblock, block) {
-                Ok(_) => {
-                    self.writes = number;
-                    Ok(())
-                }
-                Err(failed) => {
-                    let (vblock, block) = failed.value;
-                    self.change = Some(Change::Write {
-                        number,
-                        vblock,
-                        block,
-                    });
-                    Err(NoMemory)
-                }
-            },
+            ) => self.write(number, vblock, block),
             Some(
                 Change::Create {
                     generation,
@@ -254,24 +242,49 @@ impl SlotState {
             ) => {
                 self.live = true;
                 self.generation = generation;
-                self.size = size;
-                self.label = label;
-                self.empty(alloc);
+                self.clear(alloc, size, label);
                 Ok(())
             }
             Some(Change::Delete) => {
                 self.live = false;
-                self.size = 0;
-                self.label = Label::empty();
-                self.empty(alloc);
+                self.clear(alloc, 0, Label::empty());
                 Ok(())
             }
         }
     }
 
-    // The image was never written, and has no snapshot.
-    fn empty(&mut self, alloc: Global)
+    // The virtual block holds the bytes of the image's write of this number.
+    fn write(&mut self, number: u64, vblock: u32, block: Block) -> Result<(), NoMemory>
+        requires { self.old.change ≡ None }
+        ensures ok { OnOk result (slot_of self.new ≡ record (slot_of self.old) {
+          image = changed_image (shown_image self.old) (Change.Write number vblock block);
+        }) }
+        ensures err { OnErr result (slot_of self.new ≡ record (slot_of self.old) {
+          change = Some (changed_image (shown_image self.old) (Change.Write number vblock block));
+        }) }
+    {
+        match self.content.insert(vblock, block) {
+            Ok(_) => {
+                self.writes = number;
+                Ok(())
+            }
+            Err(failed) => {
+                let (vblock, block) = failed.value;
+                self.set_change(Some(Change::Write {
+                    number,
+                    vblock,
+                    block,
+                }));
+                Err(NoMemory)
+            }
+        }
+    }
+
+    // The image has this size and label, was never written, and has no snapshot.
+    fn clear(&mut self, alloc: Global, size: u32, label: Label)
         ensures image { shown_image self.new ≡ record (shown_image self.old) {
+          size = size;
+          label = label;
           writes = 0;
           content = λ vblock. zeros;
           frozen = [];
@@ -279,6 +292,8 @@ impl SlotState {
         ensures change { self.new.change ≡ self.old.change }
         ensures owner { self.new.owner ≡ self.old.owner }
     {
+        self.size = size;
+        self.label = label;
         self.writes = 0;
         self.content = BTreeMap::new(alloc);
         self.frozen = Vec::new(alloc);
@@ -308,8 +323,26 @@ impl SlotState {
         }
     }
 
+    // What is refused of a command by the image.
+    pub fn of_command(&self, command: &Command) -> ImageRefusals
+        ensures { listed_images result ≡ of_image (shown_image self.now) command.now }
+    {
+        match command {
+            Command::Create { size, .. } => self.of_create(*size),
+            Command::Read { vblock, .. } => self.of_read(*vblock),
+            Command::Write { vblock, .. } => self.of_write(*vblock),
+            Command::Delete { .. } | Command::Flush { .. } => self.of_use(),
+            Command::Attach { .. }
+            | Command::Detach { .. }
+            | Command::Reserve { .. }
+            | Command::Renew
+            | Command::Retire
+            | Command::Reclaim => ImageRefusals::none(),
+        }
+    }
+
     // What is refused of a command that wants an image.
-    pub fn of_use(&self) -> ImageRefusals
+    fn of_use(&self) -> ImageRefusals
         ensures { listed_images result ≡ of_none (shown_image self.now) }
     {
         ImageRefusals {
@@ -321,7 +354,7 @@ impl SlotState {
     }
 
     // What is refused of a read of the block.
-    pub fn of_read(&self, vblock: u32) -> ImageRefusals
+    fn of_read(&self, vblock: u32) -> ImageRefusals
         ensures { listed_images result ≡ of_none (shown_image self.now) ++ of_block
             (shown_image self.now) vblock }
     {
@@ -338,7 +371,7 @@ impl SlotState {
     }
 
     // What is refused of a write of the block.
-    pub fn of_write(&self, vblock: u32) -> ImageRefusals
+    fn of_write(&self, vblock: u32) -> ImageRefusals
         ensures { listed_images result ≡ of_none (shown_image self.now)
             ++ (of_block (shown_image self.now) vblock ++ of_writes (shown_image self.now)) }
     {
@@ -359,7 +392,7 @@ impl SlotState {
     }
 
     // What is refused of a create of an image of this size.
-    pub fn of_create(&self, size: u32) -> ImageRefusals
+    fn of_create(&self, size: u32) -> ImageRefusals
         ensures { listed_images result ≡ of_some (shown_image self.now)
             ++ (of_size size ++ of_generation (shown_image self.now)) }
     {

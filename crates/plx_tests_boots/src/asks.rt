@@ -1,7 +1,7 @@
 //! What each command asks, with the bytes that it writes, where all goes well.
 use crate::boot::Asked::{Attach, Create, Delete, Detach, Read, Renew, Write};
 use crate::boot::Step::{Begins, Bytes, Clock, Done, Ends, Until};
-use crate::boot::{CLAIMED, CLAIMED_AGAIN, LIVE, Step, takes};
+use crate::boot::{CLAIMED, CLAIMED_AGAIN, LIVE, Step, takes, takes_each};
 use crate::content::Content::{Descriptor, Filled, FreeLease, FreeSlot, Lease, LiveSlot};
 use plx_base::{NoMemory, WriteKind};
 
@@ -101,10 +101,7 @@ const RENEWALS: &[&[Step]] = &[
 
 #[test]
 fn a_renewed_lease_is_never_shorter(rt: HostRuntime) -> Result<(), NoMemory> {
-    for &renewal in RENEWALS {
-        takes(&rt, rt.alloc(), &[CLAIMED, LIVE, renewal])?;
-    }
-    Ok(())
+    takes_each(&rt, rt.alloc(), (CLAIMED, LIVE), RENEWALS)
 }
 
 /// What an attach finds of an image of generation 2: the number of the last write that its tree
@@ -164,10 +161,7 @@ const FOUND: &[&[Step]] = &[
 
 #[test]
 fn an_attach_loads_the_writes_of_its_generation(rt: HostRuntime) -> Result<(), NoMemory> {
-    for &found in FOUND {
-        takes(&rt, rt.alloc(), &[CLAIMED, found])?;
-    }
-    Ok(())
+    takes_each(&rt, rt.alloc(), (CLAIMED, &[]), FOUND)
 }
 
 /// A lease of another boot at the last moment at which it may still be held, and at the first at

@@ -126,7 +126,21 @@ fn fresh(rt: &impl Abort, alloc: Global) -> Result<Answered, NoMemory> {
 
 /// A boot takes the steps of these parts.
 pub(crate) fn takes(rt: &impl Abort, alloc: Global, parts: &[&[Step]]) -> Result<(), NoMemory> {
-    fresh(rt, alloc)?.play(rt, alloc, parts)
+    let mut boot = fresh(rt, alloc)?;
+    boot.play(rt, alloc, parts)
+}
+
+/// After the steps of these two parts, a boot takes those of each case.
+pub(crate) fn takes_each(
+    rt: &impl Abort,
+    alloc: Global,
+    (first, second): (&'static [Step], &'static [Step]),
+    cases: &[&'static [Step]],
+) -> Result<(), NoMemory> {
+    for &steps in cases {
+        takes(rt, alloc, &[first, second, steps])?;
+    }
+    Ok(())
 }
 
 impl Answered {
@@ -153,22 +167,38 @@ impl Answered {
 
     /// A command begins.
     fn begin(&mut self, rt: &impl Abort, alloc: Global, asked: Asked) -> Result<(), NoMemory> {
-        assert!(rt; self.told.is_none());
-        assert!(rt; self.appliance.is_idle());
+        assert!(rt; self.told.is_none() && self.appliance.is_idle());
         self.appliance.begin(alloc, command(alloc, asked)?)
+    }
+
+    /// The ask that stands, where a command runs.
+    fn ask(&self) -> Option<Ask> {
+        if self.appliance.is_idle() {
+            return None;
+        }
+        Some(self.appliance.ask())
+    }
+
+    /// Whether these bytes are to be written.
+    fn writes(&self, bytes: &[u8]) -> bool {
+        !self.appliance.is_idle() && self.appliance.out() == bytes
+    }
+
+    /// The ask that stands is answered so.
+    fn give(&mut self, rt: &impl Abort, answer: &Answer) {
+        assert!(rt; self.told.is_none() && !self.appliance.is_idle());
+        self.told = self.appliance.answer(answer);
     }
 
     /// The ask that the step names is answered.
     fn answer(&mut self, rt: &impl Abort, alloc: Global, step: Step) -> Result<(), NoMemory> {
-        assert!(rt; self.told.is_none());
-        assert!(rt; !self.appliance.is_idle());
         let at = number(step);
-        assert!(rt; self.appliance.ask() == ask(step), "the ask of {at}");
-        let written = content(step).block(alloc)?;
+        assert!(rt; self.ask() == Some(ask(step)), "the ask of {at}");
+        let content = content(step).block(alloc)?;
         if let Done(..) = step {
-            assert!(rt; self.appliance.out() == written.as_slice(), "block {at}");
+            assert!(rt; self.writes(content.as_slice()), "block {at}");
         }
-        self.told = self.appliance.answer(&answer(step, written));
+        self.give(rt, &answer(step, content));
         Ok(())
     }
 
@@ -180,17 +210,12 @@ impl Answered {
         trouble: Trouble,
         outcome: Outcome,
     ) -> Result<(), NoMemory> {
-        assert!(rt; self.told.is_none());
-        assert!(rt; !self.appliance.is_idle());
-        let before = self.appliance.ask();
-        self.told = self.appliance.answer(&trouble.answer(alloc)?);
+        let before = self.ask();
+        self.give(rt, &trouble.answer(alloc)?);
         match outcome {
             Outcome::Told(words) => self.end(rt, alloc, words),
             Outcome::Goes => Ok(()),
-            Outcome::Stands => {
-                assert!(rt; !self.appliance.is_idle());
-                Ok(assert!(rt; self.appliance.ask() == before))
-            }
+            Outcome::Stands => Ok(assert!(rt; self.ask() == before)),
         }
     }
 

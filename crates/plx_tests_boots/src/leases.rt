@@ -189,10 +189,7 @@ fn a_free_lease_is_claimed_in_five_steps(rt: HostRuntime) -> Result<(), NoMemory
         ask_next(&rt, rt.alloc(), &mut claiming, ask, step)?;
     }
     assert!(rt; claiming.turn() == Turn::Ended);
-    let ClaimEnd::Held(held) = claiming.end() else {
-        return Ok(assert!(rt; false));
-    };
-    is_held(&rt, &held, 15_000);
+    assert!(rt; matches!(&claiming.end(), ClaimEnd::Held(held) if is_held(held, 15_000)));
     Ok(())
 }
 
@@ -204,8 +201,7 @@ fn ask_next(
     ask: Ask,
     step: Step,
 ) -> Result<(), NoMemory> {
-    assert!(rt; claiming.turn() == Turn::Again);
-    assert!(rt; claiming.ask() == ask);
+    assert!(rt; claiming.turn() == Turn::Again && claiming.ask() == ask);
     if let Ask::Write { .. } = ask {
         let own = OWN.block(alloc)?;
         assert!(rt; claiming.out() == own.as_slice());
@@ -215,10 +211,9 @@ fn ask_next(
     Ok(())
 }
 
-/// The lease is held by that claim up to this moment.
-fn is_held(rt: &impl Abort, held: &Held<Image>, until: u64) {
-    assert!(rt; held.name() == LeaseName::Image(SlotNo(2)));
-    assert!(rt; held.claim() == CLAIM && held.until() == until);
+/// Whether the lease is held by that claim up to this moment.
+fn is_held(held: &Held<Image>, until: u64) -> bool {
+    held.name() == LeaseName::Image(SlotNo(2)) && held.claim() == CLAIM && held.until() == until
 }
 
 /// Blocks that are no lease: zeros, another magic, another state, a claim in a lease that is free,
@@ -474,11 +469,13 @@ const RENEWALS: &[(u64, u64)] = &[(4_999, 15_000), (9_000, 19_000)];
 fn a_held_lease_is_renewed_and_released(rt: HostRuntime) -> Result<(), NoMemory> {
     for &(reading, until) in RENEWALS {
         let lease = renewed(&rt, rt.alloc(), (reading, until))?;
-        is_held(&rt, &lease, until);
+        assert!(rt; is_held(&lease, until));
         let mut release = LeaseRelease::begin(lease, BLOCK, Block::zeros(rt.alloc())?);
         let asked = (release.ask(), release.out());
-        assert!(rt; is_write(rt.alloc(), asked, (WriteKind::Release, until), FreeLease)?);
-        assert!(rt; release.answer(&Answer::Done) == Some(ReleaseEnd::Released));
+        assert!(rt;
+            is_write(rt.alloc(), asked, (WriteKind::Release, until), FreeLease)?
+                && release.answer(&Answer::Done) == Some(ReleaseEnd::Released)
+        );
     }
     Ok(())
 }
@@ -486,19 +483,33 @@ fn a_held_lease_is_renewed_and_released(rt: HostRuntime) -> Result<(), NoMemory>
 #[test]
 fn held_leases_are_kept_by_slot(rt: HostRuntime) -> Result<(), NoMemory> {
     let mut tokens = Tokens::new(rt.alloc(), 3)?;
-    assert!(rt; tokens.image(SlotNo(2)).is_none() && tokens.image(SlotNo(3)).is_none());
+    assert!(rt; !has(&tokens, 2) && !has(&tokens, 3));
     let lease = held(&rt);
     assert!(rt; lease.lease() == LEASE);
     tokens.put_image(lease);
-    assert!(rt; tokens.image(SlotNo(2)).is_some() && tokens.image(SlotNo(1)).is_none());
+    assert!(rt; has(&tokens, 2) && !has(&tokens, 1));
     let Some(lease) = tokens.take_image(SlotNo(2)) else {
         panic!(rt; "a lease that is held");
     };
-    assert!(rt; lease.until() == 15_000 && tokens.image(SlotNo(2)).is_none());
-    assert!(rt; Grant::image(&lease).and(Grant::image(&lease)).guard() == 15_000);
-    lease.dropped();
+    assert!(rt; grants(lease) && !has(&tokens, 2));
     tokens.drop_all();
-    assert!(rt; tokens.root().is_none() && tokens.take_root().is_none());
-    assert!(rt; tokens.take_image(SlotNo(9)).is_none());
+    assert!(rt;
+        tokens.root().is_none()
+            && tokens.take_root().is_none()
+            && tokens.take_image(SlotNo(9)).is_none()
+    );
     Ok(())
+}
+
+/// Whether the lease of the image in this slot is held.
+fn has(tokens: &Tokens, slot: u32) -> bool {
+    tokens.image(SlotNo(slot)).is_some()
+}
+
+/// Whether the lease grants what a claim's does, until it is dropped.
+fn grants(lease: Held<Image>) -> bool {
+    let guard = Grant::image(&lease).and(Grant::image(&lease)).guard();
+    let until = lease.until();
+    lease.dropped();
+    until == 15_000 && guard == 15_000
 }

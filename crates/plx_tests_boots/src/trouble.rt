@@ -3,7 +3,7 @@ use crate::boot::Asked::{Attach, Create, Detach, Read, Renew, Write};
 use crate::boot::Outcome::{Goes, Stands, Told};
 use crate::boot::Step::{Begins, Bytes, Clock, Done, Ends, Gets, Until};
 use crate::boot::Trouble::{Fault, Missed, Reading};
-use crate::boot::{CLAIMED, LIVE, Outcome, Step, Trouble, takes};
+use crate::boot::{CLAIMED, LIVE, Outcome, Step, Trouble, takes, takes_each};
 use crate::content::Content::{Descriptor, Filled, FreeLease, FreeSlot, Lease, LiveSlot, Zeros};
 use plx_base::{NoMemory, WriteKind};
 use std::alloc::Global;
@@ -192,10 +192,7 @@ const RECORD: &[&[Step]] = &[
 
 #[test]
 fn trouble_at_the_record_of_a_create(rt: HostRuntime) -> Result<(), NoMemory> {
-    for &found in RECORD {
-        takes(&rt, rt.alloc(), &[CLAIMED, CREATES, found])?;
-    }
-    Ok(())
+    takes_each(&rt, rt.alloc(), (CLAIMED, CREATES), RECORD)
 }
 
 /// An attach couldn't read the record.
@@ -241,8 +238,5 @@ const WITHOUT_SESSION: &[&[Step]] = &[
 
 #[test]
 fn a_lease_without_a_session_is_kept_up_to_its_end(rt: HostRuntime) -> Result<(), NoMemory> {
-    for &steps in WITHOUT_SESSION {
-        takes(&rt, rt.alloc(), &[CLAIMED, UNREAD, steps])?;
-    }
-    Ok(())
+    takes_each(&rt, rt.alloc(), (CLAIMED, UNREAD), WITHOUT_SESSION)
 }

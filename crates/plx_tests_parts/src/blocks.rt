@@ -16,9 +16,14 @@ fn a_block_of_one_byte_is_told_by_it(rt: HostRuntime) -> Result<(), NoMemory> {
     Ok(())
 }
 
+/// A copy of that block's payload.
+fn copied(alloc: Global) -> Result<Payload, NoMemory> {
+    Payload::of(alloc, &landed(alloc)?)?.copy(alloc)
+}
+
 #[test]
 fn another_block_is_told_by_all_its_bytes(rt: HostRuntime) -> Result<(), NoMemory> {
-    let whole = Payload::of(rt.alloc(), &landed(rt.alloc())?)?.copy(rt.alloc())?;
+    let whole = copied(rt.alloc())?;
     assert!(rt; matches!(&whole, Payload::Whole(_)));
     let back = whole.to_block(rt.alloc())?;
     let (front, end) = back.as_slice().split_at(3584);

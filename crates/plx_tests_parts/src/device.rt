@@ -29,39 +29,41 @@ use Deed::{Cancels, Has, IsOf, Issues, Lands, Misses, Sets, Settles};
 /// The deeds are done, one after another.
 fn does(rt: &impl Abort, alloc: Global, deeds: &[Deed]) -> Result<(), NoMemory> {
     let mut disk = Disk::new(alloc, 4, 1000)?;
-    for deed in deeds {
-        make(rt, alloc, &mut disk, *deed)?;
+    for (at, deed) in deeds.iter().enumerate() {
+        let is_told = make(rt, alloc, &mut disk, *deed)?;
+        assert!(rt; is_told, "deed {at}");
     }
     Ok(())
 }
 
-/// The deed is done.
-fn make(rt: &impl Abort, alloc: Global, disk: &mut Disk, deed: Deed) -> Result<(), NoMemory> {
+/// The deed is done. Whether it tells what it should.
+fn make(rt: &impl Abort, alloc: Global, disk: &mut Disk, deed: Deed) -> Result<bool, NoMemory> {
     match deed {
-        Sets => set(rt, alloc, disk)?,
-        Issues(guard) => issue(rt, alloc, disk, guard)?,
-        Lands(write, sector, lands) => assert!(rt; disk.land(write, sector) == lands),
-        Settles(write, settles) => assert!(rt; disk.settle(write) == settles),
-        Misses(write, sector) => assert!(rt; disk.missing(write) == sector),
-        Cancels(write) => disk.cancel(write),
-        IsOf(write, boot) => assert!(rt; disk.owner(write) == boot),
-        Has(sectors) => has(rt, alloc, disk, sectors)?,
+        Sets => set(rt, alloc, disk),
+        Issues(guard) => issue(rt, alloc, disk, guard),
+        Lands(write, sector, lands) => Ok(disk.land(write, sector) == lands),
+        Settles(write, settles) => Ok(disk.settle(write) == settles),
+        Misses(write, sector) => Ok(disk.missing(write) == sector),
+        Cancels(write) => {
+            disk.cancel(write);
+            Ok(true)
+        }
+        IsOf(write, boot) => Ok(disk.owner(write) == boot),
+        Has(sectors) => has(rt, alloc, disk, sectors),
     }
-    Ok(())
 }
 
-fn set(rt: &impl Abort, alloc: Global, disk: &mut Disk) -> Result<(), NoMemory> {
+fn set(rt: &impl Abort, alloc: Global, disk: &mut Disk) -> Result<bool, NoMemory> {
     let sevens = Block::filled(alloc, 7)?;
-    assert!(rt; disk.issued() == 0);
-    assert!(rt; 2 < disk.blocks());
-    disk.set(BlockNo(2), sevens.as_slice())
+    assert!(rt; disk.issued() == 0 && 2 < disk.blocks());
+    disk.set(BlockNo(2), sevens.as_slice())?;
+    Ok(true)
 }
 
-fn issue(rt: &impl Abort, alloc: Global, disk: &mut Disk, guard: u64) -> Result<(), NoMemory> {
+fn issue(rt: &impl Abort, alloc: Global, disk: &mut Disk, guard: u64) -> Result<bool, NoMemory> {
     let sevens = Block::filled(alloc, 7)?;
     let count = disk.issued();
-    assert!(rt; 2 < disk.blocks());
-    assert!(rt; guard < 2000);
+    assert!(rt; 2 < disk.blocks() && guard < 2000);
     let number = disk.issue(
         Boot(9),
         WriteKind::Fresh,
@@ -69,16 +71,14 @@ fn issue(rt: &impl Abort, alloc: Global, disk: &mut Disk, guard: u64) -> Result<
         sevens.as_slice(),
         guard,
     )?;
-    assert!(rt; number == count);
-    Ok(())
+    Ok(number == count)
 }
 
-fn has(rt: &impl Abort, alloc: Global, disk: &Disk, sectors: [bool; 8]) -> Result<(), NoMemory> {
+fn has(rt: &impl Abort, alloc: Global, disk: &Disk, sectors: [bool; 8]) -> Result<bool, NoMemory> {
     let mut seen = Block::zeros(alloc)?;
     assert!(rt; 2 < disk.blocks());
     disk.read(BlockNo(2), &mut seen);
-    assert!(rt; seen.as_slice() == spelled(sectors).as_slice());
-    Ok(())
+    Ok(seen.as_slice() == spelled(sectors).as_slice())
 }
 
 /// A block of sevens in these sectors, and zeros in the others.

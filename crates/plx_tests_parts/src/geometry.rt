@@ -76,19 +76,30 @@ fn each_block_of_a_small_device_has_its_place(rt: HostRuntime) {
     }
 }
 
+/// Blocks of a device of two images, and their places.
+const NUMBERS: &[(u64, Place)] = &[
+    (5, Place::ExtentLease(ExtentNo(1))),
+    (7, Place::Record(SlotNo(1))),
+    (8, Place::Log(IMAGE)),
+    (40, Place::JDesc(SlotNo(1), 7)),
+    (41, Place::JData(SlotNo(1), 7)),
+    (106, Place::Map(ExtentNo(1))),
+    (169, Place::Pool(ExtentNo(1), 63)),
+];
+
 #[test]
 fn places_of_a_device_of_two_images(rt: HostRuntime) {
-    let Ok(geometry) = Geometry::new(2, 2, 64, 8) else {
-        panic!(rt; "within the limits");
-    };
-    assert!(rt; geometry.blocks() == 170);
-    assert!(rt; geometry.number(Place::ExtentLease(ExtentNo(1))) == BlockNo(5));
-    assert!(rt; geometry.number(Place::Record(SlotNo(1))) == BlockNo(7));
-    assert!(rt; geometry.number(Place::Log(SlotNo(0))) == BlockNo(8));
-    assert!(rt; geometry.number(Place::JDesc(SlotNo(1), 7)) == BlockNo(40));
-    assert!(rt; geometry.number(Place::JData(SlotNo(1), 7)) == BlockNo(41));
-    assert!(rt; geometry.number(Place::Map(ExtentNo(1))) == BlockNo(106));
-    assert!(rt; geometry.number(Place::Pool(ExtentNo(1), 63)) == BlockNo(169));
+    let two = geometry(&rt, 2, 2, 64, 8);
+    assert!(rt; two.blocks() == 170);
+    for &(block, place) in NUMBERS {
+        let Some(found) = two.place(BlockNo(block)) else {
+            panic!(rt; "{block}");
+        };
+        assert!(rt;
+            found == place && two.number(found) == BlockNo(block),
+            "{block}"
+        );
+    }
 }
 
 /// The first bytes of the smallest device's superblock; the rest are zeros.

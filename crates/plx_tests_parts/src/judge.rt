@@ -13,12 +13,20 @@ const LAST_CLAIM: u64 = 0xff_ffff_ffff;
 
 const GREATEST_SIZE: u32 = 0x800_0000;
 
+/// The label of an image.
+#[derive(Clone, Copy)]
+enum Name {
+    Unnamed,
+    Disk,
+    Other,
+}
+
 /// A command: its slot comes first, then its virtual block or its size.
 #[derive(Clone, Copy)]
 enum Asked {
     Attach(u32),
     Detach(u32),
-    Create(u32, u32, &'static [u8]),
+    Create(u32, u32, Name),
     Delete(u32),
     Read(u32, u32),
     Write(u32, u32, u8),
@@ -35,7 +43,7 @@ enum Told {
     /// The report of a slot that is free, after so many images.
     Free(u32),
     /// The report of an image: its generation, its size, its writes and its label.
-    Image(u32, u32, u64, &'static [u8]),
+    Image(u32, u32, u64, Name),
     Detached,
     Created,
     Deleted,
@@ -70,6 +78,7 @@ enum Line {
 
 use Asked::{Attach, Create, Delete, Detach, Flush, Read, Reclaim, Renew, Reserve, Retire, Write};
 use Line::{Crash, Reply as Answer, Start};
+use Name::{Disk, Other, Unnamed};
 use Told::{
     AlreadyAttached, Busy, Created, Damaged, Data, Deleted, Detached, Exists, Flushed, Free, Full,
     Image, Lost, NoImage, NotAttached, OutOfRange, ReadFault, Reclaimed, Renewed, Reserved,
@@ -79,18 +88,23 @@ use Told::{
 /// The least rule that an entry breaks, or 0 where it keeps all rules; and the entry.
 type Case = (u8, Line);
 
-fn labelled(label: &[u8]) -> Label {
-    Label::new(label).unwrap_or(Label::empty())
+fn label(name: Name) -> Label {
+    let spelled: &[u8] = match name {
+        Unnamed => b"",
+        Disk => b"disk",
+        Other => b"other",
+    };
+    Label::new(spelled).unwrap_or(Label::empty())
 }
 
 fn command(asked: Asked) -> Command {
     match asked {
         Attach(slot) => Command::Attach { slot: SlotNo(slot) },
         Detach(slot) => Command::Detach { slot: SlotNo(slot) },
-        Create(slot, size, label) => Command::Create {
+        Create(slot, size, name) => Command::Create {
             slot: SlotNo(slot),
             size,
-            label: labelled(label),
+            label: label(name),
         },
         Delete(slot) => Command::Delete { slot: SlotNo(slot) },
         Read(slot, vblock) => Command::Read {
@@ -110,7 +124,7 @@ fn command(asked: Asked) -> Command {
     }
 }
 
-fn report(live: bool, generation: u32, size: u32, writes: u64, label: &[u8]) -> Reply {
+fn report(live: bool, generation: u32, size: u32, writes: u64, name: Name) -> Reply {
     Reply::Attached {
         report: Report {
             live,
@@ -119,15 +133,15 @@ fn report(live: bool, generation: u32, size: u32, writes: u64, label: &[u8]) -> 
             writes,
             taken: 0,
             dropped: 0,
-            label: labelled(label),
+            label: label(name),
         },
     }
 }
 
 fn reply(told: Told) -> Reply {
     match told {
-        Free(generation) => report(false, generation, 0, 0, b""),
-        Image(generation, size, writes, label) => report(true, generation, size, writes, label),
+        Free(generation) => report(false, generation, 0, 0, Unnamed),
+        Image(generation, size, writes, name) => report(true, generation, size, writes, name),
         Detached => Reply::Detached,
         Created => Reply::Created,
         Deleted => Reply::Deleted,
@@ -210,7 +224,7 @@ fn make(rt: &impl Abort, model: &mut Model, slot: u32, byte: u8) {
     let cases = [
         (0, Start(0, Attach(slot))),
         (0, Answer(0, Free(0))),
-        (0, Start(0, Create(slot, 8, b"disk"))),
+        (0, Start(0, Create(slot, 8, Disk))),
         (0, Answer(0, Created)),
         (0, Start(0, Write(slot, 2, byte))),
         (0, Answer(0, Written(1))),
@@ -221,8 +235,7 @@ fn make(rt: &impl Abort, model: &mut Model, slot: u32, byte: u8) {
 /// A trace is judged.
 fn judge_trace(rt: &impl Abort, alloc: Global, trace: &Trace) -> Result<(), NoMemory> {
     let (name, images, appliances, made, parts) = *trace;
-    assert!(rt; 1 <= images && images <= 256);
-    assert!(rt; 1 <= appliances && appliances <= 8);
+    assert!(rt; 1 <= images && images <= 256 && 1 <= appliances && appliances <= 8);
     let mut model = Model::new(alloc, images, appliances)?;
     for (slot, byte) in made {
         make(rt, &mut model, *slot, *byte);
@@ -242,7 +255,7 @@ const LEAST: &[Case] = &[
     (3, Answer(1, Full)),
     (4, Answer(0, Detached)),
     (4, Answer(0, Full)),
-    (6, Answer(0, Image(1, 8, 0, b"disk"))),
+    (6, Answer(0, Image(1, 8, 0, Disk))),
     (7, Answer(0, AlreadyAttached)),
     (7, Answer(0, NoImage)),
     (0, Answer(0, Free(0))),
@@ -259,7 +272,7 @@ const MADE_AGAIN: &[Case] = &[
     (6, Answer(0, Written(1))),
     (6, Answer(0, Written(3))),
     (0, Answer(0, Written(2))),
-    (0, Start(0, Create(0, 8, b"disk"))),
+    (0, Start(0, Create(0, 8, Disk))),
     (8, Answer(0, Created)),
     (0, Answer(0, Exists)),
     (0, Start(0, Read(0, 2))),
@@ -278,7 +291,7 @@ const MADE_AGAIN: &[Case] = &[
     (8, Answer(0, Data(0))),
     (7, Answer(0, NotAttached)),
     (0, Answer(0, NoImage)),
-    (0, Start(0, Create(0, 4, b"other"))),
+    (0, Start(0, Create(0, 4, Other))),
     (0, Answer(0, Created)),
     (0, Start(0, Read(0, 2))),
     (6, Answer(0, Data(9))),
@@ -289,40 +302,63 @@ const MADE_AGAIN: &[Case] = &[
     (8, Answer(0, Detached)),
     (0, Answer(0, NotAttached)),
     (0, Start(0, Attach(0))),
-    (6, Answer(0, Image(1, 4, 0, b"other"))),
-    (6, Answer(0, Image(2, 8, 0, b"other"))),
-    (6, Answer(0, Image(2, 4, 1, b"other"))),
-    (6, Answer(0, Image(2, 4, 0, b"disk"))),
+    (6, Answer(0, Image(1, 4, 0, Other))),
+    (6, Answer(0, Image(2, 8, 0, Other))),
+    (6, Answer(0, Image(2, 4, 1, Other))),
+    (6, Answer(0, Image(2, 4, 0, Disk))),
     (6, Answer(0, Free(2))),
-    (0, Answer(0, Image(2, 4, 0, b"other"))),
+    (0, Answer(0, Image(2, 4, 0, Other))),
 ];
 
-const ATTACHED: &[Case] = &[(0, Start(0, Attach(0))), (0, Answer(0, Free(0)))];
-
-const ATTACHED_AGAIN: &[Case] = &[
+/// An image of this size is to be made, twice. It can't be.
+const OF_ZERO: &[Case] = &[
+    (0, Start(0, Attach(0))),
+    (0, Answer(0, Free(0))),
+    (0, Start(0, Create(0, 0, Unnamed))),
+    (0, Answer(0, OutOfRange(GREATEST_SIZE))),
     (0, Crash(0)),
     (0, Start(0, Attach(0))),
     (0, Answer(0, Free(0))),
+    (0, Start(0, Create(0, 0, Unnamed))),
+    (8, Answer(0, Created)),
 ];
 
-/// An image of this size is to be made.
-const OF_ZERO: &[Case] = &[(0, Start(0, Create(0, 0, b"")))];
-
-const OF_ONE: &[Case] = &[(0, Start(0, Create(0, 1, b"")))];
-
-const OF_MOST: &[Case] = &[(0, Start(0, Create(0, GREATEST_SIZE, b"")))];
-
-const OF_MORE: &[Case] = &[(0, Start(0, Create(0, GREATEST_SIZE + 1, b"")))];
-
-/// It can't be.
-const IS_REFUSED: &[Case] = &[(0, Answer(0, OutOfRange(GREATEST_SIZE)))];
-
-const IS_NOT_MADE: &[Case] = &[(8, Answer(0, Created))];
+const OF_MORE: &[Case] = &[
+    (0, Start(0, Attach(0))),
+    (0, Answer(0, Free(0))),
+    (0, Start(0, Create(0, GREATEST_SIZE + 1, Unnamed))),
+    (0, Answer(0, OutOfRange(GREATEST_SIZE))),
+    (0, Crash(0)),
+    (0, Start(0, Attach(0))),
+    (0, Answer(0, Free(0))),
+    (0, Start(0, Create(0, GREATEST_SIZE + 1, Unnamed))),
+    (8, Answer(0, Created)),
+];
 
 /// It can.
-const IS_NOT_REFUSED: &[Case] = &[(7, Answer(0, OutOfRange(GREATEST_SIZE)))];
+const OF_ONE: &[Case] = &[
+    (0, Start(0, Attach(0))),
+    (0, Answer(0, Free(0))),
+    (0, Start(0, Create(0, 1, Unnamed))),
+    (7, Answer(0, OutOfRange(GREATEST_SIZE))),
+    (0, Crash(0)),
+    (0, Start(0, Attach(0))),
+    (0, Answer(0, Free(0))),
+    (0, Start(0, Create(0, 1, Unnamed))),
+    (0, Answer(0, Created)),
+];
 
-const IS_MADE: &[Case] = &[(0, Answer(0, Created))];
+const OF_MOST: &[Case] = &[
+    (0, Start(0, Attach(0))),
+    (0, Answer(0, Free(0))),
+    (0, Start(0, Create(0, GREATEST_SIZE, Unnamed))),
+    (7, Answer(0, OutOfRange(GREATEST_SIZE))),
+    (0, Crash(0)),
+    (0, Start(0, Attach(0))),
+    (0, Answer(0, Free(0))),
+    (0, Start(0, Create(0, GREATEST_SIZE, Unnamed))),
+    (0, Answer(0, Created)),
+];
 
 const NO_SLOT: &[Case] = &[
     (0, Start(0, Attach(2))),
@@ -340,9 +376,9 @@ const NO_SLOT: &[Case] = &[
 const TAKEN_OVER: &[Case] = &[
     (0, Start(0, Write(1, 2, 9))),
     (0, Start(1, Attach(1))),
-    (6, Answer(1, Image(1, 8, 3, b"disk"))),
-    (6, Answer(1, Image(1, 8, 1, b""))),
-    (0, Answer(1, Image(1, 8, 1, b"disk"))),
+    (6, Answer(1, Image(1, 8, 3, Disk))),
+    (6, Answer(1, Image(1, 8, 1, Unnamed))),
+    (0, Answer(1, Image(1, 8, 1, Disk))),
     (5, Answer(0, Written(2))),
     (0, Start(1, Read(1, 2))),
     (6, Answer(1, Data(9))),
@@ -357,7 +393,7 @@ const TAKEN_OVER: &[Case] = &[
     (0, Answer(0, NotAttached)),
     (0, Start(1, Write(1, 2, 5))),
     (0, Start(2, Attach(1))),
-    (0, Answer(2, Image(1, 8, 2, b"disk"))),
+    (0, Answer(2, Image(1, 8, 2, Disk))),
     (5, Answer(1, Written(2))),
     (0, Start(2, Read(1, 2))),
     (6, Answer(2, Data(7))),
@@ -367,7 +403,7 @@ const TAKEN_OVER: &[Case] = &[
 const OWNER: &[Case] = &[
     (0, Start(0, Write(0, 2, 9))),
     (0, Start(1, Attach(0))),
-    (0, Answer(1, Image(1, 8, 1, b"disk"))),
+    (0, Answer(1, Image(1, 8, 1, Disk))),
     (0, Start(1, Write(0, 2, 5))),
     (0, Answer(0, Full)),
     (0, Answer(1, Written(2))),
@@ -376,8 +412,8 @@ const OWNER: &[Case] = &[
     (0, Start(1, Write(0, 2, 6))),
     (0, Answer(1, Full)),
     (0, Start(2, Attach(0))),
-    (6, Answer(2, Image(1, 8, 3, b"disk"))),
-    (0, Answer(2, Image(1, 8, 2, b"disk"))),
+    (6, Answer(2, Image(1, 8, 3, Disk))),
+    (0, Answer(2, Image(1, 8, 2, Disk))),
 ];
 
 /// A write of the first image begins.
@@ -401,8 +437,8 @@ const NO_SESSION: &[Case] = &[
 /// The next attach shows that the image doesn't have the write.
 const WITHOUT: &[Case] = &[
     (0, Start(1, Attach(0))),
-    (6, Answer(1, Image(1, 8, 3, b"disk"))),
-    (0, Answer(1, Image(1, 8, 1, b"disk"))),
+    (6, Answer(1, Image(1, 8, 3, Disk))),
+    (0, Answer(1, Image(1, 8, 1, Disk))),
     (0, Start(1, Read(0, 2))),
     (6, Answer(1, Data(9))),
     (0, Answer(1, Data(7))),
@@ -411,25 +447,32 @@ const WITHOUT: &[Case] = &[
 /// The next attach shows that the image has it.
 const WITH: &[Case] = &[
     (0, Start(1, Attach(0))),
-    (6, Answer(1, Image(1, 8, 3, b"disk"))),
-    (0, Answer(1, Image(1, 8, 2, b"disk"))),
+    (6, Answer(1, Image(1, 8, 3, Disk))),
+    (0, Answer(1, Image(1, 8, 2, Disk))),
     (0, Start(1, Read(0, 2))),
     (6, Answer(1, Data(7))),
     (0, Answer(1, Data(9))),
 ];
 
-/// A flush of the second image is refused.
-const FLUSHES: &[Case] = &[(0, Start(0, Flush(1)))];
-
-const IS_BUSY: &[Case] = &[(0, Answer(0, Busy))];
-
-const FAILS: &[Case] = &[(0, Answer(0, ReadFault))];
-
-const IS_FULL: &[Case] = &[(0, Answer(0, Full))];
-
-const IS_DAMAGED: &[Case] = &[(0, Answer(0, Damaged))];
-
-const STILL_ATTACHED: &[Case] = &[
+/// A flush of the second image is refused, which stays attached.
+const REFUSED: &[Case] = &[
+    (0, Start(0, Flush(1))),
+    (0, Answer(0, Busy)),
+    (0, Start(0, Read(1, 2))),
+    (7, Answer(0, NotAttached)),
+    (0, Answer(0, Data(8))),
+    (0, Start(0, Flush(1))),
+    (0, Answer(0, ReadFault)),
+    (0, Start(0, Read(1, 2))),
+    (7, Answer(0, NotAttached)),
+    (0, Answer(0, Data(8))),
+    (0, Start(0, Flush(1))),
+    (0, Answer(0, Full)),
+    (0, Start(0, Read(1, 2))),
+    (7, Answer(0, NotAttached)),
+    (0, Answer(0, Data(8))),
+    (0, Start(0, Flush(1))),
+    (0, Answer(0, Damaged)),
     (0, Start(0, Read(1, 2))),
     (7, Answer(0, NotAttached)),
     (0, Answer(0, Data(8))),
@@ -471,7 +514,7 @@ const CLAIMING: &[&[Case]] = &[
     CLAIMS,
     &[(0, Start(0, Reclaim))],
     CLAIMS,
-    &[(0, Start(0, Create(0, 8, b"disk")))],
+    &[(0, Start(0, Create(0, 8, Disk)))],
     COUNTS,
     &[(0, Start(0, Detach(0)))],
     COUNTS_NOTHING,
@@ -520,62 +563,10 @@ const TRACES: [&Trace; 18] = [
         &[(0, 9)],
         &[MADE_AGAIN],
     ),
-    &(
-        "an image of no block is refused",
-        1,
-        1,
-        &[],
-        &[
-            ATTACHED,
-            OF_ZERO,
-            IS_REFUSED,
-            ATTACHED_AGAIN,
-            OF_ZERO,
-            IS_NOT_MADE,
-        ],
-    ),
-    &(
-        "an image of one block is made",
-        1,
-        1,
-        &[],
-        &[
-            ATTACHED,
-            OF_ONE,
-            IS_NOT_REFUSED,
-            ATTACHED_AGAIN,
-            OF_ONE,
-            IS_MADE,
-        ],
-    ),
-    &(
-        "an image of the most blocks is made",
-        1,
-        1,
-        &[],
-        &[
-            ATTACHED,
-            OF_MOST,
-            IS_NOT_REFUSED,
-            ATTACHED_AGAIN,
-            OF_MOST,
-            IS_MADE,
-        ],
-    ),
-    &(
-        "an image of more blocks is refused",
-        1,
-        1,
-        &[],
-        &[
-            ATTACHED,
-            OF_MORE,
-            IS_REFUSED,
-            ATTACHED_AGAIN,
-            OF_MORE,
-            IS_NOT_MADE,
-        ],
-    ),
+    &("an image of no block is refused", 1, 1, &[], &[OF_ZERO]),
+    &("an image of one block is made", 1, 1, &[], &[OF_ONE]),
+    &("an image of the most blocks is made", 1, 1, &[], &[OF_MOST]),
+    &("an image of more blocks is refused", 1, 1, &[], &[OF_MORE]),
     &(
         "a slot that there is not has no image",
         2,
@@ -639,26 +630,7 @@ const TRACES: [&Trace; 18] = [
         MADE_TWO,
         &[WRITING, CRASH, NO_SESSION, WITH],
     ),
-    &(
-        "other refusals end no session",
-        2,
-        1,
-        &[(1, 8)],
-        &[
-            FLUSHES,
-            IS_BUSY,
-            STILL_ATTACHED,
-            FLUSHES,
-            FAILS,
-            STILL_ATTACHED,
-            FLUSHES,
-            IS_FULL,
-            STILL_ATTACHED,
-            FLUSHES,
-            IS_DAMAGED,
-            STILL_ATTACHED,
-        ],
-    ),
+    &("other refusals end no session", 2, 1, &[(1, 8)], &[REFUSED]),
     &(
         "a boot without claims says so of commands that claim",
         1,

@@ -226,53 +226,64 @@ fn a_line_that_is_not_built_is_refused(rt: HostRuntime) -> Result<(), NoMemory> 
     refuses(&rt, rt.alloc(), NOT_BUILT)
 }
 
-/// The greatest number and the first too great one: of 32 bits, of a reading, and of 64 bits.
-const SMALL: [&[u8]; 2] = [b"4294967295", b"4294967296"];
-
-const READING: [&[u8]; 2] = [b"281474976710655", b"281474976710656"];
-
-const BACK: [&[u8]; 2] = [b"18446744073709551615", b"18446744073709551616"];
-
-/// What stands before the number, the greatest and the first too great one, what follows.
-const LIMITS: &[(&[u8], [&[u8]; 2], &[u8])] = &[
-    (b"tick ", SMALL, b""),
-    (b"run ", SMALL, b""),
-    (b"crash ", SMALL, b""),
-    (b"fault ", SMALL, b""),
-    (b"start ", SMALL, b" attach 0"),
-    (b"start 1 attach ", SMALL, b""),
-    (b"start 1 detach ", SMALL, b""),
-    (b"start 1 create ", SMALL, b" 8 a"),
-    (b"start 1 create 0 ", SMALL, b" a"),
-    (b"start 1 delete ", SMALL, b""),
-    (b"start 1 reserve ", [b"256", b"257"], b""),
-    (b"start 1 read ", SMALL, b" 0"),
-    (b"start 1 read 0 ", SMALL, b""),
-    (b"start 1 write 0 ", SMALL, b" all:00"),
-    (b"land 0 ", BACK, b" 0"),
-    (b"land 0 0 ", [b"255", b"256"], b""),
-    (b"clock 0 ", READING, b""),
-    (b"miss 0 ", READING, b""),
-    (b"upto ", SMALL, b" jdata"),
-];
-
-/// A line with this number is the first one that is bad, or none is where `bad` is 0.
-fn is_bad_with(
-    rt: &impl Abort,
-    alloc: Global,
-    (before, number, after): (&[u8], &[u8], &[u8]),
-    bad: u64,
-) -> Result<(), NoMemory> {
-    is_bad(rt, alloc, &[WORLD, before, number, after, RUN], bad)
+/// The limit of a number: of a byte, of a reservation, of 32 bits, of a reading and of 64 bits.
+#[derive(Clone, Copy)]
+enum Limit {
+    Byte,
+    Reservation,
+    Small,
+    Reading,
+    Long,
 }
+
+use Limit::{Byte, Long, Reading, Reservation, Small};
+
+/// The greatest number and the first too great one.
+fn spelled(limit: Limit) -> (&'static [u8], &'static [u8]) {
+    match limit {
+        Byte => (b"255", b"256"),
+        Reservation => (b"256", b"257"),
+        Small => (b"4294967295", b"4294967296"),
+        Reading => (b"281474976710655", b"281474976710656"),
+        Long => (b"18446744073709551615", b"18446744073709551616"),
+    }
+}
+
+/// What stands before the number, its limit, what follows.
+const LIMITS: &[(&[u8], Limit, &[u8])] = &[
+    (b"tick ", Small, b""),
+    (b"run ", Small, b""),
+    (b"crash ", Small, b""),
+    (b"fault ", Small, b""),
+    (b"start ", Small, b" attach 0"),
+    (b"start 1 attach ", Small, b""),
+    (b"start 1 detach ", Small, b""),
+    (b"start 1 create ", Small, b" 8 a"),
+    (b"start 1 create 0 ", Small, b" a"),
+    (b"start 1 delete ", Small, b""),
+    (b"start 1 reserve ", Reservation, b""),
+    (b"start 1 read ", Small, b" 0"),
+    (b"start 1 read 0 ", Small, b""),
+    (b"start 1 write 0 ", Small, b" all:00"),
+    (b"land 0 ", Long, b" 0"),
+    (b"land 0 0 ", Byte, b""),
+    (b"clock 0 ", Reading, b""),
+    (b"miss 0 ", Reading, b""),
+    (b"upto ", Small, b" jdata"),
+];
 
 #[test]
 fn each_number_has_its_limit(rt: HostRuntime) -> Result<(), NoMemory> {
-    for &(before, [most, past], after) in LIMITS {
-        is_bad_with(&rt, rt.alloc(), (before, most, after), 0)?;
-        is_bad_with(&rt, rt.alloc(), (before, past, after), 3)?;
-        is_bad_with(&rt, rt.alloc(), (before, b"00", after), 3)?;
-        is_bad_with(&rt, rt.alloc(), (before, b"", after), 3)?;
+    for &(before, limit, after) in LIMITS {
+        let (most, past) = spelled(limit);
+        for (number, line) in [
+            (most, 0),
+            (past, 3),
+            (b"00".as_slice(), 3),
+            (b"".as_slice(), 3),
+        ] {
+            is_bad(&rt, rt.alloc(), &[WORLD, before, number, after, RUN], line)?;
+        }
     }
     Ok(())
 }

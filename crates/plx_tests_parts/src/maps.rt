@@ -43,10 +43,8 @@ fn fresh_blocks_are_taken_in_order(rt: HostRuntime) {
 fn spelled(blocks: u32, all: bool, place: usize, byte: u8) -> [u8; 4096] {
     let mut bytes = [0; 4096];
     bytes[0] = 1;
-    if all {
-        for taken in bytes.iter_mut().take(blocks as usize / 8) {
-            *taken = 0xff;
-        }
+    if all && let Some(taken) = bytes.get_mut(..blocks as usize / 8) {
+        taken.fill(0xff);
     }
     if let Some(changed) = bytes.get_mut(place) {
         *changed = byte;

@@ -120,171 +120,181 @@ fn is_refused(record: Record, bytes: &[u8; 4096]) -> bool {
 
 /// The bytes with others from a place on.
 fn changed(mut bytes: [u8; 4096], place: usize, others: &[u8]) -> [u8; 4096] {
-    for (old, new) in bytes.iter_mut().skip(place).zip(others) {
-        *old = *new;
+    if let Some(changed) = bytes.get_mut(place..place.saturating_add(others.len())) {
+        changed.copy_from_slice(others);
     }
     bytes
 }
 
-/// The place of bytes, and what stands there instead.
-type Change = (usize, &'static [u8]);
+/// A byte or a number that stands at a place instead of what is there.
+#[derive(Clone, Copy)]
+enum Change {
+    Byte(usize, u8),
+    Number(usize, u64),
+}
+
+use Change::{Byte, Number};
+
+/// The bytes with the change.
+fn with(bytes: [u8; 4096], change: Change) -> [u8; 4096] {
+    match change {
+        Byte(place, byte) => changed(bytes, place, &[byte]),
+        Number(place, number) => changed(bytes, place, &number.to_le_bytes()),
+    }
+}
 
 /// A free lease with leftovers, and no lease.
 const NO_FREE_LEASE: &[Change] = &[
-    (12, b"\x01"),
-    (16, b"\x01"),
-    (31, b"\x01"),
-    (32, b"\x01"),
-    (40, b"\x01"),
-    (48, b"\x01"),
-    (55, b"\x01"),
-    (56, b"\x01"),
-    (0, b"\0\0\0\0\0\0\0\0"),
+    Byte(12, 0x01),
+    Byte(16, 0x01),
+    Byte(31, 0x01),
+    Byte(32, 0x01),
+    Byte(40, 0x01),
+    Byte(48, 0x01),
+    Byte(55, 0x01),
+    Byte(56, 0x01),
+    Number(0, 0),
 ];
 
 /// The magic, the state, the unnamed bytes, a number of 2^40, a sample of 2^48, an `until` of 2^49,
 /// one less than the sample and 10,000, and bytes after the fields.
 const NO_LEASE: &[Change] = &[
-    (7, b"2"),
-    (8, b"\0"),
-    (8, b"\x02"),
-    (12, b"\x01"),
-    (15, b"\x01"),
-    (37, b"\x01"),
-    (46, b"\x01"),
-    (54, b"\x02"),
-    (48, b"\xf7"),
-    (56, b"\x01"),
-    (4095, b"\x01"),
+    Byte(7, b'2'),
+    Byte(8, 0),
+    Byte(8, 0x02),
+    Byte(12, 0x01),
+    Byte(15, 0x01),
+    Byte(37, 0x01),
+    Byte(46, 0x01),
+    Byte(54, 0x02),
+    Byte(48, 0xf7),
+    Byte(56, 0x01),
+    Byte(4095, 0x01),
 ];
 
 /// A number of 2^40, a sample of 2^48, and an `until` of 2^49.
 const PAST_LAST_LEASE: &[Change] = &[
-    (32, b"\0\0\0\0\0\x01\0\0"),
-    (40, b"\0\0\0\0\0\0\x01\0"),
-    (48, b"\0\0\0\0\0\0\x02\0"),
+    Number(32, 1 << 40),
+    Number(40, 1 << 48),
+    Number(48, 1 << 49),
 ];
 
 /// A free slot with leftovers of an image.
 const NO_FREE_IMAGE: &[Change] = &[
-    (16, b"\x01"),
-    (20, b"\x01"),
-    (24, b"\x01"),
-    (32, b"\x01"),
-    (40, b"\x01"),
-    (44, b"\x01"),
-    (48, b"\x01"),
-    (79, b"\x01"),
-    (80, b"\x01"),
+    Byte(16, 0x01),
+    Byte(20, 0x01),
+    Byte(24, 0x01),
+    Byte(32, 0x01),
+    Byte(40, 0x01),
+    Byte(44, 0x01),
+    Byte(48, 0x01),
+    Byte(79, 0x01),
+    Byte(80, 0x01),
 ];
 
 /// The magic, the state, generation 0, size 0, a size above 2^27, 129 snapshots, a root of 2^26 and
 /// block 0 with the mark, 2^48 applied, labels that are too long, too short and not padded, and
 /// bytes after the fields.
 const NO_IMAGE: &[Change] = &[
-    (0, b"Q"),
-    (8, b"\x02"),
-    (12, b"\0"),
-    (16, b"\0"),
-    (19, b"\x08"),
-    (20, b"\x81"),
-    (27, b"\x04"),
-    (24, b"\0"),
-    (38, b"\x01"),
-    (40, b"\x21"),
-    (40, b"\0"),
-    (40, b"\x02"),
-    (44, b"\x01"),
-    (48, b"-"),
-    (48, b" "),
-    (48, b"\x7f"),
-    (49, b"b"),
-    (79, b"\x01"),
-    (80, b"\x01"),
-    (4095, b"\x01"),
+    Byte(0, b'Q'),
+    Byte(8, 0x02),
+    Byte(12, 0),
+    Byte(16, 0),
+    Byte(19, 0x08),
+    Byte(20, 0x81),
+    Byte(27, 0x04),
+    Byte(24, 0),
+    Byte(38, 0x01),
+    Byte(40, 0x21),
+    Byte(40, 0),
+    Byte(40, 0x02),
+    Byte(44, 0x01),
+    Byte(48, b'-'),
+    Byte(48, b' '),
+    Byte(48, 0x7f),
+    Byte(49, b'b'),
+    Byte(79, 0x01),
+    Byte(80, 0x01),
+    Byte(4095, 0x01),
 ];
 
 /// The mark, a root of 2^26, a flag of 2, and the unnamed bytes.
 const NO_ENTRY: &[Change] = &[
-    (4071, b"\x80"),
-    (4067, b"\x04"),
-    (4072, b"\x02"),
-    (4075, b"\x01"),
-    (4076, b"\x01"),
-    (4079, b"\x01"),
-    (4088, b"\x01"),
-    (4095, b"\x01"),
+    Byte(4071, 0x80),
+    Byte(4067, 0x04),
+    Byte(4072, 0x02),
+    Byte(4075, 0x01),
+    Byte(4076, 0x01),
+    Byte(4079, 0x01),
+    Byte(4088, 0x01),
+    Byte(4095, 0x01),
 ];
 
 /// The magic, generation 0, a virtual block of 2^27, a number of 2^48, and bytes after the fields.
 const NO_DESCRIPTOR: &[Change] = &[
-    (0, b"Q"),
-    (8, b"\0"),
-    (15, b"\x08"),
-    (22, b"\x01"),
-    (24, b"\x01"),
-    (4095, b"\x01"),
+    Byte(0, b'Q'),
+    Byte(8, 0),
+    Byte(15, 0x08),
+    Byte(22, 0x01),
+    Byte(24, 0x01),
+    Byte(4095, 0x01),
 ];
 
-/// A record, the byte that fills the block around it, where the record begins, its bytes but for
-/// zeros at the end, and bytes at a place with which the block is outside the format.
-type Spelling = (
-    Record,
-    u8,
-    usize,
-    &'static [u8],
-    &'static [(usize, &'static [u8])],
-);
+/// The changes with which the block of a record is outside the format.
+fn changes(record: Record) -> &'static [Change] {
+    match record {
+        Record::FreeLease => NO_FREE_LEASE,
+        Record::Lease => NO_LEASE,
+        Record::LastLease => PAST_LAST_LEASE,
+        Record::FreeImage => NO_FREE_IMAGE,
+        Record::Image => NO_IMAGE,
+        Record::Entry => NO_ENTRY,
+        Record::Descriptor => NO_DESCRIPTOR,
+    }
+}
+
+/// A record, the byte that fills the block around it, where the record begins, and its bytes but
+/// for zeros at the end.
+type Spelling = (Record, u8, usize, &'static [u8]);
 
 const SPELLINGS: &[Spelling] = &[
-    (Record::FreeLease, 0, 0, b"PLXLEAS1", NO_FREE_LEASE),
+    (Record::FreeLease, 0, 0, b"PLXLEAS1"),
     (
         Record::Lease,
         0,
         0,
         b"PLXLEAS1\x01\0\0\0\0\0\0\0\x01\0\0\0\0\0\0\0\0\0\0\0\0\0\0\0\0\0\0\0\0\0\0\0\xe8\x03\0\0\0\0\0\0\xf8\x2a\0\0\0\0\0\0",
-        NO_LEASE,
     ),
     (
         Record::LastLease,
         0,
         0,
         b"PLXLEAS1\x01\0\0\0\0\0\0\0\xff\xff\xff\xff\xff\xff\xff\xff\xff\xff\xff\xff\xff\xff\xff\xff\xff\xff\xff\xff\xff\0\0\0\xff\xff\xff\xff\xff\xff\0\0\xff\xff\xff\xff\xff\xff\x01\0",
-        PAST_LAST_LEASE,
     ),
-    (
-        Record::FreeImage,
-        0,
-        0,
-        b"PLXIMAG1\0\0\0\0\x05\0\0\0",
-        NO_FREE_IMAGE,
-    ),
+    (Record::FreeImage, 0, 0, b"PLXIMAG1\0\0\0\0\x05\0\0\0"),
     (
         Record::Image,
         0,
         0,
         b"PLXIMAG1\x01\0\0\0\x01\0\0\0\x08\0\0\0\0\0\0\0\x0e\0\0\0\0\0\0\x80\x01\0\0\0\0\0\0\0\x01\0\0\0\0\0\0\0a",
-        NO_IMAGE,
     ),
     (
         Record::Entry,
         7,
         4064,
         b"\x0e\0\0\0\0\0\0\0\x01\0\0\0\0\0\0\0\x02\x01\0\0\0\0\0\0\0\0\0\0\0\0\0\0",
-        NO_ENTRY,
     ),
     (
         Record::Descriptor,
         0,
         0,
         b"PLXJRNL1\x03\x00\x00\x00\x04\x03\x02\x01\x66\x55\x44\x33\x22\x11\x00\x00",
-        NO_DESCRIPTOR,
     ),
 ];
 
 #[test]
 fn each_record_is_written_and_read_as_spelled(rt: HostRuntime) {
-    for &(record, fill, place, spelled, _) in SPELLINGS {
+    for &(record, fill, place, spelled) in SPELLINGS {
         let bytes = changed([fill; 4096], place, spelled);
         assert!(rt;
             written(record) == bytes && is_read(record, &bytes),
@@ -295,13 +305,12 @@ fn each_record_is_written_and_read_as_spelled(rt: HostRuntime) {
 
 #[test]
 fn bytes_outside_the_format_are_refused(rt: HostRuntime) {
-    for &(record, fill, place, spelled, changes) in SPELLINGS {
+    for &(record, fill, place, spelled) in SPELLINGS {
         let bytes = changed([fill; 4096], place, spelled);
-        for (place, others) in changes {
-            let other = changed(bytes, *place, others);
+        for (at, change) in changes(record).iter().enumerate() {
             assert!(rt;
-                is_refused(record, &other),
-                "{others:?} at {place} of {spelled:?}"
+                is_refused(record, &with(bytes, *change)),
+                "change {at} of {spelled:?}"
             );
         }
     }

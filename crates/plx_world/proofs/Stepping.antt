@@ -18,6 +18,7 @@ use Rattle.plx_rules.specs.World.{IsReadingAt, Step, stands, setting_of, goes_on
 use Rattle.plx_world.specs.Answering.{GivesBlock, IsAnswered, asked_by, pending_of}
 use Rattle.plx_world.specs.Standing.{WorldStands, StandsOn, Steps}
 use Rattle.plx_world.specs.declared.world.World.{World}
+use Rattle.plx_world.proofs.Inverted as inverted
 use Rattle.plx_world.proofs.Inverted.{step-read, step-done, step-miss, step-reading, AsksReading, clock, wait}
 use Rattle.plx_world.proofs.Placed.{asked-read, asked-write, asked-clock, asked-until, AsksClockAt, first, later}
 use Rattle.plx_world.proofs.Seating.{if-none, if-some}
@@ -51,6 +52,12 @@ abbrev pub asks_write : Option Ask → Bool
 asks_write (Some (ask.Write kind block guard)) = true
 asks_write other = false
 
+-- whether either is
+abbrev pub asks_device : Option Ask → Bool
+asks_device (Some (ask.Read block)) = true
+asks_device (Some (ask.Write kind block guard)) = true
+asks_device other = false
+
 -- whether a reading is
 abbrev pub asks_reading : Option Ask → Bool
 asks_reading (Some ask.Clock) = true
@@ -69,6 +76,19 @@ known-ask world a asked one is known = subst (λ (x : Ask). IsAsk world a (Some 
 pub reads-none : (old : World) (a : ApplianceNo) (asked : Option Ask) → IsAsk old a asked → asks_read asked ≡ false → Steps old old (event.Read a) false
 reads-none old a asked is none = impossible old old (event.Read a) (λ w h. h)
     (λ w v h step. let found = step-read step in apart asks_read asked (Some (ask.Read found.0)) none refl (is w h ∙ found.1))
+
+-- neither a read nor a write is
+unasked : (a : ApplianceNo) (asked : Option Ask) (w : rules.World) → asks_device asked ≡ false →
+    asked ≡ asked_by w a.0 → inverted.AsksDevice w a → ⊥
+unasked a asked w none is (inverted.read block at) =
+    apart asks_device asked (Some (ask.Read block)) none refl (is ∙ at)
+unasked a asked w none is (inverted.write kind block guard at) =
+    apart asks_device asked (Some (ask.Write kind block guard)) none refl (is ∙ at)
+
+pub faults-none : (old : World) (a : ApplianceNo) (asked : Option Ask) → IsAsk old a asked →
+    asks_device asked ≡ false → Steps old old (event.Fault a) false
+faults-none old a asked is none = impossible old old (event.Fault a) (λ w h. h)
+    (λ w v h step. unasked a asked w none (is w h) (inverted.step-fault step))
 
 -- no write is
 pub dones-none : (old : World) (a : ApplianceNo) (asked : Option Ask) → IsAsk old a asked → asks_write asked ≡ false → Steps old old (event.Done a) false

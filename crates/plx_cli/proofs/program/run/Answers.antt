@@ -1,25 +1,193 @@
-use Rattle.std.proofs.Common.{◌∙◌, length}
-use Rattle.plx_cli.proofs.Given.{answers-bad, answers-schedule, ends-given, ends-taken, not-long}
+use Rattle.std.proofs.Common.{inl, inr, le_refl, length, refl}
+use Rattle.plx_cli.proofs.Given.{answers-bad, answers-schedule, ends-given, ends-taken, fits-not, fits-so, not-long, slice-ends, stops, takes-none}
+use Rattle.plx_cli.proofs.Statuses.{answers-only, answers-short, differs}
+use Rattle.plx_cli.specs.declared.status.Status.TheVariants.{Done, Usage, BadLine, SourceFault, SinkFault, TooLong}
 use Rattle.plx_cli.proofs.program.run.Goals as goal
 
-pub returns-in-Ok-clause-within : goal.returns-in-Ok-clause-within
-returns-in-Ok-clause-within g c = λ fits. (length c.in-Ok.bytes.items, c.in-Ok.ensures.short, ends-taken _ _ _ c.in-Ok.ensures.ok)
+pub returns-then-not-is_replay : goal.returns-then-not-is_replay
+returns-then-not-is_replay g c = record {
+  headline = c.headline.ensures;
+  undamaged = c.never_damaged.ensures;
+  exclusion = c.exclusion.ensures;
+  guarding = c.guarding.ensures;
+  allocated = c.hands_are_allocated.ensures;
+  apart = c.hands_are_apart.ensures;
+  takes = c.takes_set.ensures;
+  gives = c.gives_clear.ensures;
+  crash = c.crash_leaves_a_fresh_boot.ensures;
+  rules = c.boots_keep_rules.ensures;
+  once = c.trace_once.ensures;
+  told = c.told_once.ensures;
+  schedule = c.schedule_once.ensures;
+  done = λ is. differs _ Done refl is;
+  bad = λ is. differs _ BadLine refl is;
+  part = λ is. differs _ SinkFault refl is;
+  silent = λ undone named failed. refl;
+  usage = (
+    λ is fits.
+        fits-not _ _ c.as_slice.ensures.value c.if-not-is_replay.ensures.1 fits,
+    λ unfit. refl,
+  );
+  idle = λ is. refl;
+  source = λ is. differs _ SourceFault refl is;
+  sink = λ is. differs _ SinkFault refl is;
+  long = λ is. differs _ TooLong refl is;
+  within = λ short. takes-none _;
+  exact = λ bytes line fits given first.
+      fits-not _ _ c.as_slice.ensures.value c.if-not-is_replay.ensures.1 fits;
+  complete = λ bytes first events fits given schedule sound.
+      fits-not _ _ c.as_slice.ensures.value c.if-not-is_replay.ensures.1 fits;
+  counts = (le_refl _, le_refl _);
+}
 
-pub returns-in-Ok-clause-exact : goal.returns-in-Ok-clause-exact
-returns-in-Ok-clause-exact g c bytes line fits given first =
-    let same = c.as_slice-in-Ok.ensures.value ∙ ends-given _ _ _ bytes c.in-Ok.ensures.ok given.tells in
-    answers-bad c.answer.result _ bytes _ _ line c.answer.ensures.status c.answer.ensures.done same first
+pub returns-in-Ok : goal.returns-in-Ok
+returns-in-Ok g c =
+    let ends = slice-ends _ _ _ _ c.as_slice-in-Ok.ensures.value c.in-Ok.ensures.ok in
+    record {
+      headline = c.headline.ensures;
+      undamaged = c.never_damaged.ensures;
+      exclusion = c.exclusion.ensures;
+      guarding = c.guarding.ensures;
+      allocated = c.hands_are_allocated.ensures;
+      apart = c.hands_are_apart.ensures;
+      takes = c.takes_set.ensures;
+      gives = c.gives_clear.ensures;
+      crash = c.crash_leaves_a_fresh_boot.ensures;
+      rules = c.boots_keep_rules.ensures;
+      once = c.trace_once.ensures;
+      told = c.told_once.ensures;
+      schedule = c.schedule_once.ensures;
+      done = λ is. (_, ends, c.answer.ensures.done is);
+      bad = λ is. (_, ends, c.answer.ensures.bad is);
+      part = λ is. (_, ends, c.answer.ensures.part is);
+      silent = λ undone named failed.
+          c.answer.ensures.silent (answers-short _ c.answer.ensures.status undone named failed);
+      usage = (
+        λ is. answers-only _ Usage c.answer.ensures.status refl refl refl refl is,
+        λ unfit. fits-so _ _ c.as_slice.ensures.value (c.if-not-is_replay.ensures.0 refl)
+            unfit,
+      );
+      idle = λ is. answers-only _ Usage c.answer.ensures.status refl refl refl refl is;
+      source = λ is. answers-only _ SourceFault c.answer.ensures.status refl refl refl refl is;
+      sink = c.answer.ensures.sink;
+      long = λ is. answers-only _ TooLong c.answer.ensures.status refl refl refl refl is;
+      within = λ short.
+          (length c.in-Ok.bytes.items, c.in-Ok.ensures.short, ends-taken _ _ _ c.in-Ok.ensures.ok);
+      exact = λ bytes line fits given first.
+          let same = ends-given _ _ _ bytes ends given.tells in
+          answers-bad c.answer.result _ bytes _ _ line c.answer.ensures.status
+          c.answer.ensures.done same first;
+      complete = λ bytes first events fits given schedule sound.
+          let same = ends-given _ _ _ bytes ends given.tells in
+          answers-schedule c.answer.result _ bytes _ _ _ _ first events c.answer.ensures.status
+          c.answer.ensures.bad c.answer.ensures.sink same schedule sound;
+      counts = (c.in-Ok.ensures.faults, c.answer.ensures.counts);
+    }
 
-pub returns-in-Ok-clause-complete : goal.returns-in-Ok-clause-complete
-returns-in-Ok-clause-complete g c bytes first events fits given schedule sound =
-    let same = c.as_slice-in-Ok.ensures.value ∙ ends-given _ _ _ bytes c.in-Ok.ensures.ok given.tells in
-    answers-schedule c.answer.result _ bytes _ _ _ _ first events c.answer.ensures.status c.answer.ensures.bad c.answer.ensures.sink same schedule sound
+pub returns-in-Err-Failed : goal.returns-in-Err-Failed
+returns-in-Err-Failed g c = record {
+  headline = c.headline.ensures;
+  undamaged = c.never_damaged.ensures;
+  exclusion = c.exclusion.ensures;
+  guarding = c.guarding.ensures;
+  allocated = c.hands_are_allocated.ensures;
+  apart = c.hands_are_apart.ensures;
+  takes = c.takes_set.ensures;
+  gives = c.gives_clear.ensures;
+  crash = c.crash_leaves_a_fresh_boot.ensures;
+  rules = c.boots_keep_rules.ensures;
+  once = c.trace_once.ensures;
+  told = c.told_once.ensures;
+  schedule = c.schedule_once.ensures;
+  done = λ is. differs _ Done refl is;
+  bad = λ is. differs _ BadLine refl is;
+  part = λ is. differs _ SinkFault refl is;
+  silent = λ undone named failed. refl;
+  usage = (
+    λ is. differs _ Usage refl is,
+    λ unfit. fits-so _ _ c.as_slice.ensures.value (c.if-not-is_replay.ensures.0 refl)
+        unfit,
+  );
+  idle = λ is. differs _ Usage refl is;
+  source = λ is. c.in-Err-Failed.ensures.failed (cc);
+  sink = λ is. differs _ SinkFault refl is;
+  long = λ is. differs _ TooLong refl is;
+  within = λ short.
+      c.in-Err-Failed.ensures.stopped (stops _ (inl c.in-Err-Failed.field-0-is));
+  exact = λ bytes line fits given first.
+      absurd (given.sound (c.in-Err-Failed.ensures.failed (cc)));
+  complete = λ bytes first events fits given schedule sound.
+      absurd (given.sound (c.in-Err-Failed.ensures.failed (cc)));
+  counts = (c.in-Err-Failed.ensures.faults, le_refl _);
+}
 
-pub returns-in-Err-Failed-clause-exact : goal.returns-in-Err-Failed-clause-exact
-returns-in-Err-Failed-clause-exact g c bytes line fits given first = absurd (given.sound (c.in-Err-Failed.ensures.failed (cc)))
+pub returns-in-Err-NoMemory : goal.returns-in-Err-NoMemory
+returns-in-Err-NoMemory g c = record {
+  headline = c.headline.ensures;
+  undamaged = c.never_damaged.ensures;
+  exclusion = c.exclusion.ensures;
+  guarding = c.guarding.ensures;
+  allocated = c.hands_are_allocated.ensures;
+  apart = c.hands_are_apart.ensures;
+  takes = c.takes_set.ensures;
+  gives = c.gives_clear.ensures;
+  crash = c.crash_leaves_a_fresh_boot.ensures;
+  rules = c.boots_keep_rules.ensures;
+  once = c.trace_once.ensures;
+  told = c.told_once.ensures;
+  schedule = c.schedule_once.ensures;
+  done = λ is. differs _ Done refl is;
+  bad = λ is. differs _ BadLine refl is;
+  part = λ is. differs _ SinkFault refl is;
+  silent = λ undone named failed. refl;
+  usage = (
+    λ is. differs _ Usage refl is,
+    λ unfit. fits-so _ _ c.as_slice.ensures.value (c.if-not-is_replay.ensures.0 refl)
+        unfit,
+  );
+  idle = λ is. differs _ Usage refl is;
+  source = λ is. differs _ SourceFault refl is;
+  sink = λ is. differs _ SinkFault refl is;
+  long = λ is. differs _ TooLong refl is;
+  within = λ short.
+      c.in-Err-NoMemory.ensures.stopped (stops _ (inr c.in-Err-NoMemory.field-0-is));
+  exact = λ bytes line fits given first. inr (inr refl);
+  complete = λ bytes first events fits given schedule sound. inr refl;
+  counts = (c.in-Err-NoMemory.ensures.faults, le_refl _);
+}
 
-pub returns-in-Err-Failed-clause-complete : goal.returns-in-Err-Failed-clause-complete
-returns-in-Err-Failed-clause-complete g c bytes first events fits given schedule sound = absurd (given.sound (c.in-Err-Failed.ensures.failed (cc)))
-
-pub returns-in-Err-TooLong-clause-complete : goal.returns-in-Err-TooLong-clause-complete
-returns-in-Err-TooLong-clause-complete g c bytes first events fits given schedule sound = absurd (not-long _ _ bytes _ _ (c.in-Err-TooLong.ensures.long (cc)) given)
+pub returns-in-Err-TooLong : goal.returns-in-Err-TooLong
+returns-in-Err-TooLong g c = record {
+  headline = c.headline.ensures;
+  undamaged = c.never_damaged.ensures;
+  exclusion = c.exclusion.ensures;
+  guarding = c.guarding.ensures;
+  allocated = c.hands_are_allocated.ensures;
+  apart = c.hands_are_apart.ensures;
+  takes = c.takes_set.ensures;
+  gives = c.gives_clear.ensures;
+  crash = c.crash_leaves_a_fresh_boot.ensures;
+  rules = c.boots_keep_rules.ensures;
+  once = c.trace_once.ensures;
+  told = c.told_once.ensures;
+  schedule = c.schedule_once.ensures;
+  done = λ is. differs _ Done refl is;
+  bad = λ is. differs _ BadLine refl is;
+  part = λ is. differs _ SinkFault refl is;
+  silent = λ undone named failed. refl;
+  usage = (
+    λ is. differs _ Usage refl is,
+    λ unfit. fits-so _ _ c.as_slice.ensures.value (c.if-not-is_replay.ensures.0 refl)
+        unfit,
+  );
+  idle = λ is. differs _ Usage refl is;
+  source = λ is. differs _ SourceFault refl is;
+  sink = λ is. differs _ SinkFault refl is;
+  long = λ is. c.in-Err-TooLong.ensures.long (cc);
+  within = λ short. absurd (short refl);
+  exact = λ bytes line fits given first.
+      absurd (not-long _ _ bytes _ _ (c.in-Err-TooLong.ensures.long (cc)) given);
+  complete = λ bytes first events fits given schedule sound.
+      absurd (not-long _ _ bytes _ _ (c.in-Err-TooLong.ensures.long (cc)) given);
+  counts = (c.in-Err-TooLong.ensures.faults, le_refl _);
+}

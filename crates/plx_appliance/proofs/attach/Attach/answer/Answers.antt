@@ -1,25 +1,68 @@
-use Rattle.std.proofs.Common.{refl, Some, None}
+use Rattle.std.proofs.Common.{◌≡◌, refl, Some, None, ◌∙◌}
 use Rattle.plx_rules.proofs.Nested.{nested}
 use Rattle.plx_lease.proofs.Asking.{claim-asks}
+use Rattle.plx_appliance.specs.Kept.{known_by}
+use Rattle.plx_appliance.specs.declared.attach.AttachAt.{AttachAt}
+use Rattle.plx_appliance.specs.declared.attach.AttachAt.TheVariants as attach
 use Rattle.plx_appliance.proofs.attach.Attach.answer.Goals as goal
 
-pub returns-in-None-clause-rest : goal.returns-in-None-clause-rest
-returns-in-None-clause-rest c = λ claims. rw c.in-Claim.is (nested _ _ _ _ (claim-asks c.args.self.now.claim) c.in-None.ensures.rest)
+-- an attach in its load isn't in its claim
+apart : (at : AttachAt) → at ≡ attach.Load → at ≡ attach.Claim → ⊥
+apart at load claim = absurd cc
 
-pub returns-in-None-clause-moves : goal.returns-in-None-clause-moves
-returns-in-None-clause-moves c =
+pub returns-in-None : goal.returns-in-None
+returns-in-None c =
     let e = c.in-None.ensures in
-    rw c.in-Claim.is (record { end = None; hold = e.hold; number = e.kept.number; slot = refl; leases = refl; goes_on = λ none at. refl })
+    let asks = claim-asks c.args.self.now.claim in
+    record {
+      rest = λ claims. rw c.in-Claim.is (nested _ _ _ _ asks e.rest);
+      setting = refl;
+      own = λ none. refl;
+      count = refl;
+      slots = refl;
+      leased = refl;
+      moves = rw c.in-Claim.is (record {
+        end = None;
+        hold = e.hold;
+        number = e.kept.number;
+        slot = refl;
+        leases = refl;
+        goes_on = λ none at. refl;
+      });
+    }
 
-pub returns-in-Some-clause-moves : goal.returns-in-Some-clause-moves
-returns-in-Some-clause-moves c =
+pub returns-in-Some : goal.returns-in-Some
+returns-in-Some c =
     let e = c.in-Some.ensures in
     let k = c.after_claim.ensures in
-    rw (c.in-Claim.is, k.claim) (record {
-      end = Some c.in-Some.end;
-      hold = e.hold;
-      number = e.kept.number;
-      slot = k.slot;
-      leases = k.leases;
-      goes_on = λ none at. absurd (cc (k.held none, at));
-    })
+    let asks = claim-asks c.args.self.now.claim in
+    let known = known_by c.args.sessions.now in
+    record {
+      rest = λ claims. rw c.in-Claim.is (k.rest (known claims) ∙ nested _ _ _ _ asks e.rest);
+      setting = k.setting;
+      own = λ none. k.own;
+      count = refl;
+      slots = refl;
+      leased = k.leased;
+      moves = rw (c.in-Claim.is, k.claim) (record {
+        end = Some c.in-Some.end;
+        hold = e.hold;
+        number = e.kept.number;
+        slot = k.slot;
+        leases = k.leases;
+        goes_on = λ none at. absurd (apart _ (k.held none) at);
+      });
+    }
+
+pub returns-in-Load : goal.returns-in-Load
+returns-in-Load c =
+    let e = c.answer-in-Load.ensures in
+    record {
+      rest = λ claims. rw c.in-Load.is (e.rest claims);
+      setting = rw e.image refl;
+      own = e.own;
+      count = e.count;
+      slots = e.slots;
+      leased = refl;
+      moves = rw c.in-Load.is (record { at = refl; leases = refl });
+    }
