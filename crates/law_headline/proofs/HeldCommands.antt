@@ -12,14 +12,14 @@ use Rattle.plx_commands.specs.Model.{Model, Slot}
 use Rattle.plx_commands.specs.Moves.{slot_after_attach}
 use Rattle.plx_commands.specs.Places.{at}
 use Rattle.plx_commands.specs.Replies.{is_in, row}
-use Rattle.plx_commands.specs.Reports.{same_flag, same_bytes, same_report, reported_image, IsReported}
+use Rattle.plx_commands.specs.Reports.{same_report, reported_image, IsReported}
 use Rattle.plx_commands.specs.declared.command.Command.{Command}
 use Rattle.plx_commands.specs.declared.command.Command.TheVariants.{Attach, Detach, Create, Delete, Read, Write, Flush, Reserve, Renew, Retire, Reclaim}
-use Rattle.plx_commands.specs.declared.reply.Report.{Report}
 use Rattle.plx_commands.specs.declared.reply.Reply.{Reply}
 use Rattle.plx_commands.specs.declared.reply.Reply.TheVariants.{Attached}
 use Rattle.plx_commands.proofs.Accepted.{ok-answers, other-answers}
 use Rattle.plx_commands.proofs.Places.{at-same}
+use Rattle.plx_commands.proofs.SameReports.{same-report}
 use Rattle.plx_gate.specs.Images.{read_image}
 use Rattle.plx_gate.specs.declared.descriptor.Descriptor.{Descriptor}
 use Rattle.plx_gate.specs.declared.image.ImageRecord.{ImageRecord}
@@ -88,25 +88,6 @@ module _ (s : Setting) (a i : ℕ) (command : Command) (known : Known) (regime :
   held-ends k after uses reply held = λ reading. held-in-time k uses reading (ends reply after) held
 
 -- ---- reports
-
-same-flag : (flag : Bool) → same_flag flag flag ≡ true
-same-flag true = refl
-same-flag false = refl
-
-same-bytes : (xs : List ℕ) → same_bytes xs xs ≡ true
-same-bytes [] = refl
-same-bytes (x ∷ xs) = rw (eqb-true x x refl) (same-bytes xs)
-
-same-report : (r : Report) → same_report r r ≡ true
-same-report r =
-    rw (
-      eqb-true r.writes r.writes refl,
-      eqb-true r.generation r.generation refl,
-      eqb-true r.size r.size refl,
-      eqb-true r.taken r.taken refl,
-      eqb-true r.dropped r.dropped refl,
-      same-flag r.live,
-    ) (same-bytes r.label)
 
 -- the report of a session is that of the image that it shows
 report-shown : (kept : ImageRecord) (writes : List Journaled) (image : Image) → is_plain kept ≡ true → IsShown kept writes image →

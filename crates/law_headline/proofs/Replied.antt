@@ -12,38 +12,13 @@ use Rattle.plx_commands.specs.Slots.{named_slots, changed_slot}
 use Rattle.plx_commands.specs.declared.command.Command.{Command}
 use Rattle.plx_commands.specs.declared.command.Command.TheVariants.{Attach, Detach, Create, Delete, Read, Write, Flush, Reserve, Renew, Retire, Reclaim}
 use Rattle.plx_commands.specs.declared.reply.Reply.{Reply}
-use Rattle.plx_commands.specs.declared.reply.Reply.TheVariants.{Attached, Detached, Created, Deleted, Data, Written, Flushed, Reserved, Renewed, Retired, Reclaimed, NotAttached, AlreadyAttached, NoImage, Exists, OutOfRange, Busy, Lost, ReadFault, WriteFault, Full, Damaged, WornOut}
+use Rattle.plx_commands.specs.declared.reply.Reply.TheVariants.{Attached}
+use Rattle.plx_commands.proofs.OwnReplies.{own-zero}
 use Rattle.plx_commands.proofs.Places.{at-same, at-other, at-all}
 use Rattle.law_headline.proofs.Foreign.{Foreign, foreign-same, foreign-equal, foreign-back}
 use Rattle.law_headline.proofs.Owners.{disowned-not, disowned-other}
 
 -- ---- numbers of replies
-
--- a command's own Ok has number 0
-pub own-zero : (command : Command) (reply : Reply) → is_own command reply ≡ true → number_of reply ≡ 0
-own-zero command (Attached report) own = refl
-own-zero command Detached own = refl
-own-zero command Created own = refl
-own-zero command Deleted own = refl
-own-zero command (Data payload) own = refl
-own-zero command (Written number) own = refl
-own-zero command (Flushed applied blocks) own = refl
-own-zero command Reserved own = refl
-own-zero command Renewed own = refl
-own-zero command Retired own = refl
-own-zero command (Reclaimed covered freed reads) own = refl
-own-zero command NotAttached own = absurd (let P : ⊥ = cc in P)
-own-zero command AlreadyAttached own = absurd (let P : ⊥ = cc in P)
-own-zero command NoImage own = absurd (let P : ⊥ = cc in P)
-own-zero command Exists own = absurd (let P : ⊥ = cc in P)
-own-zero command (OutOfRange size) own = absurd (let P : ⊥ = cc in P)
-own-zero command (Busy lease seen) own = absurd (let P : ⊥ = cc in P)
-own-zero command (Lost lease until reading) own = absurd (let P : ⊥ = cc in P)
-own-zero command (ReadFault block) own = absurd (let P : ⊥ = cc in P)
-own-zero command (WriteFault block) own = absurd (let P : ⊥ = cc in P)
-own-zero command Full own = absurd (let P : ⊥ = cc in P)
-own-zero command (Damaged block) own = absurd (let P : ⊥ = cc in P)
-own-zero command (WornOut count) own = absurd (let P : ⊥ = cc in P)
 
 -- a reply with another number isn't one
 pub not-own : (command : Command) (reply : Reply) → (number_of reply == 0) ≡ false → is_own command reply ≡ false

@@ -41,8 +41,8 @@ timed-rests reading (Wrote claim until) rests = absurd rests
 timed-rests reading (Waited claim until) rests = absurd rests
 
 -- where a reading has reached no lease in use, it hasn't reached the first
-pub unreached : (one : InUse) (others : List InUse) (reading : ℕ) → first_reached (one ∷ others) reading ≡ None → reading < one.until
-unreached one others reading none = elim (leb_tells one.until reading) [
+pub before-first-end : (one : InUse) (others : List InUse) (reading : ℕ) → first_reached (one ∷ others) reading ≡ None → reading < one.until
+before-first-end one others reading none = elim (leb_tells one.until reading) [
   | inl past ↦ absurd (let P : Bool → Type 0 = λ b. (if b then Some (earlier one (first_reached others reading)) else first_reached others reading) ≡ None in let e : Some (earlier one (first_reached others reading)) ≡ None = subst P past.0 none in let Q : ⊥ = cc in Q)
   | inr below ↦ omega (arith, below.1)
 ]
@@ -95,7 +95,7 @@ module _ (g : Geometry) (boot : ℕ) (small : boot < 2 ^ 128) (command : Command
       λ bytes. leaves-reread (bytes_eq bytes (lease_bytes (own_record claim))) uses claim (read_lease bytes) _ _
           (stays-at (λ block. hold_after_reading reading (done block)) _ (stays-timed reading done (stays-at holds _ stay)))
           (at-same (λ block. hold_after_reading reading (done block)) (lease_at lease) _
-          ∙ ap (λ (h : Hold). hold_after_read (Some reading) bytes h) (ap (λ (h : Hold). hold_after_reading reading h) held ∙ waited reading past (unreached (own_use lease claim) others reading none))),
+          ∙ ap (λ (h : Hold). hold_after_read (Some reading) bytes h) (ap (λ (h : Hold). hold_after_reading reading h) held ∙ waited reading past (before-first-end (own_use lease claim) others reading none))),
       tt,
     )),
     tt,

@@ -18,7 +18,7 @@ use Rattle.plx_rules.specs.Boot as boot
 use Rattle.plx_rules.specs.Boot.{Happening, Place, Idle, Begins, In, asks, writes_out, IsRun}
 use Rattle.plx_rules.specs.Ends.{End}
 use Rattle.plx_rules.specs.Sequences as play
-use Rattle.plx_rules.specs.Sequences.{missing, next_sector, landing, next_landing, next_of_write, next_of_part, next_at, next_event, stops, Runs, RunsPartly, Makes, IsPlayed, Plays, MakesPartly, PlaysPartly, RunsGoOn, PlayedIsReached}
+use Rattle.plx_rules.specs.Sequences.{missing_sector, next_sector, next_of_sector, next_landing, next_of_write, next_of_part, next_at, next_event, stops, Runs, RunsPartly, Makes, IsPlayed, Plays, MakesPartly, PlaysPartly, RunsGoOn, PlayedIsReached}
 use Rattle.plx_rules.specs.Session.{Known}
 use Rattle.plx_rules.specs.Settings.{boot_number}
 use Rattle.plx_rules.specs.World as world
@@ -76,25 +76,25 @@ boots-run w reached = runs-reached reached
 -- ---- a run goes on
 
 -- the least sector that is missing
-missing-there : (flags : List Bool) (sector : ℕ) → missing flags ≡ Some sector → slice_get flags sector ≡ Some false
+missing-there : (flags : List Bool) (sector : ℕ) → missing_sector flags ≡ Some sector → slice_get flags sector ≡ Some false
 missing-there [] sector e = cc
 missing-there (false ∷ flags) sector e = let s : 0 ≡ sector = cc in subst (λ (k : ℕ). slice_get (false ∷ flags) k ≡ Some false) s refl
-missing-there (true ∷ flags) sector e = by_rest (λ k found. missing-there flags k found) (missing flags) refl e
+missing-there (true ∷ flags) sector e = by_rest (λ k found. missing-there flags k found) (missing_sector flags) refl e
   where
-    by_rest : ((k : ℕ) → missing flags ≡ Some k → slice_get flags k ≡ Some false) → (m : Option ℕ) → missing flags ≡ m → next_sector m ≡ Some sector → slice_get (true ∷ flags) sector ≡ Some false
+    by_rest : ((k : ℕ) → missing_sector flags ≡ Some k → slice_get flags k ≡ Some false) → (m : Option ℕ) → missing_sector flags ≡ m → next_sector m ≡ Some sector → slice_get (true ∷ flags) sector ≡ Some false
     by_rest ih None is more = cc
     by_rest ih (Some k) is more =
         let f : k + 1 ≡ sector = same-some (k + 1) sector more in
         let s : suc k ≡ sector = omega (arith, f) in subst (λ (j : ℕ). slice_get (true ∷ flags) j ≡ Some false) s (ih k is)
 
 -- where none is missing, all have landed
-missing-none : (flags : List Bool) → missing flags ≡ None → (k : ℕ) → k < length flags → slice_get flags k ≡ Some true
+missing-none : (flags : List Bool) → missing_sector flags ≡ None → (k : ℕ) → k < length flags → slice_get flags k ≡ Some true
 missing-none [] e k below = absurd (omega (arith, below))
 missing-none (false ∷ flags) e k below = cc
 missing-none (true ∷ flags) e zero below = refl
-missing-none (true ∷ flags) e (suc k) below = by_rest (λ none. missing-none flags none k (omega (arith, below))) (missing flags) refl e
+missing-none (true ∷ flags) e (suc k) below = by_rest (λ none. missing-none flags none k (omega (arith, below))) (missing_sector flags) refl e
   where
-    by_rest : (missing flags ≡ None → slice_get flags k ≡ Some true) → (m : Option ℕ) → missing flags ≡ m → next_sector m ≡ None → slice_get (true ∷ flags) (suc k) ≡ Some true
+    by_rest : (missing_sector flags ≡ None → slice_get flags k ≡ Some true) → (m : Option ℕ) → missing_sector flags ≡ m → next_sector m ≡ None → slice_get (true ∷ flags) (suc k) ≡ Some true
     by_rest ih None is more = ih is
     by_rest ih (Some j) is more = cc
 
@@ -143,7 +143,7 @@ module _ (w : World) (leased : Leased w) (appliance : ApplianceNo) (below : appl
           let few = leased.few in
           record { found = found; owner = ap (is_boot_of appliance.0) asked-here.4 ∙ own-boot appliance.0 (w.seats appliance.0).boots (omega (arith, few, below)); newer = refl }
 
-      landing-possible : (sector : ℕ) → missing write.landed ≡ Some sector → (test : Bool) → nat_le w.surface.time (write.guard + 50) ≡ test →
+      landing-possible : (sector : ℕ) → missing_sector write.landed ≡ Some sector → (test : Bool) → nat_le w.surface.time (write.guard + 50) ≡ test →
           Possible (if test then event.Land appliance back sector else event.Fault appliance)
       landing-possible sector is true early = (
         _,
@@ -156,7 +156,7 @@ module _ (w : World) (leased : Leased w) (appliance : ApplianceNo) (below : appl
       )
       landing-possible sector is false late = (_, world.write_faults known command kind block bytes guard done fault missed below here)
 
-      next-possible : (m : Option ℕ) → missing write.landed ≡ m → Possible (landing w appliance back write.guard m)
+      next-possible : (m : Option ℕ) → missing_sector write.landed ≡ m → Possible (next_of_sector w appliance back write.guard m)
       next-possible None is =
           let flags = (leased.right number write found).flags in
           let whole : write.landed ≡ all_sectors = all-eight write.landed flags (λ k under. missing-none write.landed is k (omega (arith, flags, under))) in
@@ -172,7 +172,7 @@ module _ (w : World) (leased : Leased w) (appliance : ApplianceNo) (below : appl
         let asked = (leased.seated appliance.0 below).asked number waited in
         let e : next_landing w appliance (issued_by appliance.0 (drop (number + 1) w.surface.writes)) (Some asked.0) ≡ Some one =
         ap (next_landing w appliance (issued_by appliance.0 (drop (number + 1) w.surface.writes))) (sym asked.1) ∙ next in
-        possible-as one _ e (next-possible number asked.0 waited asked.1 asked.2 (missing asked.0.landed) refl)
+        possible-as one _ e (next-possible number asked.0 waited asked.1 asked.2 (missing_sector asked.0.landed) refl)
       where
         possible-as : (one other : Event) → Some other ≡ Some one → Possible other → Possible one
         possible-as one other e p = subst (λ (x : Event). Possible x) (let f : other ≡ one = cc in f) p

@@ -2,7 +2,7 @@
 use Rattle.std.proofs.Common.{◌≡◌, ◌≢◌, ℕ, suc, ◌+◌, ◌≤◌, ◌<◌, ◌^◌, List, ◌∷◌, drop, Bool, true, false, Option, Some, None, refl, ap, sym, subst, ◌∙◌, inl, inr}
 use Rattle.std.specs.Str.{bytes_eq}
 use Rattle.std.proofs.lemmas.Slice.Eq.{bytes_eq-Decides}
-use Rattle.law_lease.proofs.LawfulSpace.{unreached}
+use Rattle.law_lease.proofs.LawfulSpace.{before-first-end}
 use Rattle.plx_base.specs.declared.lease.LeaseRecord.{LeaseRecord}
 use Rattle.plx_disk.specs.declared.ask.Ask.{Ask}
 use Rattle.plx_disk.specs.declared.ask.Answer.TheVariants as answer
@@ -111,7 +111,7 @@ module _ (s : Setting) (boot_small : s.boot < 2 ^ 128) (log : CommandLog) (other
                   (λ due e. reached (own_use lease own ∷ others) (with_own own (inr (inl refl))) (of_wait (sample + wait) (after_claiming log.exchanges s.boot lease number sample bytes, refl)) e)
                   (λ e. (
                     (((tt, (tt, (tt, (tt, may.went)))), tt), refl),
-                    λ again long. after-again sample small bytes seen sees reading past (unreached (own_use lease own) others reading e) again (bytes_eq again (lease_bytes (own_record own))) refl (read_lease again) refl,
+                    λ again long. after-again sample small bytes seen sees reading past (before-first-end (own_use lease own) others reading e) again (bytes_eq again (lease_bytes (own_record own))) refl (read_lease again) refl,
                     (after_waiting log.exchanges s.boot lease number sample bytes reading, refl),
                   )),
             ),

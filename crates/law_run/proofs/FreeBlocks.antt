@@ -98,11 +98,11 @@ free-fewer hand more m (bit ∷ bits) old none = by-test (bit || is_in m hand) r
 -- ---- a take
 
 -- a block before a map sets no bit of it
-skipped : (m : ℕ) (set : List ℕ) (n : ℕ) (bits : List Bool) → m < n → with_set (m ∷ set) n bits ≡ with_set set n bits
-skipped m set n [] below = refl
-skipped m set n (bit ∷ bits) below =
+with-set-past : (m : ℕ) (set : List ℕ) (n : ℕ) (bits : List Bool) → m < n → with_set (m ∷ set) n bits ≡ with_set set n bits
+with-set-past m set n [] below = refl
+with-set-past m set n (bit ∷ bits) below =
     let apart : (n == m) ≡ false = eqb-false n m (λ e. omega (arith, below, e)) in
-    rw apart (ap (λ (l : List Bool). (bit || is_in n set) ∷ l) (skipped m set (n + 1) bits (omega (arith, below))))
+    rw apart (ap (λ (l : List Bool). (bit || is_in n set) ∷ l) (with-set-past m set (n + 1) bits (omega (arith, below))))
 
 -- the bits that a take sets are those of the blocks that it takes
 pub set-taken : (hand : List ℕ) (k m : ℕ) (bits : List Bool) → set_since m bits (with_set (take k (free_from hand m bits)) m bits) ≡ take k (free_from hand m bits)
@@ -132,7 +132,7 @@ set-taken hand k m (bit ∷ bits) = by-test (bit || is_in m hand) refl k (λ k'.
     by-test false is (suc j) ih =
         let f = free-bit bit is in
         let e : ((bit || is_in m (m ∷ take j rest)) && not bit) ≡ true = rw (f, has-head m m (take j rest) refl) refl in
-        rw e (ap (λ (l : List ℕ). m ∷ l) (ap (set_since (m + 1) bits) (skipped m (take j rest) (m + 1) bits (omega arith)) ∙ ih j))
+        rw e (ap (λ (l : List ℕ). m ∷ l) (ap (set_since (m + 1) bits) (with-set-past m (take j rest) (m + 1) bits (omega arith)) ∙ ih j))
 
 -- ---- a map that was read
 

@@ -90,14 +90,14 @@ by-number : {X : Type 0} (test : Bool) (rest other found : Option X) → (if tes
 by-number true rest other found e = inl (refl, e)
 by-number false rest other found e = inr (refl, e)
 
-pub numbered : (before : ℕ) (writes : List Journaled) → first_gap before writes ≡ None → (k : ℕ) (write : Journaled) → slice_get writes k ≡ Some write → write.number ≡ before + k + 1
-numbered before [] e k write found = absurd (let P : ⊥ = cc in P)
-numbered before (x ∷ writes) e zero write found = elim (by-number (x.number == before + 1) (first_gap (before + 1) writes) (Some x.number) None e) [
+pub numbers-ascend : (before : ℕ) (writes : List Journaled) → first_gap before writes ≡ None → (k : ℕ) (write : Journaled) → slice_get writes k ≡ Some write → write.number ≡ before + k + 1
+numbers-ascend before [] e k write found = absurd (let P : ⊥ = cc in P)
+numbers-ascend before (x ∷ writes) e zero write found = elim (by-number (x.number == before + 1) (first_gap (before + 1) writes) (Some x.number) None e) [
   | inl follows ↦ let n = eqb-is x.number (before + 1) follows.0 in let same : x ≡ write = cc in subst (λ (w : Journaled). w.number ≡ before + 0 + 1) same (omega arith)
   | inr gap ↦ absurd (let f = gap.1 in let P : ⊥ = cc in P)
 ]
-numbered before (x ∷ writes) e (suc k) write found = elim (by-number (x.number == before + 1) (first_gap (before + 1) writes) (Some x.number) None e) [
-  | inl follows ↦ let n = numbered (before + 1) writes follows.1 k write found in omega arith
+numbers-ascend before (x ∷ writes) e (suc k) write found = elim (by-number (x.number == before + 1) (first_gap (before + 1) writes) (Some x.number) None e) [
+  | inl follows ↦ let n = numbers-ascend (before + 1) writes follows.1 k write found in omega arith
   | inr gap ↦ absurd (let f = gap.1 in let P : ⊥ = cc in P)
 ]
 

@@ -118,5 +118,5 @@ limited-after g (f ∷ before) =
     (limited-along g (is_attached before) (holds_after g before) f.exchanges (limited-after g before))
 
 -- what is held of a lease
-pub limited : (s : Setting) (before : List Finished) (done : List Exchange) (lease : ℕ) → Limited (hold_by_log s before done lease)
-limited s before done lease = limited-along s.geometry (is_attached before) (holds_after s.geometry before) done (limited-after s.geometry before) (lease_at lease)
+pub is-limited : (s : Setting) (before : List Finished) (done : List Exchange) (lease : ℕ) → Limited (hold_by_log s before done lease)
+is-limited s before done lease = limited-along s.geometry (is_attached before) (holds_after s.geometry before) done (limited-after s.geometry before) (lease_at lease)

@@ -20,7 +20,7 @@ use Rattle.law_run.specs.KnownBytes.{given_with}
 use Rattle.law_run.proofs.Counted.{TellsFirst, counted-tells, no-count}
 use Rattle.law_run.proofs.Grown.{with-block-same, with-other, counts-same, data-one, descriptor-one}
 use Rattle.law_run.proofs.Inside.{IsSound, AllInside, inside-descriptor, inside-data}
-use Rattle.law_run.proofs.Inserted.{HasWrite, has-inserted, inserted-new, inserted-old, length-inserted, Ascending, ascending-inserted, numbered}
+use Rattle.law_run.proofs.Inserted.{HasWrite, has-inserted, inserted-new, inserted-old, length-inserted, Ascending, ascending-inserted, numbers-ascend}
 use Rattle.law_run.proofs.Right.{read_of, FitsSession}
 use Rattle.plx_base.proofs.Tests.{clash}
 
@@ -111,7 +111,7 @@ loaded-fits g given image kept writes done within plain l follows = record {
   found = l.found;
   plain = plain;
   room = l.room;
-  numbers = λ k write found. (let n = numbered (applied_of kept) writes follows k write found in omega arith);
+  numbers = λ k write found. (let n = numbers-ascend (applied_of kept) writes follows k write found in omega arith);
   counts = λ k write found. l.counts write (k, found);
   blocks = λ k write found. l.blocks write (k, found);
   only = λ slot d counts. (let o = l.only slot d counts in let h = o.1 in (h.0, o.0, h.1, o.2));

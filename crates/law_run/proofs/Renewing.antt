@@ -32,7 +32,7 @@ use Rattle.law_run.specs.Sessions.{is_attached}
 use Rattle.plx_rules.proofs.Holds.{later-below, later-least}
 use Rattle.law_run.proofs.Asking.{IsFine, replied-fine, asks-write}
 use Rattle.law_run.proofs.Holding.{hold-after-first, first-more, claims-more}
-use Rattle.law_run.proofs.Limits.{Limited, limited}
+use Rattle.law_run.proofs.Limits.{Limited, is-limited}
 use Rattle.law_run.proofs.Meets.{exchange}
 use Rattle.law_run.proofs.OnImage.{passed-sessions, lease-name}
 use Rattle.law_run.proofs.Passed.{Passed, passed-at-most}
@@ -72,23 +72,24 @@ renew-passed s before done early = record {
 
 -- ---- how many renewals there are
 
-abbrev needed : Hold → ℕ → ℕ
-needed Nothing n = n
-needed (Seen sample) n = n
-needed (Wrote claim until) n = n
-needed (Waited claim until) n = n
-needed (Held claim until) n = suc n
+-- one more where a lease is held
+abbrev asks_of_hold : Hold → ℕ → ℕ
+asks_of_hold Nothing n = n
+asks_of_hold (Seen sample) n = n
+asks_of_hold (Wrote claim until) n = n
+asks_of_hold (Waited claim until) n = n
+asks_of_hold (Held claim until) n = suc n
 
 abbrev renewals : (ℕ → Hold) → (left lease : ℕ) → ℕ
 renewals holds zero lease = zero
-renewals holds (suc left) lease = needed (holds (lease_at lease)) (renewals holds left (lease + 1))
+renewals holds (suc left) lease = asks_of_hold (holds (lease_at lease)) (renewals holds left (lease + 1))
 
-needed-is : (hold : Hold) (n : ℕ) → needed hold n ≡ one_held hold + n
-needed-is Nothing n = omega arith
-needed-is (Seen sample) n = omega arith
-needed-is (Wrote claim until) n = omega arith
-needed-is (Waited claim until) n = omega arith
-needed-is (Held claim until) n = omega arith
+asks_of_hold-is : (hold : Hold) (n : ℕ) → asks_of_hold hold n ≡ one_held hold + n
+asks_of_hold-is Nothing n = omega arith
+asks_of_hold-is (Seen sample) n = omega arith
+asks_of_hold-is (Wrote claim until) n = omega arith
+asks_of_hold-is (Waited claim until) n = omega arith
+asks_of_hold-is (Held claim until) n = omega arith
 
 first-fewer : (attached : Bool) (reading : ℕ) (hold : Hold) → one_held (at_first attached reading hold) ≤ one_held hold
 first-fewer true reading Nothing = omega arith
@@ -109,7 +110,7 @@ first-fewer false reading (Held claim until) = by-flag (nat_le until reading)
 renewals-fewer : (one other : ℕ → Hold) → ((block : ℕ) → one_held (one block) ≤ one_held (other block)) → (left lease : ℕ) → renewals one left lease ≤ count_held other left lease
 renewals-fewer one other fewer zero lease = omega arith
 renewals-fewer one other fewer (suc left) lease =
-    let e = needed-is (one (lease_at lease)) (renewals one left (lease + 1)) in
+    let e = asks_of_hold-is (one (lease_at lease)) (renewals one left (lease + 1)) in
     let rest = renewals-fewer one other fewer left (lease + 1) in
     let here = fewer (lease_at lease) in
     omega arith
@@ -127,7 +128,7 @@ record Renewing (s : Setting) (before : List Finished) (done : List Exchange) (r
       (guard : ℕ) × IsIn (exchange (ask.Write kind.Renew (record { 0 = lease_at l }) guard) (lease_bytes (lease_is.Claimed claim until)) answer.Done) done
   kept : (l : ℕ) → IsHeld (start s before reading (lease_at l)) → IsHeld (hold_by_log s before done l)
 
-lease-one : (l m : ℕ) → l ≢ m → lease_at l ≢ lease_at m
+pub lease-one : (l m : ℕ) → l ≢ m → lease_at l ≢ lease_at m
 lease-one l m apart same = apart (omega (arith, same))
 
 -- a renewal that is done
@@ -140,7 +141,7 @@ module _ (s : Setting) (before : List Finished) (done : List Exchange) (lease : 
   -- it keeps the limits of leases
   renewal-limits : IsClaimed claim (later_of until (reading + term))
   renewal-limits =
-      let old : IsClaimed claim until = subst Limited held (limited s before done lease) in record {
+      let old : IsClaimed claim until = subst Limited held (is-limited s before done lease) in record {
         boot = old.boot;
         number = old.number;
         sample = old.sample;
@@ -233,7 +234,7 @@ module _ (s : Setting) (before : List Finished) (known : Known) (reading : ℕ) 
           ((done' : List Exchange) → Renewing s before done' reading (lease + 1) →
           Right s before Renew done' (renew_part s known (start s before reading) reading left (lease + 1)) (renewals (start s before reading) left (lease + 1))) →
           Right s before Renew done (renewal s known reading lease hold (renew_part s known (start s before reading) reading left (lease + 1)))
-          (needed hold (renewals (start s before reading) left (lease + 1)))
+          (asks_of_hold hold (renewals (start s before reading) left (lease + 1)))
       by-hold (Held claim until) held rest =
           asks-write s before known Renew reading fine done lease until kind.Renew (lease_at lease) (lease_bytes (lease_is.Claimed claim (later_of until (reading + term))))
           (renew_part s known (start s before reading) reading left (lease + 1)) (renewals (start s before reading) left (lease + 1)) r.first

@@ -18,7 +18,7 @@ use Rattle.plx_rules.specs.Session.{Session, Known}
 use Rattle.plx_rules.specs.Settings.{Setting}
 use Rattle.law_run.specs.AllowedAsks.{WentOn, MayAsk}
 use Rattle.law_run.specs.Bounds.{bound}
-use Rattle.law_run.specs.CommandLogs.{Exchange, Finished, CommandLog, Commands, Between, Within, starting, following, commands}
+use Rattle.law_run.specs.CommandLogs.{Exchange, Finished, CommandLog, Commands, Between, Within, commands_after_start, commands_after_exchange, commands}
 use Rattle.law_run.specs.Holdings.{at_first, after_first_answer, holds_along, holds_after, last_found, hand_told, hand_along, hand_after, hand_by_log}
 use Rattle.law_run.specs.Positions.{known_at, IsByCommands, PositionsAgree}
 use Rattle.law_run.specs.Rules.{AllAllowed, AllKept, KeepsRules, IsSetting, RunsKeepRules}
@@ -134,7 +134,7 @@ along : (s : Setting) (log : CommandLog) (x : Exchange) (known : Known) (command
     length log.exchanges + suc left ≤ bound s log.before log.command →
     holds ≡ holds_along s.geometry (is_attached log.before) (holds_after s.geometry log.before) (x ∷ log.exchanges) →
     hand ≡ hand_told s.geometry (is_attached log.before) (holds_after s.geometry log.before) (hand_after s.geometry log.before) (x ∷ log.exchanges) →
-    AgreeAt s (goes_to s.geometry known command holds hand (sample_of x.answer) (found_by x.ask x.answer) part) (following x (reply_of part) (Within log))
+    AgreeAt s (goes_to s.geometry known command holds hand (sample_of x.answer) (found_by x.ask x.answer) part) (commands_after_exchange x (reply_of part) (Within log))
 along s log x known command holds hand (Ends end) left older rests allowed may right bounded same told =
     ((record { allowed = (may, allowed); replied = right.0; bounded = omega arith }, older), right.1, ap (holds_after_reply end.reply) same, λ i. hand_held s.geometry (holds_after_reply end.reply (same i)) (told i))
 along s log x known command holds hand (ReadThen block rest fault) left older rests allowed may right bounded same told =
@@ -150,7 +150,7 @@ along s log x known command holds hand (UntilThen from rest) left older rests al
 follows : (s : Setting) (log : CommandLog) (known : Known) (command : Command) (holds : ℕ → Hold) (hand : List ℕ) (sample : Option ℕ) (found : Option (ℕ × List ℕ)) (part : Part End) (a : Ask) (x : Answer) →
     Agree s holds hand sample found (In known command part) (Within log) → standing part ≡ Some a → Fits a x →
     AgreeAt s (goes_to s.geometry known command (after_answer sample a (bytes_out part) x holds) (hand_answered s.geometry found a (bytes_out part) x hand) (sample_of x) (found_by a x) (answered part x))
-    (following (exchange a (bytes_out part) x) (reply_of (answered part x)) (Within log))
+    (commands_after_exchange (exchange a (bytes_out part) x) (reply_of (answered part x)) (Within log))
 follows s log known command holds hand sample found part a x agree stands fits =
     let r = agree.0 in
     let next = meets-next (May s log.before log.command) (Shows s log.before log.command) part log.exchanges a r.left r.right stands in
@@ -166,7 +166,7 @@ follows s log known command holds hand sample found part a x agree stands fits =
 abbrev first_at : Setting → CommandLog → Known → Command → (reading : ℕ) → (ℕ → Hold) → List ℕ → Type 0
 first_at s log known command reading holds hand =
     AgreeAt s (goes_to s.geometry known command holds hand (Some reading) None (command_part s known holds (hand_held s.geometry holds hand) reading command))
-    (following (clock reading) (reply_of (command_part s known holds (hand_held s.geometry holds hand) reading command)) (Within log))
+    (commands_after_exchange (clock reading) (reply_of (command_part s known holds (hand_held s.geometry holds hand) reading command)) (Within log))
 
 -- the first reading of a command
 right-at-first : (s : Setting) → BeginsRight s → (log : CommandLog) (known : Known) (command : Command) (holds : ℕ → Hold) (hand : List ℕ) (reading : ℕ) →
@@ -193,31 +193,31 @@ right-at-first s right log known command holds hand reading b same in_hand small
 -- a happening of a run keeps where the boot stands and its commands in step
 goes-on : (s : Setting) → BeginsRight s → (p : Position) (place : Place) (so_far : Commands) (a : Ask) (bytes : List ℕ) (x : Answer) →
     Agree s p.holds p.hand p.sample p.found place so_far → asks place ≡ Some a → writes_out place ≡ bytes → Fits a x →
-    AgreeAt s (went_on s a bytes x p place) (following (exchange a bytes x) (replies_at s x p place) so_far)
+    AgreeAt s (went_on s a bytes x p place) (commands_after_exchange (exchange a bytes x) (replies_at s x p place) so_far)
 goes-on s right p (Idle known) so_far a bytes x agree stands writes fits = absurd (let P : ⊥ = cc in P)
 goes-on s right p (Begins known command) (Between before) a bytes x agree stands writes fits = absurd agree
 goes-on s right p (Begins known command) (Within log) a bytes x agree stands writes fits =
     let is : ask.Clock ≡ a = cc in
-    let P : Ask → Type 0 = λ b. (Fits b x → AgreeAt s (went_on s b bytes x p (Begins known command)) (following (exchange b bytes x) (replies_at s x p (Begins known command)) (Within log))) in
+    let P : Ask → Type 0 = λ b. (Fits b x → AgreeAt s (went_on s b bytes x p (Begins known command)) (commands_after_exchange (exchange b bytes x) (replies_at s x p (Begins known command)) (Within log))) in
     subst P is (by-bytes bytes writes) fits
   where
     by-answer : (y : Answer) → Fits ask.Clock y →
-        AgreeAt s (went_on s ask.Clock [] y p (Begins known command)) (following (exchange ask.Clock [] y) (replies_at s y p (Begins known command)) (Within log))
+        AgreeAt s (went_on s ask.Clock [] y p (Begins known command)) (commands_after_exchange (exchange ask.Clock [] y) (replies_at s y p (Begins known command)) (Within log))
     by-answer (answer.Reading reading) small = right-at-first s right log known command p.holds p.hand reading agree.0 agree.1 agree.2 small
     by-answer y small = absurd small
 
     by-bytes : (out : List ℕ) → writes_out (Begins known command) ≡ out → Fits ask.Clock x →
-        AgreeAt s (went_on s ask.Clock out x p (Begins known command)) (following (exchange ask.Clock out x) (replies_at s x p (Begins known command)) (Within log))
+        AgreeAt s (went_on s ask.Clock out x p (Begins known command)) (commands_after_exchange (exchange ask.Clock out x) (replies_at s x p (Begins known command)) (Within log))
     by-bytes out e small =
-        subst (λ (o : List ℕ). AgreeAt s (went_on s ask.Clock o x p (Begins known command)) (following (exchange ask.Clock o x) (replies_at s x p (Begins known command)) (Within log))) e
+        subst (λ (o : List ℕ). AgreeAt s (went_on s ask.Clock o x p (Begins known command)) (commands_after_exchange (exchange ask.Clock o x) (replies_at s x p (Begins known command)) (Within log))) e
         (by-answer x small)
 goes-on s right p (In known command part) (Between before) a bytes x agree stands writes fits = absurd agree
 goes-on s right p (In known command part) (Within log) a bytes x agree stands writes fits =
-    let P : List ℕ → Type 0 = λ out. AgreeAt s (went_on s a out x p (In known command part)) (following (exchange a out x) (reply_of (answered part x)) (Within log)) in
+    let P : List ℕ → Type 0 = λ out. AgreeAt s (went_on s a out x p (In known command part)) (commands_after_exchange (exchange a out x) (reply_of (answered part x)) (Within log)) in
     subst P writes (follows s log known command p.holds p.hand p.sample p.found part a x agree stands fits)
 
 begins : (s : Setting) (holds : ℕ → Hold) (hand : List ℕ) (sample : Option ℕ) (found : Option (ℕ × List ℕ)) (known : Known) (so_far : Commands) (command : Command) → IsWellFormed command → IsBuilt command →
-    Agree s holds hand sample found (Idle known) so_far → Agree s holds hand None None (Begins known command) (starting command so_far)
+    Agree s holds hand sample found (Idle known) so_far → Agree s holds hand None None (Begins known command) (commands_after_start command so_far)
 begins s holds hand sample found known (Between before) command formed built agree =
     (record { older = agree.0; rests = agree.1; is = refl; none_yet = refl; formed = formed; built = built }, agree.2, agree.3)
 begins s holds hand sample found known (Within log) command formed built agree = absurd agree
@@ -227,7 +227,7 @@ agrees s right log boot.empty = (tt, record { sessions = λ image. refl; claims 
 agrees s right log (boot.begins {log = older} {command = command} known run idle formed built) =
     let p = position s older in
     let P : Place → Type 0 = λ here. Agree s p.holds p.hand p.sample p.found here (commands s older) in
-    let Q : Place → Type 0 = λ here. Agree s p.holds p.hand None None (place_after_begin command here) (starting command (commands s older)) in
+    let Q : Place → Type 0 = λ here. Agree s p.holds p.hand None None (place_after_begin command here) (commands_after_start command (commands s older)) in
     subst Q (sym idle) (begins s p.holds p.hand p.sample p.found known (commands s older) command formed built (subst P idle (agrees s right older run)))
 agrees s right log (boot.goes_on {log = older} {ask = a} {bytes = bytes} {answer = x} run stands writes fits) =
     let p = position s older in

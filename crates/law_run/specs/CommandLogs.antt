@@ -32,27 +32,27 @@ pub data Commands : Type 0 where
   Within : CommandLog → Commands
 
 -- a command begins where none runs
-abbrev pub starting : Command → Commands → Commands
-starting command (Between before) = Within (record { before = before; command = command; exchanges = [] })
-starting command (Within log) = Within log
+abbrev pub commands_after_start : Command → Commands → Commands
+commands_after_start command (Between before) = Within (record { before = before; command = command; exchanges = [] })
+commands_after_start command (Within log) = Within log
 
 -- the log with one more exchange
 abbrev pub with_exchange : Exchange → CommandLog → CommandLog
 with_exchange exchange log = record { before = log.before; command = log.command; exchanges = exchange ∷ log.exchanges }
 
 -- one more exchange of the command that runs, and the reply to which it leads
-abbrev pub following : Exchange → Option Reply → Commands → Commands
-following exchange reply (Between before) = Between before
-following exchange None (Within log) = Within (with_exchange exchange log)
-following exchange (Some reply) (Within log) =
+abbrev pub commands_after_exchange : Exchange → Option Reply → Commands → Commands
+commands_after_exchange exchange reply (Between before) = Between before
+commands_after_exchange exchange None (Within log) = Within (with_exchange exchange log)
+commands_after_exchange exchange (Some reply) (Within log) =
     Between ((record { command = log.command; exchanges = exchange ∷ log.exchanges; reply = reply }) ∷ log.before)
 
 -- the commands of a boot log, whose newest happening stands first
 abbrev pub commands : Setting → List Happening → Commands
 commands s [] = Between []
-commands s (Began command ∷ older) = starting command (commands s older)
+commands s (Began command ∷ older) = commands_after_start command (commands s older)
 commands s (Asked ask bytes answer ∷ older) =
-    following (record { ask = ask; bytes = bytes; answer = answer }) (replies s answer (position s older)) (commands s older)
+    commands_after_exchange (record { ask = ask; bytes = bytes; answer = answer }) (replies s answer (position s older)) (commands s older)
 
 -- the log of a command that has its reply
 abbrev pub log_of : Finished → List Finished → CommandLog

@@ -24,10 +24,10 @@ use Rattle.law_space.proofs.Marks.{IsOfMap}
 use Rattle.law_space.proofs.SpaceSteps.{reached-spaced}
 
 -- a bit that a landing turns was that of the map that stood before the write, and is that of its bytes
-turned : (write : Issued) (now : List ℕ) (sector bit : ℕ) (marking : IsMarking write now) → slice_get write.landed sector ≡ Some false → length write.landed ≡ 8 → length write.bytes ≡ 4096 → length now ≡ 4096 →
+turns-by-landing : (write : Issued) (now : List ℕ) (sector bit : ℕ) (marking : IsMarking write now) → slice_get write.landed sector ≡ Some false → length write.landed ≡ 8 → length write.bytes ≡ 4096 → length now ≡ 4096 →
     (bit_of (with_landed_sector sector write.bytes now) bit ≡ bit_of now bit)
     ⊎ ((bit_of now bit ≡ bit_of marking.base bit) × (bit_of (with_landed_sector sector write.bytes now) bit ≡ bit_of write.bytes bit))
-turned write now sector bit marking missing eight long long_now = by_sector (cases_eq (bit_sector bit) sector)
+turns-by-landing write now sector bit marking missing eight long long_now = by_sector (cases_eq (bit_sector bit) sector)
   where
     by_sector : (bit_sector bit ≡ sector) ⊎ (bit_sector bit ≢ sector) → (bit_of (with_landed_sector sector write.bytes now) bit ≡ bit_of now bit)
         ⊎ ((bit_of now bit ≡ bit_of marking.base bit) × (bit_of (with_landed_sector sector write.bytes now) bit ≡ bit_of write.bytes bit))
@@ -60,7 +60,7 @@ landing-turns w reached number sector write may block = elim (eqb_tells map writ
       let before : bit_of (device map) bit ≡ bit_of (device write.block) bit = ap (λ (n : ℕ). bit_of (device n) bit) here.1 in
       let after : bit_of (changed map) bit ≡ bit_of (with_landed_sector sector write.bytes (device write.block)) bit =
       ap (λ (n : ℕ). bit_of (changed n) bit) here.1 ∙ ap (λ (x : List ℕ). bit_of x bit) (put-same device write.block (with_landed_sector sector write.bytes (device write.block))) in
-      elim (turned write (device write.block) sector bit marking may.missing right.flags right.long (leased.long write.block)) [
+      elim (turns-by-landing write (device write.block) sector bit marking may.missing right.flags right.long (leased.long write.block)) [
         | inl same ↦ inl (after ∙ (same ∙ sym before))
         | inr turns ↦ inr (record { of_map = on.0; under = on.1; base = marking.base; one_way = marking.one_way; before = before ∙ turns.0; after = after ∙ turns.1 })
       ]

@@ -106,8 +106,8 @@ abbrev writes_map : Part End
 writes_map = take_found s0 1 0 11000 (Some (empty_bits 16)) then_taken held_taken
 
 -- it is over
-abbrev reserved : Part End
-reserved = ends reply.Reserved (with_claim k0)
+abbrev reserve_end : Part End
+reserve_end = ends reply.Reserved (with_claim k0)
 
 -- ---- the stages
 
@@ -245,7 +245,7 @@ before = last small_geometry 1 one-appliance 3 write-stage one appliance-in k0 r
 
 -- and after it
 abbrev after : World
-after = goes_on before (event.Done one) one (ask.Write kind.Take (record { 0 = 10 }) 11000) taken_bytes answer.Done reserved
+after = goes_on before (event.Done one) one (ask.Write kind.Take (record { 0 = 10 }) 11000) taken_bytes answer.Done reserve_end
 
 after-reached : Reached after
 after-reached =
@@ -258,7 +258,7 @@ after-reached =
 -- where the appliance stands then
 abbrev q_after : Position
 q_after =
-    goes_to small_geometry k0 reserve (after_write kind.Take 10 taken_bytes q.holds) (hand_from small_geometry q.found kind.Take 10 taken_bytes q.hand) None None reserved
+    goes_to small_geometry k0 reserve (after_write kind.Take 10 taken_bytes q.holds) (hand_from small_geometry q.found kind.Take 10 taken_bytes q.hand) None None reserve_end
 
 stands-after : stands after 0 ≡ q_after
 stands-after = ap (went_on (setting_at small_geometry 0 (write-stage.seats 0).boots) (ask.Write kind.Take (record { 0 = 10 }) 11000) taken_bytes answer.Done q) writes-there

@@ -64,8 +64,8 @@ released-hand a b same hand =
     ∙ (ap (held_hand a.geometry (extent_leases b)) hand
     ∙ (filter-again (λ block. is_held (extent_leases b (extent_of a.geometry block))) (hand_numbers a) ∙ sym hand))
 
-abbrev knowing : Around → ℕ → Known
-knowing o claims = record { sessions = o.sessions; claims = claims }
+abbrev known_around : Around → ℕ → Known
+known_around o claims = record { sessions = o.sessions; claims = claims }
 
 -- what is asked of the extents past the released one stays as it was
 pub released-next : (o : Around) (a b : Allocator) (extent : ℕ) → IsSame a b → b.claims ≡ a.claims → extent_leases b ≡ with_hold (extent_leases a) extent Nothing →
@@ -74,7 +74,7 @@ released-next o a b extent same claims leases hand held =
     let s = allocator_setting o.appliance a in
     let known = around_known o a in
     ap (λ s. retire_extents s (around_known o b) (holds_of b) (hand_numbers b) (b.geometry.extents - (extent + 1)) (extent + 1) o.rest) (given-same o.appliance a b same)
-    ∙ (ap (λ n. retire_extents s (knowing o n) (holds_of b) (hand_numbers b) (b.geometry.extents - (extent + 1)) (extent + 1) o.rest) claims
+    ∙ (ap (λ n. retire_extents s (known_around o n) (holds_of b) (hand_numbers b) (b.geometry.extents - (extent + 1)) (extent + 1) o.rest) claims
     ∙ (ap (λ g. retire_extents s known (holds_of b) (hand_numbers b) (g.extents - (extent + 1)) (extent + 1) o.rest) same.geometry
     ∙ retire-same s known (holds_of b) (holds_of a) (hand_numbers b) (hand_numbers a) (a.geometry.extents - (extent + 1)) (extent + 1) o.rest there mine))
   where
@@ -162,7 +162,7 @@ gives-past o a b extent same claims leases others =
     let s = allocator_setting o.appliance a in
     let known = around_known o a in
     ap (λ s. give_extents s (around_known o b) (holds_of b) (hand_numbers b) (b.geometry.extents - (extent + 1)) (extent + 1) o.rest) (given-same o.appliance a b same)
-    ∙ (ap (λ n. give_extents s (knowing o n) (holds_of b) (hand_numbers b) (b.geometry.extents - (extent + 1)) (extent + 1) o.rest) claims
+    ∙ (ap (λ n. give_extents s (known_around o n) (holds_of b) (hand_numbers b) (b.geometry.extents - (extent + 1)) (extent + 1) o.rest) claims
     ∙ (ap (λ g. give_extents s known (holds_of b) (hand_numbers b) (g.extents - (extent + 1)) (extent + 1) o.rest) same.geometry
     ∙ give-same s known (holds_of b) (holds_of a) (hand_numbers b) (hand_numbers a) (a.geometry.extents - (extent + 1)) (extent + 1) o.rest
     (λ other less. holds-past a b same leases other) (λ other less. others other (λ e. absurd (omega (arith, e, less))))))
@@ -174,7 +174,7 @@ retires-past o a b extent same claims leases others =
     let s = allocator_setting o.appliance a in
     let known = around_known o a in
     ap (λ s. retire_extents s (around_known o b) (holds_of b) (hand_numbers b) (b.geometry.extents - (extent + 1)) (extent + 1) o.rest) (given-same o.appliance a b same)
-    ∙ (ap (λ n. retire_extents s (knowing o n) (holds_of b) (hand_numbers b) (b.geometry.extents - (extent + 1)) (extent + 1) o.rest) claims
+    ∙ (ap (λ n. retire_extents s (known_around o n) (holds_of b) (hand_numbers b) (b.geometry.extents - (extent + 1)) (extent + 1) o.rest) claims
     ∙ (ap (λ g. retire_extents s known (holds_of b) (hand_numbers b) (g.extents - (extent + 1)) (extent + 1) o.rest) same.geometry
     ∙ retire-same s known (holds_of b) (holds_of a) (hand_numbers b) (hand_numbers a) (a.geometry.extents - (extent + 1)) (extent + 1) o.rest
     (λ other less. holds-past a b same leases other) (λ other less. others other (λ e. absurd (omega (arith, e, less))))))
@@ -187,7 +187,7 @@ release-past o a b m new keeps same claims leases others =
     let s = allocator_setting o.appliance a in
     let known = around_known o a in
     ap (λ s. release_then s (around_known o b) (retire_use new) (retire_extents_from o b (new.extent.0 + 1))) (given-same o.appliance a b same)
-    ∙ (ap (λ n. release_then s (knowing o n) (retire_use new) (retire_extents_from o b (new.extent.0 + 1))) claims
+    ∙ (ap (λ n. release_then s (known_around o n) (retire_use new) (retire_extents_from o b (new.extent.0 + 1))) claims
     ∙ (ap (λ n. release_then s known (due_of n new.until) (retire_extents_from o b (new.extent.0 + 1))) keeps.lease
     ∙ (ap (λ n. release_then s known (due_of m.lease n) (retire_extents_from o b (new.extent.0 + 1))) keeps.until
     ∙ (ap (λ (x : ExtentNo). release_then s known (retire_use m) (retire_extents_from o b (x.0 + 1))) keeps.extent

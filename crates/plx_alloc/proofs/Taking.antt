@@ -181,8 +181,8 @@ pass-goes o a pass.Others count from t others same =
 abbrev taking_with : Known → List InUse → List ℕ → Option (ℕ × LeaseRecord) → Taking
 taking_with known claimed hand busy = record { known = known; claimed = claimed; hand = hand; busy = busy }
 
-abbrev pub knowing : Outer → ℕ → Known
-knowing o claims = record { sessions = o.sessions; claims = claims }
+abbrev pub known_outside : Outer → ℕ → Known
+known_outside o claims = record { sessions = o.sessions; claims = claims }
 
 abbrev setting : Geometry → (appliance boot : ℕ) → Setting
 setting g appliance boot = record { geometry = g; appliance = appliance; boot = boot }
@@ -208,7 +208,7 @@ pub written-rest : (o : Outer) (a b : Allocator) (m : Reserve) → IsSame a b �
     ≡ next_rest o a m (with_taken (taking_of o a m) (numbers m.taken.items))
 written-rest o a b m same leases claims hand =
     ap (λ (next : Taking → Part End). next (taking_of o b m)) (pass-same o a b m.pass m.count (m.extent.0 + 1) same leases)
-    ∙ (ap (λ n. next_rest o a m (taking_with (knowing o n) (uses_of m.claimed) (hand_numbers b) (busy_of m.busy))) claims
+    ∙ (ap (λ n. next_rest o a m (taking_with (known_outside o n) (uses_of m.claimed) (hand_numbers b) (busy_of m.busy))) claims
     ∙ ap (λ blocks. next_rest o a m (taking_with (outer_known o a) (uses_of m.claimed) blocks (busy_of m.busy))) hand)
 
 before-le : (one other : InUse) → is_before other one ≡ true → other.until ≤ one.until
@@ -296,7 +296,7 @@ claimed-rest o a b old new claim same claims hand leases others pass' here exten
     ∙ (claimed-next o a b old.count old.extent.0 (Held claim new.until) same leases
     ∙ ap (λ p. pass_rest p s (holds_of a) old.count (old.extent.0 + 1) o.rest) (sym others)))) in
     let is-taking : taking_of o b new ≡ taking_with (outer_known o a) (uses_of new.claimed) (hand_numbers a) (busy_of old.busy) =
-    ap (λ n. taking_with (knowing o n) (uses_of new.claimed) (hand_numbers b) (busy_of new.busy)) claims
+    ap (λ n. taking_with (known_outside o n) (uses_of new.claimed) (hand_numbers b) (busy_of new.busy)) claims
     ∙ (ap (λ blocks. taking_with (outer_known o a) (uses_of new.claimed) blocks (busy_of new.busy)) hand
     ∙ ap (λ met. taking_with (outer_known o a) (uses_of new.claimed) (hand_numbers a) (busy_of met)) busy) in
     map-rest o b new here map
@@ -336,10 +336,10 @@ looked-rest o a b old new same leases hand claims less here pass' extent count c
     ∙ (ap (λ (e : ExtentNo). pass_rest old.pass sb (holds_of b) old.count (e.0 + 1) o.rest) extent
     ∙ pass-same o a b old.pass old.count (old.extent.0 + 1) same leases)) in
     let is-taking : taking_of o b new ≡ with_claim_begun (taking_of o a old) =
-    ap (λ n. taking_with (knowing o n) (uses_of new.claimed) (hand_numbers b) (busy_of new.busy)) claims
-    ∙ (ap (λ due. taking_with (knowing o (a.claims + 1)) (uses_of due) (hand_numbers b) (busy_of new.busy)) claimed
-    ∙ (ap (λ blocks. taking_with (knowing o (a.claims + 1)) (uses_of old.claimed) blocks (busy_of new.busy)) hand
-    ∙ ap (λ met. taking_with (knowing o (a.claims + 1)) (uses_of old.claimed) (hand_numbers a) (busy_of met)) busy)) in
+    ap (λ n. taking_with (known_outside o n) (uses_of new.claimed) (hand_numbers b) (busy_of new.busy)) claims
+    ∙ (ap (λ due. taking_with (known_outside o (a.claims + 1)) (uses_of due) (hand_numbers b) (busy_of new.busy)) claimed
+    ∙ (ap (λ blocks. taking_with (known_outside o (a.claims + 1)) (uses_of old.claimed) blocks (busy_of new.busy)) hand
+    ∙ ap (λ met. taking_with (known_outside o (a.claims + 1)) (uses_of old.claimed) (hand_numbers a) (busy_of met)) busy)) in
     ap (λ place. reserve_at place o b new) here
     ∙ (ap (λ part. followed_by part (after_extent_claim sb new.count new.extent.0 (next_rest o b new) (taking_of o b new))) claim
     ∙ (ap (λ s. followed_by part (after_extent_claim s new.count new.extent.0 (next_rest o b new) (taking_of o b new))) (given-same o.appliance a b same)

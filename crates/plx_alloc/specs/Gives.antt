@@ -42,6 +42,7 @@ giving_at at.Map o a m =
 giving_at at.Write o a m = write_then (allocator_setting o.appliance a) (around_known o a) (retire_use m) kind.Give m.map.0 m.out o.rest
 giving_at at.Damaged o a m = damaged_part (allocator_setting o.appliance a) (around_known o a) (retire_use m ∷ []) m.map.0
 
+-- what is left of giving back the blocks of an extent
 abbrev pub giving_rest : Around → Allocator → Giving → Part End
 giving_rest o a m = giving_at m.at o a m
 

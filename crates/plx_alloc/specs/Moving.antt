@@ -98,6 +98,7 @@ reserve_ask_at at.Look m = ask.Read m.map
 reserve_ask_at at.Claim m = claim_ask m.claim
 reserve_ask_at at.Damaged m = ask.Clock
 
+-- what a reserve asks
 abbrev pub reserve_ask : Reserve → Ask
 reserve_ask m = reserve_ask_at m.at m
 
@@ -109,6 +110,7 @@ tells_at at.Look g m found = Unit {0}
 tells_at at.Claim g m found = Unit {0}
 tells_at at.Damaged g m found = Unit {0}
 
+-- what the bytes that were read last tell of the blocks that a reserve takes
 abbrev pub TellsTaken : Geometry → Reserve → Option (ℕ × List ℕ) → Type 0
 TellsTaken g m found = tells_at m.at g m found
 
@@ -136,6 +138,7 @@ giving_ask_at giving.Map m = ask.Read m.map
 giving_ask_at giving.Write m = ask.Write kind.Give m.map m.until
 giving_ask_at giving.Damaged m = ask.Clock
 
+-- what a giving back asks
 abbrev pub giving_ask : Giving → Ask
 giving_ask m = giving_ask_at m.at m
 
@@ -145,6 +148,7 @@ tells_given_at giving.Write g m found = (hand : List ℕ) → hand_from g found 
 tells_given_at giving.Map g m found = Unit {0}
 tells_given_at giving.Damaged g m found = Unit {0}
 
+-- what the bytes that were read last tell of the blocks that are given back
 abbrev pub TellsGiven : Geometry → Giving → Option (ℕ × List ℕ) → Type 0
 TellsGiven g m found = tells_given_at m.at g m found
 
@@ -160,6 +164,7 @@ abbrev pub retire_ask_at : RetireAt → Giving → Ask
 retire_ask_at retire.Give m = giving_ask m
 retire_ask_at retire.Release m = ask.Write kind.Release (record { 0 = lease_at m.lease }) m.until
 
+-- what a retire asks of the extents
 abbrev pub retire_ask : Retire → Ask
 retire_ask m = retire_ask_at m.at m.giving
 
@@ -173,5 +178,6 @@ abbrev pub tells_retired_at : RetireAt → Geometry → Giving → Option (ℕ �
 tells_retired_at retire.Give g m found = TellsGiven g m found
 tells_retired_at retire.Release g m found = Unit {0}
 
+-- what the bytes that were read last tell of the blocks that a retire gives back
 abbrev pub TellsRetired : Geometry → Retire → Option (ℕ × List ℕ) → Type 0
 TellsRetired g m found = tells_retired_at m.at g m.giving found

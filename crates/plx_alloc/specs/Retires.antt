@@ -27,6 +27,7 @@ abbrev pub retire_at : RetireAt → Around → Allocator → Giving → Part End
 retire_at at.Give o a m = giving_rest (record o { rest = release_next o a m }) a m
 retire_at at.Release o a m = release_next o a m
 
+-- what is left of giving up the extents
 abbrev pub retire_extents_rest : Around → Allocator → Retire → Part End
 retire_extents_rest o a m = retire_at m.at o a m.giving
 

@@ -40,6 +40,7 @@ pub record SuitsClaim (a : Allocator) (m : Reserve) : Type 0 where
   pub lease : m.claim.lease.0 ≡ m.extent
   pub number : m.claim.number ≡ extent_lease a.geometry m.extent.0
 
+-- a take stands at its extent, by where it stands
 abbrev pub suits_at : ReserveAt → Allocator → Reserve → Type 0
 suits_at at.Map a m = SuitsMap a m
 suits_at at.Write a m = SuitsWrite a m

@@ -61,7 +61,8 @@ impl Retire {
         ensures log { (o : Around) → HasCome (retire_extents
             (allocator_setting o.appliance space.now) (around_known o space.now)
             (holds_of space.now) (hand_numbers space.now) space.now.geometry.extents 0 o.rest) []
-            (space_part (retire_extents_rest o space.now) o.rest (around_known o space.now) result) }
+            (space_part (retire_extents_rest o space.now) o.rest (around_known o space.now)
+            result) }
         ensures suits { IfOk result (λ m. SuitsRetire space.now m) }
         ensures tells { (g : Geometry) (found : Option (ℕ × List ℕ))
             → IfOk result (λ m. TellsRetired g m found) }

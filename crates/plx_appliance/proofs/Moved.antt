@@ -15,6 +15,7 @@ use Rattle.plx_rules.specs.Claims.{ClaimEnd, ClaimHeld, ClaimBusy, ClaimLost, Cl
 use Rattle.plx_rules.specs.Holds.{Hold, Nothing, Seen, Wrote, Waited, Held, after_answer}
 use Rattle.plx_rules.specs.Machines.{AsksOnly}
 use Rattle.law_run.specs.Holdings.{IsNotHeld}
+use Rattle.law_run.proofs.Renewing.{lease-one}
 use Rattle.plx_lease.specs.Holding.{HoldsAtEnd, LeavesClaim, claim_hold, claim_hold_at, other_after}
 use Rattle.plx_lease.specs.ClaimEnds.{claim_end}
 use Rattle.plx_lease.specs.declared.claim.ClaimAt.{ClaimAt}
@@ -50,16 +51,13 @@ held-other g before after extents image lease others ne =
     (if nat_le (2 + g.images) (lease_at lease) then extents (lease_at lease - (2 + g.images)) else Nothing)
     (λ test. sym (others (lease_at lease - 2) (not-image image lease g.images ne test)))
 
-next-ne : (lease other : ℕ) → lease ≢ other → lease_at lease ≢ lease_at other
-next-ne lease other ne e = ne (omega (arith, e))
-
 -- the lease of one image alone changes
 pub holds-one : (g : Geometry) (image : ℕ) (before after extents holds new : ℕ → Hold) → image < g.images → HoldsAs g before extents holds →
     hold_without_claim (new (lease_at (image_lease image))) ≡ after image → ((other : ℕ) → other ≢ image → after other ≡ before other) →
     ((block : ℕ) → block ≢ lease_at (image_lease image) → hold_without_claim (new block) ≡ hold_without_claim (holds block)) → HoldsAs g after extents new
 holds-one g image before after extents holds new within h own others rest = λ lease low. elim (eqb_tells lease (image_lease image)) [
   | inl same ↦ ap (λ n. hold_without_claim (new (lease_at n))) same.1 ∙ own ∙ sym (held-image g after extents image within) ∙ ap (λ n. lease_holds_at g after extents (lease_at n)) (sym same.1)
-  | inr other ↦ rest (lease_at lease) (next-ne lease (image_lease image) other.1) ∙ h lease low ∙ held-other g before after extents image lease others other.1
+  | inr other ↦ rest (lease_at lease) (lease-one lease (image_lease image) other.1) ∙ h lease low ∙ held-other g before after extents image lease others other.1
 ]
 
 -- what is kept of the leases is what the log holds, after an answer to what asks of one block alone
@@ -124,7 +122,7 @@ pub holds-extent : (g : Geometry) (extent : ℕ) (leases before after holds new 
     ((block : ℕ) → block ≢ lease_at (extent_lease g extent) → hold_without_claim (new block) ≡ hold_without_claim (holds block)) → HoldsAs g leases after new
 holds-extent g extent leases before after holds new h own others rest = λ lease low. elim (eqb_tells lease (extent_lease g extent)) [
   | inl same ↦ ap (λ n. hold_without_claim (new (lease_at n))) same.1 ∙ own ∙ sym (held-extent g leases after extent) ∙ ap (λ n. lease_holds_at g leases after (lease_at n)) (sym same.1)
-  | inr other ↦ rest (lease_at lease) (next-ne lease (extent_lease g extent) other.1) ∙ h lease low ∙ held-past g leases before after extent lease others other.1
+  | inr other ↦ rest (lease_at lease) (lease-one lease (extent_lease g extent) other.1) ∙ h lease low ∙ held-past g leases before after extent lease others other.1
 ]
 
 -- so it is after an answer to what asks of an extent's lease alone

@@ -39,6 +39,7 @@ pub record IsInWork (lent : Lent) (w : Work) (p : Position) : Type 0 where
   pub place_is : p.place ≡ In before command (work_rest lent w)
   pub inside : Inside w p.holds p.sample p.found
 
+-- a stage stands where the log leads
 abbrev pub StandsAt : Setting → Lent → Stage → Position → Type 0
 StandsAt s lent stage.Idle p = p.place ≡ Idle lent.known
 StandsAt s lent (stage.Begun begun) p = HasBegun s lent.known begun p
@@ -66,9 +67,11 @@ abbrev pub has_begun : Stage → Bool
 has_begun (stage.Begun begun) = true
 has_begun other = false
 
+-- no command runs
 abbrev pub IsIdle : Appliance → Type 0
 IsIdle a = runs a.stage ≡ false
 
+-- a command runs
 abbrev pub IsRunning : Appliance → Type 0
 IsRunning a = runs a.stage ≡ true
 

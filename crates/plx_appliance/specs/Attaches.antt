@@ -15,6 +15,7 @@ use Rattle.plx_appliance.specs.declared.attach.Attach.{Attach}
 use Rattle.plx_appliance.specs.declared.attach.AttachAt.{AttachAt}
 use Rattle.plx_appliance.specs.declared.attach.AttachAt.TheVariants as attach
 
+-- what is left of an attach, by where it stands: of its claim with the load after it, or of its load
 abbrev pub attach_at : AttachAt → Known → Attach → Part End
 attach_at attach.Claim known a = followed_by (claim_rest a.claim) (after_claim (rules_setting a.load.image.setting) known a.load.image.slot.0)
 attach_at attach.Load known a = load_rest known a.load

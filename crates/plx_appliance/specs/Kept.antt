@@ -10,6 +10,7 @@ use Rattle.plx_appliance.specs.declared.sessions.Sessions.{Sessions}
 abbrev pub session_of : Session → KnownSession
 session_of session = record { image = session.image; writes = session.writes.items }
 
+-- so of a session, if there is one
 abbrev pub known_session : Option Session → Option KnownSession
 known_session None = None
 known_session (Some session) = Some (session_of session)
@@ -22,5 +23,6 @@ sessions_of images = λ image. known_session (slice_index_or images image None)
 abbrev pub known_by : Sessions → ℕ → Known
 known_by sessions claims = record { sessions = sessions_of sessions.images.items; claims = claims }
 
+-- what is known by all that an appliance holds
 abbrev pub known_of : Holdings → Known
 known_of h = known_by h.sessions h.space.claims

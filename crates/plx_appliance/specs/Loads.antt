@@ -36,6 +36,7 @@ found_part l bytes =
     (slots_part l (l.next + 1) l.session.writes.items)
     (λ number vblock. data_part l number vblock)
 
+-- the read of a slot, and what is asked after it
 abbrev pub slot_part : Load → Part LoadEnd
 slot_part l = load_read (descriptor_at l.image.setting.geometry l.image.slot.0 l.next) (λ bytes. found_part l bytes)
 
@@ -43,9 +44,11 @@ slot_part l = load_read (descriptor_at l.image.setting.geometry l.image.slot.0 l
 abbrev pub and_ends : Known → Load → Part LoadEnd → Part End
 and_ends known l part = followed_by part (after_load (rules_setting l.image.setting) known l.image.slot.0 l.image.until l.session.image)
 
+-- what is left of a load once it has these writes of the slots before the next one
 abbrev pub loaded_rest : Known → Load → (next : ℕ) → List Journaled → Part End
 loaded_rest known l next writes = and_ends known l (slots_part l next writes)
 
+-- what is left of a load once these bytes of a descriptor were read
 abbrev pub found_rest : Known → Load → List ℕ → Part End
 found_rest known l bytes = and_ends known l (found_part l bytes)
 
@@ -53,6 +56,7 @@ found_rest known l bytes = and_ends known l (found_part l bytes)
 abbrev pub damaged_rest : Known → Load → (block : ℕ) → Part End
 damaged_rest known l block = damaged_part (rules_setting l.image.setting) known (image_use l.image.slot.0 l.image.until) block
 
+-- what is left of a load, by where it stands
 abbrev pub load_at : LoadAt → Known → Load → Part End
 load_at load.Record known l = load_image (rules_setting l.image.setting) known l.image.slot.0 l.image.until
 load_at load.Slot known l = and_ends known l (slot_part l)
@@ -60,5 +64,6 @@ load_at (load.Data d) known l = and_ends known l (data_part l d.number d.vblock)
 load_at (load.Damaged block) known l = damaged_rest known l block.0
 load_at load.Last known l = attach_ends (rules_setting l.image.setting) known l.image.slot.0 l.image.until (session_of l.session)
 
+-- what is left of a load
 abbrev pub load_rest : Known → Load → Part End
 load_rest known l = load_at l.at known l

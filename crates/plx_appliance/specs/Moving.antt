@@ -49,6 +49,7 @@ pub record LoadMoves (new : Attach) (before after : ℕ → Hold) : Type 0 where
   pub at : new.at ≡ attach.Load
   pub leases : after ≡ before
 
+-- an attach was answered: how far it has come, and what is held then, by where it stood
 abbrev pub attach_moves : AttachAt → (old new : Attach) → Answer → (before after : ℕ → Hold) → Option Reply → Type 0
 attach_moves attach.Claim old new answer before after result = AttachClaimMoves old new answer before after result
 attach_moves attach.Load old new answer before after result = LoadMoves new before after

@@ -74,6 +74,7 @@ abbrev pub retire_stage_rest : RetireStage → Lent → Retire → Part End
 retire_stage_rest (stage.Extents m) lent r = extents_rest (around_of (rules_setting r.setting) r.setting.appliance.0 lent.known lent.leases) lent.space m
 retire_stage_rest (stage.Image image) lent r = image_rest (rules_setting r.setting) lent.leases lent.known image
 
+-- what a retire still asks, at its stage
 abbrev pub retire_images_rest : Lent → Retire → Part End
 retire_images_rest lent r = retire_stage_rest r.stage lent r
 
@@ -113,6 +114,7 @@ pub record ImageMoves (image : Leased) (new : Retire) (answer : Answer) (before 
   pub space : after.space ≡ before.space
   pub tells : (g : Geometry) (found : Option (ℕ × List ℕ)) → result ≡ None → retire_tells g new.stage found
 
+-- a retire was answered: how far it has come, by its stage
 abbrev pub retire_moves : RetireStage → (new : Retire) → Answer → (before after : Lent) → Option Reply → Type 0
 retire_moves (stage.Extents m) new answer before after result = ExtentMoves m new answer before after result
 retire_moves (stage.Image image) new answer before after result = ImageMoves image new answer before after result

@@ -50,6 +50,7 @@ pub record StartsAttachClaim (leases : ℕ → Hold) (a : Attach) : Type 0 where
   pub fresh : claim_hold a.claim ≡ Nothing
   pub sampled : (sample : Option ℕ) → IsSampled a.claim sample
 
+-- how an attach begins, by where it stands
 abbrev pub starts_at : (leases : ℕ → Hold) → AttachAt → Attach → Type 0
 starts_at leases attach.Claim a = StartsAttachClaim leases a
 starts_at leases attach.Load a = Unit {0}

@@ -27,6 +27,7 @@ take_at-prop at.Look a m = Prim.hlevel props
 take_at-prop at.Claim a m = Prim.hlevel props
 take_at-prop at.Damaged a m = Prim.hlevel props
 
+-- so of a reserve, wherever it stands
 pub take-prop : (a : Allocator) (m : Take) → IsProp (SuitsReserve a m)
 take-prop a m = Prim.hlevel (props, take_at-prop)
 
@@ -36,6 +37,7 @@ gives_at-prop giving.Map a m = Prim.hlevel props
 gives_at-prop giving.Write a m = Prim.hlevel props
 gives_at-prop giving.Damaged a m = Prim.hlevel props
 
+-- so of a retire, at each stage
 pub retire-prop : (a : Allocator) (setting : Setting) (place : RetireStage) → IsProp (retire_suits a setting place)
 retire-prop a setting (retire_stage.Extents m) = Prim.hlevel (props, gives_at-prop)
 retire-prop a setting (retire_stage.Image image) = Prim.hlevel props
@@ -51,6 +53,7 @@ work-prop a (work.Renew x) = Prim.hlevel props
 work-prop a (work.Reserve x) = take-prop a x.work
 work-prop a (work.Retire x) = retire-prop a x.setting x.stage
 
+-- so of each stage
 pub suits-prop : (a : Allocator) (place : Stage) → IsProp (stage_suits a place)
 suits-prop a stage.Idle = Prim.hlevel props
 suits-prop a (stage.Begun begun) = Prim.hlevel props

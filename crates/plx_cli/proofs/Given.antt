@@ -48,10 +48,10 @@ pub slice-ends : (old new : Option (List ℕ)) (slice bytes : List ℕ) → slic
 slice-ends old new slice bytes same ends = subst (λ l. ReadsToEnd old new l) (sym same) ends
 
 -- a source that failed, or for which memory ran out, wasn't read past the limit
-pub stops : (cause : ReadError) → (cause ≡ reading.Failed) ⊎ (cause ≡ reading.NoMemory) →
+pub fault-not-long : (cause : ReadError) → (cause ≡ reading.Failed) ⊎ (cause ≡ reading.NoMemory) →
     cause ≢ reading.TooLong
-stops cause (inl is) late = let P : ⊥ = cc in P
-stops cause (inr is) late = let P : ⊥ = cc in P
+fault-not-long cause (inl is) late = let P : ⊥ = cc in P
+fault-not-long cause (inr is) late = let P : ⊥ = cc in P
 
 -- what was found of the slice of the words holds of the words
 module _ {A : Type 0} (slice words : List (String Global)) (same : slice ≡ words) where

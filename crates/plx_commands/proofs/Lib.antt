@@ -1,3 +1,5 @@
 pub mod Accepted
+pub mod OwnReplies
 pub mod Places
 mod Rows
+pub mod SameReports

@@ -36,8 +36,8 @@ unfolding filled zeros
 zero-filled = refl
 
 -- an appliance attaches a free slot and makes an image of eight blocks in it
-abbrev opened : List Entry
-opened =
+abbrev open_trace : List Entry
+open_trace =
     entry.Reply appliance_one Created ∷ entry.Start appliance_one (Create only_slot 8 (97 ∷ []))
     ∷ entry.Reply appliance_one (Attached (report_of (free_image 0))) ∷ entry.Start appliance_one (Attach only_slot) ∷ []
 
@@ -49,7 +49,7 @@ image = new_image 1 8 (97 ∷ [])
 abbrev first_block : ℕ → Image
 first_block byte = image_after_write image 0 (filled byte)
 
-opened-permitted : (appliances : ℕ) → 0 < appliances → Permitted (first_model 1 appliances) opened
+opened-permitted : (appliances : ℕ) → 0 < appliances → Permitted (first_model 1 appliances) open_trace
 opened-permitted appliances some = (
   accepts-reply _ appliance_one (Create only_slot 8 (97 ∷ [])) Created some refl (ok-answers _ 0 (Create only_slot 8 (97 ∷ [])) Created refl refl refl (omega arith) refl),
   (
@@ -66,7 +66,7 @@ abbrev plain_trace : List Entry
 plain_trace =
     entry.Reply appliance_one (Data (All 0)) ∷ entry.Start appliance_one (Read only_slot 1)
     ∷ entry.Reply appliance_one (Data (All 90)) ∷ entry.Start appliance_one (Read only_slot 0)
-    ∷ entry.Reply appliance_one (Written 1) ∷ entry.Start appliance_one (Write only_slot 0 (All 90)) ∷ opened
+    ∷ entry.Reply appliance_one (Written 1) ∷ entry.Start appliance_one (Write only_slot 0 (All 90)) ∷ open_trace
 
 plain-permitted : Permitted (first_model 1 1) plain_trace
 plain-permitted = (
@@ -87,12 +87,12 @@ plain-permitted = (
 )
 
 -- a write that a crash cut off is reported as done or as not done
-abbrev crashed : List Entry
-crashed =
+abbrev after_crash_trace : List Entry
+after_crash_trace =
     entry.Start appliance_one (Attach only_slot) ∷ entry.Crash appliance_one ∷ entry.Start appliance_one (Write only_slot 0 (All 187))
-    ∷ entry.Reply appliance_one (Written 1) ∷ entry.Start appliance_one (Write only_slot 0 (All 170)) ∷ opened
+    ∷ entry.Reply appliance_one (Written 1) ∷ entry.Start appliance_one (Write only_slot 0 (All 170)) ∷ open_trace
 
-crashed-permitted : Permitted (first_model 1 1) crashed
+crashed-permitted : Permitted (first_model 1 1) after_crash_trace
 crashed-permitted = (
   accepts-start _ appliance_one (Attach only_slot) (omega arith) refl,
   (
@@ -109,7 +109,7 @@ crashed-permitted = (
 
 -- once the report says that it wasn't done, the block is the old one; once it says that it was, the new one
 abbrev not_done : List Entry
-not_done = entry.Reply appliance_one (Data (All 170)) ∷ entry.Start appliance_one (Read only_slot 0) ∷ entry.Reply appliance_one (Attached (report_of (first_block 170))) ∷ crashed
+not_done = entry.Reply appliance_one (Data (All 170)) ∷ entry.Start appliance_one (Read only_slot 0) ∷ entry.Reply appliance_one (Attached (report_of (first_block 170))) ∷ after_crash_trace
 
 not-done-permitted : Permitted (first_model 1 1) not_done
 not-done-permitted = (
@@ -129,7 +129,7 @@ second_block = image_after_write (first_block 170) 0 (filled 187)
 
 -- after a crash within a write its data is read, as the write may have been done
 abbrev was_done : List Entry
-was_done = entry.Reply appliance_one (Data (All 187)) ∷ entry.Start appliance_one (Read only_slot 0) ∷ entry.Reply appliance_one (Attached (report_of second_block)) ∷ crashed
+was_done = entry.Reply appliance_one (Data (All 187)) ∷ entry.Start appliance_one (Read only_slot 0) ∷ entry.Reply appliance_one (Attached (report_of second_block)) ∷ after_crash_trace
 
 was-done-permitted : Permitted (first_model 1 1) was_done
 was-done-permitted = (
@@ -147,7 +147,7 @@ was-done-permitted = (
 abbrev lost_trace : List Entry
 lost_trace =
     entry.Reply appliance_one NotAttached ∷ entry.Start appliance_one (Read only_slot 0)
-    ∷ entry.Reply appliance_one (Lost (lease.Image only_slot) 11000 11000) ∷ entry.Start appliance_one (Read only_slot 0) ∷ opened
+    ∷ entry.Reply appliance_one (Lost (lease.Image only_slot) 11000 11000) ∷ entry.Start appliance_one (Read only_slot 0) ∷ open_trace
 
 lost-permitted : Permitted (first_model 1 1) lost_trace
 lost-permitted = (
@@ -166,7 +166,7 @@ abbrev taken_over : List Entry
 taken_over =
     entry.Reply appliance_two (Written 1) ∷ entry.Start appliance_two (Write only_slot 0 (All 187))
     ∷ entry.Reply appliance_two (Attached (report_of image)) ∷ entry.Start appliance_two (Attach only_slot)
-    ∷ entry.Start appliance_one (Write only_slot 0 (All 170)) ∷ opened
+    ∷ entry.Start appliance_one (Write only_slot 0 (All 170)) ∷ open_trace
 
 taken-over-permitted : Permitted (first_model 1 2) taken_over
 taken-over-permitted = (
@@ -228,8 +228,8 @@ stranger = record { broken = owner foreign; least = earlier }
     earlier other less (unrefused breaks) = absurd (omega (arith, less))
 
 -- a write of the owner that is answered with the Ok of a read breaks rule 4
-misplaced : ¬ (is_listed (Write only_slot 0 (All 170)) (Data (All 170)) ≡ true)
-misplaced e = let P : ⊥ = cc in P
+written-not-data : ¬ (is_listed (Write only_slot 0 (All 170)) (Data (All 170)) ≡ true)
+written-not-data e = let P : ⊥ = cc in P
 
 -- a boot that has no claims left may say so of an attach and not of a create, of which the model knows how often it was done
 claims-worn : IsAmong (WornOut last_claim) (of_claims (Attach only_slot))

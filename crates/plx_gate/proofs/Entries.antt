@@ -7,7 +7,7 @@ use Rattle.plx_base.specs.Spelling.{IsReading, OnlySector, fields_bytes, field_n
 use Rattle.plx_base.specs.declared.stored.Field.{Field}
 use Rattle.plx_base.proofs.Pointers.{is_pointer-true, true-is_pointer}
 use Rattle.plx_base.proofs.Spelling.{AreFields, fields-back, length-fields, only-written, read-exact, read-past, read-some, read-unspelled}
-use Rattle.plx_base.proofs.Tests.{all_three, and-right, nat_lt-true, nat_lt-tells}
+use Rattle.plx_base.proofs.Tests.{all_three, and-left, and-right, nat_lt-true, nat_lt-tells}
 use Rattle.plx_base.proofs.Written.{part-after, part-before, part-written, length-written, written-whole}
 use Rattle.plx_base.specs.Pointers.{is_pointer}
 use Rattle.plx_gate.specs.Entries.{IsEntry, entry_bytes, entry_fields, entry_of, entry_part, entry_sector, entry_start, flag_of, found_entry, is_entry, read_entry, with_entry}
@@ -44,10 +44,6 @@ entry-found e h =
 
 -- the test of the limits tells
 
-front : (a b : Bool) → (a && b) ≡ true → a ≡ true
-front true b h = refl
-front false b h = cc
-
 is_entry-true : (e : LogEntry) → IsEntry e → is_entry e ≡ true
 is_entry-true e h =
     all_three (is_pointer e.root) (nat_lt e.root (2 ^ 63)) (nat_lt e.stamp (2 ^ 64)) (is_pointer-true e.root h.root) (nat_lt-true e.root (2 ^ 63) h.frozen) (nat_lt-true e.stamp (2 ^ 64) h.stamp)
@@ -56,8 +52,8 @@ true-is_entry : (e : LogEntry) → is_entry e ≡ true → IsEntry e
 true-is_entry e h =
     let rest = and-right (is_pointer e.root) (nat_lt e.root (2 ^ 63) && nat_lt e.stamp (2 ^ 64)) h in
     record {
-      root = true-is_pointer e.root (front (is_pointer e.root) (nat_lt e.root (2 ^ 63) && nat_lt e.stamp (2 ^ 64)) h);
-      frozen = nat_lt-tells e.root (2 ^ 63) (front (nat_lt e.root (2 ^ 63)) (nat_lt e.stamp (2 ^ 64)) rest);
+      root = true-is_pointer e.root (and-left (is_pointer e.root) (nat_lt e.root (2 ^ 63) && nat_lt e.stamp (2 ^ 64)) h);
+      frozen = nat_lt-tells e.root (2 ^ 63) (and-left (nat_lt e.root (2 ^ 63)) (nat_lt e.stamp (2 ^ 64)) rest);
       stamp = nat_lt-tells e.stamp (2 ^ 64) (and-right (nat_lt e.root (2 ^ 63)) (nat_lt e.stamp (2 ^ 64)) rest);
     }
 

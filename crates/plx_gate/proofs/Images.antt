@@ -1,5 +1,5 @@
 -- Image records as bytes: each is read back, is spelled in one way, and differs from another in its first sector alone.
-use Rattle.std.proofs.Common.{◌≡◌, ◌≢◌, ℕ, inl, inr, ◌^◌, ◌<◌, ◌≤◌, List, [], ◌∷◌, length, take, drop, refl, ap, sym, ◌∙◌, subst, arith, Bool, true, false, Some, None}
+use Rattle.std.proofs.Common.{◌≡◌, ◌≢◌, ℕ, inl, inr, ◌^◌, ◌<◌, ◌≤◌, List, [], ◌∷◌, length, take, drop, refl, ap, sym, ◌∙◌, subst, arith, true, false, Some, None}
 use Rattle.std.proofs.lemmas.Bool.Decides.{nat_tests, eqb_tells}
 use Rattle.std.proofs.lemmas.List.{length-drop, length-take}
 use Rattle.std.specs.Prelude.{◌&&◌}
@@ -11,7 +11,7 @@ use Rattle.plx_base.specs.declared.stored.Field.{Field}
 use Rattle.plx_base.proofs.Labels.{is_label-true, true-is_label}
 use Rattle.plx_base.proofs.Pointers.{IsPointer-lt, is_pointer-true, true-is_pointer}
 use Rattle.plx_base.proofs.Spelling.{AreFields, length-spelled, only-spelled, read-exact, read-past, read-some, read-unspelled, spelled-fields, spelled-last}
-use Rattle.plx_base.proofs.Tests.{all_three, not-true, and-right}
+use Rattle.plx_base.proofs.Tests.{all_three, and-left, and-right, not-true}
 use Rattle.plx_gate.specs.Images.{IsImage, are_within, found_image, found_label, image_bytes, image_fields, image_magic, record_of_fields, is_image, label_of, read_image}
 use Rattle.plx_gate.specs.declared.image.ImageRecord.{ImageRecord}
 use Rattle.plx_gate.specs.declared.image.ImageRecord.TheVariants.{Free, Live}
@@ -68,10 +68,6 @@ true-are_within : (generation size taken applied : ℕ) → are_within generatio
 true-are_within generation size taken applied h =
     (grind (arith, nat_tests), grind (arith, nat_tests), grind (arith, nat_tests), grind (arith, nat_tests), grind (arith, nat_tests), grind (arith, nat_tests))
 
-front : (a b : Bool) → (a && b) ≡ true → a ≡ true
-front true b h = refl
-front false b h = cc
-
 pub is_image-true : (r : ImageRecord) → IsImage r → is_image r ≡ true
 is_image-true (Free generation) h = grind (arith, nat_tests)
 is_image-true (Live generation size taken root applied label) h =
@@ -82,7 +78,7 @@ is_image-true (Live generation size taken root applied label) h =
 pub true-is_image : (r : ImageRecord) → is_image r ≡ true → IsImage r
 true-is_image (Free generation) h = grind (arith, nat_tests)
 true-is_image (Live generation size taken root applied label) h =
-    let a = true-are_within generation size taken applied (front (are_within generation size taken applied) (is_pointer root && is_label label) h) in
+    let a = true-are_within generation size taken applied (and-left (are_within generation size taken applied) (is_pointer root && is_label label) h) in
     let b = and-right (are_within generation size taken applied) (is_pointer root && is_label label) h in
     record {
       generation_low = a.0;
@@ -90,7 +86,7 @@ true-is_image (Live generation size taken root applied label) h =
       size_low = a.2;
       size_high = a.3;
       taken_high = a.4;
-      root_pointer = true-is_pointer root (front (is_pointer root) (is_label label) b);
+      root_pointer = true-is_pointer root (and-left (is_pointer root) (is_label label) b);
       applied_high = a.5;
       label_is = true-is_label label (and-right (is_pointer root) (is_label label) b);
     }
@@ -170,7 +166,7 @@ pub past-live : (bytes : List ℕ) (g s t a : ℕ) → number_at 4 8 bytes ≢ 0
     are_within g s t a ≡ false → is_image (found_image bytes) ≡ false
 past-live bytes g s t a live hg hs ht ha past =
     past-limits bytes live (λ is. let h = is_image-true (live_at bytes) is in
-    let one = front (are_within (number_at 4 12 bytes) (number_at 4 16 bytes) (number_at 4 20 bytes) (number_at 8 32 bytes)) (is_pointer (number_at 8 24 bytes) && is_label (found_label bytes)) h in
+    let one = and-left (are_within (number_at 4 12 bytes) (number_at 4 16 bytes) (number_at 4 20 bytes) (number_at 8 32 bytes)) (is_pointer (number_at 8 24 bytes) && is_label (found_label bytes)) h in
     let other : are_within (number_at 4 12 bytes) (number_at 4 16 bytes) (number_at 4 20 bytes) (number_at 8 32 bytes) ≡ false = rw (← hg, ← hs, ← ht, ← ha) past in
     let bad : true ≡ false = sym one ∙ other in cc)
 

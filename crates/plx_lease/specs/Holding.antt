@@ -52,6 +52,7 @@ claim_hold_at at.Wait claim = Wrote claim (end_of_term claim)
 claim_hold_at at.Reread claim = Waited claim (end_of_term claim)
 claim_hold_at at.DamagedLate claim = Nothing
 
+-- what is held while a claim stands where it does
 abbrev pub claim_hold : {K : Type 0} → LeaseClaim K → Hold
 claim_hold c = claim_hold_at c.at c.claim
 
@@ -65,6 +66,7 @@ sample_at at.Wait claim = None
 sample_at at.Reread claim = None
 sample_at at.DamagedLate claim = None
 
+-- the last answer of a claim, where it was a reading that counts
 abbrev pub claim_sample : {K : Type 0} → LeaseClaim K → Option ℕ
 claim_sample c = sample_at c.at c.claim
 
@@ -78,6 +80,7 @@ claim_ask_at at.Wait lease claim = ask.Until (claim.sample + wait)
 claim_ask_at at.Reread lease claim = ask.Read (record { 0 = lease_at lease })
 claim_ask_at at.DamagedLate lease claim = ask.Clock
 
+-- what a claim asks
 abbrev pub claim_ask : {K : Type 0} → LeaseClaim K → Ask
 claim_ask c = claim_ask_at c.at c.number c.claim
 
@@ -100,6 +103,7 @@ IsSampledAt at.Wait claim last = Unit {0}
 IsSampledAt at.Reread claim last = Unit {0}
 IsSampledAt at.DamagedLate claim last = Unit {0}
 
+-- so of a claim, wherever it stands
 abbrev pub IsSampled : {K : Type 0} → LeaseClaim K → Option ℕ → Type 0
 IsSampled c last = IsSampledAt c.at c.claim last
 

@@ -37,6 +37,7 @@ renewed_hold r end.Renewed = Held r.claim r.later
 renewed_hold r (end.Lost due reading) = Nothing
 renewed_hold r end.WriteFault = Nothing
 
+-- what is held once a renewal was answered fits where it goes on, or its end
 abbrev pub LeavesRenewal : Hold → LeaseRenewal → Option End → Type 0
 LeavesRenewal hold r None = hold ≡ renewal_hold r
 LeavesRenewal hold r (Some end) = hold ≡ renewed_hold r end

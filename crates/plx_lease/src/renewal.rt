@@ -123,8 +123,9 @@ impl LeaseRenewal {
         ensures rest { rest_after renewal_end (renewal_rest self.new) result
             ≡ answered (renewal_rest self.old) answer.now }
         ensures hold { Fits (renewal_ask self.old) answer.now →
-            LeavesRenewal (lease_after None (renewal_ask self.old)
-            (bytes_out (renewal_rest self.old)) answer.now (renewal_hold self.old)) self.new result }
+            LeavesRenewal
+            (lease_after None (renewal_ask self.old) (bytes_out (renewal_rest self.old)) answer.now
+            (renewal_hold self.old)) self.new result }
         ensures kept { self.new ≡ self.old }
     {
         match answer {

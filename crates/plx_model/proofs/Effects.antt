@@ -14,7 +14,7 @@ use Rattle.plx_commands.specs.Slots.{image_after, changed_slot, named_slots}
 use Rattle.plx_commands.specs.declared.command.Command.{Command}
 use Rattle.plx_commands.specs.declared.command.Command.TheVariants.{Attach, Detach, Create, Delete, Read, Write, Flush, Reserve, Renew, Retire, Reclaim}
 use Rattle.plx_commands.specs.declared.reply.Reply.{Reply}
-use Rattle.plx_commands.specs.declared.reply.Reply.TheVariants.{Attached, Detached, Created, Deleted, Data, Written, Flushed, Reserved, Renewed, Retired, Reclaimed, WornOut}
+use Rattle.plx_commands.specs.declared.reply.Reply.TheVariants.{Attached, Created, Deleted, Written, WornOut}
 use Rattle.plx_model.specs.Effects.{IsAtHand, model_after_effect, changed_by, effect_of, model_after_end}
 use Rattle.plx_model.specs.Shown.{CanChange}
 
@@ -86,21 +86,6 @@ at_hand m (Reserve count) reply v = tt
 at_hand m Renew reply v = tt
 at_hand m Retire reply v = tt
 at_hand m Reclaim reply v = tt
-
--- an Ok has the number 0
-pub own_number : (command : Command) (reply : Reply) → is_own command reply ≡ true → number_of reply ≡ 0
-own_number command (Attached report) h = refl
-own_number command Detached h = refl
-own_number command Created h = refl
-own_number command Deleted h = refl
-own_number command (Data payload) h = refl
-own_number command (Written number) h = refl
-own_number command (Flushed applied blocks) h = refl
-own_number command Reserved h = refl
-own_number command Renewed h = refl
-own_number command Retired h = refl
-own_number command (Reclaimed covered freed reads) h = refl
-own_number command reply h = cc
 
 -- the last of two lists without a refusal has none
 none-last : (some more : List Reply) → is_none (some ++ more) ≡ true → is_none more ≡ true

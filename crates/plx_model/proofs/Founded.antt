@@ -31,8 +31,8 @@ among-the-rest reply some more none h = by_side (among-either reply some more h)
     by_side (inl here) = absurd (none here)
     by_side (inr later) = later
 
-stopped : (reply : Reply) (some more : List Reply) → ¬ IsAmong reply more → IsAmong reply (some ++ more) → IsAmong reply some
-stopped reply some more none h = by_side (among-either reply some more h)
+not-in-more : (reply : Reply) (some more : List Reply) → ¬ IsAmong reply more → IsAmong reply (some ++ more) → IsAmong reply some
+not-in-more reply some more none h = by_side (among-either reply some more h)
   where
     by_side : IsAmong reply some ⊎ IsAmong reply more → IsAmong reply some
     by_side (inl here) = here
@@ -58,10 +58,10 @@ in_worn count None h = absurd h
 in_worn count (Some other) (inl e) = let same : count ≡ other = cc in ap Some (sym same)
 in_worn count (Some other) (inr h) = absurd h
 
-held : (reply refusal : Reply) (b : Bool) → IsAmong reply (where_holds b refusal) → (b ≡ true) × (reply ≡ refusal)
-held reply refusal true (inl e) = (refl, e)
-held reply refusal true (inr h) = absurd h
-held reply refusal false h = absurd h
+where-held : (reply refusal : Reply) (b : Bool) → IsAmong reply (where_holds b refusal) → (b ≡ true) × (reply ≡ refusal)
+where-held reply refusal true (inl e) = (refl, e)
+where-held reply refusal true (inr h) = absurd h
+where-held reply refusal false h = absurd h
 
 -- a refusal that is none by sessions is among all only where it is among those by images, or by claims
 past_sessions : (reply : Reply) (facts : Refusals) → ¬ (reply ≡ AlreadyAttached) → ¬ (reply ≡ NotAttached) → IsAmong reply (listed_refusals facts) → IsAmong reply (listed_images facts.images)
@@ -92,10 +92,10 @@ founded_range facts size = (there, back)
     back : IsFoundedIn (listed_refusals facts ++ listed_claims facts) (OutOfRange size) → facts.images.range ≡ Some size
     back h =
         in_beyond size facts.images.range
-        (stopped (OutOfRange size) (beyond facts.images.range) (worn facts.images.worn) (not_worn size facts.images.worn)
+        (not-in-more (OutOfRange size) (beyond facts.images.range) (worn facts.images.worn) (not_worn size facts.images.worn)
         (past_flags (OutOfRange size) facts.images (λ e. let P : ⊥ = cc in P) (λ e. let P : ⊥ = cc in P)
         (past_sessions (OutOfRange size) facts (λ e. let P : ⊥ = cc in P) (λ e. let P : ⊥ = cc in P)
-        (stopped (OutOfRange size) (listed_refusals facts) (listed_claims facts) (not_held (OutOfRange size) (WornOut last_claim) facts.claims (λ e. let P : ⊥ = cc in P)) (h refl)))))
+        (not-in-more (OutOfRange size) (listed_refusals facts) (listed_claims facts) (not_held (OutOfRange size) (WornOut last_claim) facts.claims (λ e. let P : ⊥ = cc in P)) (h refl)))))
 
 pub founded_worn : (facts : Refusals) (count : ℕ) → IsWornAt facts.images.worn facts.claims count ↔ IsFoundedIn (listed_refusals facts ++ listed_claims facts) (WornOut count)
 founded_worn facts count = (there, back)
@@ -115,7 +115,7 @@ founded_worn facts count = (there, back)
         (past_flags (WornOut count) facts.images (λ e. let P : ⊥ = cc in P) (λ e. let P : ⊥ = cc in P)
         (past_sessions (WornOut count) facts (λ e. let P : ⊥ = cc in P) (λ e. let P : ⊥ = cc in P) among))))
     by_side (inr claimed) =
-        let both : (facts.claims ≡ true) × (WornOut count ≡ WornOut last_claim) = held (WornOut count) (WornOut last_claim) facts.claims claimed in
+        let both : (facts.claims ≡ true) × (WornOut count ≡ WornOut last_claim) = where-held (WornOut count) (WornOut last_claim) facts.claims claimed in
         inr (both.0, let e : WornOut count ≡ WornOut last_claim = both.1 in let same : count ≡ last_claim = cc in same)
 
     back : IsFoundedIn (listed_refusals facts ++ listed_claims facts) (WornOut count) → IsWornAt facts.images.worn facts.claims count

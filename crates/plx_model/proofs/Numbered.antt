@@ -22,15 +22,15 @@ Rule m e (suc (suc (suc (suc (suc (suc (suc zero))))))) = InCommand IsFounded m 
 Rule m e (suc (suc (suc (suc (suc (suc (suc (suc zero)))))))) = InCommand IsUnrefused m e
 Rule m e (suc (suc (suc (suc (suc (suc (suc (suc (suc n))))))))) = Unit {0}
 
-broken : {m : Model} {e : Entry} {n : ℕ} → Breaks m e n → ¬ Rule m e n
-broken (known h) = h
-broken (idle h) = h
-broken (running h) = h
-broken (listed h) = h
-broken (owner h) = h
-broken (value h) = h
-broken (refusal h) = h
-broken (unrefused h) = h
+breaks-rule : {m : Model} {e : Entry} {n : ℕ} → Breaks m e n → ¬ Rule m e n
+breaks-rule (known h) = h
+breaks-rule (idle h) = h
+breaks-rule (running h) = h
+breaks-rule (listed h) = h
+breaks-rule (owner h) = h
+breaks-rule (value h) = h
+breaks-rule (refusal h) = h
+breaks-rule (unrefused h) = h
 
 -- an entry that is accepted breaks no rule
 pub accepted_keeps : {m : Model} {e : Entry} {n : ℕ} → Breaks m e n → ¬ Accepts m e
@@ -44,8 +44,8 @@ accepted_keeps (refusal h) a = h a.refusal
 accepted_keeps (unrefused h) a = h a.unrefused
 
 -- what a test denies
-pub denied : {P : Type 0} (b : Bool) → IsTrue b ↔ P → b ≡ false → ¬ P
-denied b h fails p = let yes : b ≡ true = h.1 p in cc
+pub not-so : {P : Type 0} (b : Bool) → IsTrue b ↔ P → b ≡ false → ¬ P
+not-so b h fails p = let yes : b ≡ true = h.1 p in cc
 
 -- all rules below this number are kept
 abbrev pub Below : Model → Entry → ℕ → Type 0
@@ -60,7 +60,7 @@ below_next m e n below here = below_more (Rule m e) n below here
 
 -- a rule is the least that is broken where all below it are kept
 pub least-broken : (m : Model) (e : Entry) (n : ℕ) → Below m e n → Breaks m e n → IsLeastBroken m e n
-least-broken m e n below here = record { broken = here; least = λ k h b. broken b (below k h) }
+least-broken m e n below here = record { broken = here; least = λ k h b. breaks-rule b (below k h) }
 
 pub not_in_command : (Holds : Model → ℕ → Command → Reply → Type 0) (m : Model) (a : ApplianceNo) (command : Command) (reply : Reply) → m.running a.0 ≡ Some command → ¬ Holds m a.0 command reply → ¬ InCommand Holds m (entry.Reply a reply)
 not_in_command Holds m a command reply runs fails h = fails (h command runs)

@@ -1,29 +1,18 @@
 -- The test whether two reports are equal.
 use Rattle.std.proofs.Common.{◌≡◌, refl, sym, subst, Bool, true, false, Option, Some, None, inl, inr}
 use Rattle.std.specs.Prelude.{◌==◌, ◌&&◌}
-use Rattle.std.proofs.lemmas.Bool.{and_from, and_parts, eqb-true, eq-eqb}
+use Rattle.std.proofs.lemmas.Bool.{and_parts, eqb-true}
 use Rattle.plx_commands.specs.Images.{Image, report_of}
 use Rattle.plx_commands.specs.Reports.{IsReported, same_report, same_flag, same_bytes}
 use Rattle.plx_commands.specs.declared.reply.Report.{Report}
 use Rattle.plx_model.specs.Shown.{is_report_of}
-use Rattle.plx_model.proofs.SameBytes.{same_bytes-same, same_bytes-equal}
-
-same_flag-same : (b : Bool) → same_flag b b ≡ true
-same_flag-same true = refl
-same_flag-same false = refl
+use Rattle.plx_commands.proofs.SameReports.{same-report}
+use Rattle.plx_model.proofs.SameBytes.{same_bytes-equal}
 
 same_flag-equal : (b c : Bool) → same_flag b c ≡ true → b ≡ c
 same_flag-equal true c h = sym h
 same_flag-equal false true h = h
 same_flag-equal false false h = refl
-
-same_report-same : (r : Report) → same_report r r ≡ true
-same_report-same r =
-    and_from _ _ (eq-eqb r.writes r.writes refl)
-    (and_from _ _ (eq-eqb r.generation r.generation refl)
-    (and_from _ _ (eq-eqb r.size r.size refl)
-    (and_from _ _ (eq-eqb r.taken r.taken refl)
-    (and_from _ _ (eq-eqb r.dropped r.dropped refl) (and_from _ _ (same_flag-same r.live) (same_bytes-same r.label))))))
 
 same_report-equal : (r s : Report) → same_report r s ≡ true → r ≡ s
 same_report-equal r s h0 =
@@ -50,7 +39,7 @@ same_report-equal r s h0 =
     }
 
 same_report-along : (r s : Report) → r ≡ s → same_report r s ≡ true
-same_report-along r s e = subst (λ t. same_report r t ≡ true) e (same_report-same r)
+same_report-along r s e = subst (λ t. same_report r t ≡ true) e (same-report r)
 
 -- the test for the report of an image, if there is one
 reported_of : (image : Option Image) (r : Report) → is_report_of image r ≡ true → (other : Image) × (image ≡ Some other) × (r ≡ report_of other)

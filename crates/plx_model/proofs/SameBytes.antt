@@ -1,12 +1,9 @@
 -- The test whether two lists of bytes are the same.
 use Rattle.std.proofs.Common.{◌≡◌, ◌↔◌, ℕ, List, [], ◌∷◌, refl, sym, ap₂, subst, Bool, true, false, IsTrue}
 use Rattle.std.specs.Prelude.{◌==◌}
-use Rattle.std.proofs.lemmas.Bool.{and_from, and_parts, eqb-true, eq-eqb}
+use Rattle.std.proofs.lemmas.Bool.{and_parts, eqb-true}
 use Rattle.plx_commands.specs.Reports.{same_bytes}
-
-pub same_bytes-same : (xs : List ℕ) → same_bytes xs xs ≡ true
-same_bytes-same [] = refl
-same_bytes-same (x ∷ xs) = and_from (x == x) (same_bytes xs xs) (eq-eqb x x refl) (same_bytes-same xs)
+use Rattle.plx_commands.proofs.SameReports.{same-bytes}
 
 pub same_bytes-equal : (xs ys : List ℕ) → same_bytes xs ys ≡ true → xs ≡ ys
 same_bytes-equal [] [] h = refl
@@ -21,5 +18,5 @@ not_same false n = refl
 
 -- what decides whether they are equal is that test
 pub same_bytes-decided : (b : Bool) (xs ys : List ℕ) → IsTrue b ↔ (xs ≡ ys) → b ≡ same_bytes xs ys
-same_bytes-decided true xs ys h = sym (subst (λ zs. same_bytes xs zs ≡ true) (h.0 refl) (same_bytes-same xs))
+same_bytes-decided true xs ys h = sym (subst (λ zs. same_bytes xs zs ≡ true) (h.0 refl) (same-bytes xs))
 same_bytes-decided false xs ys h = not_same (same_bytes xs ys) (λ e. let n : false ≡ true = h.1 (same_bytes-equal xs ys e) in cc)

@@ -17,9 +17,9 @@ table-replicate {X} n x = fun_ext (λ k. each k (below-or-past k n))
     each k (inl h) = get_or-replicate n k x x h
     each k (inr h) = get_or_past (replicate n x) k x (rw (length-replicate n x) h)
 
-chosen : {X : Type 0} (b : Bool) (u v w : X) → (b ≡ true → w ≡ u) → (b ≡ false → w ≡ v) → w ≡ (if b then u else v)
-chosen true u v w yes_case no_case = yes_case refl
-chosen false u v w yes_case no_case = no_case refl
+by-choice : {X : Type 0} (b : Bool) (u v w : X) → (b ≡ true → w ≡ u) → (b ≡ false → w ≡ v) → w ≡ (if b then u else v)
+by-choice true u v w yes_case no_case = yes_case refl
+by-choice false u v w yes_case no_case = no_case refl
 
 -- the table of a list that is changed at one place
 pub table-set : {X : Type 0} (xs : List X) (k : ℕ) (x d : X) → k < length xs → table (slice_set xs k x) d ≡ at (table xs d) k x

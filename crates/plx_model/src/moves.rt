@@ -239,8 +239,10 @@ impl Model {
     }
 
     fn give_up(&mut self, appliance: ApplianceNo, slot: Option<u32>)
-        ensures moved { model_of_tables self.new ≡ record
-            (model_of_tables self.old) { slots = refused_at (model_of_tables self.old) appliance.0 slot } }
+        ensures moved { model_of_tables self.new
+            ≡ record (model_of_tables self.old) {
+              slots = refused_at (model_of_tables self.old) appliance.0 slot;
+            } }
         ensures seats { length self.new.seats.items ≡ length self.old.seats.items }
     {
         let Some(slot) = slot else {

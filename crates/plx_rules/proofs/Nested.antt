@@ -53,5 +53,5 @@ answered-followed (UntilThen from rest) next (answer.Missed reading) asks = refl
 answered-followed (UntilThen from rest) next answer.Fault asks = refl
 
 -- so the outer equation follows from the inner one: where the inner one goes on (`after` is its rest), and where it ends (`after` is its end)
-pub nested : {E F : Type 0} (part after : Part E) (next : E → Part F) (a : Answer) → Asks part → after ≡ answered part a → followed_by after next ≡ answered (followed_by part next) a
-nested part after next a asks e = ap (λ p. followed_by p next) e ∙ sym (answered-followed part next a asks)
+pub followed-after-answer : {E F : Type 0} (part after : Part E) (next : E → Part F) (a : Answer) → Asks part → after ≡ answered part a → followed_by after next ≡ answered (followed_by part next) a
+followed-after-answer part after next a asks e = ap (λ p. followed_by p next) e ∙ sym (answered-followed part next a asks)

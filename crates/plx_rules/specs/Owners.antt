@@ -87,6 +87,7 @@ IsGuarded w = (number sector : ℕ) (write : Issued) (lease b : ℕ) → lease <
 abbrev pub Exclusion : Type 0
 Exclusion = (w : World) → Reached w → HasOneOwner w
 
+-- in every world that events lead to no late write changes what its lease's owner has
 abbrev pub Guarding : Type 0
 Guarding = (w : World) → Reached w → IsGuarded w
 

@@ -73,11 +73,14 @@ IsClearedByGives w = (number sector : ℕ) (write : Issued) → MayLand w.surfac
 abbrev pub HandsAllocated : Type 0
 HandsAllocated = (w : World) → Reached w → AreAllocated w
 
+-- they are in one such hand at most, in every such world
 abbrev pub HandsApart : Type 0
 HandsApart = (w : World) → Reached w → AreApart w
 
+-- takes alone make blocks allocated, in every such world
 abbrev pub TakesSet : Type 0
 TakesSet = (w : World) → Reached w → IsSetByTakes w
 
+-- gives and sweeps alone make them clear, in every such world
 abbrev pub GivesClear : Type 0
 GivesClear = (w : World) → Reached w → IsClearedByGives w

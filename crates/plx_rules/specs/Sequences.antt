@@ -25,29 +25,29 @@ next_sector None = None
 next_sector (Some sector) = Some (sector + 1)
 
 -- the least sector that hasn't landed, by the flags
-abbrev pub missing : List Bool → Option ℕ
-missing [] = None
-missing (false ∷ flags) = Some 0
-missing (true ∷ flags) = next_sector (missing flags)
+abbrev pub missing_sector : List Bool → Option ℕ
+missing_sector [] = None
+missing_sector (false ∷ flags) = Some 0
+missing_sector (true ∷ flags) = next_sector (missing_sector flags)
 
 -- a write that isn't issued yet is issued, or is missed where the time is past its guard
-abbrev pub issuing : World → ApplianceNo → (guard : ℕ) → Event
-issuing w appliance guard = if nat_le w.surface.time guard then event.Issue appliance else event.Miss appliance w.surface.time
+abbrev pub issue_or_miss : World → ApplianceNo → (guard : ℕ) → Event
+issue_or_miss w appliance guard = if nat_le w.surface.time guard then event.Issue appliance else event.Miss appliance w.surface.time
 
 -- a write that is issued has its missing sectors landed in ascending order, and is then answered; it fails where a missing sector can't land any more
-abbrev pub landing : World → ApplianceNo → (back guard : ℕ) → Option ℕ → Event
-landing w appliance back guard None = event.Done appliance
-landing w appliance back guard (Some sector) =
+abbrev pub next_of_sector : World → ApplianceNo → (back guard : ℕ) → Option ℕ → Event
+next_of_sector w appliance back guard None = event.Done appliance
+next_of_sector w appliance back guard (Some sector) =
     if nat_le w.surface.time (guard + drift) then event.Land appliance back sector else event.Fault appliance
 
 -- the same, of the issued write that is waited for; so many newer ones of the appliance were issued
 abbrev pub next_landing : World → ApplianceNo → (back : ℕ) → Option Issued → Option Event
 next_landing w appliance back None = None
-next_landing w appliance back (Some write) = Some (landing w appliance back write.guard (missing write.landed))
+next_landing w appliance back (Some write) = Some (next_of_sector w appliance back write.guard (missing_sector write.landed))
 
 -- what a run makes next of the write that is asked, issued or not
 abbrev pub next_of_write : World → ApplianceNo → (guard : ℕ) → Option ℕ → Option Event
-next_of_write w appliance guard None = Some (issuing w appliance guard)
+next_of_write w appliance guard None = Some (issue_or_miss w appliance guard)
 next_of_write w appliance guard (Some number) =
     next_landing w appliance (issued_by appliance.0 (drop (number + 1) w.surface.writes)) (slice_get w.surface.writes number)
 

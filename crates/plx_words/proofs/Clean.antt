@@ -92,17 +92,17 @@ clean-line (piece ∷ pieces) test tells =
     (clean-piece piece parts.0 tells.0, clean-line pieces parts.1 tells.1)
 
 -- the numbers of a line have at most 64 digits, by their limits
-abbrev bounded : Piece → Bool
-bounded (number least limit n) = leb limit (10 ^ 64)
-bounded (named name limit n) = leb limit (10 ^ 64)
-bounded other = true
+abbrev has_bounded_numbers : Piece → Bool
+has_bounded_numbers (number least limit n) = leb limit (10 ^ 64)
+has_bounded_numbers (named name limit n) = leb limit (10 ^ 64)
+has_bounded_numbers other = true
 
 -- whether each piece is within its limits
 abbrev pub all_bounded : List Piece → Bool
 all_bounded [] = true
-all_bounded (piece ∷ pieces) = bounded piece && all_bounded pieces
+all_bounded (piece ∷ pieces) = has_bounded_numbers piece && all_bounded pieces
 
-fits-tells : (piece : Piece) → bounded piece ≡ true → FitsPiece piece → Tells piece
+fits-tells : (piece : Piece) → has_bounded_numbers piece ≡ true → FitsPiece piece → Tells piece
 fits-tells (word letters) test fits = tt
 fits-tells (number least limit n) test fits = let low = leb-true limit (10 ^ 64) test in omega arith
 fits-tells (named name limit n) test fits = let low = leb-true limit (10 ^ 64) test in omega arith
@@ -114,5 +114,5 @@ fits-tells unspelled test fits = fits
 pub line-tells : (pieces : List Piece) → all_bounded pieces ≡ true → AllFit pieces → AllTell pieces
 line-tells [] test fits = tt
 line-tells (piece ∷ pieces) test fits =
-    let parts = and-parts (bounded piece) (all_bounded pieces) test in
+    let parts = and-parts (has_bounded_numbers piece) (all_bounded pieces) test in
     (fits-tells piece parts.0 fits.0, line-tells pieces parts.1 fits.1)

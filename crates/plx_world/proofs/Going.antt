@@ -17,7 +17,7 @@ use Rattle.plx_disk.specs.declared.ask.Ask.{Ask}
 use Rattle.plx_disk.specs.declared.ask.Ask.TheVariants as ask
 use Rattle.plx_rules.specs.Boot.{Place, Idle, Begins, In, asks}
 use Rattle.plx_rules.specs.Part.{Ends, ReadThen, WriteThen, ClockThen, UntilThen}
-use Rattle.plx_rules.specs.Sequences.{landing, missing, next_at, next_event, next_landing, next_of_write, next_sector, stops}
+use Rattle.plx_rules.specs.Sequences.{next_of_sector, missing_sector, next_at, next_event, next_landing, next_of_write, next_sector, stops}
 use Rattle.plx_rules.specs.World as rules
 use Rattle.plx_rules.specs.World.{IsReadingAt, Step, is_boot_of, issued_by, stands, with_surface}
 use Rattle.plx_world.specs.Answering.{asked_by, pending_of}
@@ -219,19 +219,19 @@ waits world w a guard number writing pending h =
     record { writes = at; waited = waited; write = back.0; found = back.1.found; own = back.1.owner }
 
 -- what comes next
-next-issued : (w : rules.World) (a : ApplianceNo) (guard number : ℕ) (waiting : WaitsForWrite w a guard number) (m : Option ℕ) → missing waiting.write.landed ≡ m →
-    next_event w a None ≡ Some (landing w a (issued_by a.0 (drop (number + 1) w.surface.writes)) waiting.write.guard m)
+next-issued : (w : rules.World) (a : ApplianceNo) (guard number : ℕ) (waiting : WaitsForWrite w a guard number) (m : Option ℕ) → missing_sector waiting.write.landed ≡ m →
+    next_event w a None ≡ Some (next_of_sector w a (issued_by a.0 (drop (number + 1) w.surface.writes)) waiting.write.guard m)
 next-issued w a guard number waiting m is =
     let back = issued_by a.0 (drop (number + 1) w.surface.writes) in
     next-write w a guard waiting.writes ∙ ap (next_of_write w a guard) waiting.waited ∙ ap (next_landing w a back) waiting.found
-    ∙ ap (λ (x : Option ℕ). Some (landing w a back waiting.write.guard x)) is
+    ∙ ap (λ (x : Option ℕ). Some (next_of_sector w a back waiting.write.guard x)) is
 
 -- two writes of one number are one
 same-found : (writes : List Issued) (number : ℕ) (x y : Issued) → slice_get writes number ≡ Some x → slice_get writes number ≡ Some y → x ≡ y
 same-found writes number x y is also = let both : Some x ≡ Some y = sym is ∙ also in cc
 
 -- the least missing sector, by both definitions
-missing-least : (flags : List Bool) (sector : ℕ) → IsLeastMissing flags sector → missing flags ≡ Some sector
+missing-least : (flags : List Bool) (sector : ℕ) → IsLeastMissing flags sector → missing_sector flags ≡ Some sector
 missing-least [] sector least = let e = least.missing in cc
 missing-least (false ∷ flags) zero least = refl
 missing-least (false ∷ flags) (suc k) least = let e = least.below 0 (omega arith) in cc
@@ -249,7 +249,7 @@ goes-done old new a guard number made writing pending none steps w h =
     let to = waiting.writes in
     let at = to.at in
     let whole = landed waiting waiting.write.cancelled refl in
-    goes-next a w new made (event.Done a) (next-issued w a guard number waiting None (ap missing whole))
+    goes-next a w new made (event.Done a) (next-issued w a guard number waiting None (ap missing_sector whole))
     (_, rules.dones at.known at.command to.kind to.block.0 at.bytes guard at.done at.fault at.missed number to.there at.at waiting.waited (waiting.write, waiting.found, whole))
     (steps w h) (λ v step. less-done step)
   where
@@ -353,9 +353,9 @@ stopped-none true next e = refl
 stopped-none false next e = absurd (let P : ⊥ = cc in P)
 
 -- else it goes on as one without a stop
-unstopped : (stopped : Bool) (next : Option Event) → false ≡ stopped → (if stopped then None else next) ≡ next
-unstopped true next e = absurd (let P : ⊥ = cc in P)
-unstopped false next e = refl
+goes-unless-stopped : (stopped : Bool) (next : Option Event) → false ≡ stopped → (if stopped then None else next) ≡ next
+goes-unless-stopped true next e = absurd (let P : ⊥ = cc in P)
+goes-unless-stopped false next e = refl
 
 pub goes-stopped : (stop : Option Stop) (old : World) (a : ApplianceNo) → StopsAs old a.0 stop true → RunGoesOn a stop old old false
 goes-stopped stop old a stopped w h =
@@ -363,7 +363,7 @@ goes-stopped stop old a stopped w h =
 
 same-next : (stop : Option Stop) (old : World) (a : ApplianceNo) → StopsAs old a.0 stop false → (w : rules.World) → WorldStands old w → a.0 < w.appliances →
     next_event w a stop ≡ next_event w a None
-same-next stop old a going w h there = unstopped (stops w.geometry stop (w.seats a.0).pending (stands w a.0).place) (next_at w a (stands w a.0).place) (going w h there)
+same-next stop old a going w h there = goes-unless-stopped (stops w.geometry stop (w.seats a.0).pending (stands w a.0).place) (next_at w a (stands w a.0).place) (going w h there)
 
 pub goes-unstopped : (stop : Option Stop) (old new : World) (a : ApplianceNo) (made : Bool) → StopsAs old a.0 stop false → RunGoesOn a None old new made → RunGoesOn a stop old new made
 goes-unstopped stop old new a made going goes w h = go made (goes w h)

@@ -20,7 +20,7 @@ use Rattle.plx_rules.specs.Holds.{after_first}
 use Rattle.plx_rules.specs.Boot.{Happening, Place, Idle, Begins, In, Position, position, went_on, place_of, first_read, first_part}
 use Rattle.plx_rules.specs.Ends.{End}
 use Rattle.plx_rules.specs.Part.{Part, Ends, ReadThen, WriteThen, ClockThen, UntilThen, answered}
-use Rattle.plx_rules.specs.Sequences.{missing, next_sector}
+use Rattle.plx_rules.specs.Sequences.{missing_sector, next_sector}
 use Rattle.plx_rules.specs.Session.{Known}
 use Rattle.plx_rules.specs.Settings.{Setting}
 use Rattle.plx_rules.specs.World as rules
@@ -104,7 +104,7 @@ sectors-most (Some sector) = omega arith
 
 write-most : (write : Option Issued) → write_left write ≤ 9
 write-most None = omega arith
-write-most (Some write) = sectors-most (missing write.landed)
+write-most (Some write) = sectors-most (missing_sector write.landed)
 
 pub events-most : (pending : Option ℕ) (writes : List Issued) → events_left pending writes ≤ 9
 events-most None writes = omega arith
@@ -259,26 +259,26 @@ one_more-suc (Some k) n e =
     let down : k ≡ n = omega (arith, same) in
     ap (λ (x : ℕ). Some x) down
 
-past-set : (flags : List Bool) (sector : ℕ) → missing flags ≡ Some sector → IsPast (missing (slice_set flags sector true)) sector
+past-set : (flags : List Bool) (sector : ℕ) → missing_sector flags ≡ Some sector → IsPast (missing_sector (slice_set flags sector true)) sector
 past-set [] sector e = absurd (let P : ⊥ = cc in P)
-past-set (false ∷ flags) zero e = past-first (missing flags)
+past-set (false ∷ flags) zero e = past-first (missing_sector flags)
 past-set (false ∷ flags) (suc k) e = absurd (let P : ⊥ = cc in P)
-past-set (true ∷ flags) zero e = absurd (one_more-zero (missing flags) e)
-past-set (true ∷ flags) (suc k) e = past-more (missing (slice_set flags k true)) k (past-set flags k (one_more-suc (missing flags) k e))
+past-set (true ∷ flags) zero e = absurd (one_more-zero (missing_sector flags) e)
+past-set (true ∷ flags) (suc k) e = past-more (missing_sector (slice_set flags k true)) k (past-set flags k (one_more-suc (missing_sector flags) k e))
 
 left-less : (m : Option ℕ) (n : ℕ) → n < 8 → IsPast m n → sectors_left m < 8 - n
 left-less None n below past = omega (arith, below)
 left-less (Some k) n below past = omega (arith, below, past)
 
 pub less-land : (w : rules.World) (one : Event) (a : ApplianceNo) (number sector : ℕ) (write : Issued) → (w.seats a.0).pending ≡ Some number →
-    slice_get w.surface.writes number ≡ Some write → missing write.landed ≡ Some sector → sector < 8 →
+    slice_get w.surface.writes number ≡ Some write → missing_sector write.landed ≡ Some sector → sector < 8 →
     IsLess a w (with_surface w one (after_landing w.surface number write sector))
 less-land w one a number sector write pending found least within count few =
     let writes = slice_set w.surface.writes number (with_sector write sector) in
     let before : events_left (w.seats a.0).pending w.surface.writes ≡ 8 - sector =
     ap (λ (p : Option ℕ). events_left p w.surface.writes) pending ∙ ap write_left found ∙ ap sectors_left least in
-    let after : events_left (w.seats a.0).pending writes ≡ sectors_left (missing (slice_set write.landed sector true)) =
+    let after : events_left (w.seats a.0).pending writes ≡ sectors_left (missing_sector (slice_set write.landed sector true)) =
     ap (λ (p : Option ℕ). events_left p writes) pending ∙ ap write_left (set-same w.surface.writes number (with_sector write sector) write found) in
-    let less = left-less (missing (slice_set write.landed sector true)) sector within (past-set write.landed sector least) in
+    let less = left-less (missing_sector (slice_set write.landed sector true)) sector within (past-set write.landed sector least) in
     let below = few.below in
     record { geometry = few.geometry; asks = few.asks; most = few.most; below = omega (arith, before, after, less, below) }

@@ -90,10 +90,10 @@ plays-to-reached {w} {v} events reached plays = played-reached w v events reache
 -- ---- schedules
 
 -- one more event
-played : (old new : World) (one : Event) (possible : Bool) → Leads old new one possible → (w : rules.World) → WorldStands old w →
+leads-on : (old new : World) (one : Event) (possible : Bool) → Leads old new one possible → (w : rules.World) → WorldStands old w →
     (v : rules.World) × IsPlayed w one v × WorldStands new v
-played old new one true leads w h = let found = leads w h in (found.0, made found.1, found.2)
-played old new one false leads w h = let found = leads w h in (w, skipped found.0, found.1)
+leads-on old new one true leads w h = let found = leads w h in (found.0, made found.1, found.2)
+leads-on old new one false leads w h = let found = leads w h in (w, skipped found.0, found.1)
 
 plays-append : {w u v : rules.World} (events : List Event) (one : Event) → Plays w events u → IsPlayed u one v → Plays w (events ++ one ∷ []) v
 plays-append [] one sequences.Plays.over p = sequences.Plays.next p sequences.Plays.over
@@ -103,7 +103,7 @@ pub plays-more : (first old new : World) (events : List Event) (one : Event) (po
     PlaysAll first new (events ++ one ∷ [])
 plays-more first old new events one possible plays leads w h =
     let so_far = plays w h in
-    let last = played old new one possible leads so_far.0 so_far.2 in
+    let last = leads-on old new one possible leads so_far.0 so_far.2 in
     (last.0, plays-append events one so_far.1 last.1, last.2)
 
 some-append : {w u v : rules.World} (events others : List Event) (one : Event) → Plays w events u → MakesPartly u one v → PlaysPartly w (events ++ one ∷ others) v

@@ -78,17 +78,17 @@ reads-none old a asked is none = impossible old old (event.Read a) (λ w h. h)
     (λ w v h step. let found = step-read step in apart asks_read asked (Some (ask.Read found.0)) none refl (is w h ∙ found.1))
 
 -- neither a read nor a write is
-unasked : (a : ApplianceNo) (asked : Option Ask) (w : rules.World) → asks_device asked ≡ false →
+no-ask-no-fault : (a : ApplianceNo) (asked : Option Ask) (w : rules.World) → asks_device asked ≡ false →
     asked ≡ asked_by w a.0 → inverted.AsksDevice w a → ⊥
-unasked a asked w none is (inverted.read block at) =
+no-ask-no-fault a asked w none is (inverted.read block at) =
     apart asks_device asked (Some (ask.Read block)) none refl (is ∙ at)
-unasked a asked w none is (inverted.write kind block guard at) =
+no-ask-no-fault a asked w none is (inverted.write kind block guard at) =
     apart asks_device asked (Some (ask.Write kind block guard)) none refl (is ∙ at)
 
 pub faults-none : (old : World) (a : ApplianceNo) (asked : Option Ask) → IsAsk old a asked →
     asks_device asked ≡ false → Steps old old (event.Fault a) false
 faults-none old a asked is none = impossible old old (event.Fault a) (λ w h. h)
-    (λ w v h step. unasked a asked w none (is w h) (inverted.step-fault step))
+    (λ w v h step. no-ask-no-fault a asked w none (is w h) (inverted.step-fault step))
 
 -- no write is
 pub dones-none : (old : World) (a : ApplianceNo) (asked : Option Ask) → IsAsk old a asked → asks_write asked ≡ false → Steps old old (event.Done a) false

@@ -9,7 +9,7 @@ use Rattle.plx_disk.specs.Writes.{Issued}
 use Rattle.plx_rules.specs.Boot.{Place, Idle, Begins, In}
 use Rattle.plx_rules.specs.Ends.{End}
 use Rattle.plx_rules.specs.Part.{Part, Ends, ReadThen, WriteThen, ClockThen, UntilThen}
-use Rattle.plx_rules.specs.Sequences.{landing, missing, next_at, next_event, next_landing, next_of_part, next_of_write, stops}
+use Rattle.plx_rules.specs.Sequences.{next_of_sector, missing_sector, next_at, next_event, next_landing, next_of_part, next_of_write, stops}
 use Rattle.plx_rules.specs.World as rules
 use Rattle.plx_rules.specs.World.{Step, issued_by, stands}
 
@@ -73,13 +73,13 @@ module _ (w : rules.World) (a : ApplianceNo) where
   its-if true x y one other = one
   its-if false x y one other = other
 
-  landing-its : (back guard : ℕ) (m : Option ℕ) → runs_of (landing w a back guard m) ≡ Some a.0
+  landing-its : (back guard : ℕ) (m : Option ℕ) → runs_of (next_of_sector w a back guard m) ≡ Some a.0
   landing-its back guard None = refl
   landing-its back guard (Some sector) = its-if (nat_le w.surface.time (guard + 50)) (event.Land a back sector) (event.Fault a) refl refl
 
   next_landing-its : (back : ℕ) (write : Option Issued) → IsIts (next_landing w a back write)
   next_landing-its back None = tt
-  next_landing-its back (Some write) = landing-its back write.guard (missing write.landed)
+  next_landing-its back (Some write) = landing-its back write.guard (missing_sector write.landed)
 
   write-its : (guard : ℕ) (pending : Option ℕ) → IsIts (next_of_write w a guard pending)
   write-its guard None = its-if (nat_le w.surface.time guard) (event.Issue a) (event.Miss a w.surface.time) refl refl

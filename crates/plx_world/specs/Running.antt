@@ -9,7 +9,7 @@ use Rattle.plx_disk.specs.declared.ask.Ask.TheVariants as ask
 use Rattle.plx_base.specs.declared.write_kind.WriteKind.{WriteKind}
 use Rattle.plx_base.specs.declared.numbers.BlockNo.{BlockNo}
 use Rattle.plx_rules.specs.Boot.{Place, Idle, Begins, In}
-use Rattle.plx_rules.specs.Sequences.{Runs, RunsPartly, missing, next_event, stops}
+use Rattle.plx_rules.specs.Sequences.{Runs, RunsPartly, missing_sector, next_event, stops}
 use Rattle.plx_rules.specs.World as rules
 use Rattle.plx_rules.specs.World.{Step, stands}
 use Rattle.plx_world.specs.Answering.{asked_by}
@@ -31,7 +31,7 @@ sectors_left (Some sector) = 8 - sector
 -- how many sectors of a write haven't landed
 abbrev pub write_left : Option Issued → ℕ
 write_left None = 0
-write_left (Some write) = sectors_left (missing write.landed)
+write_left (Some write) = sectors_left (missing_sector write.landed)
 
 -- how many plain events come before the answer of an ask, at most: a write is issued, and its sectors land
 abbrev pub events_left : Option ℕ → List Issued → ℕ

@@ -1,5 +1,5 @@
 use Rattle.std.proofs.Common.{inl, inr, le_refl, length, refl}
-use Rattle.plx_cli.proofs.Given.{answers-bad, answers-schedule, ends-given, ends-taken, fits-not, fits-so, not-long, slice-ends, stops, takes-none}
+use Rattle.plx_cli.proofs.Given.{answers-bad, answers-schedule, ends-given, ends-taken, fault-not-long, fits-not, fits-so, not-long, slice-ends, takes-none}
 use Rattle.plx_cli.proofs.Statuses.{answers-only, answers-short, differs}
 use Rattle.plx_cli.specs.declared.status.Status.TheVariants.{Done, Usage, BadLine, SourceFault, SinkFault, TooLong}
 use Rattle.plx_cli.proofs.program.run.Goals as goal
@@ -113,7 +113,7 @@ returns-in-Err-Failed g c = record {
   sink = λ is. differs _ SinkFault refl is;
   long = λ is. differs _ TooLong refl is;
   within = λ short.
-      c.in-Err-Failed.ensures.stopped (stops _ (inl c.in-Err-Failed.field-0-is));
+      c.in-Err-Failed.ensures.stopped (fault-not-long _ (inl c.in-Err-Failed.field-0-is));
   exact = λ bytes line fits given first.
       absurd (given.sound (c.in-Err-Failed.ensures.failed (cc)));
   complete = λ bytes first events fits given schedule sound.
@@ -150,7 +150,7 @@ returns-in-Err-NoMemory g c = record {
   sink = λ is. differs _ SinkFault refl is;
   long = λ is. differs _ TooLong refl is;
   within = λ short.
-      c.in-Err-NoMemory.ensures.stopped (stops _ (inr c.in-Err-NoMemory.field-0-is));
+      c.in-Err-NoMemory.ensures.stopped (fault-not-long _ (inr c.in-Err-NoMemory.field-0-is));
   exact = λ bytes line fits given first. inr (inr refl);
   complete = λ bytes first events fits given schedule sound. inr refl;
   counts = (c.in-Err-NoMemory.ensures.faults, le_refl _);

@@ -20,7 +20,7 @@ use Rattle.plx_alloc.specs.declared.reserve.ReserveAt.TheVariants as at
 use Rattle.plx_alloc.proofs.Reading.{map-read-found}
 use Rattle.plx_alloc.proofs.Suited.{hand-same, hold-none, next-none, next-some, numbers-length}
 use Rattle.plx_base.proofs.Tests.{nat_le-false}
-use Rattle.plx_alloc.proofs.Taking.{knowing, claims-nothing-free, free-some, look-stands, looked-rest}
+use Rattle.plx_alloc.proofs.Taking.{known_outside, claims-nothing-free, free-some, look-stands, looked-rest}
 use Rattle.plx_alloc.proofs.reserve.Reserve.after_look.Goals as goal
 
 pub returns-in_default-clause-rest : goal.returns-in_default-clause-rest
@@ -85,7 +85,7 @@ returns-in_default-next_claim-clause-rest c = λ o.
     let s = allocator_setting o.appliance a in
     let worn : a.claims ≡ last_claim = next-none a.claims (sym c.in_default-next_claim.is ∙ c.next_claim.ensures.number) in
     let over : nat_lt a.claims last_claim ≡ false = nat_le-false (suc a.claims) last_claim (omega (arith, worn)) in
-    ap (λ n. ends (reply.WornOut last_claim) (knowing o n)) (c.next_claim.ensures.claims ∙ ap (claims_after a.claims) c.in_default-next_claim.is)
+    ap (λ n. ends (reply.WornOut last_claim) (known_outside o n)) (c.next_claim.ensures.claims ∙ ap (claims_after a.claims) c.in_default-next_claim.is)
     ∙ sym (ap (λ found. other_found s m.count m.extent.0 found (next_rest o a m) (taking_of o a m)) (found-worn c)
     ∙ (free-some s m.count m.extent.0 (free_from (hand_numbers a) (map_at a.geometry m.extent.0) c.in-Some.bits) (next_rest o a m) (taking_of o a m) (free-worn c)
     ∙ ap (λ may. claim_extent may s m.count m.extent.0 (next_rest o a m) (taking_of o a m)) over))

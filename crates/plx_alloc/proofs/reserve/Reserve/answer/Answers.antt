@@ -1,6 +1,6 @@
 use Rattle.std.proofs.Common.{rules, ◌≡◌, ◌∙◌, ap, sym, refl, subst, ℕ, List, Option, Some}
 use Rattle.plx_lease.proofs.Asking.{claim-asks}
-use Rattle.plx_rules.proofs.Nested.{nested}
+use Rattle.plx_rules.proofs.Nested.{followed-after-answer}
 use Rattle.plx_rules.specs.Ends.{lost}
 use Rattle.plx_alloc.specs.Moving.{ReadsFirst, found_tells, looked_starts, tells_at}
 use Rattle.plx_alloc.specs.Tables.{allocator_setting, extent_leases}
@@ -34,7 +34,7 @@ returns-in-Write-Missed-clause-rest c = λ o.
     (c.lost.ensures s (reserve_follows o a m) known (sym c.geometry.ensures) ∙ ap (λ due. lost s known due c.in-Write-Missed.reading) c.own_use.ensures)
 
 pub returns-in-None-clause-rest : goal.returns-in-None-clause-rest
-returns-in-None-clause-rest c = λ o. rw c.in-Claim-default.is-0 (nested _ _ _ _ (claim-asks c.args.self.now.claim) c.in-None.ensures.rest)
+returns-in-None-clause-rest c = λ o. rw c.in-Claim-default.is-0 (followed-after-answer _ _ _ _ (claim-asks c.args.self.now.claim) c.in-None.ensures.rest)
 
 pub returns-in-Map-Bytes-clause-leases : goal.returns-in-Map-Bytes-clause-leases
 returns-in-Map-Bytes-clause-leases c =
@@ -99,7 +99,7 @@ returns-in-Write-Fault-clause-rules c = λ o. moves-on-rightly _ _ _ (returns-in
 pub returns-in-Some-clause-rest : goal.returns-in-Some-clause-rest
 returns-in-Some-clause-rest c = λ o.
     rw c.in-Claim-default.is-0
-    (c.claim_over.ensures.rest o ∙ nested _ _ _ _ (claim-asks c.args.self.now.claim) c.in-Some.ensures.rest)
+    (c.claim_over.ensures.rest o ∙ followed-after-answer _ _ _ _ (claim-asks c.args.self.now.claim) c.in-Some.ensures.rest)
 
 pub returns-in-Some-clause-rules : goal.returns-in-Some-clause-rules
 returns-in-Some-clause-rules c = λ o. moves-on-rightly _ _ _ (returns-in-Some-clause-rest c o)

@@ -1,5 +1,5 @@
 use Rattle.std.proofs.Common.{◌≡◌, refl, Some, None, ◌∙◌}
-use Rattle.plx_rules.proofs.Nested.{nested}
+use Rattle.plx_rules.proofs.Nested.{followed-after-answer}
 use Rattle.plx_lease.proofs.Asking.{claim-asks}
 use Rattle.plx_appliance.specs.Kept.{known_by}
 use Rattle.plx_appliance.specs.declared.attach.AttachAt.{AttachAt}
@@ -15,7 +15,7 @@ returns-in-None c =
     let e = c.in-None.ensures in
     let asks = claim-asks c.args.self.now.claim in
     record {
-      rest = λ claims. rw c.in-Claim.is (nested _ _ _ _ asks e.rest);
+      rest = λ claims. rw c.in-Claim.is (followed-after-answer _ _ _ _ asks e.rest);
       setting = refl;
       own = λ none. refl;
       count = refl;
@@ -38,7 +38,7 @@ returns-in-Some c =
     let asks = claim-asks c.args.self.now.claim in
     let known = known_by c.args.sessions.now in
     record {
-      rest = λ claims. rw c.in-Claim.is (k.rest (known claims) ∙ nested _ _ _ _ asks e.rest);
+      rest = λ claims. rw c.in-Claim.is (k.rest (known claims) ∙ followed-after-answer _ _ _ _ asks e.rest);
       setting = k.setting;
       own = λ none. k.own;
       count = refl;

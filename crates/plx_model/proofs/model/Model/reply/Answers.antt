@@ -7,7 +7,8 @@ use Rattle.plx_commands.specs.declared.command.Command.{Command}
 use Rattle.plx_model.specs.Effects.{IsAtHand, effect_of, model_after_end}
 use Rattle.plx_model.specs.Shown.{model_of_tables, running_of}
 use Rattle.plx_model.specs.declared.effect.Effect.{Effect}
-use Rattle.plx_model.proofs.Effects.{at_hand, own_number, replied_by}
+use Rattle.plx_commands.proofs.OwnReplies.{own-zero}
+use Rattle.plx_model.proofs.Effects.{at_hand, replied_by}
 use Rattle.plx_model.proofs.Tables.{table-at}
 use Rattle.plx_model.proofs.model.Model.reply.Goals as goal
 
@@ -18,7 +19,7 @@ end-requires-clause-at_hand c =
     let runs : m.running c.args.appliance.0 ≡ Some command =
     table-at running_of c.args.self.now.seats.items c.args.appliance.0 c.index-seat.result.now None c.requires.known c.index-seat.ensures ∙ c.in-Some.is in
     λ own. subst (λ (effect : Effect). IsAtHand m effect) (sym c.of-effect.ensures)
-    (at_hand m command c.args.reply.now (c.requires.value command runs (own_number command c.args.reply.now (sym c.is_own-own.ensures ∙ own))))
+    (at_hand m command c.args.reply.now (c.requires.value command runs (own-zero command c.args.reply.now (sym c.is_own-own.ensures ∙ own))))
 
 pub returns-clause-ok : goal.returns-clause-ok
 returns-clause-ok c =
