@@ -38,7 +38,7 @@ commands_after_start command (Within log) = Within log
 
 -- the log with one more exchange
 abbrev pub with_exchange : Exchange → CommandLog → CommandLog
-with_exchange exchange log = record { before = log.before; command = log.command; exchanges = exchange ∷ log.exchanges }
+with_exchange exchange log = record log { exchanges = exchange ∷ log.exchanges }
 
 -- one more exchange of the command that runs, and the reply to which it leads
 abbrev pub commands_after_exchange : Exchange → Option Reply → Commands → Commands
@@ -60,7 +60,7 @@ log_of finished before = record { before = before; command = finished.command; e
 
 -- the log with these exchanges
 abbrev pub with_exchanges : CommandLog → List Exchange → CommandLog
-with_exchanges log done = record { before = log.before; command = log.command; exchanges = done }
+with_exchanges log done = record log { exchanges = done }
 
 -- this exchange is among those
 abbrev pub IsIn : Exchange → List Exchange → Type 0
