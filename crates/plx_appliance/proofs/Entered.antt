@@ -1,6 +1,7 @@
 -- A command of an attached image at its first reading.
 use Rattle.std.proofs.Common.{◌≡◌, ℕ, ◌+◌, ◌-◌, ◌<◌, Some, None, refl, ap, ◌∙◌, subst, arith}
-use Rattle.std.specs.Prelude.{Bool, nat_lt, if◌then◌else◌}
+use Rattle.std.specs.Prelude.{Bool, nat_lt, if◌then◌else◌, IfOk, Result, Err}
+use Rattle.plx_commands.specs.declared.reply.Reply.{Reply}
 use Rattle.plx_commands.specs.declared.reply.Reply.TheVariants as reply
 use Rattle.plx_geom.specs.Geometry.{Geometry, extent_lease, image_lease, root_lease, lease_at}
 use Rattle.plx_rules.specs.Part.{Part}
@@ -10,14 +11,23 @@ use Rattle.plx_rules.specs.Ends.{End, ends}
 use Rattle.plx_rules.specs.Holds.{Hold, Nothing}
 use Rattle.plx_rules.specs.Session.{Known, Session}
 use Rattle.plx_rules.specs.Settings.{Setting}
+use Rattle.plx_appliance.specs.Ending.{known_after}
+use Rattle.plx_appliance.specs.Entering.{Enters, IsOfImage}
 use Rattle.plx_appliance.specs.Giving.{rules_setting}
 use Rattle.plx_appliance.specs.Kept.{known_of}
-use Rattle.plx_appliance.specs.RenewStarts.{holds_in}
+use Rattle.plx_appliance.specs.Lent.{lent_of}
+use Rattle.plx_appliance.specs.RenewStarts.{holds_in, leases_in}
 use Rattle.plx_appliance.specs.Space.{extents_in}
+use Rattle.plx_appliance.specs.Stands.{IsTied, StartsInside}
 use Rattle.plx_appliance.specs.Tokens.{image_leases, lease_holds_at}
+use Rattle.plx_appliance.specs.Works.{work_entered, work_suits}
 use Rattle.plx_appliance.specs.declared.holdings.Holdings.{Holdings}
 use Rattle.plx_appliance.specs.declared.leased.Leased.{Leased}
+use Rattle.plx_appliance.specs.declared.setting.Setting.{Setting as Own}
+use Rattle.plx_appliance.specs.declared.work.Work.{Work}
+use Rattle.plx_appliance.specs.declared.work.Work.TheVariants as work
 use Rattle.plx_base.specs.declared.numbers.SlotNo.{SlotNo}
+use Rattle.std.proofs.lemmas.Result.{IfOk-weaker}
 use Rattle.plx_base.proofs.Tests.{nat_le-false, nat_le-true, nat_lt-false, nat_lt-true}
 
 -- what is held at the block of an image's lease
@@ -81,20 +91,62 @@ by-lease h reading slot session rest held some within =
     held ∙ attached-some (rules_setting h.setting) (known_of h) leases (extents_in h)
     reading slot.0 session rest some below
 
--- a machine that is entered for an image under its lease
+-- what is entered over holdings that are only read
+pub enters : (h : Holdings) (result : Result Work Reply) {part : Part End} →
+    work_entered (lent_of h) result ≡ part → IfOk result (IsTied h.setting) →
+    IfOk result (StartsInside (leases_in h) (extents_in h)) → IfOk result (work_suits h.space) →
+    Enters h h part result
+enters h result is tied inside suits = record {
+  part = is;
+  leases = refl;
+  extents = refl;
+  hand = refl;
+  setting = refl;
+  tied = tied;
+  inside = inside;
+  suits = suits;
+}
+
+-- a refusal
+pub refused : (h : Holdings) (reply : Reply) {part : Part End} →
+    ends reply (known_after reply (known_of h)) ≡ part → Enters h h part (Err reply)
+refused h reply is = enters h (Err reply) is tt tt tt
+
+-- the machine of a command of an image is of the image's setting
+own-tied : (setting : Own) (image own : Leased) → image.setting ≡ setting → own ≡ image →
+    (own.setting ≡ setting) × (own.setting.geometry.slots ≡ setting.geometry.slots)
+own-tied setting image own same is = rw is (same, ap (λ (s : Own). s.geometry.slots) same)
+
+-- claims no lease, and suits whatever is kept of space
+image-begins : (h : Holdings) (image : Leased) (w : Work) → image.setting ≡ h.setting → IsOfImage image w →
+    IsTied h.setting w × StartsInside (leases_in h) (extents_in h) w × work_suits h.space w
+image-begins h image (work.Attach a) same is = absurd is
+image-begins h image (work.Detach d) same is = let t = own-tied h.setting image d.image same is in (record { same = t.0; room = t.1 }, tt, tt)
+image-begins h image (work.Record r) same is = let t = own-tied h.setting image r.image same is in (record { same = t.0; room = t.1 }, tt, tt)
+image-begins h image (work.Read r) same is = let t = own-tied h.setting image r.image same is in (record { same = t.0; room = t.1 }, tt, tt)
+image-begins h image (work.Write w) same is = let t = own-tied h.setting image w.image same is in (record { same = t.0; room = t.1 }, tt, tt)
+image-begins h image (work.Renew r) same is = absurd is
+image-begins h image (work.Reserve r) same is = absurd is
+image-begins h image (work.Retire r) same is = absurd is
+
+-- a command of an attached image enters as its machine does
 pub entered : (h : Holdings) (reading : ℕ) (slot : SlotNo) (session : Session) (image : Leased)
-    (command : Setting → (image : ℕ) → Session → (until : ℕ) → Part End) {part : Part End} →
-    part ≡ command (rules_setting image.setting) image.slot.0 session image.until →
-    image.slot ≡ slot → image.setting ≡ h.setting →
+    (command : Setting → (image : ℕ) → Session → (until : ℕ) → Part End) (result : Result Work Reply) →
+    work_entered (lent_of h) result ≡ command (rules_setting image.setting) image.slot.0 session image.until →
+    IfOk result (IsOfImage image) → image.slot ≡ slot → image.setting ≡ h.setting →
     ((rest : (until : ℕ) → Part End) → rest image.until
     ≡ held_part (rules_setting h.setting) (known_of h) slot.0
     (image_leases h.leases.leases.items slot.0) reading rest) →
     (known_of h).sessions slot.0 ≡ Some session → slot.0 < h.sessions.count →
-    part ≡ of_attached (rules_setting h.setting) (known_of h) (holds_in h) reading slot.0
-    (command (rules_setting h.setting) slot.0)
-entered h reading slot session image command made same_slot same_setting held some within =
+    Enters h h (of_attached (rules_setting h.setting) (known_of h) (holds_in h) reading slot.0
+    (command (rules_setting h.setting) slot.0)) result
+entered h reading slot session image command result made is same_slot same_setting held some within =
     let s = rules_setting h.setting in
     let same : command (rules_setting image.setting) image.slot.0 session image.until
     ≡ command s slot.0 session image.until = rw (same_slot, same_setting) refl in
     let rest = command s slot.0 in
-    by-lease h reading slot session rest (made ∙ same ∙ held (rest session)) some within
+    let begins = λ (w : Work). image-begins h image w same_setting in
+    enters h result (by-lease h reading slot session rest (made ∙ same ∙ held (rest session)) some within)
+    (IfOk-weaker result (IsOfImage image) (IsTied h.setting) (λ w of. (begins w of).0) is)
+    (IfOk-weaker result (IsOfImage image) (StartsInside (leases_in h) (extents_in h)) (λ w of. (begins w of).1) is)
+    (IfOk-weaker result (IsOfImage image) (work_suits h.space) (λ w of. (begins w of).2) is)

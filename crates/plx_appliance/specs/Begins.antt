@@ -7,22 +7,28 @@ use Rattle.plx_rules.specs.Attaching.{attach_part}
 use Rattle.plx_rules.specs.Commands.{command_part, create_part, delete_part, detach_part, of_attached, read_part, write_part}
 use Rattle.plx_rules.specs.Ends.{End}
 use Rattle.plx_rules.specs.Holds.{Hold}
-use Rattle.plx_rules.specs.Session.{Known}
+use Rattle.plx_rules.specs.Session.{Known, Session}
 use Rattle.plx_rules.specs.Settings.{Setting}
 use Rattle.plx_rules.specs.Space.{reserve_part, retire_part}
 use Rattle.plx_appliance.specs.RenewStarts.{renew_command}
 use Rattle.plx_appliance.specs.declared.begun.Begun.{Begun}
 use Rattle.plx_appliance.specs.declared.begun.Begun.TheVariants as begun
+use Rattle.plx_appliance.specs.declared.begun.ImageCommand.{ImageCommand}
+use Rattle.plx_appliance.specs.declared.begun.ImageCommand.TheVariants as image
+
+-- what a command of an attached image asks of the image's session, up to the end of its lease
+abbrev pub image_part : Setting → Known → (image : ℕ) → ImageCommand → Session → (until : ℕ) → Part End
+image_part s known slot (image.Detach lease) = detach_part s known slot
+image_part s known slot (image.Create size label record') = create_part s known slot size label
+image_part s known slot (image.Delete record') = delete_part s known slot
+image_part s known slot (image.Read vblock block) = read_part s known slot vblock
+image_part s known slot (image.Write vblock block descriptor) = write_part s known slot vblock block
 
 -- what it asks after its first reading
 abbrev pub waiting_part : Setting → Known → (holds : ℕ → Hold) → (hand : List ℕ) → (reading : ℕ) → Begun → Part End
 waiting_part s known holds hand reading (begun.Attach slot room) =
     attach_part s known slot.0 (known.sessions slot.0) (nat_lt slot.0 s.geometry.images) (holds (lease_at (image_lease slot.0)))
-waiting_part s known holds hand reading (begun.Detach slot lease) = of_attached s known holds reading slot.0 (detach_part s known slot.0)
-waiting_part s known holds hand reading (begun.Create slot size label record') = of_attached s known holds reading slot.0 (create_part s known slot.0 size label)
-waiting_part s known holds hand reading (begun.Delete slot record') = of_attached s known holds reading slot.0 (delete_part s known slot.0)
-waiting_part s known holds hand reading (begun.Read slot vblock block) = of_attached s known holds reading slot.0 (read_part s known slot.0 vblock)
-waiting_part s known holds hand reading (begun.Write slot vblock block descriptor) = of_attached s known holds reading slot.0 (write_part s known slot.0 vblock block)
+waiting_part s known holds hand reading (begun.Image slot command) = of_attached s known holds reading slot.0 (image_part s known slot.0 command)
 waiting_part s known holds hand reading (begun.Renew renewals lease) = renew_command s known holds reading
 waiting_part s known holds hand reading (begun.Reserve need map lease) = reserve_part s known holds hand need.count
 waiting_part s known holds hand reading (begun.Retire map extent_lease image_lease) = retire_part s known holds hand

@@ -3,6 +3,7 @@ pub mod Asking
 pub mod Attaches
 pub mod Begins
 pub mod Ending
+pub mod Entering
 pub mod Giving
 pub mod Finds
 pub mod Holding

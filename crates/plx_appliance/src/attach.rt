@@ -8,7 +8,7 @@ use crate::load::Load;
 use crate::session::Session;
 use crate::sessions::Sessions;
 use crate::setting::Setting;
-use plx_base::{Block, BlockNo, LeaseName, SlotNo};
+use plx_base::{Block, LeaseName, SlotNo};
 use plx_commands::Reply;
 use plx_disk::{Answer, Ask};
 use plx_geom::Place;
@@ -33,7 +33,7 @@ pub struct Attach {
 
 impl Attach {
     ghost use Rattle.std.specs.Prelude.{ℕ, [], Option};
-    ghost use Rattle.plx_geom.specs.Geometry.{block_count, image_lease, lease_at};
+    ghost use Rattle.plx_geom.specs.Geometry.{image_lease, lease_at};
     ghost use Rattle.plx_rules.specs.Part.{Part, answered, standing, bytes_out};
     ghost use Rattle.plx_commands.specs.Limits.{last_claim};
     ghost use Rattle.plx_rules.specs.Attaching.{after_claim, load_image};
@@ -212,23 +212,14 @@ impl Attach {
                 reading,
             }),
             ClaimEnd::ReadFault => Some(Reply::ReadFault {
-                block: self.block(),
+                block: image.lease_block(),
             }),
             ClaimEnd::WriteFault => Some(Reply::WriteFault {
-                block: self.block(),
+                block: image.lease_block(),
             }),
             ClaimEnd::Damaged => Some(Reply::Damaged {
-                block: self.block(),
+                block: image.lease_block(),
             }),
         }
-    }
-
-    // The block of the lease.
-    fn block(&self) -> BlockNo
-        ensures block { result.0 ≡ lease_at (image_lease self.now.load.image.slot.0) }
-        ensures within { result.0 < block_count self.now.load.image.setting.geometry }
-    {
-        let image = self.load.image;
-        image.setting.block(Place::ImageLease(image.slot))
     }
 }

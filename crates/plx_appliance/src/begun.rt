@@ -43,6 +43,31 @@ pub struct Need {
     ghost most: { count ≤ 256 },
 }
 
+/// A command of an attached image, with all the memory that it can need.
+#[derive(Drop)]
+pub enum ImageCommand {
+    Detach {
+        lease: Block,
+    },
+    Create {
+        size: u32,
+        label: Label,
+        record: Block,
+    },
+    Delete {
+        record: Block,
+    },
+    Read {
+        vblock: u32,
+        block: Block,
+    },
+    Write {
+        vblock: u32,
+        block: Block,
+        descriptor: Block,
+    },
+}
+
 /// A command that has begun, with all the memory that it can need.
 #[derive(Drop)]
 pub enum Begun {
@@ -50,30 +75,9 @@ pub enum Begun {
         slot: SlotNo,
         room: Room,
     },
-    Detach {
+    Image {
         slot: SlotNo,
-        lease: Block,
-    },
-    Create {
-        slot: SlotNo,
-        size: u32,
-        label: Label,
-        record: Block,
-    },
-    Delete {
-        slot: SlotNo,
-        record: Block,
-    },
-    Read {
-        slot: SlotNo,
-        vblock: u32,
-        block: Block,
-    },
-    Write {
-        slot: SlotNo,
-        vblock: u32,
-        block: Block,
-        descriptor: Block,
+        command: ImageCommand,
     },
     Renew {
         renewals: Renewals,
@@ -112,6 +116,16 @@ impl Begun {
         ensures leases { IfOk result (λ b. begun_leases (lease_count setting.now.geometry) b
             ≡ lease_count setting.now.geometry) }
     {
+        Begun::built(alloc, setting, command)
+    }
+
+    // A command that is built begins.
+    fn built(alloc: Global, setting: &Setting, command: Command) -> Result<Begun, NoMemory>
+        requires built { IsBuilt command }
+        requires limits { IsWellFormed command }
+        ensures { IfOk result (BeginsAs setting.now.geometry.slots
+            (lease_count setting.now.geometry) command) }
+    {
         match command {
             Command::Attach { slot } => Begun::attach(alloc, setting, slot),
             Command::Detach { slot } => Begun::detach(alloc, slot),
@@ -144,7 +158,8 @@ impl Begun {
         ensures { (slots leases : ℕ) → IfOk result (BeginsAs slots leases (Command.Detach slot)) }
     {
         let lease = Block::zeros(alloc)?;
-        Ok(Begun::Detach { slot, lease })
+        let command = ImageCommand::Detach { lease };
+        Ok(Begun::Image { slot, command })
     }
 
     // A create: a block for the record.
@@ -153,12 +168,12 @@ impl Begun {
             (Command.Create slot size label)) }
     {
         let record = Block::zeros(alloc)?;
-        Ok(Begun::Create {
-            slot,
+        let command = ImageCommand::Create {
             size,
             label,
             record,
-        })
+        };
+        Ok(Begun::Image { slot, command })
     }
 
     // A delete: a block for the record.
@@ -166,7 +181,8 @@ impl Begun {
         ensures { (slots leases : ℕ) → IfOk result (BeginsAs slots leases (Command.Delete slot)) }
     {
         let record = Block::zeros(alloc)?;
-        Ok(Begun::Delete { slot, record })
+        let command = ImageCommand::Delete { record };
+        Ok(Begun::Image { slot, command })
     }
 
     // A read: a block for the data.
@@ -175,11 +191,8 @@ impl Begun {
             (Command.Read slot vblock)) }
     {
         let block = Block::zeros(alloc)?;
-        Ok(Begun::Read {
-            slot,
-            vblock,
-            block,
-        })
+        let command = ImageCommand::Read { vblock, block };
+        Ok(Begun::Image { slot, command })
     }
 
     // A write: its data, and a block for the descriptor.
@@ -189,12 +202,12 @@ impl Begun {
     {
         let block = payload.to_block(alloc)?;
         let descriptor = Block::zeros(alloc)?;
-        Ok(Begun::Write {
-            slot,
+        let command = ImageCommand::Write {
             vblock,
             block,
             descriptor,
-        })
+        };
+        Ok(Begun::Image { slot, command })
     }
 
     // A renew: the leases that are to be renewed, and a block for each in turn.

@@ -6,10 +6,9 @@ ghost use Rattle.plx_gate.specs.Leases.{lease_bytes};
 use crate::lease::Leases;
 use crate::leased::Leased;
 use crate::sessions::Sessions;
-use plx_base::{Block, BlockNo, LeaseRecord, WriteKind};
+use plx_base::{Block, LeaseRecord, WriteKind};
 use plx_commands::Reply;
 use plx_disk::{Answer, Ask};
-use plx_geom::Place;
 use plx_lease::spell_lease;
 
 /// The release of an image's lease, with the block that spells a free one.
@@ -23,7 +22,6 @@ pub struct Detach {
 impl Detach {
     ghost use Rattle.std.specs.Prelude.{ℕ, None, ◌<◌};
     ghost use Rattle.plx_commands.specs.Places.{at};
-    ghost use Rattle.plx_geom.specs.Geometry.{block_count, image_lease, lease_at};
     ghost use Rattle.plx_rules.specs.Part.{answered, standing, bytes_out};
     ghost use Rattle.plx_rules.specs.Commands.{detach_part};
     ghost use Rattle.plx_rules.specs.Holds.{Nothing};
@@ -57,7 +55,7 @@ impl Detach {
     {
         Ask::Write {
             kind: WriteKind::Release,
-            block: self.block(),
+            block: self.image.lease_block(),
             guard: self.image.until,
         }
     }
@@ -101,18 +99,10 @@ impl Detach {
                 Some(Reply::Detached)
             }
             Answer::Fault => Some(Reply::WriteFault {
-                block: self.block(),
+                block: self.image.lease_block(),
             }),
             Answer::Missed(reading) => Some(self.image.lost(*reading)),
             _ => None,
         }
-    }
-
-    // The block of the lease.
-    fn block(&self) -> BlockNo
-        ensures block { result.0 ≡ lease_at (image_lease self.now.image.slot.0) }
-        ensures within { result.0 < block_count self.now.image.setting.geometry }
-    {
-        self.image.setting.block(Place::ImageLease(self.image.slot))
     }
 }

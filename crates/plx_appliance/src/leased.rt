@@ -17,7 +17,7 @@ pub struct Leased {
 }
 
 impl Leased {
-    ghost use Rattle.plx_geom.specs.Geometry.{block_count, image_lease, lease_at};
+    ghost use Rattle.plx_geom.specs.Geometry.{block_count, data_at, descriptor_at, image_lease, lease_at, record_at};
     ghost use Rattle.plx_rules.specs.Part.{Part};
     ghost use Rattle.plx_rules.specs.Attaching.{image_use};
     ghost use Rattle.plx_rules.specs.Ends.{End, ends, in_time};
@@ -57,5 +57,32 @@ impl Leased {
         ensures within { result.0 < block_count self.now.setting.geometry }
     {
         self.setting.block(Place::ImageLease(self.slot))
+    }
+
+    /// The block of the image's record.
+    pub fn record_block(&self) -> BlockNo
+        ensures block { result.0 ≡ record_at self.now.setting.geometry self.now.slot.0 }
+        ensures within { result.0 < block_count self.now.setting.geometry }
+    {
+        self.setting.block(Place::Record(self.slot))
+    }
+
+    /// The block of the descriptor in a slot of the journal.
+    pub fn descriptor_block(&self, index: u32) -> BlockNo
+        requires { index < self.now.setting.geometry.slots }
+        ensures block { result.0
+            ≡ descriptor_at self.now.setting.geometry self.now.slot.0 index }
+        ensures within { result.0 < block_count self.now.setting.geometry }
+    {
+        self.setting.block(Place::JDesc(self.slot, index))
+    }
+
+    /// The block of the data in a slot of the journal.
+    pub fn data_block(&self, index: u32) -> BlockNo
+        requires { index < self.now.setting.geometry.slots }
+        ensures block { result.0 ≡ data_at self.now.setting.geometry self.now.slot.0 index }
+        ensures within { result.0 < block_count self.now.setting.geometry }
+    {
+        self.setting.block(Place::JData(self.slot, index))
     }
 }

@@ -30,7 +30,7 @@ mod write;
 
 pub use appliance::{Appliance, Stage};
 pub use attach::{Attach, AttachAt};
-pub use begun::{Begun, Need, Room};
+pub use begun::{Begun, ImageCommand, Need, Room};
 pub use detach::Detach;
 pub use entering::enter;
 pub use fitting::fits;

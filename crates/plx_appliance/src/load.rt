@@ -11,7 +11,6 @@ use plx_base::{Block, BlockNo};
 use plx_commands::Reply;
 use plx_disk::{Answer, Ask};
 use plx_gate::{Descriptor, ImageRecord, read_image};
-use plx_geom::Place;
 use std::alloc::Global;
 use std::mem;
 
@@ -42,7 +41,6 @@ pub struct Load {
 
 impl Load {
     ghost use Rattle.std.specs.Prelude.{ℕ, true};
-    ghost use Rattle.plx_geom.specs.Geometry.{block_count, data_at, descriptor_at, record_at};
     ghost use Rattle.plx_rules.specs.Part.{answered, standing, bytes_out};
     ghost use Rattle.plx_rules.specs.Attaching.{after_record, load_image, load_journal};
     ghost use Rattle.plx_rules.specs.Records.{attached_record, is_live};
@@ -97,13 +95,13 @@ impl Load {
     {
         match self.at {
             LoadAt::Record => Ask::Read {
-                block: self.record_block(),
+                block: self.image.record_block(),
             },
             LoadAt::Slot => Ask::Read {
-                block: self.descriptor_block(),
+                block: self.image.descriptor_block(self.next),
             },
             LoadAt::Data(_) => Ask::Read {
-                block: self.data_block(),
+                block: self.image.data_block(self.next),
             },
             LoadAt::Damaged(_) | LoadAt::Last => Ask::Clock,
         }
@@ -140,21 +138,21 @@ impl Load {
                 None
             }
             (LoadAt::Record, Answer::Fault) => Some(Reply::ReadFault {
-                block: self.record_block(),
+                block: self.image.record_block(),
             }),
             (LoadAt::Slot, Answer::Bytes(bytes)) => {
                 self.read_slot(bytes);
                 None
             }
             (LoadAt::Slot, Answer::Fault) => Some(Reply::ReadFault {
-                block: self.descriptor_block(),
+                block: self.image.descriptor_block(self.next),
             }),
             (LoadAt::Data(descriptor), Answer::Bytes(bytes)) => {
                 self.insert(&descriptor, bytes);
                 None
             }
             (LoadAt::Data(_), Answer::Fault) => Some(Reply::ReadFault {
-                block: self.data_block(),
+                block: self.image.data_block(self.next),
             }),
             (LoadAt::Damaged(block), Answer::Reading(reading)) => { self.damaged(block, *reading) }
             (LoadAt::Last, Answer::Reading(reading)) => self.end(sessions, *reading),
@@ -171,7 +169,7 @@ impl Load {
         ensures image { self.new.image ≡ self.old.image }
         ensures slots { self.new.slots ≡ self.old.slots }
     {
-        let block = self.record_block();
+        let block = self.image.record_block();
         let Some(found) = read_image(bytes.as_slice()) else {
             self.at = LoadAt::Damaged(block);
             return;
@@ -220,8 +218,7 @@ impl Load {
             None => self.at = LoadAt::Last,
             Some(number) => {
                 let slot = (number.saturating_sub(1) % u64::from(self.slots)) as u32;
-                let place = Place::JDesc(self.image.slot, slot);
-                self.at = LoadAt::Damaged(self.image.setting.block(place));
+                self.at = LoadAt::Damaged(self.image.descriptor_block(slot));
             }
         }
     }
@@ -236,7 +233,7 @@ impl Load {
         ensures slots { self.new.slots ≡ self.old.slots }
     {
         match find(&self.session, self.next, bytes) {
-            Finding::Outside => self.at = LoadAt::Damaged(self.descriptor_block()),
+            Finding::Outside => self.at = LoadAt::Damaged(self.image.descriptor_block(self.next)),
             Finding::Unused => {
                 self.at = LoadAt::Record;
                 self.next += 1;
@@ -300,37 +297,5 @@ impl Load {
         let session = mem::replace(&mut self.session, Session::empty(self.alloc));
         sessions.put(self.image.slot, session);
         Some(Reply::Attached { report })
-    }
-
-    // The block of the record.
-    fn record_block(&self) -> BlockNo
-        ensures block { result.0 ≡ record_at self.now.image.setting.geometry self.now.image.slot.0 }
-        ensures within { result.0 < block_count self.now.image.setting.geometry }
-    {
-        self.image.setting.block(Place::Record(self.image.slot))
-    }
-
-    // The block of the next slot's descriptor.
-    fn descriptor_block(&self) -> BlockNo
-        requires { self.now.next < self.now.image.setting.geometry.slots }
-        ensures block { result.0
-            ≡ descriptor_at self.now.image.setting.geometry self.now.image.slot.0 self.now.next }
-        ensures within { result.0 < block_count self.now.image.setting.geometry }
-    {
-        self.image
-            .setting
-            .block(Place::JDesc(self.image.slot, self.next))
-    }
-
-    // The block of the next slot's data.
-    fn data_block(&self) -> BlockNo
-        requires { self.now.next < self.now.image.setting.geometry.slots }
-        ensures block { result.0
-            ≡ data_at self.now.image.setting.geometry self.now.image.slot.0 self.now.next }
-        ensures within { result.0 < block_count self.now.image.setting.geometry }
-    {
-        self.image
-            .setting
-            .block(Place::JData(self.image.slot, self.next))
     }
 }

@@ -7,11 +7,10 @@ use crate::leased::Leased;
 use crate::session::Session;
 use crate::sessions::Sessions;
 use crate::spell::spell_image;
-use plx_base::{Block, BlockNo, Label, Ptr, WriteKind};
+use plx_base::{Block, Label, Ptr, WriteKind};
 use plx_commands::Reply;
 use plx_disk::{Answer, Ask};
 use plx_gate::ImageRecord;
-use plx_geom::Place;
 use std::mem;
 
 /// How often an image can be made in one slot.
@@ -21,14 +20,14 @@ const LAST_GENERATION: u32 = u32::MAX;
 const GREATEST_SIZE: u32 = 1 << 27;
 
 /// Where it stands: at the write of the record, or at its last reading of the clock.
-#[derive(Clone, Copy, PartialEq, Eq)]
+#[derive(Clone, Copy)]
 pub enum RecordAt {
     First,
     Last,
 }
 
 /// What was done.
-#[derive(Clone, Copy, PartialEq, Eq)]
+#[derive(Clone, Copy)]
 pub enum Done {
     Created,
     Deleted,
@@ -48,7 +47,6 @@ pub struct Record {
 impl Record {
     ghost use Rattle.std.specs.Prelude.{ℕ, ◌<◌, Ok};
     ghost use Rattle.plx_gate.specs.Images.{IsImage};
-    ghost use Rattle.plx_geom.specs.Geometry.{block_count, record_at};
     ghost use Rattle.plx_rules.specs.Part.{answered, standing, bytes_out};
     ghost use Rattle.plx_rules.specs.Commands.{create_part, delete_part, record_part};
     ghost use Rattle.plx_rules.specs.Session.{Known};
@@ -145,7 +143,7 @@ impl Record {
         match self.at {
             RecordAt::First => Ask::Write {
                 kind: WriteKind::Record,
-                block: self.block(),
+                block: self.image.record_block(),
                 guard: self.image.until,
             },
             RecordAt::Last => Ask::Clock,
@@ -181,7 +179,7 @@ impl Record {
                 None
             }
             (RecordAt::First, Answer::Fault) => Some(Reply::WriteFault {
-                block: self.block(),
+                block: self.image.record_block(),
             }),
             (RecordAt::First, Answer::Missed(reading)) => Some(self.image.lost(*reading)),
             (RecordAt::Last, Answer::Reading(reading)) => self.end(sessions, *reading),
@@ -211,14 +209,6 @@ impl Record {
             Done::Created => Reply::Created,
             Done::Deleted => Reply::Deleted,
         })
-    }
-
-    // The block of the record.
-    fn block(&self) -> BlockNo
-        ensures block { result.0 ≡ record_at self.now.image.setting.geometry self.now.image.slot.0 }
-        ensures within { result.0 < block_count self.now.image.setting.geometry }
-    {
-        self.image.setting.block(Place::Record(self.image.slot))
     }
 }
 

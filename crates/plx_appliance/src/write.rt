@@ -5,17 +5,16 @@ use crate::leased::Leased;
 use crate::session::Session;
 use crate::sessions::Sessions;
 use crate::spell::spell_descriptor;
-use plx_base::{Block, BlockNo, WriteKind};
+use plx_base::{Block, WriteKind};
 use plx_commands::Reply;
 use plx_disk::{Answer, Ask};
 use plx_gate::Descriptor;
-use plx_geom::Place;
 
 /// The number of an image's last write.
 const LAST_WRITE: u64 = (1 << 48) - 1;
 
 /// Where a write stands: at the write of its data or of its descriptor, or at its last reading of the clock.
-#[derive(Clone, Copy, PartialEq, Eq)]
+#[derive(Clone, Copy)]
 pub enum WriteAt {
     Data,
     Commit,
@@ -37,7 +36,6 @@ pub struct Write {
 
 impl Write {
     ghost use Rattle.std.specs.Prelude.{ℕ, Ok};
-    ghost use Rattle.plx_geom.specs.Geometry.{block_count, data_at, descriptor_at};
     ghost use Rattle.plx_rules.specs.Part.{answered, standing, bytes_out};
     ghost use Rattle.plx_rules.specs.Commands.{write_part};
     ghost use Rattle.plx_rules.specs.Session.{Known};
@@ -109,12 +107,12 @@ impl Write {
         match self.at {
             WriteAt::Data => Ask::Write {
                 kind: WriteKind::JData,
-                block: self.data_block(),
+                block: self.image.data_block(self.index),
                 guard: self.image.until,
             },
             WriteAt::Commit => Ask::Write {
                 kind: WriteKind::JCommit,
-                block: self.descriptor_block(),
+                block: self.image.descriptor_block(self.index),
                 guard: self.image.until,
             },
             WriteAt::Last => Ask::Clock,
@@ -156,10 +154,10 @@ impl Write {
                 None
             }
             (WriteAt::Data, Answer::Fault) => Some(Reply::WriteFault {
-                block: self.data_block(),
+                block: self.image.data_block(self.index),
             }),
             (WriteAt::Commit, Answer::Fault) => Some(Reply::WriteFault {
-                block: self.descriptor_block(),
+                block: self.image.descriptor_block(self.index),
             }),
             (WriteAt::Data | WriteAt::Commit, Answer::Missed(reading)) => {
                 Some(self.image.lost(*reading))
@@ -189,27 +187,5 @@ impl Write {
         Some(Reply::Written {
             number: self.number,
         })
-    }
-
-    // The block of the data.
-    fn data_block(&self) -> BlockNo
-        ensures block { result.0
-            ≡ data_at self.now.image.setting.geometry self.now.image.slot.0 self.now.index }
-        ensures within { result.0 < block_count self.now.image.setting.geometry }
-    {
-        self.image
-            .setting
-            .block(Place::JData(self.image.slot, self.index))
-    }
-
-    // The block of the descriptor.
-    fn descriptor_block(&self) -> BlockNo
-        ensures block { result.0
-            ≡ descriptor_at self.now.image.setting.geometry self.now.image.slot.0 self.now.index }
-        ensures within { result.0 < block_count self.now.image.setting.geometry }
-    {
-        self.image
-            .setting
-            .block(Place::JDesc(self.image.slot, self.index))
     }
 }

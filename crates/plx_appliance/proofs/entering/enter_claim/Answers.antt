@@ -1,4 +1,4 @@
-use Rattle.std.proofs.Common.{◌≡◌, ℕ, [], ap, ◌∙◌}
+use Rattle.std.proofs.Common.{◌≡◌, ℕ, [], refl, ap, ◌∙◌}
 use Rattle.std.specs.Prelude.{nat_lt, true}
 use Rattle.plx_commands.specs.Limits.{last_claim}
 use Rattle.plx_geom.specs.Geometry.{image_lease}
@@ -11,8 +11,8 @@ use Rattle.plx_appliance.proofs.Numbers.{next-told}
 use Rattle.plx_appliance.proofs.entering.enter_claim.Goals as goal
 use Rattle.plx_base.proofs.Tests.{nat_lt-true}
 
-pub returns-clause-part : goal.returns-clause-part
-returns-clause-part c =
+pub returns : goal.returns
+returns c =
     let h = c.args.holdings.now in
     let s = rules_setting h.setting in
     let slot = c.args.slot.0 in
@@ -20,5 +20,22 @@ returns-clause-part c =
     let told = next-told claims c.in-Some.number h.space.begun c.in-Some.ensures.number in
     let test : nat_lt claims last_claim ≡ true = nat_lt-true claims last_claim told.0 in
     let part = λ (number now : ℕ). followed_by (claim_part s.boot [] (image_lease slot) number) (after_claim s (known_by h.sessions now) slot) in
-    rw test (c.claim.ensures.rest (known_by h.sessions c.next_claim.new.self.claims)
-    ∙ ap (λ (n : ℕ). part n c.next_claim.new.self.claims) told.1 ∙ ap (part claims) c.in-Some.ensures.claims)
+    let e = c.claim.ensures in
+    let next = c.in-Some.ensures in
+    record {
+      part = rw test (e.rest (known_by h.sessions c.next_claim.new.self.claims)
+          ∙ ap (λ (n : ℕ). part n c.next_claim.new.self.claims) told.1
+          ∙ ap (part claims) next.claims);
+      leases = refl;
+      extents = next.leases;
+      hand = next.hand;
+      setting = refl;
+      tied = record { same = e.setting; room = e.slots };
+      inside = rw e.at (record {
+        number = e.number;
+        none = rw e.slot c.requires.free;
+        fresh = e.fresh;
+        sampled = e.sampled;
+      });
+      suits = tt;
+    }

@@ -3,101 +3,50 @@ use Rattle.plx_appliance.specs.Kept.{known_of, sessions_of}
 use Rattle.plx_appliance.specs.Tokens.{image_leases}
 use Rattle.plx_appliance.proofs.work.Work.answer.Goals as goal
 
-pub returns-in-Attach : goal.returns-in-Attach
-returns-in-Attach c =
-    let e = c.answer.ensures in
-    record {
-      rest = rw c.in-Attach.is (e.rest c.args.holdings.now.space.claims);
-      own = rw c.in-Attach.is e.own;
-      kept = λ none. rw c.in-Attach.is e.setting;
-      setting = refl;
-      suits = λ none. tt;
-      moves = rw c.in-Attach.is (e.moves, refl);
-    }
+pub returns-in-Attach-clause-rest : goal.returns-in-Attach-clause-rest
+returns-in-Attach-clause-rest c = rw c.in-Attach.is (c.answer.ensures.rest c.args.holdings.now.space.claims)
 
-pub returns-in-Detach : goal.returns-in-Detach
-returns-in-Detach c =
-    let e = c.answer-in-Detach.ensures in
-    record {
-      rest = rw c.in-Detach.is (e.rest c.args.holdings.now.space.claims);
-      own = λ none. rw (c.in-Detach.is, e.image) refl;
-      kept = λ none. rw (c.in-Detach.is, e.image) refl;
-      setting = refl;
-      suits = λ none. tt;
-      moves = rw c.in-Detach.is (tt, e.leases, refl);
-    }
+pub returns-in-Attach-clause-moves : goal.returns-in-Attach-clause-moves
+returns-in-Attach-clause-moves c = rw c.in-Attach.is (c.answer.ensures.moves, refl)
 
-pub returns-in-Record : goal.returns-in-Record
-returns-in-Record c =
-    let e = c.answer-in-Record.ensures in
-    record {
-      rest = rw c.in-Record.is (e.rest c.args.holdings.now.space.claims);
-      own = λ none. rw (c.in-Record.is, e.image) refl;
-      kept = λ none. rw (c.in-Record.is, e.image) refl;
-      setting = refl;
-      suits = λ none. tt;
-      moves = rw c.in-Record.is (tt, refl, refl);
-    }
+pub returns-in-Detach-clause-rest : goal.returns-in-Detach-clause-rest
+returns-in-Detach-clause-rest c = rw c.in-Detach.is (c.answer-in-Detach.ensures.rest c.args.holdings.now.space.claims)
 
-pub returns-in-Read : goal.returns-in-Read
-returns-in-Read c =
-    let e = c.answer-in-Read.ensures in
-    record {
-      rest = rw c.in-Read.is (e.rest (known_of c.args.holdings.now));
-      own = λ none. rw (c.in-Read.is, e.image) refl;
-      kept = λ none. rw (c.in-Read.is, e.image) refl;
-      setting = refl;
-      suits = λ none. tt;
-      moves = rw c.in-Read.is (tt, refl, refl);
-    }
+pub returns-in-Detach-clause-moves : goal.returns-in-Detach-clause-moves
+returns-in-Detach-clause-moves c = rw c.in-Detach.is (tt, c.answer-in-Detach.ensures.leases, refl)
 
-pub returns-in-Write : goal.returns-in-Write
-returns-in-Write c =
-    let e = c.answer-in-Write.ensures in
-    record {
-      rest = rw c.in-Write.is (e.rest c.args.holdings.now.space.claims);
-      own = λ none. rw (c.in-Write.is, e.image) refl;
-      kept = λ none. rw (c.in-Write.is, e.image) refl;
-      setting = refl;
-      suits = λ none. tt;
-      moves = rw c.in-Write.is (tt, refl, refl);
-    }
+pub returns-in-Record-clause-rest : goal.returns-in-Record-clause-rest
+returns-in-Record-clause-rest c = rw c.in-Record.is (c.answer-in-Record.ensures.rest c.args.holdings.now.space.claims)
 
-pub returns-in-Renew : goal.returns-in-Renew
-returns-in-Renew c =
-    let e = c.answer-in-Renew.ensures in
-    record {
-      rest = rw c.in-Renew.is e.rest;
-      own = λ none. rw (c.in-Renew.is, e.setting) refl;
-      kept = λ none. rw c.in-Renew.is e.setting;
-      setting = e.kept;
-      suits = λ none. tt;
-      moves = rw c.in-Renew.is e.moves;
-    }
+pub returns-in-Record-clause-moves : goal.returns-in-Record-clause-moves
+returns-in-Record-clause-moves c = rw c.in-Record.is (tt, refl, refl)
 
-pub returns-in-Reserve : goal.returns-in-Reserve
-returns-in-Reserve c =
-    let e = c.answer-in-Reserve.ensures in
-    let h = c.args.holdings.now in
-    let sessions = sessions_of h.sessions.images.items in
-    let leases = image_leases h.leases.leases.items in
-    record {
-      rest = rw c.in-Reserve.is (e.rest sessions leases);
-      own = λ none. rw (c.in-Reserve.is, e.setting) refl;
-      kept = λ none. rw c.in-Reserve.is e.setting;
-      setting = refl;
-      suits = e.suits;
-      moves = rw c.in-Reserve.is (e.moves sessions leases);
-    }
+pub returns-in-Read-clause-rest : goal.returns-in-Read-clause-rest
+returns-in-Read-clause-rest c = rw c.in-Read.is (c.answer-in-Read.ensures.rest (known_of c.args.holdings.now))
 
-pub returns-in-Retire : goal.returns-in-Retire
-returns-in-Retire c =
-    let e = c.answer-in-Retire.ensures in
-    record {
-      rest = rw c.in-Retire.is e.rest;
-      own = λ none. rw (c.in-Retire.is, e.setting) refl;
-      kept = λ none. rw c.in-Retire.is e.setting;
-      setting = e.kept;
-      suits = e.suits;
-      moves = rw c.in-Retire.is e.moves;
-    }
+pub returns-in-Read-clause-moves : goal.returns-in-Read-clause-moves
+returns-in-Read-clause-moves c = rw c.in-Read.is (tt, refl, refl)
+
+pub returns-in-Write-clause-rest : goal.returns-in-Write-clause-rest
+returns-in-Write-clause-rest c = rw c.in-Write.is (c.answer-in-Write.ensures.rest c.args.holdings.now.space.claims)
+
+pub returns-in-Write-clause-moves : goal.returns-in-Write-clause-moves
+returns-in-Write-clause-moves c = rw c.in-Write.is (tt, refl, refl)
+
+pub returns-in-Renew-clause-rest : goal.returns-in-Renew-clause-rest
+returns-in-Renew-clause-rest c = rw c.in-Renew.is c.answer-in-Renew.ensures.rest
+
+pub returns-in-Renew-clause-moves : goal.returns-in-Renew-clause-moves
+returns-in-Renew-clause-moves c = rw c.in-Renew.is c.answer-in-Renew.ensures.moves
+
+pub returns-in-Reserve-clause-rest : goal.returns-in-Reserve-clause-rest
+returns-in-Reserve-clause-rest c = rw c.in-Reserve.is (c.answer-in-Reserve.ensures.rest (sessions_of c.args.holdings.now.sessions.images.items) (image_leases c.args.holdings.now.leases.leases.items))
+
+pub returns-in-Reserve-clause-moves : goal.returns-in-Reserve-clause-moves
+returns-in-Reserve-clause-moves c = rw c.in-Reserve.is (c.answer-in-Reserve.ensures.moves (sessions_of c.args.holdings.now.sessions.images.items) (image_leases c.args.holdings.now.leases.leases.items))
+
+pub returns-in-Retire-clause-rest : goal.returns-in-Retire-clause-rest
+returns-in-Retire-clause-rest c = rw c.in-Retire.is c.answer-in-Retire.ensures.rest
+
+pub returns-in-Retire-clause-moves : goal.returns-in-Retire-clause-moves
+returns-in-Retire-clause-moves c = rw c.in-Retire.is c.answer-in-Retire.ensures.moves
