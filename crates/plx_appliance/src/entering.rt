@@ -27,12 +27,12 @@ use crate::record::Record;
 use crate::renew::Renew;
 use crate::renewals::Renewals;
 use crate::renewing::{reached_lease, renewals};
-use crate::reserve::Reserve;
+use crate::reserve::{Reserve, reserve_reply};
 use crate::retire::Retire;
 use crate::session::Session;
 use crate::work::Work;
 use crate::write::Write;
-use plx_alloc::{Reserve as Take, SpaceEnd};
+use plx_alloc::Reserve as Take;
 use plx_base::{Block, SlotNo};
 use plx_commands::{LAST_CLAIM, Reply};
 
@@ -219,8 +219,7 @@ fn enter_reserve(holdings: &Holdings, need: Need, map: Block, lease: Block) -> R
             setting: holdings.setting,
             work,
         })),
-        Err(SpaceEnd::Done) => Err(Reply::Reserved),
-        Err(SpaceEnd::Refused(reply)) => Err(reply),
+        Err(end) => Err(reserve_reply(end)),
     }
 }
 

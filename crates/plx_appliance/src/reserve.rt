@@ -1,5 +1,8 @@
 //! A reserve takes fresh blocks, until so many are in hand.
 ghost use Rattle.std.specs.Prelude.{◌≡◌, Some, None};
+ghost use Rattle.plx_alloc.specs.Ending.{space_end};
+ghost use Rattle.plx_rules.specs.Ends.{ends};
+ghost use Rattle.plx_rules.specs.Session.{Known, known_after};
 
 use crate::setting::Setting;
 use plx_alloc::{Allocator, Reserve as Take, SpaceEnd};
@@ -66,8 +69,18 @@ impl Reserve {
     {
         match self.work.answer(space, answer) {
             None => None,
-            Some(SpaceEnd::Done) => Some(Reply::Reserved),
-            Some(SpaceEnd::Refused(reply)) => Some(reply),
+            Some(end) => Some(reserve_reply(end)),
         }
+    }
+}
+
+/// The reply to a reserve whose take has ended.
+pub fn reserve_reply(end: SpaceEnd) -> Reply
+    ensures { (known : Known) → ends result (known_after result known)
+        ≡ space_end (ends Reply.Reserved known) known end }
+{
+    match end {
+        SpaceEnd::Done => Reply::Reserved,
+        SpaceEnd::Refused(reply) => reply,
     }
 }

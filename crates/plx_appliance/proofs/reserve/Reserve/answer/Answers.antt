@@ -1,5 +1,6 @@
-use Rattle.std.proofs.Common.{◌≡◌, refl, Some, None}
+use Rattle.std.proofs.Common.{◌≡◌, refl, Some, None, ◌∙◌}
 use Rattle.plx_commands.specs.declared.reply.Reply.{Reply}
+use Rattle.plx_appliance.specs.Lent.{lends}
 use Rattle.plx_appliance.specs.Reserves.{outer_of}
 use Rattle.plx_appliance.proofs.reserve.Reserve.answer.Goals as goal
 
@@ -27,41 +28,20 @@ returns-in-None c =
       };
     }
 
-pub returns-in-Some-Done : goal.returns-in-Some-Done
-returns-in-Some-Done c =
-    let end = c.in-Some-Done in
-    let e = end.ensures in
+pub returns-in-Some : goal.returns-in-Some
+returns-in-Some c =
+    let e = c.in-Some.ensures in
     let setting = c.args.self.now.setting in
     record {
-      rest = λ sessions leases. rw end.field-0-is at (e.rest (outer_of setting sessions));
+      rest = λ sessions leases.
+          c.reserve_reply.ensures (lends sessions leases c.answer.new.space).known ∙ e.rest (outer_of setting sessions);
       setting = refl;
       suits = λ none. absurd (replied _ none);
       held = e.held;
       same = e.same;
       moves = λ sessions leases. record {
         images = refl;
-        end = Some end.field-0;
-        goes_on = λ none. absurd (replied _ none);
-        extents = e.leases;
-        hand = e.hand;
-        found = λ fits none. absurd (replied _ none);
-      };
-    }
-
-pub returns-in-Some-Refused : goal.returns-in-Some-Refused
-returns-in-Some-Refused c =
-    let end = c.in-Some-Refused in
-    let e = end.ensures in
-    let setting = c.args.self.now.setting in
-    record {
-      rest = λ sessions leases. rw end.field-0-is at (e.rest (outer_of setting sessions));
-      setting = refl;
-      suits = λ none. absurd (replied _ none);
-      held = e.held;
-      same = e.same;
-      moves = λ sessions leases. record {
-        images = refl;
-        end = Some end.field-0;
+        end = Some c.in-Some.end;
         goes_on = λ none. absurd (replied _ none);
         extents = e.leases;
         hand = e.hand;
