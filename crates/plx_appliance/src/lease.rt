@@ -2,6 +2,7 @@
 ghost use Rattle.std.specs.Prelude.{◌≡◌};
 ghost use Rattle.std.specs.Vec.{vec_len};
 
+use crate::empty::{clear_places, empty_places};
 use plx_base::{NoMemory, SlotNo};
 use plx_lease::later;
 use plx_token::{Held, Image};
@@ -28,10 +29,7 @@ impl Leases {
         ensures none { IfOk result (λ l. image_leases l.leases.items ≡ (λ image. Nothing)) }
         ensures count { IfOk result (λ l. l.count ≡ count) }
     {
-        let mut leases = Vec::with_capacity(alloc, count as usize)?;
-        for _ in 0..count {
-            leases.push(None)?;
-        }
+        let leases = empty_places(alloc, count)?;
         Ok(Leases { count, leases })
     }
 
@@ -93,8 +91,6 @@ impl Leases {
         ensures none { image_leases self.new.leases.items ≡ (λ image. Nothing) }
         ensures count { self.new.count ≡ self.old.count }
     {
-        for index in 0..self.leases.len() {
-            self.leases[index] = None;
-        }
+        clear_places(&mut self.leases);
     }
 }

@@ -5,6 +5,7 @@ mod appliance;
 mod attach;
 mod begun;
 mod detach;
+mod empty;
 mod entering;
 mod finding;
 mod fitting;

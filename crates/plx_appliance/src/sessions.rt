@@ -3,6 +3,7 @@ ghost use Rattle.std.specs.Prelude.{◌≡◌, ◌<◌};
 ghost use Rattle.std.specs.Vec.{vec_len};
 ghost use Rattle.plx_appliance.specs.Tied.{AreOf};
 
+use crate::empty::{clear_places, empty_places};
 use crate::images;
 use crate::session::Session;
 use plx_base::{Block, NoMemory, SlotNo};
@@ -33,10 +34,7 @@ impl Sessions {
         ensures count { IfOk result (λ s. s.count ≡ count) }
         ensures slots { IfOk result (λ s. s.slots ≡ slots) }
     {
-        let mut images = Vec::with_capacity(alloc, count as usize)?;
-        for _ in 0..count {
-            images.push(None)?;
-        }
+        let images = empty_places(alloc, count)?;
         Ok(Sessions {
             count,
             slots,
@@ -66,9 +64,7 @@ impl Sessions {
         ensures count { self.new.count ≡ self.old.count }
         ensures slots { self.new.slots ≡ self.old.slots }
     {
-        for index in 0..self.images.len() {
-            self.images[index] = None;
-        }
+        clear_places(&mut self.images);
     }
 
     /// A session begins.

@@ -1,15 +1,7 @@
-use Rattle.std.proofs.Common.{◌<◌, ◌≤◌, length, arith}
-use Rattle.std.specs.Prelude.{None}
+use Rattle.std.proofs.Common.{ap}
+use Rattle.std.proofs.Math.Path.{fun_ext}
 use Rattle.plx_appliance.specs.Kept.{known_session}
-use Rattle.plx_appliance.proofs.Tables.{set-default, table-default}
 use Rattle.plx_appliance.proofs.sessions.Sessions.forget.Goals as goal
 
-pub loop-index-preserved : goal.loop-index-preserved
-loop-index-preserved c =
-    let within : c.loop-index.index < length c.loop-index.self.images.items = omega (arith, c.loop-index.self.images.ok.0, c.loop-index-test.true, c.len-index-end.ensures, c.loop-index.self.long, c.args.self.now.long, c.loop-index.invariant.0) in
-    (c.loop-index.invariant.0, c.loop-index.invariant.1, set-default c.loop-index.self.images.items c.loop-index.index None c.loop-index.invariant.2 within)
-
 pub returns-clause-known : goal.returns-clause-known
-returns-clause-known c =
-    let all : length c.loop-index.self.images.items ≤ c.loop-index.index = omega (arith, c.loop-index.self.images.ok.0, c.loop-index-test.false, c.len-index-end.ensures, c.loop-index.self.long, c.args.self.now.long, c.loop-index.invariant.0) in
-    table-default known_session c.loop-index.self.images.items c.loop-index.index None all c.loop-index.invariant.2
+returns-clause-known c = fun_ext (λ k. ap known_session (c.clear_places.ensures.none k))
