@@ -1,8 +1,8 @@
 //! A device on which sectors land out of order, late or not at all.
-use plx_base::{Block, BlockNo, Boot, NoMemory, WriteKind};
+use crate::checks::none_fails;
+use plx_base::{Block, BlockNo, Boot, WriteKind};
 use plx_disk::Disk;
 use std::alloc::Global;
-use std::process::Abort;
 
 /// What is done with a device of four blocks at time 1,000, and what it tells.
 #[derive(Clone, Copy)]
@@ -26,59 +26,60 @@ enum Deed {
 
 use Deed::{Cancels, Has, IsOf, Issues, Lands, Misses, Sets, Settles};
 
-/// The deeds are done, one after another.
-fn does(rt: &impl Abort, alloc: Global, deeds: &[Deed]) -> Result<(), NoMemory> {
-    let mut disk = Disk::new(alloc, 4, 1000)?;
+/// The deeds are done, one after another. The first that doesn't tell what it should.
+fn first_wrong(alloc: Global, deeds: &[Deed]) -> Option<usize> {
+    let Ok(mut disk) = Disk::new(alloc, 4, 1000) else {
+        return Some(0);
+    };
     for (at, deed) in deeds.iter().enumerate() {
-        let is_told = make(rt, alloc, &mut disk, *deed)?;
-        assert!(rt; is_told, "deed {at}");
+        if !make(alloc, &mut disk, *deed) {
+            return Some(at);
+        }
     }
-    Ok(())
+    None
 }
 
 /// The deed is done. Whether it tells what it should.
-fn make(rt: &impl Abort, alloc: Global, disk: &mut Disk, deed: Deed) -> Result<bool, NoMemory> {
+fn make(alloc: Global, disk: &mut Disk, deed: Deed) -> bool {
     match deed {
-        Sets => set(rt, alloc, disk),
-        Issues(guard) => issue(rt, alloc, disk, guard),
-        Lands(write, sector, lands) => Ok(disk.land(write, sector) == lands),
-        Settles(write, settles) => Ok(disk.settle(write) == settles),
-        Misses(write, sector) => Ok(disk.missing(write) == sector),
+        Sets => set(disk),
+        Issues(guard) => issue(disk, guard),
+        Lands(write, sector, lands) => disk.land(write, sector) == lands,
+        Settles(write, settles) => disk.settle(write) == settles,
+        Misses(write, sector) => disk.missing(write) == sector,
         Cancels(write) => {
             disk.cancel(write);
-            Ok(true)
+            true
         }
-        IsOf(write, boot) => Ok(disk.owner(write) == boot),
-        Has(sectors) => has(rt, alloc, disk, sectors),
+        IsOf(write, boot) => disk.owner(write) == boot,
+        Has(sectors) => has(alloc, disk, sectors),
     }
 }
 
-fn set(rt: &impl Abort, alloc: Global, disk: &mut Disk) -> Result<bool, NoMemory> {
-    let sevens = Block::filled(alloc, 7)?;
-    assert!(rt; disk.issued() == 0 && 2 < disk.blocks());
-    disk.set(BlockNo(2), sevens.as_slice())?;
-    Ok(true)
+const SEVENS: &[u8] = &[7; 4096];
+
+fn set(disk: &mut Disk) -> bool {
+    disk.issued() == 0 && 2 < disk.blocks() && disk.set(BlockNo(2), SEVENS).is_ok()
 }
 
-fn issue(rt: &impl Abort, alloc: Global, disk: &mut Disk, guard: u64) -> Result<bool, NoMemory> {
-    let sevens = Block::filled(alloc, 7)?;
+fn issue(disk: &mut Disk, guard: u64) -> bool {
     let count = disk.issued();
-    assert!(rt; 2 < disk.blocks() && guard < 2000);
-    let number = disk.issue(
-        Boot(9),
-        WriteKind::Fresh,
-        BlockNo(2),
-        sevens.as_slice(),
-        guard,
-    )?;
-    Ok(number == count)
+    if disk.blocks() <= 2 || 2000 <= guard {
+        return false;
+    }
+    let number = disk.issue(Boot(9), WriteKind::Fresh, BlockNo(2), SEVENS, guard);
+    number == Ok(count)
 }
 
-fn has(rt: &impl Abort, alloc: Global, disk: &Disk, sectors: [bool; 8]) -> Result<bool, NoMemory> {
-    let mut seen = Block::zeros(alloc)?;
-    assert!(rt; 2 < disk.blocks());
+fn has(alloc: Global, disk: &Disk, sectors: [bool; 8]) -> bool {
+    let Ok(mut seen) = Block::zeros(alloc) else {
+        return false;
+    };
+    if disk.blocks() <= 2 {
+        return false;
+    }
     disk.read(BlockNo(2), &mut seen);
-    Ok(seen.as_slice() == spelled(sectors).as_slice())
+    seen.as_slice() == spelled(sectors).as_slice()
 }
 
 /// A block of sevens in these sectors, and zeros in the others.
@@ -94,10 +95,8 @@ fn spelled(sectors: [bool; 8]) -> [u8; 4096] {
 
 const ALL: [bool; 8] = [true; 8];
 
-#[test]
-fn a_block_that_was_set_is_read(rt: HostRuntime) -> Result<(), NoMemory> {
-    does(&rt, rt.alloc(), &[Sets, Has(ALL)])
-}
+/// A block that was set is read.
+const SET: &[Deed] = &[Sets, Has(ALL)];
 
 /// After each landing of a sector it is there, it can't land again, and the first one that is
 /// missing is told.
@@ -144,11 +143,6 @@ const LANDINGS: &[Deed] = &[
     Has(ALL),
 ];
 
-#[test]
-fn sectors_land_in_any_order_and_once(rt: HostRuntime) -> Result<(), NoMemory> {
-    does(&rt, rt.alloc(), LANDINGS)
-}
-
 /// A guard of 949 is more than 50 ms ago, and one of 950 isn't.
 const LATE_OR_CANCELLED: &[Deed] = &[
     Issues(949),
@@ -163,6 +157,16 @@ const LATE_OR_CANCELLED: &[Deed] = &[
 ];
 
 #[test]
-fn a_late_or_cancelled_write_does_not_land(rt: HostRuntime) -> Result<(), NoMemory> {
-    does(&rt, rt.alloc(), LATE_OR_CANCELLED)
+fn a_block_that_was_set_is_read(rt: HostRuntime) {
+    none_fails(&rt, first_wrong(rt.alloc(), SET));
+}
+
+#[test]
+fn sectors_land_in_any_order_and_once(rt: HostRuntime) {
+    none_fails(&rt, first_wrong(rt.alloc(), LANDINGS));
+}
+
+#[test]
+fn a_late_or_cancelled_write_does_not_land(rt: HostRuntime) {
+    none_fails(&rt, first_wrong(rt.alloc(), LATE_OR_CANCELLED));
 }

@@ -1,48 +1,61 @@
 //! Geometries, their places and their superblocks, worked out by hand.
 ghost use Rattle.plx_geom.specs.Geometry.{IsGeometry};
 
+use crate::checks::{check, check_at};
 use plx_base::{Block, BlockNo, ExtentNo, NoMemory, SlotNo};
 use plx_geom::{Geometry, GeometryError, Place, read_superblock, write_superblock};
 use std::alloc::Global;
 use std::process::Abort;
 
-/// Images, extents, blocks of an extent and slots; the field that is named, and its value.
-const OUT_OF_LIMITS: &[([u32; 4], u8, u32)] = &[
-    ([0, 1, 16, 2], 0, 0),
-    ([257, 1, 16, 2], 0, 257),
-    ([1, 0, 16, 2], 1, 0),
-    ([1, 513, 16, 2], 1, 513),
-    ([1, 1, 15, 2], 2, 15),
-    ([1, 1, 32_769, 2], 2, 32_769),
-    ([1, 1, 16, 1], 3, 1),
-    ([1, 1, 16, 65], 3, 65),
-    ([0, 0, 0, 0], 0, 0),
-    ([256, 513, 15, 65], 1, 513),
-    ([1, 512, 15, 65], 2, 15),
+/// Images, extents, blocks of an extent and slots, and the field that is named with its value, or
+/// none where all are within their limits.
+const LIMITS: &[([u32; 4], Option<(u8, u32)>)] = &[
+    ([0, 1, 16, 2], Some((0, 0))),
+    ([257, 1, 16, 2], Some((0, 257))),
+    ([1, 0, 16, 2], Some((1, 0))),
+    ([1, 513, 16, 2], Some((1, 513))),
+    ([1, 1, 15, 2], Some((2, 15))),
+    ([1, 1, 32_769, 2], Some((2, 32_769))),
+    ([1, 1, 16, 1], Some((3, 1))),
+    ([1, 1, 16, 65], Some((3, 65))),
+    ([0, 0, 0, 0], Some((0, 0))),
+    ([256, 513, 15, 65], Some((1, 513))),
+    ([1, 512, 15, 65], Some((2, 15))),
+    ([1, 1, 16, 2], None),
+    ([256, 512, 32_768, 64], None),
 ];
+
+/// The field that is out of its limits, with its value.
+fn out_of_limits(numbers: [u32; 4]) -> Option<(u8, u32)> {
+    let [images, extents, blocks, slots] = numbers;
+    match Geometry::new(images, extents, blocks, slots) {
+        Ok(_) => None,
+        Err(GeometryError::OutOfLimit { field, value }) => Some((field, value)),
+    }
+}
 
 #[test]
 fn a_field_out_of_its_limits_is_named(rt: HostRuntime) {
-    for &([images, extents, blocks, slots], field, value) in OUT_OF_LIMITS {
-        let error = Geometry::new(images, extents, blocks, slots);
-        assert!(rt;
-            matches!(error, Err(GeometryError::OutOfLimit { field: f, value: v }) if f == field && v == value),
-            "{field}"
-        );
+    for (case, &(numbers, named)) in LIMITS.iter().enumerate() {
+        check_at(&rt, out_of_limits(numbers) == named, case);
     }
-    assert!(rt; Geometry::new(1, 1, 16, 2).is_ok());
-    assert!(rt; Geometry::new(256, 512, 32_768, 64).is_ok());
 }
 
-/// A geometry that is within its limits.
-fn geometry(rt: &impl Abort, images: u32, extents: u32, blocks: u32, slots: u32) -> Geometry
-    ensures { IsGeometry result }
-{
-    match Geometry::new(images, extents, blocks, slots) {
-        Ok(geometry) => geometry,
-        Err(_) => panic!(rt; "within the limits"),
-    }
-}
+/// The smallest device.
+const SMALL: Geometry = Geometry {
+    images: 1,
+    extents: 1,
+    extent_blocks: 16,
+    slots: 2,
+};
+
+/// A device of two images.
+const TWO: Geometry = Geometry {
+    images: 2,
+    extents: 2,
+    extent_blocks: 64,
+    slots: 8,
+};
 
 const IMAGE: SlotNo = SlotNo(0);
 
@@ -67,39 +80,41 @@ const PLACES: &[(u64, Option<Place>)] = &[
     (u64::MAX, None),
 ];
 
-#[test]
-fn each_block_of_a_small_device_has_its_place(rt: HostRuntime) {
-    let small = geometry(&rt, 1, 1, 16, 2);
-    assert!(rt; small.blocks() == 26);
-    for &(block, place) in PLACES {
-        assert!(rt; small.place(BlockNo(block)) == place, "{block}");
+/// What stands in blocks of the device of two images.
+const PLACES_OF_TWO: &[(u64, Option<Place>)] = &[
+    (5, Some(Place::ExtentLease(ExtentNo(1)))),
+    (7, Some(Place::Record(SlotNo(1)))),
+    (8, Some(Place::Log(IMAGE))),
+    (40, Some(Place::JDesc(SlotNo(1), 7))),
+    (41, Some(Place::JData(SlotNo(1), 7))),
+    (106, Some(Place::Map(ExtentNo(1)))),
+    (169, Some(Place::Pool(ExtentNo(1), 63))),
+];
+
+/// Whether the block has this place, which has the block, or none.
+fn is_placed(geometry: &Geometry, block: u64, place: Option<Place>) -> bool
+    requires { IsGeometry geometry.now }
+{
+    match geometry.place(BlockNo(block)) {
+        Some(found) => place == Some(found) && geometry.number(found) == BlockNo(block),
+        None => place.is_none(),
     }
 }
 
-/// Blocks of a device of two images, and their places.
-const NUMBERS: &[(u64, Place)] = &[
-    (5, Place::ExtentLease(ExtentNo(1))),
-    (7, Place::Record(SlotNo(1))),
-    (8, Place::Log(IMAGE)),
-    (40, Place::JDesc(SlotNo(1), 7)),
-    (41, Place::JData(SlotNo(1), 7)),
-    (106, Place::Map(ExtentNo(1))),
-    (169, Place::Pool(ExtentNo(1), 63)),
-];
+/// Each block has its place.
+fn are_placed(rt: &impl Abort, geometry: &Geometry, cases: &[(u64, Option<Place>)])
+    requires { IsGeometry geometry.now }
+{
+    for &(block, place) in cases {
+        check_at(rt, is_placed(geometry, block, place), block as usize);
+    }
+}
 
 #[test]
-fn places_of_a_device_of_two_images(rt: HostRuntime) {
-    let two = geometry(&rt, 2, 2, 64, 8);
-    assert!(rt; two.blocks() == 170);
-    for &(block, place) in NUMBERS {
-        let Some(found) = two.place(BlockNo(block)) else {
-            panic!(rt; "{block}");
-        };
-        assert!(rt;
-            found == place && two.number(found) == BlockNo(block),
-            "{block}"
-        );
-    }
+fn each_block_has_its_place(rt: HostRuntime) {
+    check(&rt, SMALL.blocks() == 26 && TWO.blocks() == 170, "blocks");
+    are_placed(&rt, &SMALL, PLACES);
+    are_placed(&rt, &TWO, PLACES_OF_TWO);
 }
 
 /// The first bytes of the smallest device's superblock; the rest are zeros.
@@ -115,15 +130,29 @@ fn changed(alloc: Global, place: usize, byte: u8) -> Result<Block, NoMemory> {
     Ok(block)
 }
 
-#[test]
-fn a_superblock_is_spelled_by_hand(rt: HostRuntime) -> Result<(), NoMemory> {
-    let small = geometry(&rt, 1, 1, 16, 2);
-    let mut block = Block::filled(rt.alloc(), 7)?;
-    write_superblock(&small, &mut block);
-    let wanted = changed(rt.alloc(), 0, b'P')?;
-    assert!(rt; block.as_slice() == wanted.as_slice());
-    assert!(rt; read_superblock(&block).ok() == Some(small));
-    Ok(())
+/// Whether the smallest device's superblock is written as this block.
+fn is_written(alloc: Global, spelled: &Block) -> bool {
+    let Ok(mut block) = Block::filled(alloc, 7) else {
+        return false;
+    };
+    write_superblock(&SMALL, &mut block);
+    block.as_slice() == spelled.as_slice()
+}
+
+/// Whether the block is read as the smallest device's superblock.
+fn is_read(block: &Block) -> bool {
+    match read_superblock(block) {
+        Ok(geometry) => geometry == SMALL,
+        Err(_) => false,
+    }
+}
+
+/// Whether the block is damaged, which is block 0.
+fn is_damaged(block: &Block) -> bool {
+    match read_superblock(block) {
+        Ok(_) => false,
+        Err(damaged) => damaged.block == BlockNo(0),
+    }
 }
 
 /// The place of a byte, and what stands there instead.
@@ -138,14 +167,30 @@ const CHANGES: &[(usize, u8)] = &[
     (4095, 1),
 ];
 
-#[test]
-fn a_superblock_outside_the_format_is_damaged(rt: HostRuntime) -> Result<(), NoMemory> {
-    for &(place, byte) in CHANGES {
-        let block = changed(rt.alloc(), place, byte)?;
-        assert!(rt;
-            matches!(read_superblock(&block), Err(damaged) if damaged.block == BlockNo(0)),
-            "{byte} at {place}"
-        );
+/// Whether the superblock is damaged with this byte at this place.
+fn is_damaged_by(alloc: Global, place: usize, byte: u8) -> bool {
+    match changed(alloc, place, byte) {
+        Ok(block) => is_damaged(&block),
+        Err(_) => false,
     }
-    Ok(())
+}
+
+#[test]
+fn a_superblock_outside_the_format_is_damaged(rt: HostRuntime) {
+    for &(place, byte) in CHANGES {
+        check_at(&rt, is_damaged_by(rt.alloc(), place, byte), place);
+    }
+}
+
+/// Whether the superblock is written and read as it is spelled.
+fn is_spelled(alloc: Global) -> bool {
+    match changed(alloc, 0, b'P') {
+        Ok(spelled) => is_written(alloc, &spelled) && is_read(&spelled),
+        Err(_) => false,
+    }
+}
+
+#[test]
+fn a_superblock_is_spelled_by_hand(rt: HostRuntime) {
+    check(&rt, is_spelled(rt.alloc()), "written and read");
 }

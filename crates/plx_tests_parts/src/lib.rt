@@ -4,7 +4,11 @@
 #[cfg(test)]
 mod blocks;
 #[cfg(test)]
+mod checks;
+#[cfg(test)]
 mod device;
+#[cfg(test)]
+mod entries;
 #[cfg(test)]
 mod geometry;
 #[cfg(test)]

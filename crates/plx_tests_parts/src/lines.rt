@@ -1,52 +1,206 @@
 //! Schedules that are read, line by line, and lines that are refused.
-use plx_base::{Label, NoMemory, Payload};
+use crate::checks::{check, check_at, none_fails};
+use plx_base::{NoMemory, Payload};
 use plx_commands::{Command, Event};
 use plx_geom::Geometry;
 use plx_text::{Schedule, TextError, read_schedule};
 use plx_words::Words;
-use std::alloc::{AllocError, Global};
+use std::alloc::Global;
 use std::process::Abort;
 
-/// A world, and a line of its schedule.
-const WORLD: &[u8] = b"world 1 1 16 2 1\nrun 0\n";
-
-const RUN: &[u8] = b"\nrun 0\n";
-
-/// The bytes of all parts.
-fn joined(alloc: Global, parts: &[&[u8]]) -> Result<Vec<u8>, NoMemory> {
-    let mut bytes = Vec::new(alloc);
-    for part in parts {
-        bytes.extend_from_slice(part)?;
-    }
-    Ok(bytes)
+/// Whether this line of the text is the first one that is bad, or none is where it is 0.
+fn is_first_bad(alloc: Global, text: &[u8], line: u64) -> bool {
+    let wanted = match line {
+        0 => None,
+        _ => Some(TextError::BadLine { line }),
+    };
+    read_schedule(alloc, text).err() == wanted
 }
 
-/// The schedule of these parts, or the number of its first line that is bad.
-fn read(alloc: Global, parts: &[&[u8]]) -> Result<Result<Schedule, u64>, NoMemory> {
-    match read_schedule(alloc, joined(alloc, parts)?.as_slice()) {
-        Ok(schedule) => Ok(Ok(schedule)),
-        Err(TextError::BadLine { line }) => Ok(Err(line)),
-        Err(TextError::NoMemory) => Err(AllocError),
+/// Whether the text of a case is read, or refused at the line that stands before it.
+fn is_case(alloc: Global, case: &str) -> bool {
+    let (line, text) = case.split_once(':').unwrap_or(("", case));
+    is_first_bad(alloc, text.as_bytes(), line.parse().unwrap_or(u64::MAX))
+}
+
+/// Each case, which a bar ends, is the number of a text's first line that is bad, or 0 where there
+/// is none, a colon, and the text.
+fn are_read(rt: &impl Abort, alloc: Global, cases: &str) {
+    for case in cases.split_terminator('|') {
+        check(rt, is_case(alloc, case), case);
     }
 }
 
-/// The first line of these parts that is bad is this one, or none is where it is 0.
-fn is_bad(rt: &impl Abort, alloc: Global, parts: &[&[u8]], line: u64) -> Result<(), NoMemory> {
-    let found = read(alloc, parts)?.err().unwrap_or(0);
-    assert_eq!(rt; found, line);
-    Ok(())
+/// Texts with the numbers of their first bad lines.
+macro_rules! texts {
+    ($(($line:literal, $text:literal),)*) => {
+        concat!($($line, ":", $text, "|",)*)
+    };
 }
 
-/// Each of these lines is refused.
-fn refuses(rt: &impl Abort, alloc: Global, lines: &[&[u8]]) -> Result<(), NoMemory> {
-    for line in lines {
-        is_bad(rt, alloc, &[WORLD, line, RUN], 3)?;
-    }
-    Ok(())
+/// Worlds outside their limits.
+const WORLDS: &str = texts![
+    (1, "world 0 1 16 2 1\n"),
+    (1, "world 257 1 16 2 1\n"),
+    (1, "world 1 0 16 2 1\n"),
+    (1, "world 1 513 16 2 1\n"),
+    (1, "world 1 1 15 2 1\n"),
+    (1, "world 1 1 32769 2 1\n"),
+    (1, "world 1 1 16 1 1\n"),
+    (1, "world 1 1 16 65 1\n"),
+    (1, "world 1 1 16 2 0\n"),
+    (1, "world 1 1 16 2 9\n"),
+    (1, "world 1 1 16 2\n"),
+    (1, "world 1 1 16 2 1 1\n"),
+    (1, "world 01 1 16 2 1\n"),
+    (1, "worlds 1 1 16 2 1\n"),
+    (1, "run 0\n"),
+    (1, "world 1 1 16 2 1"),
+];
+
+/// Lines that are skipped, which count, and texts without an end.
+const SKIPPED: &str = texts![
+    (0, "# a comment\n\nworld 1 1 16 2 1\n"),
+    (0, "world 1 1 16 2 1\n#\n\n#start 0 attach 0\n"),
+    (3, "# a comment\nworld 1 1 16 2 1\ntick 0\n"),
+    (3, "\n\nworld 1 1 16 65 1\n"),
+    (2, "#\nrun 0\n"),
+    (5, "world 1 1 16 2 1\nrun 0\n\n# x\nrun 00\n"),
+    (3, "world 1 1 16 2 1\nrun 0\nrun 00\nrun 00\n"),
+    (1, ""),
+    (2, "\n"),
+    (4, "#\n\n#\n"),
+    (1, "#"),
+    (3, "#\n\n# no end"),
+    (3, "world 1 1 16 2 1\nrun 0\nrun"),
+    (3, "world 1 1 16 2 1\nrun 0\nrun 0"),
+    (3, "world 1 1 16 2 1\n\nrun 0"),
+    (3, "world 1 1 16 2 1\n\n# no end"),
+    (2, "world 1 1 16 2 1\n #\n"),
+    (2, "world 1 1 16 2 1\n \n"),
+    (2, "world 1 1 16 2 1\n\r\n"),
+];
+
+/// Texts with these lines as their third, which is bad.
+macro_rules! refused {
+    ($($line:literal,)*) => {
+        concat!($("3:world 1 1 16 2 1\nrun 0\n", $line, "\nrun 0\n|",)*)
+    };
+}
+
+/// Lines outside the grammar.
+const OUTSIDE: &str = refused![
+    "world 1 1 16 2 1",
+    "run  0",
+    "run 0 ",
+    " run 0",
+    "run\t0",
+    "run 0\r",
+    "run +1",
+    "run -1",
+    "run 18446744073709551616",
+    "run",
+    "run ",
+    "run 0 0",
+    "RUN 0",
+    "stop 0",
+    "tick 0",
+    "tick 05",
+    "land 0 0",
+    "fault",
+    "fault 0 0",
+    "miss 0",
+    "start 0 attach",
+    "start 0 renew 0",
+    "start 0 reserve 0",
+    "start 0 create 0 1",
+    "start 0 create 0 1 a ",
+    "start 0 create 0 1 ",
+    "start 0 create 0 1 abcdefghijklmnopqrstuvwxyzabcdefg",
+    "start 0 create 0 1 \x7f",
+    "start 0 write 0 0",
+    "start 0 write 0 0 all:AB",
+    "start 0 write 0 0 all:a",
+    "start 0 write 0 0 all:abc",
+    "start 0 write 0 0 all:00 all:00",
+    "start 0 write 0 0 hex:00",
+    "upto 0",
+    "upto 0 pool",
+    "upto 0 jdata 0",
+    "run 0\0",
+    "run \u{661}",
+];
+
+/// Lines that are not built yet.
+const NOT_BUILT: &str = refused![
+    "start 0 flush 0",
+    "start 0 reclaim",
+    "start 0 snap 0",
+    "upto 0 sweep",
+    "upto 0 fresh",
+    "upto 0 link",
+    "upto 0 overwrite",
+    "upto 0 log",
+    "upto 0 r-log",
+    "upto 0 r-pool",
+];
+
+/// A text whose third line has a byte that is no character.
+const NO_CHARACTER: &[u8] = b"world 1 1 16 2 1\nrun 0\nrun \xff\nrun 0\n";
+
+/// Texts whose third line has a number between these words: the greatest one, which is read, the
+/// first too great one, two digits and none, which are refused.
+macro_rules! limited {
+    ($(($most:literal, $past:literal, $before:literal, $after:literal),)*) => {
+        concat!($(
+            "0:world 1 1 16 2 1\nrun 0\n", $before, $most, $after, "\nrun 0\n|",
+            "3:world 1 1 16 2 1\nrun 0\n", $before, $past, $after, "\nrun 0\n|",
+            "3:world 1 1 16 2 1\nrun 0\n", $before, "00", $after, "\nrun 0\n|",
+            "3:world 1 1 16 2 1\nrun 0\n", $before, $after, "\nrun 0\n|",
+        )*)
+    };
+}
+
+const LIMITS: &str = limited![
+    ("4294967295", "4294967296", "tick ", ""),
+    ("4294967295", "4294967296", "run ", ""),
+    ("4294967295", "4294967296", "crash ", ""),
+    ("4294967295", "4294967296", "fault ", ""),
+    ("4294967295", "4294967296", "start ", " attach 0"),
+    ("4294967295", "4294967296", "start 1 attach ", ""),
+    ("4294967295", "4294967296", "start 1 detach ", ""),
+    ("4294967295", "4294967296", "start 1 create ", " 8 a"),
+    ("4294967295", "4294967296", "start 1 create 0 ", " a"),
+    ("4294967295", "4294967296", "start 1 delete ", ""),
+    ("256", "257", "start 1 reserve ", ""),
+    ("4294967295", "4294967296", "start 1 read ", " 0"),
+    ("4294967295", "4294967296", "start 1 read 0 ", ""),
+    ("4294967295", "4294967296", "start 1 write 0 ", " all:00"),
+    (
+        "18446744073709551615",
+        "18446744073709551616",
+        "land 0 ",
+        " 0"
+    ),
+    ("255", "256", "land 0 0 ", ""),
+    ("281474976710655", "281474976710656", "clock 0 ", ""),
+    ("281474976710655", "281474976710656", "miss 0 ", ""),
+    ("4294967295", "4294967296", "upto ", " jdata"),
+];
+
+#[test]
+fn texts_are_read_or_refused_at_their_first_bad_line(rt: HostRuntime) {
+    let alloc = rt.alloc();
+    are_read(&rt, alloc, WORLDS);
+    are_read(&rt, alloc, SKIPPED);
+    are_read(&rt, alloc, OUTSIDE);
+    are_read(&rt, alloc, NOT_BUILT);
+    are_read(&rt, alloc, LIMITS);
+    check(&rt, is_first_bad(alloc, NO_CHARACTER, 3), "no character");
 }
 
 /// Each kind of line, 33 of them events, with numbers at their limits.
-const EACH: &[u8] = b"# two hosts
+const EACH: &str = "# two hosts
 
 world 256 512 32768 64 8
 tick 1
@@ -92,281 +246,154 @@ const GREATEST: Geometry = Geometry {
     slots: 64,
 };
 
-#[test]
-fn each_line_of_a_schedule_is_read(rt: HostRuntime) -> Result<(), NoMemory> {
-    let Ok(schedule) = read(rt.alloc(), &[EACH])? else {
-        panic!(rt; "a schedule");
-    };
-    assert!(rt; schedule.geometry == GREATEST);
-    assert!(rt; schedule.appliances == 8);
-    assert!(rt; schedule.events.len() == 33);
-    Ok(())
+fn is_each(schedule: &Schedule) -> bool {
+    schedule.geometry == GREATEST && schedule.appliances == 8 && schedule.events.len() == 33
 }
 
-const WORLDS: &[&[u8]] = &[
-    b"world 0 1 16 2 1\n",
-    b"world 257 1 16 2 1\n",
-    b"world 1 0 16 2 1\n",
-    b"world 1 513 16 2 1\n",
-    b"world 1 1 15 2 1\n",
-    b"world 1 1 32769 2 1\n",
-    b"world 1 1 16 1 1\n",
-    b"world 1 1 16 65 1\n",
-    b"world 1 1 16 2 0\n",
-    b"world 1 1 16 2 9\n",
-    b"world 1 1 16 2\n",
-    b"world 1 1 16 2 1 1\n",
-    b"world 01 1 16 2 1\n",
-    b"worlds 1 1 16 2 1\n",
-    b"run 0\n",
-    b"world 1 1 16 2 1",
-];
-
-#[test]
-fn a_world_outside_its_limits_is_refused(rt: HostRuntime) -> Result<(), NoMemory> {
-    for &text in WORLDS {
-        is_bad(&rt, rt.alloc(), &[text], 1)?;
-    }
-    Ok(())
-}
-
-const SKIPPED: &[(&[u8], u64)] = &[
-    (b"# a comment\n\nworld 1 1 16 2 1\n", 0),
-    (b"world 1 1 16 2 1\n#\n\n#start 0 attach 0\n", 0),
-    (b"# a comment\nworld 1 1 16 2 1\ntick 0\n", 3),
-    (b"\n\nworld 1 1 16 65 1\n", 3),
-    (b"#\nrun 0\n", 2),
-    (b"world 1 1 16 2 1\nrun 0\n\n# x\nrun 00\n", 5),
-    (b"world 1 1 16 2 1\nrun 0\nrun 00\nrun 00\n", 3),
-    (b"", 1),
-    (b"\n", 2),
-    (b"#\n\n#\n", 4),
-    (b"#", 1),
-    (b"#\n\n# no end", 3),
-    (b"world 1 1 16 2 1\nrun 0\nrun", 3),
-    (b"world 1 1 16 2 1\nrun 0\nrun 0", 3),
-    (b"world 1 1 16 2 1\n\nrun 0", 3),
-    (b"world 1 1 16 2 1\n\n# no end", 3),
-    (b"world 1 1 16 2 1\n #\n", 2),
-    (b"world 1 1 16 2 1\n \n", 2),
-    (b"world 1 1 16 2 1\n\r\n", 2),
-];
-
-#[test]
-fn the_first_bad_line_is_named_and_skipped_lines_count(rt: HostRuntime) -> Result<(), NoMemory> {
-    for &(input, line) in SKIPPED {
-        is_bad(&rt, rt.alloc(), &[input], line)?;
-    }
-    Ok(())
-}
-
-const OUTSIDE: &[&[u8]] = &[
-    b"world 1 1 16 2 1",
-    b"run  0",
-    b"run 0 ",
-    b" run 0",
-    b"run\t0",
-    b"run 0\r",
-    b"run +1",
-    b"run -1",
-    b"run 18446744073709551616",
-    b"run",
-    b"run ",
-    b"run 0 0",
-    b"RUN 0",
-    b"stop 0",
-    b"tick 0",
-    b"tick 05",
-    b"land 0 0",
-    b"fault",
-    b"fault 0 0",
-    b"miss 0",
-    b"start 0 attach",
-    b"start 0 renew 0",
-    b"start 0 reserve 0",
-    b"start 0 create 0 1",
-    b"start 0 create 0 1 a b",
-    b"start 0 create 0 1 ",
-    b"start 0 create 0 1 abcdefghijklmnopqrstuvwxyzabcdefg",
-    b"start 0 create 0 1 \x7f",
-    b"start 0 write 0 0",
-    b"start 0 write 0 0 all:AB",
-    b"start 0 write 0 0 all:a",
-    b"start 0 write 0 0 all:abc",
-    b"start 0 write 0 0 all:00 all:00",
-    b"start 0 write 0 0 hex:00",
-    b"upto 0",
-    b"upto 0 pool",
-    b"upto 0 jdata 0",
-    b"run 0\0",
-    b"run \xff",
-    b"run \xd9\xa1",
-];
-
-#[test]
-fn a_line_outside_the_grammar_is_refused(rt: HostRuntime) -> Result<(), NoMemory> {
-    refuses(&rt, rt.alloc(), OUTSIDE)
-}
-
-const NOT_BUILT: &[&[u8]] = &[
-    b"start 0 flush 0",
-    b"start 0 reclaim",
-    b"start 0 snap 0",
-    b"upto 0 sweep",
-    b"upto 0 fresh",
-    b"upto 0 link",
-    b"upto 0 overwrite",
-    b"upto 0 log",
-    b"upto 0 r-log",
-    b"upto 0 r-pool",
-];
-
-#[test]
-fn a_line_that_is_not_built_is_refused(rt: HostRuntime) -> Result<(), NoMemory> {
-    refuses(&rt, rt.alloc(), NOT_BUILT)
-}
-
-/// The limit of a number: of a byte, of a reservation, of 32 bits, of a reading and of 64 bits.
-#[derive(Clone, Copy)]
-enum Limit {
-    Byte,
-    Reservation,
-    Small,
-    Reading,
-    Long,
-}
-
-use Limit::{Byte, Long, Reading, Reservation, Small};
-
-/// The greatest number and the first too great one.
-fn spelled(limit: Limit) -> (&'static [u8], &'static [u8]) {
-    match limit {
-        Byte => (b"255", b"256"),
-        Reservation => (b"256", b"257"),
-        Small => (b"4294967295", b"4294967296"),
-        Reading => (b"281474976710655", b"281474976710656"),
-        Long => (b"18446744073709551615", b"18446744073709551616"),
+/// Whether the schedule of each kind of line is read.
+fn each_is_read(alloc: Global) -> bool {
+    match read_schedule(alloc, EACH.as_bytes()) {
+        Ok(schedule) => is_each(&schedule),
+        Err(_) => false,
     }
 }
 
-/// What stands before the number, its limit, what follows.
-const LIMITS: &[(&[u8], Limit, &[u8])] = &[
-    (b"tick ", Small, b""),
-    (b"run ", Small, b""),
-    (b"crash ", Small, b""),
-    (b"fault ", Small, b""),
-    (b"start ", Small, b" attach 0"),
-    (b"start 1 attach ", Small, b""),
-    (b"start 1 detach ", Small, b""),
-    (b"start 1 create ", Small, b" 8 a"),
-    (b"start 1 create 0 ", Small, b" a"),
-    (b"start 1 delete ", Small, b""),
-    (b"start 1 reserve ", Reservation, b""),
-    (b"start 1 read ", Small, b" 0"),
-    (b"start 1 read 0 ", Small, b""),
-    (b"start 1 write 0 ", Small, b" all:00"),
-    (b"land 0 ", Long, b" 0"),
-    (b"land 0 0 ", Byte, b""),
-    (b"clock 0 ", Reading, b""),
-    (b"miss 0 ", Reading, b""),
-    (b"upto ", Small, b" jdata"),
-];
-
 #[test]
-fn each_number_has_its_limit(rt: HostRuntime) -> Result<(), NoMemory> {
-    for &(before, limit, after) in LIMITS {
-        let (most, past) = spelled(limit);
-        for (number, line) in [
-            (most, 0),
-            (past, 3),
-            (b"00".as_slice(), 3),
-            (b"".as_slice(), 3),
-        ] {
-            is_bad(&rt, rt.alloc(), &[WORLD, before, number, after, RUN], line)?;
-        }
-    }
-    Ok(())
+fn each_line_of_a_schedule_is_read(rt: HostRuntime) {
+    check(&rt, each_is_read(rt.alloc()), "each line");
 }
 
-/// What stands before the DATA of a write.
-const WRITE: &[u8] = b"start 0 write 0 3 ";
-
-const FIVES: [u8; 8190] = [b'5'; 8190];
-
-/// The last two digits of a block of fives, and its last byte.
-const LAST: &[(&[u8], u8)] = &[(b"55", 0x55), (b"0f", 0x0f)];
-
-#[test]
-fn a_block_of_digits_is_read(rt: HostRuntime) -> Result<(), NoMemory> {
-    let alloc = rt.alloc();
-    for &(last, byte) in LAST {
-        let parts = [b"world 1 1 16 2 1\n", WRITE, b"hex:", &FIVES, last, b"\n"];
-        let Ok(schedule) = read(alloc, &parts)? else {
-            panic!(rt; "a schedule");
-        };
-        let [
-            Event::Start {
-                command: Command::Write { payload, .. },
-                ..
-            },
-        ] = schedule.events.as_slice()
-        else {
-            panic!(rt; "a write");
-        };
-        assert!(rt; has_fives(alloc, payload, byte)?);
-    }
-    Ok(())
+/// A text of two parts with so many digits between them.
+pub(crate) fn with_digits(
+    alloc: Global,
+    start: &str,
+    (digit, times): (&str, usize),
+    end: &str,
+) -> Result<String, NoMemory> {
+    let digits = digit.repeat(alloc, times)?;
+    [start, digits.as_str(), end].concat(alloc)
 }
 
-/// Whether all bytes of the payload are `0x55` but for the last one, which is this one.
-fn has_fives(alloc: Global, payload: &Payload, last: u8) -> Result<bool, NoMemory> {
+/// Whether the bytes are `0x55`, but for the last, which is this one.
+fn are_fives(bytes: &[u8], last: u8) -> bool {
     let mut wanted = [0x55; 4096];
     wanted[4095] = last;
-    Ok(payload.to_block(alloc)?.as_slice() == wanted.as_slice())
+    bytes == wanted.as_slice()
 }
 
-const DIGITS: [u8; 8194] = [b'a'; 8194];
+/// Whether the one event is a write of bytes `0x55`, but for the last, which is this one.
+fn writes_fives(events: &[Event], last: u8) -> bool {
+    match events {
+        [
+            Event::Start {
+                command: Command::Write {
+                    payload: Payload::Whole(block),
+                    ..
+                },
+                ..
+            },
+        ] => are_fives(block.as_slice(), last),
+        _ => false,
+    }
+}
 
-/// A DATA of a name, so many digits, and a last one.
-const DATA: &[(&[u8], usize, &[u8])] = &[
-    (b"hex:", 8191, b""),
-    (b"hex:", 8193, b""),
-    (b"hex:", 8194, b""),
-    (b"hex:", 4096, b""),
-    (b"hex:", 0, b""),
-    (b"hex", 0, b""),
-    (b"hex:", 8191, b"A"),
-    (b"hex:", 8191, b"g"),
-    (b"hex: ", 8192, b""),
-    (b"Hex:", 8192, b""),
-    (b"all:", 8192, b""),
-    (b"", 8192, b""),
-];
+/// Whether the text is a schedule that writes fives but for the last byte.
+fn is_written(alloc: Global, text: &str, last: u8) -> bool {
+    match read_schedule(alloc, text.as_bytes()) {
+        Ok(schedule) => writes_fives(schedule.events.as_slice(), last),
+        Err(_) => false,
+    }
+}
+
+/// How a schedule begins whose one event is a write.
+const WRITE: &str = "world 1 1 16 2 1\nstart 0 write 0 3 hex:";
+
+/// Whether a write of fives but for the last two digits is read.
+fn is_read(alloc: Global, end: &str, last: u8) -> bool {
+    match with_digits(alloc, WRITE, ("5", 8190), end) {
+        Ok(text) => is_written(alloc, text.as_str(), last),
+        Err(_) => false,
+    }
+}
 
 #[test]
-fn a_block_of_other_digits_is_refused(rt: HostRuntime) -> Result<(), NoMemory> {
-    for &(name, times, last) in DATA {
-        let digits = DIGITS.get(..times).unwrap_or(&DIGITS);
-        is_bad(&rt, rt.alloc(), &[WORLD, WRITE, name, digits, last, RUN], 3)?;
-    }
-    Ok(())
+fn a_block_of_digits_is_read(rt: HostRuntime) {
+    check(&rt, is_read(rt.alloc(), "55\n", 0x55), "55");
+    check(&rt, is_read(rt.alloc(), "0f\n", 0x0f), "0f");
 }
 
-/// Whether the label that was read is this one.
-fn is_label(label: Option<Label>, bytes: &[u8]) -> bool {
-    match label {
-        Some(label) => label.as_slice() == bytes,
+/// Texts whose third line is a write of a name, so many digits, and a last one.
+macro_rules! written {
+    ($(($name:literal, $times:literal, $last:literal),)*) => {
+        &[$((
+            concat!("world 1 1 16 2 1\nrun 0\nstart 0 write 0 3 ", $name),
+            $times,
+            concat!($last, "\nrun 0\n"),
+        ),)*]
+    };
+}
+
+const DATA: &[(&str, usize, &str)] = written![
+    ("hex:", 8191, ""),
+    ("hex:", 8193, ""),
+    ("hex:", 8194, ""),
+    ("hex:", 4096, ""),
+    ("hex:", 0, ""),
+    ("hex", 0, ""),
+    ("hex:", 8191, "A"),
+    ("hex:", 8191, "g"),
+    ("hex: ", 8192, ""),
+    ("Hex:", 8192, ""),
+    ("all:", 8192, ""),
+    ("", 8192, ""),
+];
+
+/// Whether the text is refused at its third line.
+fn is_refused(alloc: Global, start: &str, times: usize, end: &str) -> bool {
+    match with_digits(alloc, start, ("a", times), end) {
+        Ok(text) => is_first_bad(alloc, text.as_bytes(), 3),
+        Err(_) => false,
+    }
+}
+
+#[test]
+fn a_block_of_other_digits_is_refused(rt: HostRuntime) {
+    for (case, &(start, times, end)) in DATA.iter().enumerate() {
+        check_at(&rt, is_refused(rt.alloc(), start, times, end), case);
+    }
+}
+
+/// Whether the next word is `label=` and this label.
+fn is_label(words: &mut Words, label: &[u8]) -> bool {
+    match words.label(b"label=") {
+        Some(found) => found.as_slice() == label,
         None => false,
     }
+}
+
+/// The number of the first word, counted from 1, that isn't read by its name.
+fn first_unread(words: &mut Words) -> Option<usize> {
+    if words.named(b"size=", 8) != Some(8) {
+        return Some(1);
+    }
+    if words.named_small(b"gen=").is_some() {
+        return Some(2);
+    }
+    if !is_label(words, b"disk-1") {
+        return Some(3);
+    }
+    if !is_label(words, b"") {
+        return Some(4);
+    }
+    if words.label(b"label=").is_some() {
+        return Some(5);
+    }
+    None
 }
 
 #[test]
 fn words_are_read_by_name(rt: HostRuntime) {
     let mut words = Words::of(b"size=8 gen=4294967296 label=disk-1 label=- label=");
-    assert!(rt; words.named(b"size=", 8) == Some(8));
-    assert!(rt; words.named_small(b"gen=") == None);
-    assert!(rt; is_label(words.label(b"label="), b"disk-1"));
-    assert!(rt; is_label(words.label(b"label="), b""));
-    assert!(rt; words.label(b"label=").is_none());
-    assert!(rt; words.end() == Some(()));
+    none_fails(&rt, first_unread(&mut words));
+    check(&rt, words.end().is_some(), "the end");
 }

@@ -1,6 +1,6 @@
 //! Maps of extents whose bytes are written out by hand.
+use crate::checks::{check, check_at};
 use plx_extent::ExtentMap;
-use std::process::Abort;
 
 /// The block of a map of which bit 0 is the map's own, and blocks 1 to 8 and those of a second byte
 /// are taken.
@@ -26,15 +26,17 @@ const TAKEN: &[(u32, u32, u8)] = &[
     (13, 13, 0x3f),
 ];
 
+/// Whether this block is the next one, and how the map stands then.
+fn takes(found: &mut ExtentMap, block: u32, count: u32, second: u8) -> bool {
+    take(found) == Some(block) && found.count() == count && found.bytes() == map(second).as_slice()
+}
+
 #[test]
 fn fresh_blocks_are_taken_in_order(rt: HostRuntime) {
-    let Some(mut found) = ExtentMap::read(&map(0x05), 16) else {
-        panic!(rt; "a map");
-    };
-    assert!(rt; found.count() == 9);
+    let mut found = ExtentMap::read(&map(0x05), 16).expect(&rt, "a map");
+    check(&rt, found.count() == 9, "nine blocks are taken");
     for &(block, count, second) in TAKEN {
-        assert!(rt; take(&mut found) == Some(block) && found.count() == count);
-        assert!(rt; found.bytes() == map(second).as_slice());
+        check_at(&rt, takes(&mut found, block, count, second), block as usize);
     }
 }
 
@@ -52,9 +54,11 @@ fn spelled(blocks: u32, all: bool, place: usize, byte: u8) -> [u8; 4096] {
     bytes
 }
 
-/// How many blocks are taken but for the map's own, and the first that isn't; or none where a bit
-/// past the extent is set, or the map's own isn't.
-const HOLES: &[(u32, bool, (usize, u8), Option<(u32, Option<u32>)>)] = &[
+/// A map of so many blocks as `spelled` takes it; how many blocks are taken but for the map's own,
+/// and the first that isn't; or none where a bit past the extent is set, or the map's own isn't.
+type Holes = (u32, bool, (usize, u8), Option<(u32, Option<u32>)>);
+
+const HOLES: &[Holes] = &[
     (16, true, (0, 0xff), Some((15, None))),
     (16, false, (0, 0x01), Some((0, Some(1)))),
     (16, true, (0, 0xfd), Some((14, Some(1)))),
@@ -78,14 +82,9 @@ const HOLES: &[(u32, bool, (usize, u8), Option<(u32, Option<u32>)>)] = &[
     (32_768, true, (4095, 0x7f), Some((32_766, Some(32_767)))),
 ];
 
-/// How many blocks are taken in the map of these bytes, and the first that isn't, which is filled
-/// and cleared again.
-fn holes(rt: &impl Abort, bytes: &[u8; 4096], blocks: u32) -> Option<(u32, Option<u32>)> {
-    assert!(rt; 16 <= blocks && blocks <= 32_768);
-    let mut map = ExtentMap::read(bytes, blocks)?;
-    let found = (map.count(), map.first_free());
-    assert!(rt; is_filled(&mut map) && map.bytes() == bytes.as_slice());
-    Some(found)
+/// How many blocks are taken, and the first that isn't.
+fn holes(map: &ExtentMap) -> Option<(u32, Option<u32>)> {
+    Some((map.count(), map.first_free()))
 }
 
 /// Whether the first hole is taken once it is filled, and counted. It is cleared then.
@@ -101,11 +100,33 @@ fn is_filled(map: &mut ExtentMap) -> bool {
     is && !was
 }
 
+/// Whether the bytes are a map with these holes, the first of which is filled and cleared again, or
+/// none.
+fn is_map(bytes: &[u8; 4096], blocks: u32, wanted: Option<(u32, Option<u32>)>) -> bool {
+    if blocks < 16 || 32_768 < blocks {
+        return false;
+    }
+    match ExtentMap::read(bytes, blocks) {
+        Some(mut map) => {
+            holes(&map) == wanted && is_filled(&mut map) && map.bytes() == bytes.as_slice()
+        }
+        None => wanted.is_none(),
+    }
+}
+
+fn has_holes(case: &Holes) -> bool {
+    let (blocks, all, (place, byte), wanted) = *case;
+    is_map(&spelled(blocks, all, place, byte), blocks, wanted)
+}
+
 #[test]
 fn the_first_hole_of_a_map_is_found_and_filled(rt: HostRuntime) {
-    for &(blocks, all, (place, byte), found) in HOLES {
-        let bytes = spelled(blocks, all, place, byte);
-        assert!(rt; holes(&rt, &bytes, blocks) == found, "{byte} at {place}");
+    for (number, case) in HOLES.iter().enumerate() {
+        check_at(&rt, has_holes(case), number);
     }
-    assert!(rt; ExtentMap::read(&[1; 4095], 32_768).is_none());
+    check(
+        &rt,
+        ExtentMap::read(&[1; 4095], 32_768).is_none(),
+        "no block",
+    );
 }

@@ -2,6 +2,7 @@
 ghost use Rattle.plx_gate.specs.Entries.{IsEntry};
 ghost use Rattle.plx_gate.specs.Images.{IsImage};
 
+use crate::checks::{check, check_at};
 use plx_base::{BlockNo, Boot, Claim, Label, LeaseRecord, Ptr};
 use plx_gate::{
     Descriptor, ImageRecord, LogEntry, read_descriptor, read_entry, read_image, read_lease,
@@ -135,123 +136,94 @@ enum Change {
 
 use Change::{Byte, Number};
 
-/// The bytes with the change.
-fn with(bytes: [u8; 4096], change: Change) -> [u8; 4096] {
+/// The block of the record with the change.
+fn with(record: Record, change: Change) -> [u8; 4096] {
     match change {
-        Byte(place, byte) => changed(bytes, place, &[byte]),
-        Number(place, number) => changed(bytes, place, &number.to_le_bytes()),
+        Byte(place, byte) => changed(written(record), place, &[byte]),
+        Number(place, number) => changed(written(record), place, &number.to_le_bytes()),
     }
 }
-
-/// A free lease with leftovers, and no lease.
-const NO_FREE_LEASE: &[Change] = &[
-    Byte(12, 0x01),
-    Byte(16, 0x01),
-    Byte(31, 0x01),
-    Byte(32, 0x01),
-    Byte(40, 0x01),
-    Byte(48, 0x01),
-    Byte(55, 0x01),
-    Byte(56, 0x01),
-    Number(0, 0),
-];
-
-/// The magic, the state, the unnamed bytes, a number of 2^40, a sample of 2^48, an `until` of 2^49,
-/// one less than the sample and 10,000, and bytes after the fields.
-const NO_LEASE: &[Change] = &[
-    Byte(7, b'2'),
-    Byte(8, 0),
-    Byte(8, 0x02),
-    Byte(12, 0x01),
-    Byte(15, 0x01),
-    Byte(37, 0x01),
-    Byte(46, 0x01),
-    Byte(54, 0x02),
-    Byte(48, 0xf7),
-    Byte(56, 0x01),
-    Byte(4095, 0x01),
-];
-
-/// A number of 2^40, a sample of 2^48, and an `until` of 2^49.
-const PAST_LAST_LEASE: &[Change] = &[
-    Number(32, 1 << 40),
-    Number(40, 1 << 48),
-    Number(48, 1 << 49),
-];
-
-/// A free slot with leftovers of an image.
-const NO_FREE_IMAGE: &[Change] = &[
-    Byte(16, 0x01),
-    Byte(20, 0x01),
-    Byte(24, 0x01),
-    Byte(32, 0x01),
-    Byte(40, 0x01),
-    Byte(44, 0x01),
-    Byte(48, 0x01),
-    Byte(79, 0x01),
-    Byte(80, 0x01),
-];
-
-/// The magic, the state, generation 0, size 0, a size above 2^27, 129 snapshots, a root of 2^26 and
-/// block 0 with the mark, 2^48 applied, labels that are too long, too short and not padded, and
-/// bytes after the fields.
-const NO_IMAGE: &[Change] = &[
-    Byte(0, b'Q'),
-    Byte(8, 0x02),
-    Byte(12, 0),
-    Byte(16, 0),
-    Byte(19, 0x08),
-    Byte(20, 0x81),
-    Byte(27, 0x04),
-    Byte(24, 0),
-    Byte(38, 0x01),
-    Byte(40, 0x21),
-    Byte(40, 0),
-    Byte(40, 0x02),
-    Byte(44, 0x01),
-    Byte(48, b'-'),
-    Byte(48, b' '),
-    Byte(48, 0x7f),
-    Byte(49, b'b'),
-    Byte(79, 0x01),
-    Byte(80, 0x01),
-    Byte(4095, 0x01),
-];
-
-/// The mark, a root of 2^26, a flag of 2, and the unnamed bytes.
-const NO_ENTRY: &[Change] = &[
-    Byte(4071, 0x80),
-    Byte(4067, 0x04),
-    Byte(4072, 0x02),
-    Byte(4075, 0x01),
-    Byte(4076, 0x01),
-    Byte(4079, 0x01),
-    Byte(4088, 0x01),
-    Byte(4095, 0x01),
-];
-
-/// The magic, generation 0, a virtual block of 2^27, a number of 2^48, and bytes after the fields.
-const NO_DESCRIPTOR: &[Change] = &[
-    Byte(0, b'Q'),
-    Byte(8, 0),
-    Byte(15, 0x08),
-    Byte(22, 0x01),
-    Byte(24, 0x01),
-    Byte(4095, 0x01),
-];
 
 /// The changes with which the block of a record is outside the format.
-fn changes(record: Record) -> &'static [Change] {
-    match record {
-        Record::FreeLease => NO_FREE_LEASE,
-        Record::Lease => NO_LEASE,
-        Record::LastLease => PAST_LAST_LEASE,
-        Record::FreeImage => NO_FREE_IMAGE,
-        Record::Image => NO_IMAGE,
-        Record::Entry => NO_ENTRY,
-        Record::Descriptor => NO_DESCRIPTOR,
-    }
-}
+const CHANGES: &[(Record, Change)] = &[
+    // A free lease with leftovers, and no lease.
+    (Record::FreeLease, Byte(12, 0x01)),
+    (Record::FreeLease, Byte(16, 0x01)),
+    (Record::FreeLease, Byte(31, 0x01)),
+    (Record::FreeLease, Byte(32, 0x01)),
+    (Record::FreeLease, Byte(40, 0x01)),
+    (Record::FreeLease, Byte(48, 0x01)),
+    (Record::FreeLease, Byte(55, 0x01)),
+    (Record::FreeLease, Byte(56, 0x01)),
+    (Record::FreeLease, Number(0, 0)),
+    // The magic, the state, the unnamed bytes, a number of 2^40, a sample of 2^48, an `until` of
+    // 2^49, one less than the sample and 10,000, and bytes after the fields.
+    (Record::Lease, Byte(7, b'2')),
+    (Record::Lease, Byte(8, 0)),
+    (Record::Lease, Byte(8, 0x02)),
+    (Record::Lease, Byte(12, 0x01)),
+    (Record::Lease, Byte(15, 0x01)),
+    (Record::Lease, Byte(37, 0x01)),
+    (Record::Lease, Byte(46, 0x01)),
+    (Record::Lease, Byte(54, 0x02)),
+    (Record::Lease, Byte(48, 0xf7)),
+    (Record::Lease, Byte(56, 0x01)),
+    (Record::Lease, Byte(4095, 0x01)),
+    // A number of 2^40, a sample of 2^48, and an `until` of 2^49.
+    (Record::LastLease, Number(32, 1 << 40)),
+    (Record::LastLease, Number(40, 1 << 48)),
+    (Record::LastLease, Number(48, 1 << 49)),
+    // A free slot with leftovers of an image.
+    (Record::FreeImage, Byte(16, 0x01)),
+    (Record::FreeImage, Byte(20, 0x01)),
+    (Record::FreeImage, Byte(24, 0x01)),
+    (Record::FreeImage, Byte(32, 0x01)),
+    (Record::FreeImage, Byte(40, 0x01)),
+    (Record::FreeImage, Byte(44, 0x01)),
+    (Record::FreeImage, Byte(48, 0x01)),
+    (Record::FreeImage, Byte(79, 0x01)),
+    (Record::FreeImage, Byte(80, 0x01)),
+    // The magic, the state, generation 0, size 0, a size above 2^27, 129 snapshots, a root of 2^26
+    // and block 0 with the mark, 2^48 applied, labels that are too long, too short and not padded,
+    // and bytes after the fields.
+    (Record::Image, Byte(0, b'Q')),
+    (Record::Image, Byte(8, 0x02)),
+    (Record::Image, Byte(12, 0)),
+    (Record::Image, Byte(16, 0)),
+    (Record::Image, Byte(19, 0x08)),
+    (Record::Image, Byte(20, 0x81)),
+    (Record::Image, Byte(27, 0x04)),
+    (Record::Image, Byte(24, 0)),
+    (Record::Image, Byte(38, 0x01)),
+    (Record::Image, Byte(40, 0x21)),
+    (Record::Image, Byte(40, 0)),
+    (Record::Image, Byte(40, 0x02)),
+    (Record::Image, Byte(44, 0x01)),
+    (Record::Image, Byte(48, b'-')),
+    (Record::Image, Byte(48, b' ')),
+    (Record::Image, Byte(48, 0x7f)),
+    (Record::Image, Byte(49, b'b')),
+    (Record::Image, Byte(79, 0x01)),
+    (Record::Image, Byte(80, 0x01)),
+    (Record::Image, Byte(4095, 0x01)),
+    // The mark, a root of 2^26, a flag of 2, and the unnamed bytes.
+    (Record::Entry, Byte(4071, 0x80)),
+    (Record::Entry, Byte(4067, 0x04)),
+    (Record::Entry, Byte(4072, 0x02)),
+    (Record::Entry, Byte(4075, 0x01)),
+    (Record::Entry, Byte(4076, 0x01)),
+    (Record::Entry, Byte(4079, 0x01)),
+    (Record::Entry, Byte(4088, 0x01)),
+    (Record::Entry, Byte(4095, 0x01)),
+    // The magic, generation 0, a virtual block of 2^27, a number of 2^48, and bytes after the
+    // fields.
+    (Record::Descriptor, Byte(0, b'Q')),
+    (Record::Descriptor, Byte(8, 0)),
+    (Record::Descriptor, Byte(15, 0x08)),
+    (Record::Descriptor, Byte(22, 0x01)),
+    (Record::Descriptor, Byte(24, 0x01)),
+    (Record::Descriptor, Byte(4095, 0x01)),
+];
 
 /// A record, the byte that fills the block around it, where the record begins, and its bytes but
 /// for zeros at the end.
@@ -292,39 +264,43 @@ const SPELLINGS: &[Spelling] = &[
     ),
 ];
 
+/// Whether the record is written as these bytes, and read from them.
+fn is_spelled(spelling: &Spelling) -> bool {
+    let (record, fill, place, spelled) = *spelling;
+    let bytes = changed([fill; 4096], place, spelled);
+    written(record) == bytes && is_read(record, &bytes)
+}
+
 #[test]
 fn each_record_is_written_and_read_as_spelled(rt: HostRuntime) {
-    for &(record, fill, place, spelled) in SPELLINGS {
-        let bytes = changed([fill; 4096], place, spelled);
-        assert!(rt;
-            written(record) == bytes && is_read(record, &bytes),
-            "{spelled:?}"
-        );
+    for (case, spelling) in SPELLINGS.iter().enumerate() {
+        check_at(&rt, is_spelled(spelling), case);
     }
 }
 
 #[test]
 fn bytes_outside_the_format_are_refused(rt: HostRuntime) {
-    for &(record, fill, place, spelled) in SPELLINGS {
-        let bytes = changed([fill; 4096], place, spelled);
-        for (at, change) in changes(record).iter().enumerate() {
-            assert!(rt;
-                is_refused(record, &with(bytes, *change)),
-                "change {at} of {spelled:?}"
-            );
-        }
+    for (case, &(record, change)) in CHANGES.iter().enumerate() {
+        check_at(&rt, is_refused(record, &with(record, change)), case);
     }
+}
+
+/// An entry that stands for none.
+fn no_entry() -> LogEntry {
+    LogEntry {
+        root: Ptr::hole(),
+        dropped: false,
+        stamp: 0,
+    }
+}
+
+/// Whether a block of zeros is an empty descriptor, and its first entry stands for none.
+fn are_empty(zeros: &[u8; 4096]) -> bool {
+    read_descriptor(zeros) == Some(None) && read_entry(zeros, 0) == Some(no_entry())
 }
 
 #[test]
 fn zeros_are_an_empty_descriptor_and_an_entry(rt: HostRuntime) {
-    let zeros = [0; 4096];
-    assert!(rt; read_descriptor(&zeros) == Some(None));
-    let none = LogEntry {
-        root: Ptr::hole(),
-        dropped: false,
-        stamp: 0,
-    };
-    assert!(rt; read_entry(&zeros, 0) == Some(none));
-    assert!(rt; read_entry(&[7; 4096], 126) == None);
+    check(&rt, are_empty(&[0; 4096]), "zeros");
+    check(&rt, read_entry(&[7; 4096], 126).is_none(), "sevens");
 }

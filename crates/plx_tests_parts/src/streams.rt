@@ -1,10 +1,9 @@
 //! Streams that are interrupted, give little, take nothing or fail.
-use plx_port::{Failed, ReadError, ReadSource, WriteSink, read_all, write_all};
+use crate::checks::{check, none_fails};
+use plx_port::{Failed, ReadError, ReadSource, Sink, Source, WriteSink, read_all, write_all};
 use std::alloc::Global;
 use std::io;
 use std::io::{BufReader, ErrorKind, Read, Write};
-use std::process::Abort;
-use std::test::Fail;
 
 /// What one call of a stream does.
 #[derive(Clone, Copy)]
@@ -65,21 +64,17 @@ fn doing(alloc: Global, steps: &'static [Step]) -> Script {
     }
 }
 
-/// A reader of these steps, in pieces of at most `capacity` bytes, fails once or not, and then
-/// gives these bytes up to its end.
-fn reads(
-    rt: &impl Abort,
-    alloc: Global,
-    (steps, capacity): (&'static [Step], usize),
-    (fails, bytes): (bool, &[u8]),
-) -> Result<(), Fail> {
-    let reader = BufReader::with_capacity(alloc, capacity, doing(alloc, steps))?;
-    let mut source = ReadSource::new(reader);
-    if fails {
-        assert!(rt; read_all(alloc, &mut source, 9) == Err(ReadError::Failed));
+/// Whether a read to the end fails.
+fn fails<S: Source>(alloc: Global, source: &mut S) -> bool {
+    read_all(alloc, source, 9).err() == Some(ReadError::Failed)
+}
+
+/// Whether a read to the end gives these bytes.
+fn gives<S: Source>(alloc: Global, source: &mut S, bytes: &[u8]) -> bool {
+    match read_all(alloc, source, 9) {
+        Ok(found) => found.as_slice() == bytes,
+        Err(_) => false,
     }
-    assert!(rt; read_all(alloc, &mut source, 9)?.as_slice() == bytes);
-    Ok(())
 }
 
 const INTERRUPTED: &[Step] = &[
@@ -101,10 +96,32 @@ const LITTLE: &[Step] = &[
     Step::Move(1),
 ];
 
+/// Whether a reader of these steps, in pieces of at most `capacity` bytes, gives these bytes up to
+/// its end, once it has failed or at once.
+fn reads(
+    alloc: Global,
+    (steps, capacity): (&'static [Step], usize),
+    (fails_first, bytes): (bool, &[u8]),
+) -> bool {
+    let Ok(reader) = BufReader::with_capacity(alloc, capacity, doing(alloc, steps)) else {
+        return false;
+    };
+    let mut source = ReadSource::new(reader);
+    (!fails_first || fails(alloc, &mut source)) && gives(alloc, &mut source, bytes)
+}
+
 #[test]
-fn a_reader_is_read_through_interrupts_and_after_a_fault(rt: HostRuntime) -> Result<(), Fail> {
-    reads(&rt, rt.alloc(), (INTERRUPTED, 4), (true, b"a"))?;
-    reads(&rt, rt.alloc(), (LITTLE, 2), (false, b"aaaa"))
+fn a_reader_is_read_through_interrupts_and_after_a_fault(rt: HostRuntime) {
+    check(
+        &rt,
+        reads(rt.alloc(), (INTERRUPTED, 4), (true, b"a")),
+        "interrupts",
+    );
+    check(
+        &rt,
+        reads(rt.alloc(), (LITTLE, 2), (false, b"aaaa")),
+        "little",
+    );
 }
 
 const TAKING: &[Step] = &[
@@ -117,12 +134,34 @@ const TAKING: &[Step] = &[
     Step::Move(0),
 ];
 
+/// Whether the writing of these bytes ends so.
+fn takes<K: Sink>(sink: &mut K, bytes: &[u8], wanted: Result<(), Failed>) -> bool {
+    write_all(sink, bytes) == wanted
+}
+
+/// Whether all steps are done, by which `hello` was taken.
+fn has_taken(writer: &Script) -> bool {
+    writer.taken.as_slice() == b"hello".as_slice() && writer.at == 7
+}
+
+/// The number of the first write, counted from 1, that doesn't end as it should.
+fn first_wrong(writer: &mut Script) -> Option<usize> {
+    let mut sink = WriteSink::new(writer);
+    if !takes(&mut sink, b"hello", Err(Failed)) {
+        return Some(1);
+    }
+    if !takes(&mut sink, b"lo", Ok(())) {
+        return Some(2);
+    }
+    if !takes(&mut sink, b"you", Err(Failed)) {
+        return Some(3);
+    }
+    None
+}
+
 #[test]
 fn a_writer_is_given_what_it_has_not_taken(rt: HostRuntime) {
     let mut writer = doing(rt.alloc(), TAKING);
-    let mut sink = WriteSink::new(&mut writer);
-    assert!(rt; write_all(&mut sink, b"hello") == Err(Failed));
-    assert!(rt; write_all(&mut sink, b"lo") == Ok(()));
-    assert!(rt; write_all(&mut sink, b"you") == Err(Failed));
-    assert!(rt; writer.taken.as_slice() == b"hello".as_slice() && writer.at == 7);
+    none_fails(&rt, first_wrong(&mut writer));
+    check(&rt, has_taken(&writer), "what is taken");
 }

@@ -1,15 +1,22 @@
 //! Traces whose text is written out by hand, line by line.
-use plx_base::{
-    ApplianceNo, Block, BlockNo, Boot, Claim, ExtentNo, Label, LeaseName, LeaseRecord, NoMemory,
-    Payload, SlotNo,
+use crate::checks::check;
+use crate::entries::Asked::{Attach, Create, Delete, Detach, Read, Renew, Write};
+use crate::entries::Lease::{Extent, Image, Root};
+use crate::entries::Line::{Crash, Reply as Answer, Start};
+use crate::entries::Name::{DiskOne, Hyphened, Unnamed};
+use crate::entries::Seen::{ByBoot257, ByLastBoot, Unclaimed};
+use crate::entries::Told::{
+    AlreadyAttached, Busy, Created, Damaged, Data, Deleted, Detached, Exists, Free, Full, Lost,
+    NoImage, NotAttached, OutOfRange, ReadFault, Renewed, Snapshots, WornOut, WriteFault, Written,
 };
-use plx_commands::{Command, Entry, Reply, Report};
+use crate::entries::{Line, entry};
+use crate::lines::with_digits;
+use plx_base::{ApplianceNo, Block, NoMemory, Payload};
+use plx_commands::{Entries, Entry, Reply};
 use plx_geom::Geometry;
-use plx_text::{Text, print_trace};
+use plx_text::print_trace;
 use std::alloc::Global;
-use std::process::Abort;
-
-const SLOT: SlotNo = SlotNo(3);
+use std::slice;
 
 const SMALL: Geometry = Geometry {
     images: 1,
@@ -26,76 +33,46 @@ const GREATEST: Geometry = Geometry {
     slots: 64,
 };
 
-/// The text is spelled so.
-fn is_text(rt: &impl Abort, text: &Text, spelled: &[u8]) {
-    let found = str::from_utf8(text.as_slice()).unwrap_or("");
-    assert!(rt; text.as_slice() == spelled, "{found}");
+/// The entries of these lines.
+fn entries(alloc: Global, lines: &[Line]) -> Result<Entries, NoMemory> {
+    let mut entries = Entries::new(alloc);
+    for line in lines {
+        entries.push(entry(*line))?;
+    }
+    Ok(entries)
 }
 
-fn started(command: Command) -> Entry {
-    let appliance = ApplianceNo(0);
-    Entry::Start { appliance, command }
-}
-
-fn replied(reply: Reply) -> Entry {
-    let appliance = ApplianceNo(7);
-    Entry::Reply { appliance, reply }
-}
-
-fn busy(lease: LeaseName, seen: LeaseRecord) -> Entry {
-    replied(Reply::Busy { lease, seen })
-}
-
-fn lost(lease: LeaseName) -> Entry {
-    replied(Reply::Lost {
-        lease,
-        until: 1400,
-        reading: 1401,
-    })
-}
-
-fn claimed(boot: u128) -> LeaseRecord {
-    let claim = Claim {
-        boot: Boot(boot),
-        number: 18_446_744_073_709_551_615,
-        sample: 5,
-    };
-    LeaseRecord::Claimed {
-        claim,
-        until: 10_005,
+/// Whether the trace of a device with so many appliances, and the two counts of its last line, is
+/// spelled so.
+fn is_printed(
+    alloc: Global,
+    (geometry, appliances): (&Geometry, u32),
+    entries: &[Entry],
+    (reachable, allocated): (u64, u64),
+    spelled: &str,
+) -> bool {
+    match print_trace(alloc, geometry, appliances, entries, reachable, allocated) {
+        Ok(text) => text.as_slice() == spelled.as_bytes(),
+        Err(_) => false,
     }
 }
 
-/// The report of a slot that is free.
-fn free() -> Reply {
-    let report = Report {
-        live: false,
-        generation: 2,
-        size: 0,
-        writes: 0,
-        taken: 0,
-        dropped: 0,
-        label: Label::empty(),
-    };
-    Reply::Attached { report }
-}
-
-/// The report of an image.
-fn live() -> Reply {
-    let report = Report {
-        live: true,
-        generation: 4_294_967_295,
-        size: 8,
-        writes: 18_446_744_073_709_551_615,
-        taken: 2,
-        dropped: 1,
-        label: Label::new(b"disk-1").unwrap_or(Label::empty()),
-    };
-    Reply::Attached { report }
+/// The same of the trace of these lines.
+fn are_printed(
+    alloc: Global,
+    world: (&Geometry, u32),
+    lines: &[Line],
+    counts: (u64, u64),
+    spelled: &str,
+) -> bool {
+    match entries(alloc, lines) {
+        Ok(entries) => is_printed(alloc, world, entries.as_slice(), counts, spelled),
+        Err(_) => false,
+    }
 }
 
 /// Commands and their replies.
-const COMMANDS: &[u8] = b"world 256 512 32768 64 8
+const COMMANDS: &str = "world 256 512 32768 64 8
 start 0 attach 3
 reply 7 attached live=0 gen=2 size=0 writes=0 taken=0 dropped=0 label=-
 reply 7 attached live=1 gen=4294967295 size=8 writes=18446744073709551615 taken=2 dropped=1 label=disk-1
@@ -117,54 +94,32 @@ crash 7
 end reachable=20 allocated=3
 ";
 
-#[test]
-fn commands_and_their_replies_have_their_words(rt: HostRuntime) -> Result<(), NoMemory> {
-    let entries = [
-        started(Command::Attach { slot: SLOT }),
-        replied(free()),
-        replied(live()),
-        started(Command::Create {
-            slot: SLOT,
-            size: 134_217_728,
-            label: Label::new(b"a-b").unwrap_or(Label::empty()),
-        }),
-        replied(Reply::Created),
-        started(Command::Create {
-            slot: SLOT,
-            size: 0,
-            label: Label::empty(),
-        }),
-        replied(Reply::Exists),
-        started(Command::Read {
-            slot: SLOT,
-            vblock: 10,
-        }),
-        replied(Reply::Data {
-            payload: Payload::All(0xa0),
-        }),
-        started(Command::Write {
-            slot: SLOT,
-            vblock: 7,
-            payload: Payload::All(0x0f),
-        }),
-        replied(Reply::Written { number: 1 }),
-        started(Command::Renew),
-        replied(Reply::Renewed),
-        started(Command::Delete { slot: SLOT }),
-        replied(Reply::Deleted),
-        started(Command::Detach { slot: SLOT }),
-        replied(Reply::Detached),
-        Entry::Crash {
-            appliance: ApplianceNo(7),
-        },
-    ];
-    let text = print_trace(rt.alloc(), &GREATEST, 8, &entries, 20, 3)?;
-    is_text(&rt, &text, COMMANDS);
-    Ok(())
-}
+const COMMAND_LINES: &[Line] = &[
+    Start(0, Attach(3)),
+    Answer(7, Free(2)),
+    Answer(
+        7,
+        Snapshots(4_294_967_295, 8, 18_446_744_073_709_551_615, 2, 1, DiskOne),
+    ),
+    Start(0, Create(3, 134_217_728, Hyphened)),
+    Answer(7, Created),
+    Start(0, Create(3, 0, Unnamed)),
+    Answer(7, Exists),
+    Start(0, Read(3, 10)),
+    Answer(7, Data(0xa0)),
+    Start(0, Write(3, 7, 0x0f)),
+    Answer(7, Written(1)),
+    Start(0, Renew),
+    Answer(7, Renewed),
+    Start(0, Delete(3)),
+    Answer(7, Deleted),
+    Start(0, Detach(3)),
+    Answer(7, Detached),
+    Crash(7),
+];
 
 /// Refusals.
-const REFUSALS: &[u8] = b"world 1 1 16 2 1
+const REFUSALS: &str = "world 1 1 16 2 1
 reply 7 not-attached
 reply 7 already-attached
 reply 7 no-image
@@ -183,58 +138,70 @@ reply 7 worn count=4294967295
 end reachable=0 allocated=0
 ";
 
+const REFUSAL_LINES: &[Line] = &[
+    Answer(7, NotAttached),
+    Answer(7, AlreadyAttached),
+    Answer(7, NoImage),
+    Answer(7, OutOfRange(134_217_728)),
+    Answer(7, Busy(Root, Unclaimed)),
+    Answer(7, Busy(Image(3), ByBoot257)),
+    Answer(7, Busy(Extent(511), ByLastBoot)),
+    Answer(7, Lost(Root, 1400, 1401)),
+    Answer(7, Lost(Image(255), 1400, 1401)),
+    Answer(7, Lost(Extent(17), 1400, 1401)),
+    Answer(7, ReadFault(6)),
+    Answer(7, WriteFault(7)),
+    Answer(7, Full),
+    Answer(7, Damaged(0)),
+    Answer(7, WornOut(4_294_967_295)),
+];
+
 #[test]
-fn refusals_have_their_words(rt: HostRuntime) -> Result<(), NoMemory> {
-    let entries = [
-        replied(Reply::NotAttached),
-        replied(Reply::AlreadyAttached),
-        replied(Reply::NoImage),
-        replied(Reply::OutOfRange { size: 134_217_728 }),
-        busy(LeaseName::Root, LeaseRecord::Free),
-        busy(LeaseName::Image(SLOT), claimed(257)),
-        busy(
-            LeaseName::Extent(ExtentNo(511)),
-            claimed(340_282_366_920_938_463_463_374_607_431_768_211_455),
-        ),
-        lost(LeaseName::Root),
-        lost(LeaseName::Image(SlotNo(255))),
-        lost(LeaseName::Extent(ExtentNo(17))),
-        replied(Reply::ReadFault { block: BlockNo(6) }),
-        replied(Reply::WriteFault { block: BlockNo(7) }),
-        replied(Reply::Full),
-        replied(Reply::Damaged { block: BlockNo(0) }),
-        replied(Reply::WornOut {
-            count: 4_294_967_295,
-        }),
-    ];
-    let text = print_trace(rt.alloc(), &SMALL, 1, &entries, 0, 0)?;
-    is_text(&rt, &text, REFUSALS);
-    Ok(())
+fn commands_and_refusals_have_their_words(rt: HostRuntime) {
+    let commands = are_printed(rt.alloc(), (&GREATEST, 8), COMMAND_LINES, (20, 3), COMMANDS);
+    check(&rt, commands, COMMANDS);
+    let refusals = are_printed(rt.alloc(), (&SMALL, 1), REFUSAL_LINES, (0, 0), REFUSALS);
+    check(&rt, refusals, REFUSALS);
 }
 
-/// A block whose bytes are this one but for the last.
-fn data(alloc: Global, byte: u8, last: u8) -> Result<Entry, NoMemory> {
+/// A reply that a block was read whose bytes are this one but for the last.
+fn data(alloc: Global, (byte, last): (u8, u8)) -> Result<Entry, NoMemory> {
     let mut block = Block::filled(alloc, byte)?;
     block.copy_from(4095, &[last]);
-    let payload = Payload::Whole(block);
-    Ok(replied(Reply::Data { payload }))
+    Ok(Entry::Reply {
+        appliance: ApplianceNo(7),
+        reply: Reply::Data {
+            payload: Payload::Whole(block),
+        },
+    })
 }
 
-/// How the trace begins and ends in which a block of one byte and one of two are read.
-const READS: (&[u8], &[u8]) = (
-    b"world 1 1 16 2 1
-reply 7 data all:ff
-reply 7 data hex:ababab",
-    b"abab09\nend reachable=0 allocated=0\n",
-);
+/// Whether a trace in which a block is read whose bytes are the first one but for the last is
+/// spelled so.
+fn is_read(alloc: Global, bytes: (u8, u8), spelled: &str) -> bool {
+    match data(alloc, bytes) {
+        Ok(reply) => is_printed(alloc, (&SMALL, 1), slice::from_ref(&reply), (0, 0), spelled),
+        Err(_) => false,
+    }
+}
+
+/// The trace in which a block of one byte is read.
+const EQUAL: &str = "world 1 1 16 2 1\nreply 7 data all:ff\nend reachable=0 allocated=0\n";
+
+/// How the trace begins and ends in which a block of two bytes is read.
+const START: &str = "world 1 1 16 2 1\nreply 7 data hex:";
+
+const END: &str = "09\nend reachable=0 allocated=0\n";
+
+fn two_bytes_are_read(alloc: Global) -> bool {
+    match with_digits(alloc, START, ("ab", 4095), END) {
+        Ok(spelled) => is_read(alloc, (0xab, 0x09), spelled.as_str()),
+        Err(_) => false,
+    }
+}
 
 #[test]
-fn a_block_is_spelled_by_one_byte_or_by_all(rt: HostRuntime) -> Result<(), NoMemory> {
-    let alloc = rt.alloc();
-    let entries = [data(alloc, 0xff, 0xff)?, data(alloc, 0xab, 0x09)?];
-    let text = print_trace(alloc, &SMALL, 1, &entries, 0, 0)?;
-    let (start, end) = READS;
-    assert!(rt; text.as_slice().starts_with(start) && text.as_slice().ends_with(end));
-    assert!(rt; text.as_slice().len() == 17 + 20 + 17 + 8192 + 1 + 28);
-    Ok(())
+fn a_block_is_spelled_by_one_byte_or_by_all(rt: HostRuntime) {
+    check(&rt, is_read(rt.alloc(), (0xff, 0xff), EQUAL), "one byte");
+    check(&rt, two_bytes_are_read(rt.alloc()), "two bytes");
 }
