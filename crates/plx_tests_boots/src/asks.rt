@@ -1,9 +1,11 @@
 //! What each command asks, with the bytes that it writes, where all goes well.
-use crate::boot::Asked::{Attach, Create, Delete, Detach, Read, Renew, Write};
-use crate::boot::Step::{Begins, Bytes, Clock, Done, Ends, Until};
-use crate::boot::{CLAIMED, CLAIMED_AGAIN, LIVE, Step, takes, takes_each};
+use crate::boot::Before::{Attached, Claimed, Nothing};
+use crate::boot::{CLAIMED_AGAIN, Story, play, play_each};
 use crate::content::Content::{Descriptor, Filled, FreeLease, FreeSlot, Lease, LiveSlot};
-use plx_base::{NoMemory, WriteKind};
+use crate::machine::Asked::{Attach, Create, Delete, Detach, Read, Renew, Write};
+use crate::machine::Step;
+use crate::machine::Step::{Begins, Bytes, Clock, Done, Ends, Until};
+use plx_base::WriteKind;
 
 const LIFE: &[Step] = &[
     Bytes(4, FreeSlot(4)),
@@ -44,11 +46,6 @@ const LIFE: &[Step] = &[
     Ends(b"no-image"),
 ];
 
-#[test]
-fn an_image_is_made_written_read_and_deleted(rt: HostRuntime) -> Result<(), NoMemory> {
-    takes(&rt, rt.alloc(), &[CLAIMED, LIFE])
-}
-
 const DETACHED: &[Step] = &[
     Begins(Attach),
     Clock(2_000),
@@ -62,107 +59,95 @@ const DETACHED: &[Step] = &[
     Ends(b"not-attached"),
 ];
 
-#[test]
-fn a_detached_lease_is_released_and_claimed_anew(rt: HostRuntime) -> Result<(), NoMemory> {
-    takes(&rt, rt.alloc(), &[CLAIMED, LIVE, DETACHED, CLAIMED_AGAIN])
-}
+// A reading of a renew, and the moment up to which the lease is held then: the guard of the next
+// write.
 
-/// A reading of a renew, and the moment up to which the lease is held then: the guard of the next
-/// write.
-const RENEWALS: &[&[Step]] = &[
-    &[
-        Begins(Renew),
-        Clock(900),
-        Done(WriteKind::Renew, 2, 11_000, Lease(7, 0, 1_000, 11_000)),
-        Ends(b"renewed"),
-        Begins(Write(9)),
-        Clock(2_000),
-        Done(WriteKind::JData, 7, 11_000, Filled(9)),
-    ],
-    &[
-        Begins(Renew),
-        Clock(4_000),
-        Done(WriteKind::Renew, 2, 11_000, Lease(7, 0, 1_000, 14_000)),
-        Ends(b"renewed"),
-        Begins(Write(9)),
-        Clock(2_000),
-        Done(WriteKind::JData, 7, 14_000, Filled(9)),
-    ],
-    &[
-        Begins(Renew),
-        Clock(10_999),
-        Done(WriteKind::Renew, 2, 11_000, Lease(7, 0, 1_000, 20_999)),
-        Ends(b"renewed"),
-        Begins(Write(9)),
-        Clock(2_000),
-        Done(WriteKind::JData, 7, 20_999, Filled(9)),
-    ],
+const RENEWED_AT_900: &[Step] = &[
+    Begins(Renew),
+    Clock(900),
+    Done(WriteKind::Renew, 2, 11_000, Lease(7, 0, 1_000, 11_000)),
+    Ends(b"renewed"),
+    Begins(Write(9)),
+    Clock(2_000),
+    Done(WriteKind::JData, 7, 11_000, Filled(9)),
 ];
 
-#[test]
-fn a_renewed_lease_is_never_shorter(rt: HostRuntime) -> Result<(), NoMemory> {
-    takes_each(&rt, rt.alloc(), (CLAIMED, LIVE), RENEWALS)
-}
-
-/// What an attach finds of an image of generation 2: the number of the last write that its tree
-/// has, and both descriptors, with the data of those of its generation. Each write filled the block
-/// with its number.
-const FOUND: &[&[Step]] = &[
-    &[
-        Bytes(4, LiveSlot(2, 0)),
-        Bytes(6, Descriptor(2, 3, 1)),
-        Bytes(7, Filled(1)),
-        Bytes(8, Descriptor(2, 3, 2)),
-        Bytes(9, Filled(2)),
-        Clock(10_999),
-        Ends(b"attached live=1 gen=2 size=8 writes=2 taken=0 dropped=0 label=a"),
-        Begins(Read),
-        Clock(2_000),
-        Clock(2_000),
-        Ends(b"data all:02"),
-    ],
-    &[
-        Bytes(4, LiveSlot(2, 1)),
-        Bytes(6, Descriptor(2, 3, 3)),
-        Bytes(7, Filled(3)),
-        Bytes(8, Descriptor(2, 3, 2)),
-        Bytes(9, Filled(2)),
-        Clock(10_999),
-        Ends(b"attached live=1 gen=2 size=8 writes=3 taken=0 dropped=0 label=a"),
-        Begins(Read),
-        Clock(2_000),
-        Clock(2_000),
-        Ends(b"data all:03"),
-    ],
-    &[
-        Bytes(4, LiveSlot(2, 0)),
-        Bytes(6, Descriptor(2, 3, 1)),
-        Bytes(7, Filled(1)),
-        Bytes(8, Descriptor(1, 3, 2)),
-        Clock(10_999),
-        Ends(b"attached live=1 gen=2 size=8 writes=1 taken=0 dropped=0 label=a"),
-        Begins(Read),
-        Clock(2_000),
-        Clock(2_000),
-        Ends(b"data all:01"),
-    ],
-    &[
-        Bytes(4, LiveSlot(2, 0)),
-        Bytes(6, Descriptor(1, 3, 1)),
-        Bytes(8, Descriptor(3, 3, 2)),
-        Clock(10_999),
-        Ends(b"attached live=1 gen=2 size=8 writes=0 taken=0 dropped=0 label=a"),
-        Begins(Read),
-        Clock(2_000),
-        Clock(2_000),
-        Ends(b"data all:00"),
-    ],
+const RENEWED_AT_4_000: &[Step] = &[
+    Begins(Renew),
+    Clock(4_000),
+    Done(WriteKind::Renew, 2, 11_000, Lease(7, 0, 1_000, 14_000)),
+    Ends(b"renewed"),
+    Begins(Write(9)),
+    Clock(2_000),
+    Done(WriteKind::JData, 7, 14_000, Filled(9)),
 ];
 
-#[test]
-fn an_attach_loads_the_writes_of_its_generation(rt: HostRuntime) -> Result<(), NoMemory> {
-    takes_each(&rt, rt.alloc(), (CLAIMED, &[]), FOUND)
-}
+const RENEWED_AT_10_999: &[Step] = &[
+    Begins(Renew),
+    Clock(10_999),
+    Done(WriteKind::Renew, 2, 11_000, Lease(7, 0, 1_000, 20_999)),
+    Ends(b"renewed"),
+    Begins(Write(9)),
+    Clock(2_000),
+    Done(WriteKind::JData, 7, 20_999, Filled(9)),
+];
+
+// What an attach finds of an image of generation 2: the number of the last write that its tree
+// has, and both descriptors, with the data of those of its generation. Each write filled the block
+// with its number.
+
+const WRITES_1_AND_2: &[Step] = &[
+    Bytes(4, LiveSlot(2, 0)),
+    Bytes(6, Descriptor(2, 3, 1)),
+    Bytes(7, Filled(1)),
+    Bytes(8, Descriptor(2, 3, 2)),
+    Bytes(9, Filled(2)),
+    Clock(10_999),
+    Ends(b"attached live=1 gen=2 size=8 writes=2 taken=0 dropped=0 label=a"),
+    Begins(Read),
+    Clock(2_000),
+    Clock(2_000),
+    Ends(b"data all:02"),
+];
+
+const WRITES_3_AND_2: &[Step] = &[
+    Bytes(4, LiveSlot(2, 1)),
+    Bytes(6, Descriptor(2, 3, 3)),
+    Bytes(7, Filled(3)),
+    Bytes(8, Descriptor(2, 3, 2)),
+    Bytes(9, Filled(2)),
+    Clock(10_999),
+    Ends(b"attached live=1 gen=2 size=8 writes=3 taken=0 dropped=0 label=a"),
+    Begins(Read),
+    Clock(2_000),
+    Clock(2_000),
+    Ends(b"data all:03"),
+];
+
+const WRITE_1: &[Step] = &[
+    Bytes(4, LiveSlot(2, 0)),
+    Bytes(6, Descriptor(2, 3, 1)),
+    Bytes(7, Filled(1)),
+    Bytes(8, Descriptor(1, 3, 2)),
+    Clock(10_999),
+    Ends(b"attached live=1 gen=2 size=8 writes=1 taken=0 dropped=0 label=a"),
+    Begins(Read),
+    Clock(2_000),
+    Clock(2_000),
+    Ends(b"data all:01"),
+];
+
+const NO_WRITE: &[Step] = &[
+    Bytes(4, LiveSlot(2, 0)),
+    Bytes(6, Descriptor(1, 3, 1)),
+    Bytes(8, Descriptor(3, 3, 2)),
+    Clock(10_999),
+    Ends(b"attached live=1 gen=2 size=8 writes=0 taken=0 dropped=0 label=a"),
+    Begins(Read),
+    Clock(2_000),
+    Clock(2_000),
+    Ends(b"data all:00"),
+];
 
 /// A lease of another boot at the last moment at which it may still be held, and at the first at
 /// which it isn't.
@@ -183,7 +168,29 @@ const WAITED_FOR: &[Step] = &[
     Bytes(2, Lease(7, 1, 11_101, 21_101)),
 ];
 
+const STORIES: &[Story] = &[
+    ("made, written, read and deleted", Claimed, LIFE),
+    ("renewed by an earlier reading", Attached, RENEWED_AT_900),
+    ("renewed early", Attached, RENEWED_AT_4_000),
+    ("renewed at its last moment", Attached, RENEWED_AT_10_999),
+    ("two writes", Claimed, WRITES_1_AND_2),
+    ("a write after the tree's", Claimed, WRITES_3_AND_2),
+    ("one write", Claimed, WRITE_1),
+    ("writes of other generations", Claimed, NO_WRITE),
+    ("a lease of another boot", Nothing, WAITED_FOR),
+];
+
 #[test]
-fn a_lease_of_another_boot_is_waited_for(rt: HostRuntime) -> Result<(), NoMemory> {
-    takes(&rt, rt.alloc(), &[WAITED_FOR])
+fn commands_ask_for_what_they_need(rt: HostRuntime) {
+    let alloc = rt.alloc();
+    play(
+        &rt,
+        alloc,
+        "claimed anew",
+        Attached,
+        DETACHED,
+        CLAIMED_AGAIN,
+        &[],
+    );
+    play_each(&rt, rt.alloc(), STORIES);
 }

@@ -1,6 +1,7 @@
 //! Blocks of a device, spelled by hand.
-use plx_base::{Block, NoMemory};
+use plx_base::Block;
 use std::alloc::Global;
+use std::process::Abort;
 
 /// What a block has.
 #[derive(Clone, Copy)]
@@ -29,76 +30,73 @@ pub(crate) enum Content {
 
 impl Content {
     /// The block.
-    pub(crate) fn block(self, alloc: Global) -> Result<Block, NoMemory> {
+    pub(crate) fn block(self, rt: &impl Abort, alloc: Global) -> Block {
+        let mut block = zeros(rt, alloc);
         match self {
-            Content::Zeros => Block::zeros(alloc),
-            Content::Filled(byte) => Block::filled(alloc, byte),
-            Content::FreeLease => started(alloc, b"PLXLEAS1"),
+            Content::Zeros => {}
+            Content::Filled(byte) => block.copy_from(0, &[byte; 4096]),
+            Content::FreeLease => block.copy_from(0, b"PLXLEAS1"),
             Content::Lease(boot, number, sample, until) => {
-                lease(alloc, boot, number, sample, until)
+                spell_lease(&mut block, boot, number, sample, until);
             }
             Content::FreeBut(place, byte) => {
-                Ok(with_byte(started(alloc, b"PLXLEAS1")?, place, byte))
+                block.copy_from(0, b"PLXLEAS1");
+                spell_byte(&mut block, place, byte);
             }
             Content::LeaseBut(place, byte) => {
-                Ok(with_byte(lease(alloc, 8, 0, 900, 10_900)?, place, byte))
+                spell_lease(&mut block, 8, 0, 900, 10_900);
+                spell_byte(&mut block, place, byte);
             }
-            Content::FreeSlot(generation) => free_slot(alloc, generation),
-            Content::LiveSlot(generation, applied) => live_slot(alloc, generation, applied, 0),
-            Content::NoSlot(generation) => live_slot(alloc, generation, 0, 1),
+            Content::FreeSlot(generation) => spell_slot(&mut block, generation),
+            Content::LiveSlot(generation, applied) => {
+                spell_image(&mut block, generation, applied, 0);
+            }
+            Content::NoSlot(generation) => spell_image(&mut block, generation, 0, 1),
             Content::Descriptor(generation, vblock, number) => {
-                descriptor(alloc, generation, vblock, number)
+                spell_descriptor(&mut block, generation, vblock, number);
             }
         }
+        block
     }
 }
 
-// A block that begins with this magic.
-fn started(alloc: Global, magic: &[u8; 8]) -> Result<Block, NoMemory> {
-    let mut block = Block::zeros(alloc)?;
-    block.copy_from(0, magic);
-    Ok(block)
+/// A block of zeros.
+pub(crate) fn zeros(rt: &impl Abort, alloc: Global) -> Block {
+    Block::zeros(alloc).expect(rt, "memory")
 }
 
-// The block with this byte at this place.
-fn with_byte(mut block: Block, place: usize, byte: u8) -> Block {
+// This byte at this place.
+fn spell_byte(block: &mut Block, place: usize, byte: u8) {
     if place < 4096 {
         block.copy_from(place, &[byte]);
     }
-    block
 }
 
-fn lease(alloc: Global, boot: u8, number: u64, sample: u64, until: u64) -> Result<Block, NoMemory> {
-    let mut block = started(alloc, b"PLXLEAS1")?;
-    block.copy_from(8, &[1]);
+fn spell_lease(block: &mut Block, boot: u8, number: u64, sample: u64, until: u64) {
+    block.copy_from(0, b"PLXLEAS1\x01");
     block.copy_from(16, &[boot]);
     block.copy_from(32, &number.to_le_bytes());
     block.copy_from(40, &sample.to_le_bytes());
     block.copy_from(48, &until.to_le_bytes());
-    Ok(block)
 }
 
-fn free_slot(alloc: Global, generation: u8) -> Result<Block, NoMemory> {
-    let mut block = started(alloc, b"PLXIMAG1")?;
+fn spell_slot(block: &mut Block, generation: u8) {
+    block.copy_from(0, b"PLXIMAG1");
     block.copy_from(12, &[generation]);
-    Ok(block)
 }
 
-fn live_slot(alloc: Global, generation: u8, applied: u8, last: u8) -> Result<Block, NoMemory> {
-    let mut block = free_slot(alloc, generation)?;
-    block.copy_from(8, &[1]);
+fn spell_image(block: &mut Block, generation: u8, applied: u8, last: u8) {
+    block.copy_from(0, b"PLXIMAG1\x01");
+    block.copy_from(12, &[generation]);
     block.copy_from(16, &[8]);
     block.copy_from(32, &[applied]);
-    block.copy_from(40, &[1]);
-    block.copy_from(48, b"a");
+    block.copy_from(40, b"\x01\0\0\0\0\0\0\0a");
     block.copy_from(80, &[last]);
-    Ok(block)
 }
 
-fn descriptor(alloc: Global, generation: u8, vblock: u8, number: u8) -> Result<Block, NoMemory> {
-    let mut block = started(alloc, b"PLXJRNL1")?;
+fn spell_descriptor(block: &mut Block, generation: u8, vblock: u8, number: u8) {
+    block.copy_from(0, b"PLXJRNL1");
     block.copy_from(8, &[generation]);
     block.copy_from(12, &[vblock]);
     block.copy_from(16, &[number]);
-    Ok(block)
 }

@@ -1,42 +1,31 @@
 //! Bytes outside the format, which no schedule can put on a device: an attach ends with them after
 //! one more reading, as damaged or, where the lease is over then, as lost.
-use crate::boot::Asked::Attach;
-use crate::boot::Step::{Begins, Bytes, Clock, Done, Ends, Until};
-use crate::boot::{CLAIMED, CLAIMED_AGAIN, Step, takes};
-use crate::content::Content::{Descriptor, Filled, FreeLease, Lease, LiveSlot, NoSlot, Zeros};
-use plx_base::{NoMemory, WriteKind};
+use crate::boot::Before::{Claimed, Sampled, Waited};
+use crate::boot::{CLAIMED_AGAIN, play};
+use crate::content::Content;
+use crate::content::Content::{Descriptor, Filled, Lease, LiveSlot, NoSlot, Zeros};
+use crate::machine::Asked::Attach;
+use crate::machine::Step;
+use crate::machine::Step::{Begins, Bytes, Clock, Ends};
 
-/// Blocks that are no lease: zeros, an end less than 10,000 ms after the sample, and a claim of a
-/// number that no claim has.
-const NO_LEASES: &[&[Step]] = &[
-    &[Bytes(2, Zeros)],
-    &[Bytes(2, Lease(7, 0, 1_000, 10_999))],
-    &[Bytes(2, Lease(7, 1 << 40, 1_000, 11_000))],
+/// Blocks that are no lease.
+const NO_LEASES: &[(&str, Content)] = &[
+    ("zeros", Zeros),
+    (
+        "an end less than 10,000 ms after the sample",
+        Lease(7, 0, 1_000, 10_999),
+    ),
+    (
+        "a number that no claim has",
+        Lease(7, 1 << 40, 1_000, 11_000),
+    ),
 ];
-
-/// A claim reads the lease.
-const SAMPLED: &[Step] = &[Begins(Attach), Clock(1_000), Clock(1_000)];
 
 /// No lease is in use yet, so that no reading is too late.
 const NOT_LATE: &[Step] = &[Clock(90_000), Ends(b"damaged block=2")];
 
-#[test]
-fn a_lease_that_is_no_lease_is_not_claimed(rt: HostRuntime) -> Result<(), NoMemory> {
-    for &found in NO_LEASES {
-        takes(&rt, rt.alloc(), &[SAMPLED, found, NOT_LATE])?;
-    }
-    Ok(())
-}
-
-/// A claim reads the lease again.
-const WAITED: &[Step] = &[
-    Bytes(2, FreeLease),
-    Done(WriteKind::Claim, 2, 1_200, Lease(7, 0, 1_000, 11_000)),
-    Until(1_601, 1_650),
-];
-
 /// One more reading ends the command: before the lease's end as damaged, from it on as lost.
-const ENDS: &[&[Step]] = &[&[Clock(10_999), Ends(b"damaged block=2")], LOST];
+const DAMAGED: &[Step] = &[Clock(10_999), Ends(b"damaged block=2")];
 
 const LOST: &[Step] = &[
     Clock(11_000),
@@ -44,29 +33,30 @@ const LOST: &[Step] = &[
 ];
 
 #[test]
-fn a_claim_that_became_no_lease_is_not_held(rt: HostRuntime) -> Result<(), NoMemory> {
-    for &end in ENDS {
-        for &found in NO_LEASES {
-            let parts = [SAMPLED, WAITED, found, end, CLAIMED_AGAIN];
-            takes(&rt, rt.alloc(), &parts)?;
-        }
+fn what_is_no_lease_is_neither_claimed_nor_held(rt: HostRuntime) {
+    for &(name, content) in NO_LEASES {
+        let alloc = rt.alloc();
+        let found: &[Step] = &[Bytes(2, content)];
+        play(&rt, alloc, name, Sampled, found, NOT_LATE, &[]);
+        play(&rt, alloc, name, Waited, found, DAMAGED, CLAIMED_AGAIN);
+        play(&rt, alloc, name, Waited, found, LOST, CLAIMED_AGAIN);
     }
-    Ok(())
 }
 
-/// What an attach reads from the record on, and how it ends before the lease's end: a record that
-/// is none, a descriptor that is none, one in another slot than its own, one of a virtual block
-/// past the image's end, and a write without the one before it.
-const JOURNALS: &[(&[Step], &[Step])] = &[
+/// What an attach reads from the record on, and how it ends before the end of the lease.
+const JOURNALS: &[(&str, &[Step], &[Step])] = &[
     (
+        "no record",
         &[Bytes(4, NoSlot(2))],
         &[Clock(10_999), Ends(b"damaged block=4")],
     ),
     (
+        "no descriptor",
         &[Bytes(4, LiveSlot(2, 0)), Bytes(6, Descriptor(0, 3, 1))],
         &[Clock(10_999), Ends(b"damaged block=6")],
     ),
     (
+        "another slot's descriptor",
         &[
             Bytes(4, LiveSlot(2, 0)),
             Bytes(6, Descriptor(2, 3, 1)),
@@ -76,10 +66,12 @@ const JOURNALS: &[(&[Step], &[Step])] = &[
         &[Clock(10_999), Ends(b"damaged block=8")],
     ),
     (
+        "a virtual block past the image's end",
         &[Bytes(4, LiveSlot(2, 0)), Bytes(6, Descriptor(2, 8, 1))],
         &[Clock(10_999), Ends(b"damaged block=6")],
     ),
     (
+        "a write without the one before it",
         &[
             Bytes(4, LiveSlot(2, 0)),
             Bytes(6, Descriptor(1, 3, 1)),
@@ -97,10 +89,10 @@ const HELD: &[Step] = &[Begins(Attach), Clock(1_700), Bytes(4, LiveSlot(2, 0))];
 const ANEW: &[Step] = &[Begins(Attach), Clock(1_700), Clock(1_700)];
 
 #[test]
-fn an_image_whose_journal_is_damaged_is_not_attached(rt: HostRuntime) -> Result<(), NoMemory> {
-    for &(found, damaged) in JOURNALS {
-        takes(&rt, rt.alloc(), &[CLAIMED, found, damaged, HELD])?;
-        takes(&rt, rt.alloc(), &[CLAIMED, found, LOST, ANEW])?;
+fn an_image_whose_journal_is_damaged_is_not_attached(rt: HostRuntime) {
+    for &(name, found, damaged) in JOURNALS {
+        let alloc = rt.alloc();
+        play(&rt, alloc, name, Claimed, found, damaged, HELD);
+        play(&rt, alloc, name, Claimed, found, LOST, ANEW);
     }
-    Ok(())
 }

@@ -1,10 +1,14 @@
 //! Leases that are claimed, renewed and released by hand, with their records written out.
-ghost use Rattle.std.specs.Prelude.{◌<◌, ◌^◌, IfOk};
-ghost use Rattle.plx_rules.specs.Machines.{IsTimely};
+ghost use Rattle.std.specs.Prelude.{◌≡◌, ◌<◌, ◌^◌};
 
-use crate::content::Content;
 use crate::content::Content::{FreeBut, FreeLease, Lease, LeaseBut, Zeros};
-use plx_base::{Block, BlockNo, Boot, Claim, LeaseName, LeaseRecord, NoMemory, SlotNo, WriteKind};
+use crate::content::{Content, zeros};
+use crate::machine::Outcome::{Stands, Told};
+use crate::machine::Step::{Bytes, Clock, Done, Ends, Gets, Until};
+use crate::machine::Trouble::{Fault, Missed, Read, Reading};
+use crate::machine::{Machine, Step, plays};
+use plx_base::{BlockNo, Boot, Claim, LeaseName, LeaseRecord, SlotNo, WriteKind};
+use plx_commands::Reply;
 use plx_disk::{Answer, Ask, Turn};
 use plx_lease::{
     ClaimEnd, Claiming, InUse, LeaseClaim, LeaseRelease, ReleaseEnd, Renewing, RenewingEnd, Tokens,
@@ -27,369 +31,313 @@ const CLAIM: Claim = Claim {
     sample: 5_000,
 };
 
-/// The block of that claim.
-const OWN: Content = Lease(7, 3, 5_000, 15_000);
+/// What a claim of a free lease asks, and what it is answered.
+const FIVE: &[Step] = &[
+    Clock(5_000),
+    Bytes(4, FreeLease),
+    Done(WriteKind::Claim, 4, 5_200, Lease(7, 3, 5_000, 15_000)),
+    Until(5_601, 5_601),
+    Bytes(4, Lease(7, 3, 5_000, 15_000)),
+];
 
-/// The lease in use by it, once it is written.
-const IN_USE: InUse = InUse {
-    lease: 3,
-    until: 15_000,
-};
+impl Machine for LeaseClaim<Image> {
+    fn asks(&mut self) -> Option<Ask> {
+        Some(self.ask())
+    }
 
-/// A step of a claim: an ask is looked at, or answered, or the claim has ended.
-#[derive(Clone, Copy)]
-enum Step {
-    Asks(Ask),
-    /// What is to be written.
-    Writes(Content),
-    Reading(u64),
-    Bytes(Content),
-    Done,
-    Fault,
-    Missed(u64),
-    /// The last answer ended the claim so. No other answer ends it.
-    Ends(End),
-}
+    fn writes(&mut self, bytes: &[u8]) -> bool {
+        self.out() == bytes
+    }
 
-use Step::{Asks, Bytes, Done, Ends, Fault, Missed, Reading, Writes};
-
-/// How a claim ends.
-#[derive(Clone, Copy)]
-enum End {
-    Busy,
-    BusyWith(LeaseRecord),
-    Lost(InUse, u64),
-    ReadFault,
-    WriteFault,
-    Damaged,
-}
-
-use End::{Busy, BusyWith, Damaged, Lost, ReadFault, WriteFault};
-
-/// Whether a claim ended so.
-fn is_end(end: &Option<ClaimEnd<Image>>, wanted: End) -> bool {
-    match (end, wanted) {
-        (Some(ClaimEnd::Busy { .. }), Busy) => true,
-        (Some(ClaimEnd::Busy { seen }), BusyWith(record)) => *seen == record,
-        (Some(ClaimEnd::Lost { due, reading }), Lost(first, at)) => *due == first && *reading == at,
-        (Some(ClaimEnd::ReadFault), ReadFault) => true,
-        (Some(ClaimEnd::WriteFault), WriteFault) => true,
-        (Some(ClaimEnd::Damaged), Damaged) => true,
-        _ => false,
+    fn gets(&mut self, answer: &Answer) -> Option<Reply> {
+        match self.answer(answer) {
+            Some(end) => reply(end),
+            None => None,
+        }
     }
 }
 
-/// A reading of a clock that is within its limit.
-fn in_limit(rt: &impl Abort, reading: u64) -> u64
-    ensures { result < 2 ^ 48 }
-{
-    assert!(rt; reading < 1 << 48);
-    reading
-}
-
-/// The answer of a step that is one.
-fn answer(rt: &impl Abort, alloc: Global, step: Step) -> Result<Answer, NoMemory>
-    ensures { IfOk result IsTimely }
-{
-    Ok(match step {
-        Reading(reading) => Answer::Reading(in_limit(rt, reading)),
-        Bytes(content) => Answer::Bytes(content.block(alloc)?),
-        Missed(reading) => Answer::Missed(in_limit(rt, reading)),
-        Done => Answer::Done,
-        Asks(_) | Writes(_) | Fault | Ends(_) => Answer::Fault,
+/// The reply of an attach whose claim ends so; none where the lease is held.
+fn reply(end: ClaimEnd<Image>) -> Option<Reply> {
+    let lease = LeaseName::Image(SlotNo(2));
+    Some(match end {
+        ClaimEnd::Held(_) => return None,
+        ClaimEnd::Busy { seen } => Reply::Busy { lease, seen },
+        ClaimEnd::Lost { due, reading } => Reply::Lost {
+            lease: lease_name(due.lease),
+            until: due.until,
+            reading,
+        },
+        ClaimEnd::ReadFault => Reply::ReadFault { block: BLOCK },
+        ClaimEnd::WriteFault => Reply::WriteFault { block: BLOCK },
+        ClaimEnd::Damaged => Reply::Damaged { block: BLOCK },
     })
 }
 
-/// A claim, and how its last answer ended it, until that is looked at.
-#[derive(Drop)]
-struct Answered {
-    claim: LeaseClaim<Image>,
-    end: Option<ClaimEnd<Image>>,
+/// What the lease of this number is called: the root's is 0, and those of the images follow.
+fn lease_name(number: u32) -> LeaseName {
+    match number.checked_sub(1) {
+        Some(slot) => LeaseName::Image(SlotNo(slot)),
+        None => LeaseName::Root,
+    }
 }
 
-/// A claim of the lease with other leases in use takes the steps of these parts.
+/// After so many steps of the claim of a free lease it takes these. The root's lease may be in use
+/// beside it, up to a moment.
 fn claims(
     rt: &impl Abort,
     alloc: Global,
-    others: Option<InUse>,
-    parts: &[&[Step]],
-) -> Result<(), NoMemory> {
-    let mut work = Answered {
-        claim: LeaseClaim::begin(LEASE, BLOCK, BOOT, 3, others, Block::zeros(alloc)?),
-        end: None,
+    name: &str,
+    beside: Option<u64>,
+    at: usize,
+    steps: &[Step],
+) {
+    let others = match beside {
+        Some(until) => Some(InUse { lease: 0, until }),
+        None => None,
     };
-    work.play(rt, alloc, parts)
+    let mut claim = LeaseClaim::begin(LEASE, BLOCK, BOOT, 3, others, zeros(rt, alloc));
+    let before = FIVE.get(..at).unwrap_or(FIVE);
+    plays(rt, alloc, &mut claim, "before", before);
+    plays(rt, alloc, &mut claim, name, steps);
 }
 
-impl Answered {
-    /// The claim takes the steps of these parts.
-    fn play(&mut self, rt: &impl Abort, alloc: Global, parts: &[&[Step]]) -> Result<(), NoMemory> {
-        for part in parts {
-            for step in *part {
-                self.take(rt, alloc, *step)?;
-            }
-        }
-        assert!(rt; self.end.is_none());
-        Ok(())
-    }
-
-    /// The claim takes a step.
-    fn take(&mut self, rt: &impl Abort, alloc: Global, step: Step) -> Result<(), NoMemory> {
-        match step {
-            Asks(ask) => assert!(rt; self.claim.ask() == ask),
-            Writes(content) => {
-                let written = content.block(alloc)?;
-                assert!(rt; self.claim.out() == written.as_slice());
-            }
-            Ends(wanted) => {
-                assert!(rt; is_end(&self.end, wanted));
-                self.end = None;
-            }
-            Reading(_) | Bytes(_) | Done | Fault | Missed(_) => {
-                assert!(rt; self.end.is_none());
-                self.end = self.claim.answer(&answer(rt, alloc, step)?);
-            }
-        }
-        Ok(())
-    }
-}
-
-/// A claim with its sample, at its first read.
-const SAMPLED: &[Step] = &[Reading(5_000)];
-
-/// A claim of a free lease, at its write.
-const WRITTEN: &[Step] = &[Reading(5_000), Bytes(FreeLease)];
-
-/// A claim that was written, at its wait.
-const WAITING: &[Step] = &[Reading(5_000), Bytes(FreeLease), Done];
-
-/// A claim that has waited, at its second read.
-const WAITED: &[Step] = &[Reading(5_000), Bytes(FreeLease), Done, Reading(5_601)];
-
-/// What a claim asks, and what it is answered.
-const FIVE: &[(Ask, Step)] = &[
-    (Ask::Clock, Reading(5_000)),
-    (Ask::Read { block: BLOCK }, Bytes(FreeLease)),
+/// Blocks that are no lease.
+const OUTSIDE: &[(&str, Content)] = &[
+    ("zeros", Zeros),
+    ("another magic", FreeBut(7, b'2')),
+    ("another state", LeaseBut(8, 2)),
+    ("a claim in a lease that is free", LeaseBut(8, 0)),
+    ("a byte after the fields", LeaseBut(56, 1)),
+    ("a byte between the fields", LeaseBut(12, 1)),
     (
-        Ask::Write {
-            kind: WriteKind::Claim,
-            block: BLOCK,
-            guard: 5_200,
-        },
-        Done,
+        "an end less than 10,000 ms after the sample",
+        Lease(8, 0, 900, 10_899),
     ),
-    (Ask::Until { from: 5_601 }, Reading(5_601)),
-    (Ask::Read { block: BLOCK }, Bytes(OWN)),
+    ("a number past its limit", Lease(8, 1 << 40, 900, 10_900)),
+    (
+        "a sample past its limit",
+        Lease(8, 0, 1 << 48, (1 << 48) + 10_000),
+    ),
+    ("an end past its limit", Lease(8, 0, 900, 1 << 49)),
 ];
 
 #[test]
-fn a_free_lease_is_claimed_in_five_steps(rt: HostRuntime) -> Result<(), NoMemory> {
-    let mut claiming = Claiming::begin(LEASE, BLOCK, BOOT, 3, Block::zeros(rt.alloc())?);
-    for &(ask, step) in FIVE {
-        ask_next(&rt, rt.alloc(), &mut claiming, ask, step)?;
+fn bytes_that_are_no_lease_end_a_claim_after_one_more_reading(rt: HostRuntime) {
+    for &(name, content) in OUTSIDE {
+        let found = Bytes(4, content);
+        let damaged = Ends(b"damaged block=4");
+        let early = [found, Clock(20_000), damaged];
+        claims(&rt, rt.alloc(), name, None, 1, &early);
+        let late = [found, Clock(14_999), damaged];
+        claims(&rt, rt.alloc(), name, None, 4, &late);
     }
-    assert!(rt; claiming.turn() == Turn::Ended);
-    assert!(rt; matches!(&claiming.end(), ClaimEnd::Held(held) if is_held(held, 15_000)));
-    Ok(())
-}
-
-/// The claim asks this, and is answered so.
-fn ask_next(
-    rt: &impl Abort,
-    alloc: Global,
-    claiming: &mut Claiming<Image>,
-    ask: Ask,
-    step: Step,
-) -> Result<(), NoMemory> {
-    assert!(rt; claiming.turn() == Turn::Again && claiming.ask() == ask);
-    if let Ask::Write { .. } = ask {
-        let own = OWN.block(alloc)?;
-        assert!(rt; claiming.out() == own.as_slice());
-    }
-    let turn = claiming.answer(&answer(rt, alloc, step)?);
-    assert!(rt; turn == claiming.turn());
-    Ok(())
-}
-
-/// Whether the lease is held by that claim up to this moment.
-fn is_held(held: &Held<Image>, until: u64) -> bool {
-    held.name() == LeaseName::Image(SlotNo(2)) && held.claim() == CLAIM && held.until() == until
-}
-
-/// Blocks that are no lease: zeros, another magic, another state, a claim in a lease that is free,
-/// bytes after and between the fields, an end less than 10,000 ms after the sample, and numbers
-/// past their limits.
-const OUTSIDE: &[&[Step]] = &[
-    &[Bytes(Zeros)],
-    &[Bytes(FreeBut(7, b'2'))],
-    &[Bytes(LeaseBut(8, 2))],
-    &[Bytes(LeaseBut(8, 0))],
-    &[Bytes(LeaseBut(56, 1))],
-    &[Bytes(LeaseBut(12, 1))],
-    &[Bytes(Lease(8, 0, 900, 10_899))],
-    &[Bytes(Lease(8, 1 << 40, 900, 10_900))],
-    &[Bytes(Lease(8, 0, 1 << 48, (1 << 48) + 10_000))],
-    &[Bytes(Lease(8, 0, 900, 1 << 49))],
-];
-
-/// An end after one more reading.
-const ONE_MORE: &[(&[Step], &[Step])] = &[
-    (SAMPLED, &[Asks(Ask::Clock), Reading(20_000), Ends(Damaged)]),
-    (WAITED, &[Asks(Ask::Clock), Reading(14_999), Ends(Damaged)]),
-];
-
-#[test]
-fn bytes_that_are_no_lease_end_a_claim_after_one_more_reading(
-    rt: HostRuntime,
-) -> Result<(), NoMemory> {
-    for &found in OUTSIDE {
-        for &(before, after) in ONE_MORE {
-            claims(&rt, rt.alloc(), None, &[before, found, after])?;
-        }
-    }
-    Ok(())
 }
 
 /// A claim's last number, and the least moment up to which it can be held.
 const LAST: Content = Lease(8, (1 << 40) - 1, 900, 10_900);
 
-const LAST_RECORD: LeaseRecord = LeaseRecord::Claimed {
-    claim: Claim {
-        boot: Boot(8),
-        number: (1 << 40) - 1,
-        sample: 900,
-    },
-    until: 10_900,
-};
-
-/// The parts of a claim.
-type Parts = [&'static [Step]; 2];
-
-/// A lease is busy up to 100 ms after its end.
-const BUSY_UP_TO: &[Parts] = &[
-    [
-        &[Reading(11_000), Bytes(LAST)],
-        &[Ends(BusyWith(LAST_RECORD))],
-    ],
-    [
-        &[Reading(11_001), Bytes(LAST)],
-        &[Writes(Lease(7, 3, 11_001, 21_001))],
-    ],
-];
-
-/// A claim that another record replaced is busy.
-const REPLACED: &[Parts] = &[
-    [WAITED, &[Bytes(FreeLease), Ends(Busy)]],
-    [WAITED, &[Bytes(Lease(8, 3, 5_000, 15_000)), Ends(Busy)]],
-    [WAITED, &[Bytes(Lease(7, 4, 5_000, 15_000)), Ends(Busy)]],
-    [WAITED, &[Bytes(Lease(7, 3, 4_999, 15_000)), Ends(Busy)]],
-    [WAITED, &[Bytes(Lease(7, 3, 5_000, 15_001)), Ends(Busy)]],
-];
-
-const TOO_LATE: &[Step] = &[Reading(15_000), Ends(Lost(IN_USE, 15_000))];
-
-/// A reading at the end of the claim's own lease loses it, and one before doesn't.
-const OWN_END: &[Parts] = &[
-    [WAITING, &[Reading(14_999)]],
-    [WAITING, TOO_LATE],
-    [
+/// How long the root's lease is in use beside a claim, how many steps the claim has taken, and what
+/// comes next.
+const CLAIMS: &[(&str, Option<u64>, usize, &[Step])] = &[
+    // A lease is busy up to 100 ms after its end.
+    (
+        "a lease that is over since 100 ms",
+        None,
+        0,
         &[
-            Reading(5_000),
-            Bytes(FreeLease),
-            Done,
-            Reading(5_601),
-            Bytes(Zeros),
+            Clock(11_000),
+            Bytes(4, LAST),
+            Ends(b"busy lease=image:2 boot=8 claim=1099511627775 sample=900 until=10900"),
         ],
-        TOO_LATE,
-    ],
-];
-
-/// The guard of the claim's write.
-const GUARD: InUse = InUse {
-    lease: 3,
-    until: 5_200,
-};
-
-/// Faults and a missed write end a claim.
-const FAULTS: &[Parts] = &[
-    [SAMPLED, &[Fault, Ends(ReadFault)]],
-    [WAITED, &[Fault, Ends(ReadFault)]],
-    [WRITTEN, &[Fault, Ends(WriteFault)]],
-    [WRITTEN, &[Missed(5_201), Ends(Lost(GUARD, 5_201))]],
-    // Answers that don't fit leave the claim at its ask.
-    [
-        WRITTEN,
+    ),
+    (
+        "a lease that is over since 101 ms",
+        None,
+        0,
         &[
-            Reading(9),
-            Bytes(FreeLease),
-            Asks(Ask::Write {
-                kind: WriteKind::Claim,
-                block: BLOCK,
-                guard: 5_200,
-            }),
+            Clock(11_001),
+            Bytes(4, LAST),
+            Done(WriteKind::Claim, 4, 11_201, Lease(7, 3, 11_001, 21_001)),
         ],
-    ],
+    ),
+    // A claim that another record replaced is busy.
+    (
+        "replaced by a release",
+        None,
+        4,
+        &[Bytes(4, FreeLease), Ends(b"busy lease=image:2 free")],
+    ),
+    (
+        "replaced by another boot",
+        None,
+        4,
+        &[
+            Bytes(4, Lease(8, 3, 5_000, 15_000)),
+            Ends(b"busy lease=image:2 boot=8 claim=3 sample=5000 until=15000"),
+        ],
+    ),
+    (
+        "replaced by another claim",
+        None,
+        4,
+        &[
+            Bytes(4, Lease(7, 4, 5_000, 15_000)),
+            Ends(b"busy lease=image:2 boot=7 claim=4 sample=5000 until=15000"),
+        ],
+    ),
+    (
+        "replaced by another sample",
+        None,
+        4,
+        &[
+            Bytes(4, Lease(7, 3, 4_999, 15_000)),
+            Ends(b"busy lease=image:2 boot=7 claim=3 sample=4999 until=15000"),
+        ],
+    ),
+    (
+        "replaced by another end",
+        None,
+        4,
+        &[
+            Bytes(4, Lease(7, 3, 5_000, 15_001)),
+            Ends(b"busy lease=image:2 boot=7 claim=3 sample=5000 until=15001"),
+        ],
+    ),
+    // A reading at the end of the claim's own lease loses it, and one before doesn't.
+    ("a last moment", None, 3, &[Until(5_601, 14_999)]),
+    (
+        "a wait that is too long",
+        None,
+        3,
+        &[
+            Until(5_601, 15_000),
+            Ends(b"lost lease=image:2 until=15000 reading=15000"),
+        ],
+    ),
+    (
+        "damaged too late",
+        None,
+        4,
+        &[
+            Bytes(4, Zeros),
+            Clock(15_000),
+            Ends(b"lost lease=image:2 until=15000 reading=15000"),
+        ],
+    ),
+    // Faults and a missed write end a claim.
+    (
+        "a fault of the first read",
+        None,
+        1,
+        &[Gets(Fault, Told(b"read-fault block=4"))],
+    ),
+    (
+        "a fault of the second read",
+        None,
+        4,
+        &[Gets(Fault, Told(b"read-fault block=4"))],
+    ),
+    (
+        "a fault of the write",
+        None,
+        2,
+        &[Gets(Fault, Told(b"write-fault block=4"))],
+    ),
+    (
+        "a missed write",
+        None,
+        2,
+        &[Gets(
+            Missed(5_201),
+            Told(b"lost lease=image:2 until=5200 reading=5201"),
+        )],
+    ),
+    (
+        "answers that don't fit",
+        None,
+        2,
+        &[Gets(Reading(9), Stands), Gets(Read(FreeLease), Stands)],
+    ),
+    // A lease in use beside it: at its end, and where both are over the one that ended first.
+    (
+        "the root's lease is over",
+        Some(5_000),
+        0,
+        &[
+            Clock(5_000),
+            Ends(b"lost lease=root until=5000 reading=5000"),
+        ],
+    ),
+    (
+        "both leases are over at once",
+        Some(15_000),
+        3,
+        &[
+            Until(5_601, 20_000),
+            Ends(b"lost lease=root until=15000 reading=20000"),
+        ],
+    ),
+    (
+        "the claimed lease is over first",
+        Some(15_001),
+        3,
+        &[
+            Until(5_601, 20_000),
+            Ends(b"lost lease=image:2 until=15000 reading=20000"),
+        ],
+    ),
 ];
 
 #[test]
-fn claims_are_busy_lost_and_failed(rt: HostRuntime) -> Result<(), NoMemory> {
-    for cases in [BUSY_UP_TO, REPLACED, OWN_END, FAULTS] {
-        for parts in cases {
-            claims(&rt, rt.alloc(), None, parts)?;
-        }
+fn claims_are_busy_lost_and_failed(rt: HostRuntime) {
+    for &(name, beside, at, steps) in CLAIMS {
+        claims(&rt, rt.alloc(), name, beside, at, steps);
     }
-    Ok(())
 }
 
-/// A lease in use beside it: at its end, and where both are over the one that ended first.
-const BESIDE: &[(u64, &[Step])] = &[
-    (
-        5_000,
-        &[
-            Reading(5_000),
-            Ends(Lost(
-                InUse {
-                    lease: 0,
-                    until: 5_000,
-                },
-                5_000,
-            )),
-        ],
-    ),
-    (
-        15_000,
-        &[
-            Reading(5_000),
-            Bytes(FreeLease),
-            Done,
-            Reading(20_000),
-            Ends(Lost(
-                InUse {
-                    lease: 0,
-                    until: 15_000,
-                },
-                20_000,
-            )),
-        ],
-    ),
-    (
-        15_001,
-        &[
-            Reading(5_000),
-            Bytes(FreeLease),
-            Done,
-            Reading(20_000),
-            Ends(Lost(IN_USE, 20_000)),
-        ],
-    ),
-];
+impl Machine for Claiming<Image> {
+    fn asks(&mut self) -> Option<Ask> {
+        match self.turn() {
+            Turn::Again => Some(self.ask()),
+            Turn::Ended => None,
+        }
+    }
+
+    fn writes(&mut self, bytes: &[u8]) -> bool {
+        self.turn() == Turn::Again && self.out() == bytes
+    }
+
+    fn gets(&mut self, answer: &Answer) -> Option<Reply> {
+        if self.turn() == Turn::Again {
+            let _ = self.answer(answer);
+        }
+        None
+    }
+}
 
 #[test]
-fn a_reading_at_the_end_of_a_lease_in_use_loses_a_claim(rt: HostRuntime) -> Result<(), NoMemory> {
-    for &(until, steps) in BESIDE {
-        claims(&rt, rt.alloc(), Some(InUse { lease: 0, until }), &[steps])?;
+fn a_free_lease_is_claimed_in_five_steps(rt: HostRuntime) {
+    let out = zeros(&rt, rt.alloc());
+    let mut claiming = Claiming::begin(LEASE, BLOCK, BOOT, 3, out);
+    plays(&rt, rt.alloc(), &mut claiming, "five steps", FIVE);
+    assert!(rt; has_claimed(claiming));
+}
+
+/// Whether the claim has ended, and its lease is held.
+fn has_claimed(mut claiming: Claiming<Image>) -> bool {
+    if claiming.turn() == Turn::Again {
+        return false;
     }
-    Ok(())
+    match claiming.end() {
+        ClaimEnd::Held(held) => is_held(&held, 15_000),
+        _ => false,
+    }
+}
+
+/// Whether the lease is held by that claim up to this moment.
+fn is_held(held: &Held<Image>, until: u64) -> bool {
+    held.name() == LeaseName::Image(SlotNo(2)) && held.claim() == CLAIM && held.until() == until
 }
 
 /// The record of that claim.
@@ -406,99 +354,133 @@ const LONGER: LeaseRecord = LeaseRecord::Claimed {
 
 #[test]
 fn a_claim_is_confirmed_by_its_own_record_before_its_end(rt: HostRuntime) {
-    assert!(rt; Claimed::new(Root, CLAIM).confirm(&RECORD, 14_999).is_ok());
-    let late = Claimed::new(Root, CLAIM).confirm(&LONGER, 15_000).err();
-    assert!(rt; late == Some(Unconfirmed::TooLate { now: 15_000 }));
-    let other = Claimed::new(Root, CLAIM).confirm(&LONGER, 14_999).err();
-    assert!(rt; other == Some(Unconfirmed::NotMine { seen: LONGER }));
+    assert!(rt; refusal(&RECORD, 14_999).is_none());
+    assert!(rt; refusal(&LONGER, 15_000) == Some(Unconfirmed::TooLate { now: 15_000 }));
+    assert!(rt; refusal(&LONGER, 14_999) == Some(Unconfirmed::NotMine { seen: LONGER }));
+}
+
+/// Why that claim isn't confirmed by this record after this reading.
+fn refusal(seen: &LeaseRecord, now: u64) -> Option<Unconfirmed> {
+    Claimed::new(Root, CLAIM).confirm(seen, now).err()
 }
 
 /// The lease as it is held by that claim.
-fn held(rt: &impl Abort) -> Held<Image> {
+fn held(rt: &impl Abort) -> Held<Image>
+    ensures { result.lease.0.0 ≡ 2 }
+{
     match Claimed::new(LEASE, CLAIM).confirm(&RECORD, 14_999) {
         Ok(held) => held,
         Err(_) => panic!(rt; "its own record"),
     }
 }
 
-/// Whether this write of the lease is asked, with these bytes.
-fn is_write(
-    alloc: Global,
-    (ask, out): (Ask, &[u8]),
-    (kind, guard): (WriteKind, u64),
-    content: Content,
-) -> Result<bool, NoMemory> {
-    let block = BLOCK;
-    let written = content.block(alloc)?;
-    Ok(ask == Ask::Write { kind, block, guard } && out == written.as_slice())
-}
+impl Machine for Renewing<Image> {
+    fn asks(&mut self) -> Option<Ask> {
+        match self.turn() {
+            Turn::Again => Some(self.ask()),
+            Turn::Ended => None,
+        }
+    }
 
-/// The lease is renewed at this reading, and held up to this moment then.
-fn renewed(
-    rt: &impl Abort,
-    alloc: Global,
-    (reading, until): (u64, u64),
-) -> Result<Held<Image>, NoMemory> {
-    let mut renewing = Renewing::begin(
-        held(rt),
-        BLOCK,
-        in_limit(rt, reading),
-        Block::zeros(alloc)?,
-    );
-    assert!(rt; renewing.turn() == Turn::Again);
-    let asked = (renewing.ask(), renewing.out());
-    assert!(rt;
-        is_write(
-            alloc,
-            asked,
-            (WriteKind::Renew, 15_000),
-            Lease(7, 3, 5_000, until)
-        )?
-    );
-    assert!(rt; renewing.answer(&Answer::Done) == Turn::Ended);
-    match renewing.end() {
-        RenewingEnd::Held(lease) => Ok(lease),
-        _ => panic!(rt; "a lease that is held"),
+    fn writes(&mut self, bytes: &[u8]) -> bool {
+        self.turn() == Turn::Again && self.out() == bytes
+    }
+
+    fn gets(&mut self, answer: &Answer) -> Option<Reply> {
+        if self.turn() == Turn::Again {
+            let _ = self.answer(answer);
+        }
+        None
     }
 }
 
-/// A reading of the command, and the moment up to which the lease is held then.
-const RENEWALS: &[(u64, u64)] = &[(4_999, 15_000), (9_000, 19_000)];
-
-#[test]
-fn a_held_lease_is_renewed_and_released(rt: HostRuntime) -> Result<(), NoMemory> {
-    for &(reading, until) in RENEWALS {
-        let lease = renewed(&rt, rt.alloc(), (reading, until))?;
-        assert!(rt; is_held(&lease, until));
-        let mut release = LeaseRelease::begin(lease, BLOCK, Block::zeros(rt.alloc())?);
-        let asked = (release.ask(), release.out());
-        assert!(rt;
-            is_write(rt.alloc(), asked, (WriteKind::Release, until), FreeLease)?
-                && release.answer(&Answer::Done) == Some(ReleaseEnd::Released)
-        );
+/// The lease that is held by a renewal that has ended.
+fn renewed(rt: &impl Abort, mut renewing: Renewing<Image>) -> Held<Image> {
+    if renewing.turn() == Turn::Ended
+        && let RenewingEnd::Held(lease) = renewing.end()
+    {
+        return lease;
     }
-    Ok(())
+    panic!(rt; "a lease that is held")
+}
+
+impl Machine for LeaseRelease {
+    fn asks(&mut self) -> Option<Ask> {
+        Some(self.ask())
+    }
+
+    fn writes(&mut self, bytes: &[u8]) -> bool {
+        self.out() == bytes
+    }
+
+    fn gets(&mut self, answer: &Answer) -> Option<Reply> {
+        match self.answer(answer) {
+            Some(ReleaseEnd::Released) => Some(Reply::Detached),
+            _ => None,
+        }
+    }
+}
+
+/// The lease is renewed at this reading, held up to this moment then, and released.
+fn renew_and_release(rt: &impl Abort, alloc: Global, reading: u32, until: u64) {
+    let lease = renew(rt, alloc, u64::from(reading), until);
+    assert!(rt; is_held(&lease, until));
+    release(rt, alloc, lease, until);
+}
+
+/// The lease is renewed.
+fn renew(rt: &impl Abort, alloc: Global, reading: u64, until: u64) -> Held<Image>
+    requires { reading < 2 ^ 48 }
+{
+    let mut renewing = Renewing::begin(held(rt), BLOCK, reading, zeros(rt, alloc));
+    let write = Done(WriteKind::Renew, 4, 15_000, Lease(7, 3, 5_000, until));
+    plays(rt, alloc, &mut renewing, "renewed", &[write]);
+    renewed(rt, renewing)
+}
+
+/// The lease is released.
+fn release(rt: &impl Abort, alloc: Global, lease: Held<Image>, until: u64) {
+    let mut release = LeaseRelease::begin(lease, BLOCK, zeros(rt, alloc));
+    let write = Done(WriteKind::Release, 4, until, FreeLease);
+    plays(
+        rt,
+        alloc,
+        &mut release,
+        "released",
+        &[write, Ends(b"detached")],
+    );
 }
 
 #[test]
-fn held_leases_are_kept_by_slot(rt: HostRuntime) -> Result<(), NoMemory> {
-    let mut tokens = Tokens::new(rt.alloc(), 3)?;
-    assert!(rt; !has(&tokens, 2) && !has(&tokens, 3));
-    let lease = held(&rt);
-    assert!(rt; lease.lease() == LEASE);
-    tokens.put_image(lease);
-    assert!(rt; has(&tokens, 2) && !has(&tokens, 1));
-    let Some(lease) = tokens.take_image(SlotNo(2)) else {
-        panic!(rt; "a lease that is held");
-    };
-    assert!(rt; grants(lease) && !has(&tokens, 2));
+fn a_held_lease_is_renewed_and_released(rt: HostRuntime) {
+    renew_and_release(&rt, rt.alloc(), 4_999, 15_000);
+    renew_and_release(&rt, rt.alloc(), 9_000, 19_000);
+}
+
+#[test]
+fn held_leases_are_kept_by_slot(rt: HostRuntime) {
+    let mut tokens = Tokens::new(rt.alloc(), 3).expect(&rt, "memory");
+    let is_empty = !has(&tokens, 2) && !has(&tokens, 3);
+    tokens.put_image(held(&rt));
+    assert!(rt; is_empty && has(&tokens, 2) && !has(&tokens, 1));
+    assert!(rt; takes(&mut tokens) && !has(&tokens, 2));
     tokens.drop_all();
-    assert!(rt;
-        tokens.root().is_none()
-            && tokens.take_root().is_none()
-            && tokens.take_image(SlotNo(9)).is_none()
-    );
-    Ok(())
+    assert!(rt; is_without_lease(&mut tokens));
+}
+
+/// Whether the lease is taken out, and grants what a claim's does.
+fn takes(tokens: &mut Tokens) -> bool {
+    match tokens.take_image(SlotNo(2)) {
+        Some(lease) => grants(lease),
+        None => false,
+    }
+}
+
+/// Whether no lease is held of the root and past the slots.
+fn is_without_lease(tokens: &mut Tokens) -> bool {
+    tokens.root().is_none()
+        && tokens.take_root().is_none()
+        && tokens.take_image(SlotNo(9)).is_none()
 }
 
 /// Whether the lease of the image in this slot is held.

@@ -14,4 +14,6 @@ mod formatted;
 #[cfg(test)]
 mod leases;
 #[cfg(test)]
+mod machine;
+#[cfg(test)]
 mod trouble;

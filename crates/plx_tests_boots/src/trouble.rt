@@ -1,51 +1,33 @@
 //! A fault, a missed write or a late reading, at each ask of a command, and what is held after it.
-use crate::boot::Asked::{Attach, Create, Detach, Read, Renew, Write};
-use crate::boot::Outcome::{Goes, Stands, Told};
-use crate::boot::Step::{Begins, Bytes, Clock, Done, Ends, Gets, Until};
-use crate::boot::Trouble::{Fault, Missed, Reading};
-use crate::boot::{CLAIMED, LIVE, Outcome, Step, Trouble, takes, takes_each};
-use crate::content::Content::{Descriptor, Filled, FreeLease, FreeSlot, Lease, LiveSlot, Zeros};
-use plx_base::{NoMemory, WriteKind};
+use crate::boot::Before::{Attached, Creating, Nothing, Unread};
+use crate::boot::{Before, Story, play, play_each};
+use crate::content::Content::{Descriptor, Filled, FreeLease, Lease, LiveSlot, Zeros};
+use crate::machine::Asked::{Attach, Detach, Read, Renew, Write};
+use crate::machine::Outcome::{Goes, Stands, Told};
+use crate::machine::Step::{Begins, Bytes, Clock, Done, Ends, Gets, Until};
+use crate::machine::Trouble::{Fault, Missed, Reading};
+use crate::machine::{Outcome, Step, Trouble};
+use plx_base::WriteKind;
 use std::alloc::Global;
 use std::process::Abort;
 
-/// A boot after these parts and the steps up to an ask, which is answered so, with this outcome;
-/// and what comes next where it ended.
-fn troubled<'a>(
+/// Up to one of the asks of its steps a boot goes on as it is told. That one is answered by trouble,
+/// with this outcome; and where it ended a command, this comes next.
+fn play_troubled(
     rt: &impl Abort,
     alloc: Global,
-    (first, second): (&'a [Step], &'a [Step]),
-    (steps, at): (&'a [Step], usize),
+    name: &str,
+    (before, steps, at): (Before, &[Step], usize),
     (trouble, outcome): (Trouble, Outcome),
-    next: &'a [Step],
-) -> Result<(), NoMemory> {
-    let before = steps.get(..at).unwrap_or(steps);
+    next: &[Step],
+) {
+    let up_to = steps.get(..at).unwrap_or(steps);
     let after = match outcome {
         Told(_) => next,
         Stands | Goes => &[],
     };
-    answered(
-        rt,
-        alloc,
-        first,
-        second,
-        before,
-        &[Gets(trouble, outcome)],
-        after,
-    )
-}
-
-/// A boot takes the steps of all parts.
-fn answered<'a>(
-    rt: &impl Abort,
-    alloc: Global,
-    first: &'a [Step],
-    second: &'a [Step],
-    before: &'a [Step],
-    found: &'a [Step],
-    after: &'a [Step],
-) -> Result<(), NoMemory> {
-    takes(rt, alloc, &[first, second, before, found, after])
+    let found = [Gets(trouble, outcome)];
+    play(rt, alloc, name, before, up_to, &found, after);
 }
 
 /// An attach of an image that was written once.
@@ -94,18 +76,14 @@ const ATTACHING: &[(usize, Outcome, Outcome, Outcome, &[Step])] = &[
 ];
 
 #[test]
-fn trouble_at_each_ask_of_an_attach(rt: HostRuntime) -> Result<(), NoMemory> {
+fn trouble_at_each_ask_of_an_attach(rt: HostRuntime) {
     for &(at, fault, missed, late, next) in ATTACHING {
-        for (trouble, outcome, next) in [
-            (Fault, fault, next),
-            (Missed(1_201), missed, CLAIMS),
-            (Reading(11_000), late, CLAIMS),
-        ] {
-            let steps = (WRITTEN_ONCE, at);
-            troubled(&rt, rt.alloc(), (&[], &[]), steps, (trouble, outcome), next)?;
-        }
+        let alloc = rt.alloc();
+        let ask = (Nothing, WRITTEN_ONCE, at);
+        play_troubled(&rt, alloc, "a fault", ask, (Fault, fault), next);
+        play_troubled(&rt, alloc, "a miss", ask, (Missed(1_201), missed), CLAIMS);
+        play_troubled(&rt, alloc, "late", ask, (Reading(11_000), late), CLAIMS);
     }
-    Ok(())
 }
 
 /// A command on an attached image up to one of its asks.
@@ -124,19 +102,47 @@ const DETACHES: &[Step] = &[Begins(Detach), Clock(1_700)];
 
 const MISSED: Outcome = Told(b"lost lease=image:0 until=11000 reading=11001");
 
-/// The steps of a command up to one of its asks, and what follows a fault, a missed write, and a
+/// A command, its steps up to one of its asks, and what follows a fault, a missed write, and a
 /// reading at the lease's end.
-const ATTACHED: &[(&[Step], usize, Outcome, Outcome, Outcome)] = &[
-    (WRITES, 1, Stands, Stands, LATE),
-    (WRITES, 2, Told(b"write-fault block=7"), MISSED, Stands),
-    (WRITES, 3, Told(b"write-fault block=6"), MISSED, Stands),
-    (WRITES, 4, Stands, Stands, LATE),
-    (READS, 1, Stands, Stands, LATE),
-    (READS, 2, Stands, Stands, LATE),
-    (RENEWS, 1, Stands, Stands, LATE),
-    (RENEWS, 2, Told(b"write-fault block=2"), MISSED, Stands),
-    (DETACHES, 1, Stands, Stands, LATE),
-    (DETACHES, 2, Told(b"write-fault block=2"), MISSED, Stands),
+const ATTACHED: &[(&str, &[Step], usize, Outcome, Outcome, Outcome)] = &[
+    ("write", WRITES, 1, Stands, Stands, LATE),
+    (
+        "write",
+        WRITES,
+        2,
+        Told(b"write-fault block=7"),
+        MISSED,
+        Stands,
+    ),
+    (
+        "write",
+        WRITES,
+        3,
+        Told(b"write-fault block=6"),
+        MISSED,
+        Stands,
+    ),
+    ("write", WRITES, 4, Stands, Stands, LATE),
+    ("read", READS, 1, Stands, Stands, LATE),
+    ("read", READS, 2, Stands, Stands, LATE),
+    ("renew", RENEWS, 1, Stands, Stands, LATE),
+    (
+        "renew",
+        RENEWS,
+        2,
+        Told(b"write-fault block=2"),
+        MISSED,
+        Stands,
+    ),
+    ("detach", DETACHES, 1, Stands, Stands, LATE),
+    (
+        "detach",
+        DETACHES,
+        2,
+        Told(b"write-fault block=2"),
+        MISSED,
+        Stands,
+    ),
 ];
 
 /// Nothing is attached, and the next attach claims the lease.
@@ -150,93 +156,105 @@ const NOT_ATTACHED: &[Step] = &[
 ];
 
 #[test]
-fn trouble_on_an_attached_image(rt: HostRuntime) -> Result<(), NoMemory> {
-    for &(steps, at, fault, missed, late) in ATTACHED {
-        for found in [
-            (Fault, fault),
+fn trouble_on_an_attached_image(rt: HostRuntime) {
+    for &(name, steps, at, fault, missed, late) in ATTACHED {
+        let alloc = rt.alloc();
+        let ask = (Attached, steps, at);
+        play_troubled(&rt, alloc, name, ask, (Fault, fault), NOT_ATTACHED);
+        play_troubled(
+            &rt,
+            alloc,
+            name,
+            ask,
             (Missed(11_001), missed),
+            NOT_ATTACHED,
+        );
+        play_troubled(
+            &rt,
+            alloc,
+            name,
+            ask,
             (Missed(11_000), Stands),
-            (Reading(11_000), late),
-        ] {
-            troubled(
-                &rt,
-                rt.alloc(),
-                (CLAIMED, LIVE),
-                (steps, at),
-                found,
-                NOT_ATTACHED,
-            )?;
-        }
+            NOT_ATTACHED,
+        );
+        play_troubled(&rt, alloc, name, ask, (Reading(11_000), late), NOT_ATTACHED);
     }
-    Ok(())
 }
 
-/// A create of an attached slot that is free, up to its record.
-const CREATES: &[Step] = &[
-    Bytes(4, FreeSlot(0)),
-    Clock(10_999),
-    Ends(b"attached live=0 gen=0 size=0 writes=0 taken=0 dropped=0 label=-"),
-    Begins(Create),
-    Clock(1_700),
-];
-
-/// What its ask to write the record is answered.
-const RECORD: &[&[Step]] = &[
-    &[
-        Gets(Trouble::Read, Stands),
-        Done(WriteKind::Record, 4, 11_000, LiveSlot(1, 0)),
-    ],
-    &[Gets(Fault, Told(b"write-fault block=4"))],
-    &[Gets(Missed(11_001), MISSED)],
+const STORIES: &[Story] = &[
+    // What the ask to write the record of a create is answered.
+    (
+        "a create whose write gets a read",
+        Creating,
+        &[
+            Gets(Trouble::Read(Zeros), Stands),
+            Done(WriteKind::Record, 4, 11_000, LiveSlot(1, 0)),
+        ],
+    ),
+    (
+        "a create whose write fails",
+        Creating,
+        &[Gets(Fault, Told(b"write-fault block=4"))],
+    ),
+    (
+        "a create whose write is missed",
+        Creating,
+        &[Gets(Missed(11_001), MISSED)],
+    ),
+    // The lease is claimed up to 11,000 ms. Then, where it is held and where it is over: a command
+    // that is refused drops it too, and a renew renews it or nothing.
+    (
+        "a read while the lease is held",
+        Unread,
+        &[
+            Begins(Read),
+            Clock(10_999),
+            Ends(b"not-attached"),
+            Begins(Attach),
+            Clock(1_700),
+            Bytes(4, LiveSlot(1, 0)),
+        ],
+    ),
+    (
+        "a read once the lease is over",
+        Unread,
+        &[
+            Begins(Read),
+            Clock(11_000),
+            Ends(b"not-attached"),
+            Begins(Attach),
+            Clock(1_700),
+            Clock(1_700),
+        ],
+    ),
+    (
+        "a renew while the lease is held",
+        Unread,
+        &[
+            Begins(Renew),
+            Clock(10_999),
+            Done(WriteKind::Renew, 2, 11_000, Lease(7, 0, 1_000, 20_999)),
+            Ends(b"renewed"),
+            Begins(Attach),
+            Clock(1_700),
+            Bytes(4, LiveSlot(1, 0)),
+        ],
+    ),
+    (
+        "a renew once the lease is over",
+        Unread,
+        &[
+            Begins(Renew),
+            Clock(11_000),
+            Ends(b"renewed"),
+            Begins(Attach),
+            Clock(1_700),
+            Clock(1_700),
+        ],
+    ),
 ];
 
 #[test]
-fn trouble_at_the_record_of_a_create(rt: HostRuntime) -> Result<(), NoMemory> {
-    takes_each(&rt, rt.alloc(), (CLAIMED, CREATES), RECORD)
-}
-
-/// An attach couldn't read the record.
-const UNREAD: &[Step] = &[Gets(Fault, Told(b"read-fault block=4"))];
-
-/// The lease is claimed up to 11,000 ms. Then, where it is held and where it is over: a command
-/// that is refused drops it too, and a renew renews it or nothing.
-const WITHOUT_SESSION: &[&[Step]] = &[
-    &[
-        Begins(Read),
-        Clock(10_999),
-        Ends(b"not-attached"),
-        Begins(Attach),
-        Clock(1_700),
-        Bytes(4, LiveSlot(1, 0)),
-    ],
-    &[
-        Begins(Read),
-        Clock(11_000),
-        Ends(b"not-attached"),
-        Begins(Attach),
-        Clock(1_700),
-        Clock(1_700),
-    ],
-    &[
-        Begins(Renew),
-        Clock(10_999),
-        Done(WriteKind::Renew, 2, 11_000, Lease(7, 0, 1_000, 20_999)),
-        Ends(b"renewed"),
-        Begins(Attach),
-        Clock(1_700),
-        Bytes(4, LiveSlot(1, 0)),
-    ],
-    &[
-        Begins(Renew),
-        Clock(11_000),
-        Ends(b"renewed"),
-        Begins(Attach),
-        Clock(1_700),
-        Clock(1_700),
-    ],
-];
-
-#[test]
-fn a_lease_without_a_session_is_kept_up_to_its_end(rt: HostRuntime) -> Result<(), NoMemory> {
-    takes_each(&rt, rt.alloc(), (CLAIMED, UNREAD), WITHOUT_SESSION)
+fn trouble_at_a_create_and_without_a_session(rt: HostRuntime) {
+    play_each(&rt, rt.alloc(), STORIES);
 }
