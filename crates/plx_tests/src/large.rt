@@ -1,64 +1,53 @@
 //! One large schedule: a body that wants memory past a small size fails here.
-use crate::program::Story;
-use std::alloc::{AllocError, Global};
-use std::test::Fail;
+use crate::program::Start::Open;
+use crate::program::{ends, opened};
+use std::alloc::AllocError;
 
-/// Events that aren't possible: 27 lines.
-fn push_nothing(story: &mut Story) -> Result<(), AllocError> {
+/// An event that isn't possible.
+const NOTHING: &str = "land 4294967295 18446744073709551615 255\n";
+
+/// Events that aren't possible, and a boot of appliance 0 that writes once, and dies. The next boot waits until
+/// the lease is expired, and attaches the image.
+fn push_boot(story: &mut String, number: u32) -> Result<(), AllocError> {
     for _ in 0..27 {
-        story.play(b"land 4294967295 18446744073709551615 255\n")?;
+        story.push_str(NOTHING)?;
     }
-    Ok(())
-}
-
-/// Appliance 0 writes the virtual block `number % 8`, and is answered so.
-fn write(alloc: Global, story: &mut Story, number: u32, reply: &[u8]) -> Result<(), AllocError> {
-    let command = format!(in alloc; "write 0 {} all:{:02}", number % 8, number % 100)?;
-    story.call(b"0", command.as_bytes(), reply)
-}
-
-/// The write of this number is made.
-fn write_once(alloc: Global, story: &mut Story, number: u32) -> Result<(), AllocError> {
-    let reply = format!(in alloc; "written {}", number.saturating_add(1))?;
-    write(alloc, story, number, reply.as_bytes())
-}
-
-/// The next boot waits until the lease is expired, and attaches the image with so many writes.
-fn crash(alloc: Global, story: &mut Story, writes: u32) -> Result<(), AllocError> {
-    story.crash(b"0")?;
-    story.play(b"tick 9500\n")?;
-    let report = format!(in alloc;
-        "attached live=1 gen=1 size=8 writes={writes} taken=0 dropped=0 label=a"
+    let writes = number.saturating_add(1);
+    let (vblock, byte) = (number % 8, number % 100);
+    writeln!(story, "start 0 write 0 {vblock} all:{byte:02}")?;
+    writeln!(
+        story,
+        "run 0\n#> reply 0 written {writes}\ncrash 0\ntick 9500"
     )?;
-    story.wait(b"0", b"attach 0", report.as_bytes())
+    writeln!(story, "start 0 attach 0\nrun 0\ntick 601\nrun 0")?;
+    writeln!(
+        story,
+        "#> reply 0 attached live=1 gen=1 size=8 writes={writes} taken=0 dropped=0 label=a"
+    )
 }
 
 /// What was written last to this virtual block is read.
-fn read(alloc: Global, story: &mut Story, vblock: u32) -> Result<(), AllocError> {
-    let command = format!(in alloc; "read 0 {vblock}")?;
-    let reply = format!(in alloc; "data all:{:02}", vblock.saturating_add(56))?;
-    story.call(b"0", command.as_bytes(), reply.as_bytes())
+fn push_read(story: &mut String, vblock: u32) -> Result<(), AllocError> {
+    let byte = vblock.saturating_add(56);
+    writeln!(
+        story,
+        "start 0 read 0 {vblock}\nrun 0\n#> reply 0 data all:{byte:02}"
+    )
 }
 
 /// Each of 64 boots writes once, and dies. The last one finds the journal full.
-fn fill(alloc: Global, story: &mut Story) -> Result<(), AllocError> {
-    story.open(b"0")?;
-    for number in 0..64u32 {
-        push_nothing(story)?;
-        write_once(alloc, story, number)?;
-        crash(alloc, story, number.saturating_add(1))?;
-    }
-    write(alloc, story, 0, b"full")?;
-    for vblock in 0..8u32 {
-        read(alloc, story, vblock)?;
-    }
-    Ok(())
-}
-
 #[test]
-fn a_full_journal_is_filled_over_crashes(rt: HostRuntime) -> Result<(), Fail> {
-    let mut story = Story::new(rt.alloc(), b"1 1 16 64 1")?;
-    fill(rt.alloc(), &mut story)?;
-    assert!(rt; story.schedule.len() > 65_536);
-    Ok(story.ends(&rt, b"0", 100)?)
+fn a_full_journal_is_filled_over_crashes(rt: HostRuntime) {
+    let mut story = opened(&rt, rt.alloc(), "1 1 16 64 1", Open);
+    for number in 0..64 {
+        push_boot(&mut story, number).expect(&rt, "memory");
+    }
+    story
+        .push_str("start 0 write 0 0 all:00\nrun 0\n#> reply 0 full\n")
+        .expect(&rt, "memory");
+    for vblock in 0..8 {
+        push_read(&mut story, vblock).expect(&rt, "memory");
+    }
+    assert!(rt; story.len() > 65_536);
+    ends(&rt, rt.alloc(), story.as_str(), "0", 100);
 }

@@ -8,8 +8,6 @@ mod large;
 #[cfg(test)]
 mod program;
 #[cfg(test)]
-mod retires;
-#[cfg(test)]
 mod schedules;
 #[cfg(test)]
 mod space;

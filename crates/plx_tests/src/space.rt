@@ -1,124 +1,172 @@
 //! Fresh blocks that are taken and given back, with traces written out by hand from the rules.
 //!
 //! In a world of one image and two journal slots the maps of extents of 16 blocks are blocks 10 and 26.
-use crate::program::Line::{Call, Crash, Fault, Play, Reply, Start, Wait};
-use crate::program::{Line, plays_to};
-use std::test::Fail;
-
-/// What a take finds of the lease of extent 0 that appliance 0 claimed at 1,000 ms.
-const BUSY: &[u8] = b"busy lease=extent:0 boot=1 claim=0 sample=1000 until=11000";
+use crate::program::Start::Empty;
+use crate::program::{Story, plays_each};
 
 /// Appliance 0 takes three blocks, and then all others of the one extent.
-const FILLED: &[Line] = &[
-    Wait(b"0", b"reserve 3", b"reserved"),
-    Call(b"1", b"reserve 1", BUSY),
-    Call(b"0", b"reserve 15", b"reserved"),
-    Call(b"0", b"reserve 16", b"full"),
-    // No block is free, so no lease is claimed.
-    Call(b"1", b"reserve 1", b"full"),
-];
+const FILLED: &str = "start 0 reserve 3
+run 0
+tick 601
+run 0
+#> reply 0 reserved
+start 1 reserve 1
+run 1
+#> reply 1 busy lease=extent:0 boot=1 claim=0 sample=1000 until=11000
+start 0 reserve 15
+run 0
+#> reply 0 reserved
+start 0 reserve 16
+run 0
+#> reply 0 full
+# No block is free, so no lease is claimed.
+start 1 reserve 1
+run 1
+#> reply 1 full
+";
 
-const GIVEN_BACK: &[Line] = &[Call(b"0", b"retire", b"retired")];
+const GIVEN_BACK: &str = "start 0 retire
+run 0
+#> reply 0 retired
+";
 
 /// The lease of the extent was released too.
-const TAKEN_AGAIN: &[Line] = &[Wait(b"1", b"reserve 2", b"reserved")];
+const TAKEN_AGAIN: &str = "start 1 reserve 2
+run 1
+tick 601
+run 1
+#> reply 1 reserved
+";
 
-#[test]
-fn an_extent_is_filled_and_given_back(rt: HostRuntime) -> Result<(), Fail> {
-    plays_to(&rt, rt.alloc(), b"1 1 16 2 2", &[FILLED, GIVEN_BACK], b"0")?;
-    let parts = [FILLED, GIVEN_BACK, TAKEN_AGAIN];
-    plays_to(&rt, rt.alloc(), b"1 1 16 2 2", &parts, b"2")
-}
+const PAST_BUSY: &str = "start 0 reserve 3
+run 0
+tick 601
+run 0
+#> reply 0 reserved
+start 1 reserve 4
+run 1
+tick 601
+run 1
+#> reply 1 reserved
+# Appliance 0 gets what is left of extent 0 and all of extent 2, and names the first that was busy.
+start 0 reserve 31
+run 0
+tick 601
+run 0
+#> reply 0 busy lease=extent:1 boot=2 claim=1 sample=1601 until=11601
+# What it got stays in hand.
+start 0 reserve 30
+run 0
+#> reply 0 reserved
+";
 
-#[test]
-fn blocks_in_hand_are_allocated(rt: HostRuntime) -> Result<(), Fail> {
-    plays_to(&rt, rt.alloc(), b"1 1 16 2 2", &[FILLED], b"15")
-}
+const CRASHED: &str = "start 0 reserve 3
+run 0
+tick 601
+run 0
+#> reply 0 reserved
+crash 0
+start 0 reserve 1
+run 0
+#> reply 0 busy lease=extent:0 boot=1 claim=0 sample=1000 until=11000
+# The lease ended at 11,000 ms, and it is 11,101 ms. The three blocks are nobody's.
+tick 9500
+start 0 reserve 1
+run 0
+tick 601
+run 0
+#> reply 0 reserved
+start 0 retire
+run 0
+#> reply 0 retired
+";
 
-const PAST_BUSY: &[Line] = &[
-    Wait(b"0", b"reserve 3", b"reserved"),
-    Wait(b"1", b"reserve 4", b"reserved"),
-    // Appliance 0 gets what is left of extent 0 and all of extent 2, and names the first that was busy.
-    Wait(
-        b"0",
-        b"reserve 31",
-        b"busy lease=extent:1 boot=2 claim=1 sample=1601 until=11601",
-    ),
-    // What it got stays in hand.
-    Call(b"0", b"reserve 30", b"reserved"),
+const GIVEN_UP: &str = "start 0 reserve 3
+run 0
+tick 601
+run 0
+#> reply 0 reserved
+# It is 11,000 ms: the first reading drops the lease, which isn't expired for a claim yet.
+tick 9399
+start 0 reserve 1
+run 0
+#> reply 0 busy lease=extent:0 boot=1 claim=0 sample=1000 until=11000
+tick 101
+start 0 reserve 1
+run 0
+tick 601
+run 0
+#> reply 0 reserved
+";
+
+const RENEWED: &str = "start 0 reserve 3
+run 0
+tick 601
+run 0
+#> reply 0 reserved
+tick 9398
+start 0 renew
+run 0
+#> reply 0 renewed
+tick 5000
+# Three are in hand still.
+start 0 reserve 3
+run 0
+#> reply 0 reserved
+start 0 retire
+run 0
+#> reply 0 retired
+";
+
+const FAILED_TAKE: &str = "start 0 reserve 3
+upto 0 r-map
+read 0
+run 0
+tick 601
+upto 0 take
+issue 0
+fault 0
+#> reply 0 write-fault block=10
+start 0 reserve 1
+run 0
+#> reply 0 busy lease=extent:0 boot=1 claim=0 sample=1000 until=11000
+# What was issued lands yet.
+land 0 0 0
+";
+
+const MISSED_GIVE: &str = "start 0 reserve 3
+run 0
+tick 601
+run 0
+#> reply 0 reserved
+start 0 retire
+upto 0 give
+tick 9400
+run 0
+#> reply 0 lost lease=extent:0 until=11000 reading=11001
+";
+
+const STORIES: &[Story] = &[
+    // An extent is filled and given back.
+    ("1 1 16 2 2", Empty, &[FILLED, GIVEN_BACK], "0"),
+    ("1 1 16 2 2", Empty, &[FILLED, GIVEN_BACK, TAKEN_AGAIN], "2"),
+    // Blocks in hand are allocated.
+    ("1 1 16 2 2", Empty, &[FILLED], "15"),
+    // A take goes past a busy extent.
+    ("1 3 16 2 2", Empty, &[PAST_BUSY], "34"),
+    // A crash leaves its blocks allocated.
+    ("1 1 16 2 1", Empty, &[CRASHED], "3"),
+    // Blocks are given up with their lease.
+    ("1 1 16 2 1", Empty, &[GIVEN_UP], "4"),
+    // A renew keeps an extent.
+    ("1 1 16 2 1", Empty, &[RENEWED], "0"),
+    // A take that fails loses the extent.
+    ("1 1 16 2 1", Empty, &[FAILED_TAKE], "3"),
+    // A give that is missed loses the extent.
+    ("1 1 16 2 1", Empty, &[MISSED_GIVE], "3"),
 ];
 
 #[test]
-fn a_take_goes_past_a_busy_extent(rt: HostRuntime) -> Result<(), Fail> {
-    plays_to(&rt, rt.alloc(), b"1 3 16 2 2", &[PAST_BUSY], b"34")
-}
-
-const CRASHED: &[Line] = &[
-    Wait(b"0", b"reserve 3", b"reserved"),
-    Crash(b"0"),
-    Call(b"0", b"reserve 1", BUSY),
-    // The lease ended at 11,000 ms, and it is 11,101 ms. The three blocks are nobody's.
-    Play(b"tick 9500\n"),
-    Wait(b"0", b"reserve 1", b"reserved"),
-    Call(b"0", b"retire", b"retired"),
-];
-
-#[test]
-fn a_crash_leaves_its_blocks_allocated(rt: HostRuntime) -> Result<(), Fail> {
-    plays_to(&rt, rt.alloc(), b"1 1 16 2 1", &[CRASHED], b"3")
-}
-
-const GIVEN_UP: &[Line] = &[
-    Wait(b"0", b"reserve 3", b"reserved"),
-    // It is 11,000 ms: the first reading drops the lease, which isn't expired for a claim yet.
-    Play(b"tick 9399\n"),
-    Call(b"0", b"reserve 1", BUSY),
-    Play(b"tick 101\n"),
-    Wait(b"0", b"reserve 1", b"reserved"),
-];
-
-#[test]
-fn blocks_are_given_up_with_their_lease(rt: HostRuntime) -> Result<(), Fail> {
-    plays_to(&rt, rt.alloc(), b"1 1 16 2 1", &[GIVEN_UP], b"4")
-}
-
-const RENEWED: &[Line] = &[
-    Wait(b"0", b"reserve 3", b"reserved"),
-    Play(b"tick 9398\n"),
-    Call(b"0", b"renew", b"renewed"),
-    Play(b"tick 5000\n"),
-    // Three are in hand still.
-    Call(b"0", b"reserve 3", b"reserved"),
-    Call(b"0", b"retire", b"retired"),
-];
-
-#[test]
-fn a_renew_keeps_an_extent(rt: HostRuntime) -> Result<(), Fail> {
-    plays_to(&rt, rt.alloc(), b"1 1 16 2 1", &[RENEWED], b"0")
-}
-
-const FAILED_TAKE: &[Line] = &[
-    Start(b"0", b"reserve 3"),
-    Play(b"upto 0 r-map\nread 0\nrun 0\ntick 601\nupto 0 take\nissue 0\n"),
-    Fault(b"0", b"write-fault block=10"),
-    Call(b"0", b"reserve 1", BUSY),
-    // What was issued lands yet.
-    Play(b"land 0 0 0\n"),
-];
-
-#[test]
-fn a_take_that_fails_loses_the_extent(rt: HostRuntime) -> Result<(), Fail> {
-    plays_to(&rt, rt.alloc(), b"1 1 16 2 1", &[FAILED_TAKE], b"3")
-}
-
-const MISSED_GIVE: &[Line] = &[
-    Wait(b"0", b"reserve 3", b"reserved"),
-    Start(b"0", b"retire"),
-    Play(b"upto 0 give\ntick 9400\nrun 0\n"),
-    Reply(b"0", b"lost lease=extent:0 until=11000 reading=11001"),
-];
-
-#[test]
-fn a_give_that_is_missed_loses_the_extent(rt: HostRuntime) -> Result<(), Fail> {
-    plays_to(&rt, rt.alloc(), b"1 1 16 2 1", &[MISSED_GIVE], b"3")
+fn blocks_are_taken_and_given_back(rt: HostRuntime) {
+    plays_each(&rt, rt.alloc(), STORIES);
 }

@@ -1,86 +1,79 @@
 //! How a run of the program ends: its status, and what it wrote.
 use crate::program::{Streams, replay, run_with};
 use plx_cli::Status;
-use std::test::Fail;
 
 /// A world without events, and its trace.
-const WORLD: &[u8] = b"world 1 1 16 2 1\n";
+const WORLD: &str = "world 1 1 16 2 1\n";
 
-const WORLD_TRACE: &[u8] = b"world 1 1 16 2 1\nend reachable=0 allocated=0\n";
+const WORLD_TRACE: &str = "world 1 1 16 2 1\nend reachable=0 allocated=0\n";
+
+/// Words that are not known.
+const WORDS: &[&[&str]] = &[
+    &[],
+    &["replay", "x"],
+    &["replay", "--"],
+    &["reply"],
+    &["Replay"],
+    &["check"],
+    &[""],
+];
 
 #[test]
-fn words_that_are_not_known_are_refused(rt: HostRuntime) -> Result<(), Fail> {
-    let cases: [&[&str]; 7] = [
-        &[],
-        &["replay", "x"],
-        &["replay", "--"],
-        &["reply"],
-        &["Replay"],
-        &["check"],
-        &[""],
-    ];
-    for words in cases {
-        run_with(rt.alloc(), words, Streams::of(WORLD))?.is(&rt, Status::Usage, b"");
+fn words_that_are_not_known_are_refused(rt: HostRuntime) {
+    for words in WORDS {
+        let streams = Streams::of(WORLD.as_bytes());
+        run_with(&rt, rt.alloc(), words, streams).is(&rt, Status::Usage, "");
     }
-    Ok(())
+}
+
+/// Inputs, their status, and what is written: a bad line is told alone, and a world without events has a
+/// trace.
+const INPUTS: &[(&str, Status, &str)] = &[
+    ("world 1 1 16 2 1\ntick 5", Status::BadLine, "bad line 2\n"),
+    ("", Status::BadLine, "bad line 1\n"),
+    ("world 0 1 16 2 1\n", Status::BadLine, "bad line 1\n"),
+    (
+        "world 1 1 16 2 1\nstart 0 attach 0\nrun 0\nrun\n",
+        Status::BadLine,
+        "bad line 4\n",
+    ),
+    ("#\n\n", Status::BadLine, "bad line 3\n"),
+    (WORLD, Status::Done, WORLD_TRACE),
+    (
+        "\n# all limits\nworld 256 512 32768 64 8\n",
+        Status::Done,
+        "world 256 512 32768 64 8\nend reachable=0 allocated=0\n",
+    ),
+];
+
+#[test]
+fn an_input_has_a_status_and_a_text(rt: HostRuntime) {
+    for &(input, status, text) in INPUTS {
+        replay(&rt, rt.alloc(), Streams::of(input.as_bytes())).is(&rt, status, text);
+    }
 }
 
 #[test]
-fn a_bad_line_is_told_alone(rt: HostRuntime) -> Result<(), Fail> {
-    let cases: [(&[u8], &[u8]); 5] = [
-        (b"world 1 1 16 2 1\ntick 5", b"bad line 2\n"),
-        (b"", b"bad line 1\n"),
-        (b"world 0 1 16 2 1\n", b"bad line 1\n"),
-        (
-            b"world 1 1 16 2 1\nstart 0 attach 0\nrun 0\nrun\n",
-            b"bad line 4\n",
-        ),
-        (b"#\n\n", b"bad line 3\n"),
-    ];
-    for (input, want) in cases {
-        replay(rt.alloc(), Streams::of(input))?.is(&rt, Status::BadLine, want);
-    }
-    Ok(())
-}
-
-#[test]
-fn a_world_without_events_has_a_trace(rt: HostRuntime) -> Result<(), Fail> {
-    let cases: [(&[u8], &[u8]); 2] = [
-        (WORLD, WORLD_TRACE),
-        (
-            b"\n# all limits\nworld 256 512 32768 64 8\n",
-            b"world 256 512 32768 64 8\nend reachable=0 allocated=0\n",
-        ),
-    ];
-    for (input, want) in cases {
-        replay(rt.alloc(), Streams::of(input))?.is(&rt, Status::Done, want);
-    }
-    Ok(())
-}
-
-#[test]
-fn a_source_that_fails_at_any_call_gives_nothing(rt: HostRuntime) -> Result<(), Fail> {
-    for call in 0..18u64 {
+fn a_source_that_fails_at_any_call_gives_nothing(rt: HostRuntime) {
+    for call in 0..18 {
         let streams = Streams {
             gives: 1,
             failed_reads: &[call],
-            ..Streams::of(WORLD)
+            ..Streams::of(WORLD.as_bytes())
         };
-        replay(rt.alloc(), streams)?.is(&rt, Status::SourceFault, b"");
+        replay(&rt, rt.alloc(), streams).is(&rt, Status::SourceFault, "");
     }
-    Ok(())
 }
 
 #[test]
-fn a_sink_that_fails_at_any_call_holds_a_front_of_the_trace(rt: HostRuntime) -> Result<(), Fail> {
+fn a_sink_that_fails_at_any_call_holds_a_front_of_the_trace(rt: HostRuntime) {
     for call in 0..45usize {
         let streams = Streams {
             takes: 1,
             failed_writes: &[call as u64],
-            ..Streams::of(WORLD)
+            ..Streams::of(WORLD.as_bytes())
         };
         let front = WORLD_TRACE.get(..call).unwrap_or(WORLD_TRACE);
-        replay(rt.alloc(), streams)?.is(&rt, Status::SinkFault, front);
+        replay(&rt, rt.alloc(), streams).is(&rt, Status::SinkFault, front);
     }
-    Ok(())
 }
