@@ -367,31 +367,41 @@ run 1
 
 const STORIES: &[Story] = &[
     // A renewed and released lease goes to the next.
-    ("1 1 16 2 2", Open, &[RELEASED], "0"),
+    ("world 1 1 16 2 2\n", Open, &[RELEASED], "0"),
     // Of claims at once the last that landed is held.
-    ("1 1 16 2 2", Empty, &[CLAIMS, LANDED_SECOND], "0"),
-    ("1 1 16 2 2", Empty, &[CLAIMS, LANDED_FIRST], "0"),
+    ("world 1 1 16 2 2\n", Empty, &[CLAIMS, LANDED_SECOND], "0"),
+    ("world 1 1 16 2 2\n", Empty, &[CLAIMS, LANDED_FIRST], "0"),
     // A claim that lands last is held even of a dead boot.
-    ("1 1 16 2 2", Empty, &[DEAD_CLAIM, LATE_CLAIM], "0"),
-    ("1 1 16 2 2", Empty, &[DEAD_CLAIM, TOO_LATE_CLAIM], "0"),
+    ("world 1 1 16 2 2\n", Empty, &[DEAD_CLAIM, LATE_CLAIM], "0"),
+    (
+        "world 1 1 16 2 2\n",
+        Empty,
+        &[DEAD_CLAIM, TOO_LATE_CLAIM],
+        "0",
+    ),
     // Eight appliances claim one image.
-    ("1 1 16 2 8", Empty, &[EIGHT], "0"),
+    ("world 1 1 16 2 8\n", Empty, &[EIGHT], "0"),
     // A claim waits, and the first holder is lost.
-    ("1 1 16 2 2", Open, &[TAKEN_OVER], "0"),
+    ("world 1 1 16 2 2\n", Open, &[TAKEN_OVER], "0"),
     // Late sectors of a dead boot change nothing.
-    ("1 1 16 2 2", Open, &[LATE_SECTORS], "0"),
+    ("world 1 1 16 2 2\n", Open, &[LATE_SECTORS], "0"),
     // A release of a dead boot frees the lease in time.
-    ("1 1 16 2 2", Open, &[DEAD_RELEASE, RELEASE], "0"),
-    ("1 1 16 2 2", Open, &[DEAD_RELEASE, TOO_LATE_RELEASE], "0"),
+    ("world 1 1 16 2 2\n", Open, &[DEAD_RELEASE, RELEASE], "0"),
+    (
+        "world 1 1 16 2 2\n",
+        Open,
+        &[DEAD_RELEASE, TOO_LATE_RELEASE],
+        "0",
+    ),
     // A renewal of a dead or failed boot holds the lease longer.
-    ("1 1 16 2 2", Open, &[RENEWAL, CRASH, LONGER], "0"),
-    ("1 1 16 2 2", Open, &[RENEWAL, FAULT, LONGER], "0"),
+    ("world 1 1 16 2 2\n", Open, &[RENEWAL, CRASH, LONGER], "0"),
+    ("world 1 1 16 2 2\n", Open, &[RENEWAL, FAULT, LONGER], "0"),
     // Leases are renewed one after another.
-    ("2 1 16 2 2", Open, &[RENEWALS], "0"),
+    ("world 2 1 16 2 2\n", Open, &[RENEWALS], "0"),
     // Clocks at their limits leave no two holders.
-    ("1 1 16 2 2", Open, &[CLOCKS], "0"),
+    ("world 1 1 16 2 2\n", Open, &[CLOCKS], "0"),
     // Two appliances change their images.
-    ("2 1 16 2 2", Open, &[CHANGES], "0"),
+    ("world 2 1 16 2 2\n", Open, &[CHANGES], "0"),
 ];
 
 #[test]

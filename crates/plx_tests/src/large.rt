@@ -38,7 +38,7 @@ fn push_read(story: &mut String, vblock: u32) -> Result<(), AllocError> {
 /// Each of 64 boots writes once, and dies. The last one finds the journal full.
 #[test]
 fn a_full_journal_is_filled_over_crashes(rt: HostRuntime) {
-    let mut story = opened(&rt, rt.alloc(), "1 1 16 64 1", Open);
+    let mut story = opened(&rt, rt.alloc(), "world 1 1 16 64 1\n", Open);
     for number in 0..64 {
         push_boot(&mut story, number).expect(&rt, "memory");
     }

@@ -54,13 +54,23 @@ impl<'a> Streams<'a> {
 }
 
 /// The program's name, and these words.
-fn words(alloc: Global, given: &[&str]) -> Result<Vec<String>, AllocError> {
+fn words(rt: &impl Abort, alloc: Global, given: &[&str]) -> Vec<String> {
     let mut words = Vec::new(alloc);
-    words.push(String::from_str(alloc, "plx")?)?;
+    push(rt, &mut words, text(rt, alloc, "plx"));
     for word in given {
-        words.push(String::from_str(alloc, word)?)?;
+        push(rt, &mut words, text(rt, alloc, word));
     }
-    Ok(words)
+    words
+}
+
+/// One more word.
+fn push(rt: &impl Abort, words: &mut Vec<String>, word: String) {
+    words.push(word).expect(rt, "memory");
+}
+
+/// A text.
+fn text(rt: &impl Abort, alloc: Global, text: &str) -> String {
+    String::from_str(alloc, text).expect(rt, "memory")
 }
 
 /// A run with these words between the streams.
@@ -70,7 +80,7 @@ pub(crate) fn run_with(
     given: &[&str],
     streams: Streams,
 ) -> Outcome {
-    let words = words(alloc, given).expect(rt, "memory");
+    let words = words(rt, alloc, given);
     let mut source = streams.source(alloc).expect(rt, "memory");
     let mut sink = streams.sink(alloc).expect(rt, "memory");
     let status = run(alloc, &words, &mut source, &mut sink);
@@ -92,7 +102,7 @@ pub(crate) enum Start {
     Open,
 }
 
-/// A story: the numbers of its world, what stands before it, its parts, and how many blocks of the pool are
+/// A story: the line of its world, what stands before it, its parts, and how many blocks of the pool are
 /// allocated at its end. Its lines are those of a schedule. A comment `#> ..` has a line of the trace,
 /// which has the starts and crashes too.
 pub(crate) type Story = (&'static str, Start, &'static [&'static str], &'static str);
@@ -132,7 +142,7 @@ pub(crate) fn plays(
 
 /// The story up to its parts.
 pub(crate) fn opened(rt: &impl Abort, alloc: Global, world: &str, start: Start) -> String {
-    let mut story = format!(in alloc; "world {world}\n").expect(rt, "memory");
+    let mut story = text(rt, alloc, world);
     if let Start::Open = start {
         story.push_str(OPEN).expect(rt, "memory");
     }

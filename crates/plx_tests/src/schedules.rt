@@ -223,10 +223,10 @@ fn landings(count: usize) -> &'static str {
 fn a_crash_before_the_commit_leaves_nothing_of_a_write(rt: HostRuntime) {
     for landed in 0..9 {
         let parts = [SECOND_WRITE, landings(landed), CRASH, NOT_COMMITTED];
-        plays(&rt, rt.alloc(), "1 1 16 2 1", Open, &parts, "0");
+        plays(&rt, rt.alloc(), "world 1 1 16 2 1\n", Open, &parts, "0");
     }
     let parts = [SECOND_WRITE, SECTORS, DESCRIPTOR, CRASH, NOT_COMMITTED];
-    plays(&rt, rt.alloc(), "1 1 16 2 1", Open, &parts, "0");
+    plays(&rt, rt.alloc(), "world 1 1 16 2 1\n", Open, &parts, "0");
 }
 
 #[test]
@@ -241,7 +241,7 @@ fn a_crash_after_the_commit_leaves_the_whole_write(rt: HostRuntime) {
             CRASH,
             COMMITTED,
         ];
-        plays(&rt, rt.alloc(), "1 1 16 2 1", Open, &parts, "0");
+        plays(&rt, rt.alloc(), "world 1 1 16 2 1\n", Open, &parts, "0");
     }
 }
 
@@ -565,31 +565,51 @@ run 1
 
 const STORIES: &[Story] = &[
     // A journal is full, and an attached image stays attached.
-    ("1 1 16 2 1", Open, &[FULL], "0"),
+    ("world 1 1 16 2 1\n", Open, &[FULL], "0"),
     // Slots are filled, emptied and filled again.
-    ("2 1 16 2 1", Open, &[FILLED], "0"),
+    ("world 2 1 16 2 1\n", Open, &[FILLED], "0"),
     // A crash at a create leaves an image or a free slot.
-    ("1 1 16 2 1", Empty, &[CREATE, MADE], "0"),
-    ("1 1 16 2 1", Empty, &[CREATE, NOT_MADE], "0"),
+    ("world 1 1 16 2 1\n", Empty, &[CREATE, MADE], "0"),
+    ("world 1 1 16 2 1\n", Empty, &[CREATE, NOT_MADE], "0"),
     // A lease is lost at its end.
-    ("1 1 16 2 1", Open, &[LOST], "0"),
+    ("world 1 1 16 2 1\n", Open, &[LOST], "0"),
     // A renewal never shortens a lease.
-    ("1 1 16 2 1", Open, &[RENEWED], "0"),
+    ("world 1 1 16 2 1\n", Open, &[RENEWED], "0"),
     // One lost lease ends all sessions.
-    ("2 1 16 2 1", Open, &[SESSIONS], "0"),
+    ("world 2 1 16 2 1\n", Open, &[SESSIONS], "0"),
     // A failed write ends the session and leaves the lease.
-    ("1 1 16 2 1", Open, &[FAILED_WRITE], "0"),
+    ("world 1 1 16 2 1\n", Open, &[FAILED_WRITE], "0"),
     // A failed write may land later.
-    ("1 1 16 2 1", Open, &[WRITE, BOOT_CRASH, LANDED], "0"),
-    ("1 1 16 2 1", Open, &[WRITE, BOOT_FAULT, LANDED], "0"),
-    ("1 1 16 2 1", Open, &[WRITE, BOOT_CRASH, NOT_LANDED], "0"),
-    ("1 1 16 2 1", Open, &[WRITE, BOOT_FAULT, NOT_LANDED], "0"),
+    (
+        "world 1 1 16 2 1\n",
+        Open,
+        &[WRITE, BOOT_CRASH, LANDED],
+        "0",
+    ),
+    (
+        "world 1 1 16 2 1\n",
+        Open,
+        &[WRITE, BOOT_FAULT, LANDED],
+        "0",
+    ),
+    (
+        "world 1 1 16 2 1\n",
+        Open,
+        &[WRITE, BOOT_CRASH, NOT_LANDED],
+        "0",
+    ),
+    (
+        "world 1 1 16 2 1\n",
+        Open,
+        &[WRITE, BOOT_FAULT, NOT_LANDED],
+        "0",
+    ),
     // A failed read leaves what was got.
-    ("1 1 16 2 1", Empty, &[FAILED_READS], "0"),
+    ("world 1 1 16 2 1\n", Empty, &[FAILED_READS], "0"),
     // A claim that comes too late is lost.
-    ("1 1 16 2 1", Empty, &[LATE_CLAIM], "0"),
+    ("world 1 1 16 2 1\n", Empty, &[LATE_CLAIM], "0"),
     // A retire gives up images without a session.
-    ("2 1 16 2 2", Open, &[RETIRED], "0"),
+    ("world 2 1 16 2 2\n", Open, &[RETIRED], "0"),
 ];
 
 #[test]

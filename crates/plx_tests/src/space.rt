@@ -148,22 +148,27 @@ run 0
 
 const STORIES: &[Story] = &[
     // An extent is filled and given back.
-    ("1 1 16 2 2", Empty, &[FILLED, GIVEN_BACK], "0"),
-    ("1 1 16 2 2", Empty, &[FILLED, GIVEN_BACK, TAKEN_AGAIN], "2"),
+    ("world 1 1 16 2 2\n", Empty, &[FILLED, GIVEN_BACK], "0"),
+    (
+        "world 1 1 16 2 2\n",
+        Empty,
+        &[FILLED, GIVEN_BACK, TAKEN_AGAIN],
+        "2",
+    ),
     // Blocks in hand are allocated.
-    ("1 1 16 2 2", Empty, &[FILLED], "15"),
+    ("world 1 1 16 2 2\n", Empty, &[FILLED], "15"),
     // A take goes past a busy extent.
-    ("1 3 16 2 2", Empty, &[PAST_BUSY], "34"),
+    ("world 1 3 16 2 2\n", Empty, &[PAST_BUSY], "34"),
     // A crash leaves its blocks allocated.
-    ("1 1 16 2 1", Empty, &[CRASHED], "3"),
+    ("world 1 1 16 2 1\n", Empty, &[CRASHED], "3"),
     // Blocks are given up with their lease.
-    ("1 1 16 2 1", Empty, &[GIVEN_UP], "4"),
+    ("world 1 1 16 2 1\n", Empty, &[GIVEN_UP], "4"),
     // A renew keeps an extent.
-    ("1 1 16 2 1", Empty, &[RENEWED], "0"),
+    ("world 1 1 16 2 1\n", Empty, &[RENEWED], "0"),
     // A take that fails loses the extent.
-    ("1 1 16 2 1", Empty, &[FAILED_TAKE], "3"),
+    ("world 1 1 16 2 1\n", Empty, &[FAILED_TAKE], "3"),
     // A give that is missed loses the extent.
-    ("1 1 16 2 1", Empty, &[MISSED_GIVE], "3"),
+    ("world 1 1 16 2 1\n", Empty, &[MISSED_GIVE], "3"),
 ];
 
 #[test]
