@@ -114,7 +114,7 @@ const OUTSIDE: &str = refused![
     "start 0 renew 0",
     "start 0 reserve 0",
     "start 0 create 0 1",
-    "start 0 create 0 1 a ",
+    "start 0 create 0 1 a b",
     "start 0 create 0 1 ",
     "start 0 create 0 1 abcdefghijklmnopqrstuvwxyzabcdefg",
     "start 0 create 0 1 \x7f",
