@@ -3,6 +3,8 @@ use plx_base::{Block, BlockNo, are_all};
 use plx_disk::Disk;
 use plx_format::formatted_disk;
 use plx_geom::Geometry;
+use std::alloc::Global;
+use std::process::Abort;
 
 /// How a block begins on the device of two images, two extents of 16 blocks and two slots:
 /// superblock, leases of the root, of the images and of the extents, records, and the maps. The
@@ -31,11 +33,16 @@ fn is_spelled(disk: &Disk, found: &mut Block, number: u64) -> bool {
 
 #[test]
 fn each_block_of_a_formatted_device_is_spelled_by_hand(rt: HostRuntime) {
-    let mut found = Block::zeros(rt.alloc()).expect(&rt, "memory");
     let geometry = Geometry::new(2, 2, 16, 2).expect(&rt, "within the limits");
     let disk = formatted_disk(rt.alloc(), &geometry, 1_000).expect(&rt, "memory");
+    has_all(&rt, rt.alloc(), &disk);
+}
+
+/// The device has its 50 blocks, and nothing was asked of it yet.
+fn has_all(rt: &impl Abort, alloc: Global, disk: &Disk) {
     assert!(rt; disk.blocks() == 50 && disk.time() == 1_000 && disk.issued() == 0);
+    let mut found = Block::zeros(alloc).expect(rt, "memory");
     for number in 0..50 {
-        assert!(rt; is_spelled(&disk, &mut found, number), "{number}");
+        assert!(rt; is_spelled(disk, &mut found, number), "{number}");
     }
 }

@@ -257,7 +257,11 @@ const CLAIMS: &[(&str, Option<u64>, usize, &[Step])] = &[
         "answers that don't fit",
         None,
         2,
-        &[Gets(Reading(9), Stands), Gets(Read(FreeLease), Stands)],
+        &[
+            Gets(Reading(9), Stands),
+            Gets(Read(FreeLease), Stands),
+            Done(WriteKind::Claim, 4, 5_200, Lease(7, 3, 5_000, 15_000)),
+        ],
     ),
     // A lease in use beside it: at its end, and where both are over the one that ended first.
     (

@@ -97,9 +97,14 @@ pub(crate) fn plays(
     for step in steps {
         at = at.saturating_add(1);
         let fits = takes(rt, alloc, machine, &mut told, *step);
-        assert!(rt; fits, "{name}, step {at}");
+        judge(rt, fits, name, at);
     }
-    assert!(rt; told.as_slice().is_empty(), "{name}");
+    judge(rt, told.as_slice().is_empty(), name, at);
+}
+
+/// The machine took this step of the story as it was to.
+fn judge(rt: &impl Abort, fits: bool, name: &str, at: u32) {
+    assert!(rt; fits, "{name}, step {at}");
 }
 
 /// Whether the machine takes a step. What is told is a reply, until it is looked at.
@@ -110,25 +115,44 @@ fn takes(
     told: &mut Vec<u8>,
     step: Step,
 ) -> bool {
+    if let Ends(words) = step {
+        return is_told(told, words);
+    }
+    if !told.as_slice().is_empty() {
+        return false;
+    }
     match step {
-        Ends(words) => is_told(told, words),
-        Begins(asked) => told.as_slice().is_empty()
-            && machine.begins(alloc, asked).unwrap_or(false),
+        Begins(asked) => machine.begins(alloc, asked).unwrap_or(false),
         Gets(trouble, outcome) => {
-            let before = machine.asks();
-            give(rt, alloc, machine, told, trouble.answer(rt, alloc));
-            match outcome {
-                Outcome::Told(words) => is_told(told, words),
-                Outcome::Goes => told.as_slice().is_empty(),
-                Outcome::Stands => told.as_slice().is_empty() && machine.asks() == before,
-            }
+            let answer = trouble.answer(rt, alloc);
+            has_outcome(rt, alloc, machine, told, answer, outcome)
         }
-        Clock(_) | Until(..) | Bytes(..) | Done(..) => {
+        Clock(_) | Until(..) | Bytes(..) | Done(..) | Ends(_) => {
             let block = content(step).block(rt, alloc);
-            let fits = told.as_slice().is_empty() && is_asked(machine, step, block.as_slice());
+            let fits = is_asked(machine, step, block.as_slice());
             give(rt, alloc, machine, told, answer(step, block));
             fits
         }
+    }
+}
+
+/// Whether this answer to the ask that stands has this outcome.
+fn has_outcome(
+    rt: &impl Abort,
+    alloc: Global,
+    machine: &mut dyn Machine,
+    told: &mut Vec<u8>,
+    answer: Answer,
+    outcome: Outcome,
+) -> bool
+    requires { IsTimely answer }
+{
+    let before = machine.asks();
+    give(rt, alloc, machine, told, answer);
+    match outcome {
+        Outcome::Told(words) => is_told(told, words),
+        Outcome::Goes => told.as_slice().is_empty(),
+        Outcome::Stands => told.as_slice().is_empty() && machine.asks() == before,
     }
 }
 
