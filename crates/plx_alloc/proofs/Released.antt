@@ -142,7 +142,7 @@ given-others g extent blocks hand own other ne =
 
 -- what was written tells what is in hand
 pub given-tells : (g : Geometry) (m : Giving) (found : Option (ℕ × List ℕ)) (bytes before after : List ℕ) → m.at ≡ at.Write → TellsGiven g m found → bytes ≡ m.out →
-    after ≡ blocks_without (numbers m.given.items) before → after ≡ hand_from g found kind.Give m.map.0 bytes before
+    after ≡ blocks_without (numbers m.given.value.items) before → after ≡ hand_from g found kind.Give m.map.0 bytes before
 given-tells g m found bytes before after here tells out hand =
     let tells' : tells_given_at at.Write g m found = subst (λ place. tells_given_at place g m found) here tells in
     hand ∙ (sym (tells' before) ∙ ap (λ bytes. hand_from g found kind.Give m.map.0 bytes before) (sym out))

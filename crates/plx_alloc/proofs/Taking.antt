@@ -203,9 +203,9 @@ pass-same o a b p count from same leases =
 
 -- the blocks that were taken came into hand
 pub written-rest : (o : Outer) (a b : Allocator) (m : Reserve) → IsSame a b → extent_leases b ≡ extent_leases a → b.claims ≡ a.claims →
-    hand_numbers b ≡ hand_numbers a ++ numbers m.taken.items →
+    hand_numbers b ≡ hand_numbers a ++ numbers m.taken.value.items →
     pass_rest m.pass (allocator_setting o.appliance b) (holds_of b) m.count (m.extent.0 + 1) o.rest (taking_of o b m)
-    ≡ next_rest o a m (with_taken (taking_of o a m) (numbers m.taken.items))
+    ≡ next_rest o a m (with_taken (taking_of o a m) (numbers m.taken.value.items))
 written-rest o a b m same leases claims hand =
     ap (λ (next : Taking → Part End). next (taking_of o b m)) (pass-same o a b m.pass m.count (m.extent.0 + 1) same leases)
     ∙ (ap (λ n. next_rest o a m (taking_with (known_outside o n) (uses_of m.claimed) (hand_numbers b) (busy_of m.busy))) claims

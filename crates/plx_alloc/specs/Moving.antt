@@ -104,7 +104,7 @@ reserve_ask m = reserve_ask_at m.at m
 
 -- what was read last tells which blocks the write of the map takes
 abbrev pub tells_at : ReserveAt → Geometry → Reserve → Option (ℕ × List ℕ) → Type 0
-tells_at at.Write g m found = (hand : List ℕ) → hand_from g found kind.Take m.map.0 m.out hand ≡ hand ++ numbers m.taken.items
+tells_at at.Write g m found = (hand : List ℕ) → hand_from g found kind.Take m.map.0 m.out hand ≡ hand ++ numbers m.taken.value.items
 tells_at at.Map g m found = Unit {0}
 tells_at at.Look g m found = Unit {0}
 tells_at at.Claim g m found = Unit {0}
@@ -144,7 +144,7 @@ giving_ask m = giving_ask_at m.at m
 
 -- what was read last tells which blocks the write of the map gives back
 abbrev pub tells_given_at : GivingAt → Geometry → Giving → Option (ℕ × List ℕ) → Type 0
-tells_given_at giving.Write g m found = (hand : List ℕ) → hand_from g found kind.Give m.map.0 m.out hand ≡ blocks_without (numbers m.given.items) hand
+tells_given_at giving.Write g m found = (hand : List ℕ) → hand_from g found kind.Give m.map.0 m.out hand ≡ blocks_without (numbers m.given.value.items) hand
 tells_given_at giving.Map g m found = Unit {0}
 tells_given_at giving.Damaged g m found = Unit {0}
 

@@ -21,18 +21,18 @@ use Rattle.plx_alloc.specs.declared.giving.GivingAt.TheVariants as giving
 -- nothing is taken yet from the extent at which a take stands, whose lease is held
 pub record SuitsMap (a : Allocator) (m : Reserve) : Type 0 where
   pub lease : is_held (extent_leases a m.extent.0) ≡ true
-  pub none_yet : array_vec_len m.taken ≡ 0
+  pub none_yet : array_vec_len m.taken.value ≡ 0
 
 -- what is taken lies in the extent, whose lease is held
 pub record SuitsWrite (a : Allocator) (m : Reserve) : Type 0 where
   pub lease : is_held (extent_leases a m.extent.0) ≡ true
-  pub own : AreBetween m.map.0 a.geometry.extent_blocks m.taken.items
+  pub own : AreBetween m.map.0 a.geometry.extent_blocks m.taken.value.items
 
 -- a take among the extents whose leases aren't held stands at one of them
 pub record SuitsOther (a : Allocator) (m : Reserve) : Type 0 where
   pub pass : m.pass ≡ pass.Others
   pub free : held_of a m.extent.0 ≡ None
-  pub none_yet : array_vec_len m.taken ≡ 0
+  pub none_yet : array_vec_len m.taken.value ≡ 0
 
 -- its claim is one of that extent's lease
 pub record SuitsClaim (a : Allocator) (m : Reserve) : Type 0 where
@@ -52,13 +52,13 @@ suits_at at.Damaged a m = Unit {0}
 pub record SuitsReserve (a : Allocator) (m : Reserve) : Type 0 where
   pub extent : m.extent.0 < a.geometry.extents
   pub map : m.map.0 ≡ map_at a.geometry m.extent.0
-  pub room : array_vec_len a.hand + array_vec_len m.taken ≤ 256
+  pub room : array_vec_len a.hand + array_vec_len m.taken.value ≤ 256
   pub held : HoldsHand a
   pub stands : suits_at m.at a m
 
 -- what is given back lies in the extent
 abbrev pub gives_at : GivingAt → Allocator → Giving → Type 0
-gives_at giving.Write a m = AreBetween m.map.0 a.geometry.extent_blocks m.given.items
+gives_at giving.Write a m = AreBetween m.map.0 a.geometry.extent_blocks m.given.value.items
 gives_at giving.Map a m = Unit {0}
 gives_at giving.Damaged a m = Unit {0}
 

@@ -66,7 +66,7 @@ reserve_at at.Map o a m =
     (read_map a.geometry.extent_blocks bytes) (next_rest o a m) (taking_of o a m))
 reserve_at at.Write o a m =
     write_then (allocator_setting o.appliance a) (outer_known o a) (extent_use a.geometry m.extent.0 m.until) kind.Take m.map.0 m.out
-    (next_rest o a m (with_taken (taking_of o a m) (numbers m.taken.items)))
+    (next_rest o a m (with_taken (taking_of o a m) (numbers m.taken.value.items)))
 reserve_at at.Look o a m =
     read_then m.map.0 (outer_known o a) (λ bytes. other_found (allocator_setting o.appliance a) m.count m.extent.0
     (read_map a.geometry.extent_blocks bytes) (next_rest o a m) (taking_of o a m))

@@ -3,8 +3,8 @@ ghost use Rattle.std.specs.Prelude.{◌≡◌, ◌≤◌, ◌+◌, ℕ, List, []
 
 use crate::allocator::Allocator;
 use crate::giving::Giving;
+use crate::room::MapRoom;
 use crate::space_end::SpaceEnd;
-use plx_base::Block;
 use plx_disk::{Answer, Ask};
 
 /// The giving back of all blocks in hand, at one of its asks.
@@ -30,9 +30,9 @@ impl GiveBack {
     ghost use Rattle.plx_alloc.specs.Suiting.{SuitsGiveBack};
     ghost use Rattle.plx_alloc.specs.Tables.{HoldsHand, IsSame, allocator_setting, hand_numbers, holds_of, extent_leases};
 
-    /// All blocks in hand are to be given back: it begins, with a block for the maps that it writes,
-    /// or is over at once.
-    pub fn begin(out: Block, space: &Allocator) -> Result<GiveBack, SpaceEnd>
+    /// All blocks in hand are to be given back: it begins, with the memory of its writes, or is
+    /// over at once.
+    pub fn begin(room: MapRoom, space: &Allocator) -> Result<GiveBack, SpaceEnd>
         requires held { HoldsHand space.now }
         ensures rest { (o : Around) → space_part (give_back_rest o space.now) o.rest
             (around_known o space.now) result
@@ -47,7 +47,7 @@ impl GiveBack {
             → IfOk result (λ m. TellsGiven g m.giving found) }
     {
         let mut back = GiveBack {
-            giving: Giving::idle(out),
+            giving: Giving::idle(room),
         };
         match back.go_on(space, 0) {
             None => Ok(back),

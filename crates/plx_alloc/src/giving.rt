@@ -3,6 +3,7 @@ ghost use Rattle.std.specs.Prelude.{◌≡◌, ◌≢◌, ◌<◌, ◌^◌, ◌�
 
 use crate::allocator::{Allocator, HAND_LEN};
 use crate::choosing::clear;
+use crate::room::MapRoom;
 use crate::space_end::{SpaceEnd, lost};
 use crate::spell::spell_map;
 use arrayvec::ArrayVec;
@@ -31,7 +32,7 @@ pub struct Giving {
     map: BlockNo,
     lease: u32,
     until: u64,
-    given: ArrayVec<BlockNo, HAND_LEN>,
+    given: Box<ArrayVec<BlockNo, HAND_LEN>>,
     out: Block,
     ghost guard: { until < 2 ^ 49 },
 }
@@ -54,16 +55,16 @@ impl Giving {
     ghost use Rattle.plx_alloc.specs.Suiting.{IsHeldUntil, SuitsGiving};
     ghost use Rattle.plx_alloc.specs.Tables.{HoldsHand, IsSame, allocator_setting, hand_numbers, held_of, extent_leases};
 
-    /// A giving back of nothing yet, with a block for the maps that it writes.
-    pub fn idle(out: Block) -> Giving {
+    /// A giving back of nothing yet, with the memory of its writes.
+    pub fn idle(room: MapRoom) -> Giving {
         Giving {
             at: GivingAt::Map,
             extent: ExtentNo(0),
             map: BlockNo(0),
             lease: 0,
             until: 0,
-            given: ArrayVec::new(),
-            out,
+            given: room.moved,
+            out: room.map,
         }
     }
 
@@ -198,7 +199,7 @@ impl Giving {
             self.at = GivingAt::Damaged;
             return;
         };
-        self.given = clear(&mut bits, blocks, self.map, space.hand());
+        *self.given = clear(&mut bits, blocks, self.map, space.hand());
         spell_map(&bits, &mut self.out);
         self.at = GivingAt::Write;
     }

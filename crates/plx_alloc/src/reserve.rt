@@ -4,6 +4,7 @@ ghost use Rattle.arrayvec.specs.ArrayVec.{array_vec_len};
 
 use crate::allocator::{Allocator, HAND_LEN};
 use crate::choosing::{choose, has_free};
+use crate::room::MapRoom;
 use crate::space_end::{SpaceEnd, lease_name, lost};
 use crate::spell::spell_map;
 use arrayvec::ArrayVec;
@@ -59,7 +60,7 @@ pub struct Reserve {
     claim: LeaseClaim<Extent>,
     claimed: Option<InUse>,
     busy: Option<Met>,
-    taken: ArrayVec<BlockNo, HAND_LEN>,
+    taken: Box<ArrayVec<BlockNo, HAND_LEN>>,
     out: Block,
     ghost most: { count ≤ 256 },
     ghost guard: { until < 2 ^ 49 },
@@ -87,11 +88,11 @@ impl Reserve {
     ghost use Rattle.plx_alloc.specs.TakeEnds.{BeginsRightly, MovesOnRightly, reserve_after, reserve_begun, take_asked};
     ghost use Rattle.plx_alloc.specs.Takes.{Outer, busy_of, next_rest, outer_known, pass_rest, reserve_follows, reserve_rest, taking_of};
 
-    /// So many blocks are to be in hand, at most 256: the take begins, with a block for the maps that
-    /// it writes and one for its claims, or is over at once.
+    /// So many blocks are to be in hand, at most 256: the take begins, with the memory of its
+    /// writes and a block for its claims, or is over at once.
     pub fn begin(
         count: u16,
-        out: Block,
+        room: MapRoom,
         lease: Block,
         space: &Allocator,
     ) -> Result<Reserve, SpaceEnd>
@@ -119,8 +120,8 @@ impl Reserve {
             claim: LeaseClaim::begin(Extent(extent), block, space.boot(), 0, None, lease),
             claimed: None,
             busy: None,
-            taken: ArrayVec::new(),
-            out,
+            taken: room.moved,
+            out: room.map,
         };
         match take.go_on(space, 0) {
             None => Ok(take),
@@ -229,7 +230,7 @@ impl Reserve {
             return None;
         };
         let need = (self.count as usize).saturating_sub(space.in_hand());
-        self.taken = choose(&mut bits, blocks, self.map, space.hand(), need);
+        *self.taken = choose(&mut bits, blocks, self.map, space.hand(), need);
         if self.taken.is_empty() {
             return self.go_on(space, self.extent.0 + 1);
         }
@@ -245,14 +246,14 @@ impl Reserve {
         ensures rest { (o : Outer) → after_space (reserve_rest o space.new self.new)
             (reserve_follows o space.new self.new) (outer_known o space.new) result
             ≡ next_rest o space.old self.old (with_taken (taking_of o space.old self.old)
-            (numbers self.old.taken.items)) }
+            (numbers self.old.taken.value.items)) }
         ensures suits { result ≡ None → SuitsReserve space.new self.new }
         ensures held { HoldsHand space.new }
         ensures same { IsSame space.old space.new }
         ensures reads { result ≡ None → ReadsFirst self.new.at }
         ensures leases { extent_leases space.new ≡ extent_leases space.old }
         ensures hand { hand_numbers space.new ≡ hand_numbers space.old ++
-            numbers self.old.taken.items }
+            numbers self.old.taken.value.items }
     {
         space.add(&self.taken);
         self.taken.clear();
@@ -358,7 +359,7 @@ impl Reserve {
     // The take goes on from an extent of its pass on.
     fn go_on(&mut self, space: &Allocator, from: u32) -> Option<SpaceEnd>
         requires from { from ≤ space.now.geometry.extents }
-        requires room { array_vec_len self.old.taken ≡ 0 }
+        requires room { array_vec_len self.old.taken.value ≡ 0 }
         requires held { HoldsHand space.now }
         ensures rest { (o : Outer) → after_space (reserve_rest o space.now self.new)
             (reserve_follows o space.now self.new) (outer_known o space.now) result
@@ -393,7 +394,7 @@ impl Reserve {
         requires from { from ≤ space.now.geometry.extents }
         requires need { length (hand_numbers space.now) < self.old.count }
         requires others { self.old.pass ≡ Pass.Others }
-        requires room { array_vec_len self.old.taken ≡ 0 }
+        requires room { array_vec_len self.old.taken.value ≡ 0 }
         requires held { HoldsHand space.now }
         ensures rest { (o : Outer) → after_space (reserve_rest o space.now self.new)
             (reserve_follows o space.now self.new) (outer_known o space.now) result

@@ -5,6 +5,7 @@ ghost use Rattle.plx_gate.specs.Leases.{lease_bytes};
 
 use crate::allocator::Allocator;
 use crate::giving::Giving;
+use crate::room::MapRoom;
 use crate::space_end::{SpaceEnd, lost};
 use plx_base::{Block, BlockNo, LeaseRecord, WriteKind};
 use plx_commands::Reply;
@@ -50,9 +51,9 @@ impl Retire {
     ghost use Rattle.plx_alloc.specs.Suiting.{SuitsRetire};
     ghost use Rattle.plx_alloc.specs.Tables.{HoldsHand, IsSame, allocator_setting, hand_numbers, held_hand, holds_of, extent_leases};
 
-    /// Each extent whose lease is held is to be given up: the retire begins, with a block for the maps
-    /// that it writes and one for its releases, or is over at once.
-    pub fn begin(out: Block, lease: Block, space: &Allocator) -> Result<Retire, SpaceEnd>
+    /// Each extent whose lease is held is to be given up: the retire begins, with the memory of its
+    /// writes of maps and a block for its releases, or is over at once.
+    pub fn begin(room: MapRoom, lease: Block, space: &Allocator) -> Result<Retire, SpaceEnd>
         requires held { HoldsHand space.now }
         ensures rest { (o : Around) → space_part (retire_extents_rest o space.now) o.rest
             (around_known o space.now) result
@@ -71,7 +72,7 @@ impl Retire {
         spell_lease(&LeaseRecord::Free, &mut free);
         let mut retire = Retire {
             at: RetireAt::Give,
-            giving: Giving::idle(out),
+            giving: Giving::idle(room),
             free,
         };
         match retire.go_on(space, 0) {

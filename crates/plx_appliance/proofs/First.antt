@@ -98,6 +98,6 @@ begun-agrees s known holds others hand reading (begun.Attach slot room) h =
 begun-agrees s known holds others hand reading (begun.Image slot command) h =
     attached-agrees s known slot.0 (known.sessions slot.0) (nat_lt slot.0 s.geometry.images) _ _ reading _ (at-image s.geometry holds others slot.0 h)
 begun-agrees s known holds others hand reading (begun.Renew renewals lease) h = renew-agrees s known holds others reading h
-begun-agrees s known holds others hand reading (begun.Reserve need map lease) h =
+begun-agrees s known holds others hand reading (begun.Reserve need room lease) h =
     reserve-agrees s known holds others hand need.count (same-extents s.geometry holds others h)
-begun-agrees s known holds others hand reading (begun.Retire map extent_lease image_lease) h = retire-agrees s known holds others hand h
+begun-agrees s known holds others hand reading (begun.Retire room extent_lease image_lease) h = retire-agrees s known holds others hand h

@@ -30,8 +30,8 @@ waiting_part s known holds hand reading (begun.Attach slot room) =
     attach_part s known slot.0 (known.sessions slot.0) (nat_lt slot.0 s.geometry.images) (holds (lease_at (image_lease slot.0)))
 waiting_part s known holds hand reading (begun.Image slot command) = of_attached s known holds reading slot.0 (image_part s known slot.0 command)
 waiting_part s known holds hand reading (begun.Renew renewals lease) = renew_command s known holds reading
-waiting_part s known holds hand reading (begun.Reserve need map lease) = reserve_part s known holds hand need.count
-waiting_part s known holds hand reading (begun.Retire map extent_lease image_lease) = retire_part s known holds hand
+waiting_part s known holds hand reading (begun.Reserve need room lease) = reserve_part s known holds hand need.count
+waiting_part s known holds hand reading (begun.Retire room extent_lease image_lease) = retire_part s known holds hand
 
 -- for how many journal slots it has memory, where it needs any
 abbrev pub begun_slots : ℕ → Begun → ℕ

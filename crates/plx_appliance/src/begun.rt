@@ -5,6 +5,7 @@ ghost use Rattle.std.specs.Vec.{vec_len};
 use crate::renewals::Renewals;
 use crate::session::Session;
 use crate::setting::Setting;
+use plx_alloc::MapRoom;
 use plx_base::{Block, Label, NoMemory, Payload, SlotNo};
 use plx_commands::Command;
 use std::alloc::Global;
@@ -85,11 +86,11 @@ pub enum Begun {
     },
     Reserve {
         need: Need,
-        map: Block,
+        room: MapRoom,
         lease: Block,
     },
     Retire {
-        map: Block,
+        room: MapRoom,
         extent_lease: Block,
         image_lease: Block,
     },
@@ -220,25 +221,25 @@ impl Begun {
         Ok(Begun::Renew { renewals, lease })
     }
 
-    // A reserve: a block for maps, and one for leases.
+    // A reserve: the memory of its writes of maps, and a block for leases.
     fn reserve(alloc: Global, need: Need) -> Result<Begun, NoMemory>
         ensures { (slots leases : ℕ) → IfOk result (BeginsAs slots leases
             (Command.Reserve need.count)) }
     {
-        let map = Block::zeros(alloc)?;
+        let room = MapRoom::new(alloc)?;
         let lease = Block::zeros(alloc)?;
-        Ok(Begun::Reserve { need, map, lease })
+        Ok(Begun::Reserve { need, room, lease })
     }
 
-    // A retire: a block for maps, and one for the leases of each kind.
+    // A retire: the memory of its writes of maps, and a block for the leases of each kind.
     fn retire(alloc: Global) -> Result<Begun, NoMemory>
         ensures { (slots leases : ℕ) → IfOk result (BeginsAs slots leases Command.Retire) }
     {
-        let map = Block::zeros(alloc)?;
+        let room = MapRoom::new(alloc)?;
         let extent_lease = Block::zeros(alloc)?;
         let image_lease = Block::zeros(alloc)?;
         Ok(Begun::Retire {
-            map,
+            room,
             extent_lease,
             image_lease,
         })

@@ -32,7 +32,7 @@ use crate::retire::Retire;
 use crate::session::Session;
 use crate::work::Work;
 use crate::write::Write;
-use plx_alloc::Reserve as Take;
+use plx_alloc::{MapRoom, Reserve as Take};
 use plx_base::{Block, SlotNo};
 use plx_commands::{LAST_CLAIM, Reply};
 
@@ -60,12 +60,12 @@ pub fn enter(begun: Begun, holdings: &mut Holdings, reading: u64) -> Result<Work
         Begun::Attach { slot, room } => enter_attach(holdings, slot, room),
         Begun::Image { slot, command } => enter_image(holdings, slot, command, reading),
         Begun::Renew { renewals, lease } => enter_renew(holdings, renewals, lease, reading),
-        Begun::Reserve { need, map, lease } => enter_reserve(holdings, need, map, lease),
+        Begun::Reserve { need, room, lease } => enter_reserve(holdings, need, room, lease),
         Begun::Retire {
-            map,
+            room,
             extent_lease,
             image_lease,
-        } => enter_retire(holdings, map, extent_lease, image_lease),
+        } => enter_retire(holdings, room, extent_lease, image_lease),
     }
 }
 
@@ -209,12 +209,17 @@ fn enter_renew(
 }
 
 // A reserve has its first reading.
-fn enter_reserve(holdings: &Holdings, need: Need, map: Block, lease: Block) -> Result<Work, Reply>
+fn enter_reserve(
+    holdings: &Holdings,
+    need: Need,
+    room: MapRoom,
+    lease: Block,
+) -> Result<Work, Reply>
     ensures { Enters holdings.now holdings.now
         (reserve_part (rules_setting holdings.now.setting) (known_of holdings.now)
         (holds_in holdings.now) (hand_in holdings.now) need.count) result }
 {
-    match Take::begin(need.count, map, lease, &holdings.space) {
+    match Take::begin(need.count, room, lease, &holdings.space) {
         Ok(work) => Ok(Work::Reserve(Reserve {
             setting: holdings.setting,
             work,
@@ -226,7 +231,7 @@ fn enter_reserve(holdings: &Holdings, need: Need, map: Block, lease: Block) -> R
 // A retire has its first reading.
 fn enter_retire(
     holdings: &Holdings,
-    map: Block,
+    room: MapRoom,
     extent_lease: Block,
     image_lease: Block,
 ) -> Result<Work, Reply>
@@ -234,7 +239,7 @@ fn enter_retire(
         (retire_part (rules_setting holdings.now.setting) (known_of holdings.now)
         (holds_in holdings.now) (hand_in holdings.now)) result }
 {
-    match Retire::enter(holdings, map, extent_lease, image_lease) {
+    match Retire::enter(holdings, room, extent_lease, image_lease) {
         Err(reply) => Err(reply),
         Ok(retire) => Ok(Work::Retire(retire)),
     }

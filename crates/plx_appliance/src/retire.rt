@@ -8,7 +8,7 @@ use crate::holdings::Holdings;
 use crate::leased::Leased;
 use crate::retiring::{after_extents, answer_release};
 use crate::setting::Setting;
-use plx_alloc::Retire as SpaceRetire;
+use plx_alloc::{MapRoom, Retire as SpaceRetire};
 use plx_base::{Block, LeaseRecord, WriteKind};
 use plx_commands::Reply;
 use plx_disk::{Answer, Ask};
@@ -49,11 +49,11 @@ impl Retire {
     ghost use Rattle.plx_appliance.specs.Retires.{IsAtImage, image_rest, retire_entered, retire_moves, retire_images_rest, retire_suits, retire_tells};
     ghost use Rattle.plx_appliance.specs.Space.{hand_in};
 
-    /// The retire begins, with blocks for the maps that it writes and for the leases of extents and of
-    /// images, or is over at once.
+    /// The retire begins, with the memory of its writes of maps and with blocks for the leases of extents
+    /// and of images, or is over at once.
     pub fn enter(
         holdings: &Holdings,
-        map: Block,
+        room: MapRoom,
         extent_lease: Block,
         image_lease: Block,
     ) -> Result<Retire, Reply>
@@ -68,7 +68,7 @@ impl Retire {
         let mut spelled = image_lease;
         spell_lease(&LeaseRecord::Free, &mut spelled);
         let setting = holdings.setting;
-        match SpaceRetire::begin(map, extent_lease, &holdings.space) {
+        match SpaceRetire::begin(room, extent_lease, &holdings.space) {
             Ok(extents) => Ok(Retire {
                 setting,
                 stage: RetireStage::Extents(extents),

@@ -1,4 +1,4 @@
-use Rattle.std.proofs.Common.{subst, ap, refl, sym, ◌∙◌, ◌<◌}
+use Rattle.std.proofs.Common.{subst, ap, refl, sym, ◌≡◌, ◌∙◌, ◌<◌}
 use Rattle.plx_geom.specs.Geometry.{extent_lease, map_at}
 use Rattle.plx_rules.specs.Ends.{lost}
 use Rattle.plx_rules.specs.Space.{in_extent}
@@ -6,6 +6,7 @@ use Rattle.plx_alloc.specs.Gives.{around_known}
 use Rattle.plx_alloc.specs.Pools.{AreBetween}
 use Rattle.plx_alloc.specs.Suiting.{gives_at}
 use Rattle.plx_alloc.specs.Tables.{allocator_setting, hand_numbers, numbers}
+use Rattle.plx_rules.specs.Hands.{blocks_without}
 use Rattle.plx_alloc.specs.declared.giving.GivingAt.TheVariants as at
 use Rattle.plx_alloc.proofs.Cleared.{given-own}
 use Rattle.plx_alloc.proofs.Released.{given-hand, given-others}
@@ -19,12 +20,14 @@ returns-in-Write-Done-clause-suits c =
     let e = c.give.ensures in
     let suits = c.requires.suits in
     let own : gives_at at.Write a m = subst (λ place. gives_at place a m) c.in-Write-Done.is-0 suits.gives in
+    let hand : hand_numbers c.give.new.self ≡ blocks_without (numbers m.given.value.items) (hand_numbers a) =
+    c.give.ensures.hand ∙ ap (λ blocks. blocks_without (numbers blocks.items) (hand_numbers a)) c.deref.ensures in
     record {
       extent = subst (λ g. m.extent.0 < g.extents) (sym e.same.geometry) suits.extent;
       map = suits.map ∙ ap (λ g. map_at g m.extent.0) (sym e.same.geometry);
       lease = suits.lease ∙ ap (λ g. extent_lease g m.extent.0) (sym e.same.geometry);
-      held = given-hand a b (numbers m.given.items) e.same e.leases e.hand suits.held;
-      gives = subst (λ place. gives_at place b m) (sym c.in-Write-Done.is-0) (subst (λ g. AreBetween m.map.0 g.extent_blocks m.given.items) (sym e.same.geometry) own);
+      held = given-hand a b (numbers m.given.value.items) e.same e.leases hand suits.held;
+      gives = subst (λ place. gives_at place b m) (sym c.in-Write-Done.is-0) (subst (λ g. AreBetween m.map.0 g.extent_blocks m.given.value.items) (sym e.same.geometry) own);
     }
 
 pub returns-in-Write-Done-clause-others : goal.returns-in-Write-Done-clause-others
@@ -33,8 +36,10 @@ returns-in-Write-Done-clause-others c = λ other ne.
     let g = a.geometry in
     let m = c.args.self.now in
     let own : gives_at at.Write a m = subst (λ place. gives_at place a m) c.in-Write-Done.is-0 c.requires.suits.gives in
-    let mine = given-own g m.extent.0 m.given.items (subst (λ n. AreBetween n g.extent_blocks m.given.items) c.requires.suits.map own) in
-    ap (in_extent g other) c.give.ensures.hand ∙ given-others g m.extent.0 (numbers m.given.items) (hand_numbers a) mine other ne
+    let mine = given-own g m.extent.0 m.given.value.items (subst (λ n. AreBetween n g.extent_blocks m.given.value.items) c.requires.suits.map own) in
+    let hand : hand_numbers c.give.new.self ≡ blocks_without (numbers m.given.value.items) (hand_numbers a) =
+    c.give.ensures.hand ∙ ap (λ blocks. blocks_without (numbers blocks.items) (hand_numbers a)) c.deref.ensures in
+    ap (in_extent g other) hand ∙ given-others g m.extent.0 (numbers m.given.value.items) (hand_numbers a) mine other ne
 
 pub returns-in-Write-Missed-clause-rest : goal.returns-in-Write-Missed-clause-rest
 returns-in-Write-Missed-clause-rest c = λ o.

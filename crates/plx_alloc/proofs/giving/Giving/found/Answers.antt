@@ -32,20 +32,20 @@ returns-in_default-clause-rest c = λ o.
     ∙ (ap (λ due. damaged_part s known (due ∷ []) (map_at a.geometry m.extent.0)) (sym (kept-use a.geometry m c.requires.suits.lease))
     ∙ ap (λ block. damaged_part s known (retire_use m ∷ []) block) (sym c.requires.suits.map)))
 
-pub clear-self-requires-clause-apart : goal.clear-self-requires-clause-apart
-clear-self-requires-clause-apart c =
+pub clear-requires-clause-apart : goal.clear-requires-clause-apart
+clear-requires-clause-apart c =
     let a = c.args.space.now in
     let m = c.args.self.now in
     let low = a.limits.blocks_low in
     ap (is_in m.map.0) c.hand.ensures.blocks
     ∙ (ap (λ block. is_in block (hand_numbers a)) c.requires.suits.map ∙ map-outside-pool a.geometry m.extent.0 a.hand.items (omega (arith, low)) a.pool)
 
-found-bits : (c : goal.After-self-2-1) → IsMap c.args.space.now.geometry.extent_blocks c.in-Some.bits
+found-bits : (c : goal.After-self-3-1) → IsMap c.args.space.now.geometry.extent_blocks c.in-Some.bits
 found-bits c =
     let blocks : c.blocks-2.inside.extent_blocks ≡ c.args.space.now.geometry.extent_blocks = search rules in
     subst (λ n. IsMap n c.in-Some.bits) blocks c.in-Some.ensures.0
 
-out-bits : (c : goal.After-self-2-1) → c.spell_map.new.block ≡ map_bytes c.clear-self.new.bits
+out-bits : (c : goal.After-self-3-1) → c.spell_map.new.block ≡ map_bytes c.clear.new.bits
 out-bits c = c.spell_map.ensures
 
 pub returns-clause-rest : goal.returns-clause-rest
@@ -61,7 +61,7 @@ returns-clause-rest c = λ o.
     let is = found-bits c in
     let read : read_map g.extent_blocks c.args.bytes.now ≡ Some bits = map-read-found g.extent_blocks c.args.bytes.now (Some bits) a.limits.blocks_high (is, sym c.as_slice.ensures.same ∙ c.in-Some.ensures.1) in
     let out : c.spell_map.new.block ≡ map_bytes (with_clear mine (map_at g e) bits) =
-    out-bits c ∙ (ap map_bytes c.clear-self.ensures.cleared
+    out-bits c ∙ (ap map_bytes c.clear.ensures.cleared
     ∙ (ap (λ hand. map_bytes (with_clear hand m.map.0 bits)) c.hand.ensures.blocks
     ∙ (ap (λ block. map_bytes (with_clear (hand_numbers a) block bits)) c.requires.suits.map
     ∙ ap map_bytes (sym (with_clear-mine g e (hand_numbers a) bits is.long))))) in
@@ -80,7 +80,7 @@ returns-clause-suits c =
       map = suits.map;
       lease = suits.lease;
       held = suits.held;
-      gives = subst (λ n. AreBetween m.map.0 n c.clear-self.result.items) blocks c.clear-self.ensures.own;
+      gives = subst (λ n. AreBetween m.map.0 n c.clear.result.items) blocks c.clear.ensures.own;
     }
 
 pub returns-clause-tells : goal.returns-clause-tells
@@ -88,6 +88,6 @@ returns-clause-tells c = λ hand.
     let a = c.args.space.now in
     let m = c.args.self.now in
     let bits = c.in-Some.bits in
-    let long : length c.clear-self.new.bits ≡ length bits = ap length c.clear-self.ensures.cleared ∙ length-with_clear (numbers c.hand.result.now) m.map.0 bits in
-    tells-given a.geometry.extent_blocks m.map.0 bits c.clear-self.new.bits (numbers c.clear-self.result.items) c.args.bytes.now c.spell_map.new.block hand
-    a.limits.blocks_high (found-bits c) (sym c.as_slice.ensures.same ∙ c.in-Some.ensures.1) (out-bits c) long c.clear-self.ensures.given
+    let long : length c.clear.new.bits ≡ length bits = ap length c.clear.ensures.cleared ∙ length-with_clear (numbers c.hand.result.now) m.map.0 bits in
+    tells-given a.geometry.extent_blocks m.map.0 bits c.clear.new.bits (numbers c.clear.result.items) c.args.bytes.now c.spell_map.new.block hand
+    a.limits.blocks_high (found-bits c) (sym c.as_slice.ensures.same ∙ c.in-Some.ensures.1) (out-bits c) long c.clear.ensures.given

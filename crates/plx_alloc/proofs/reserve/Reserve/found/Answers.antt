@@ -42,13 +42,13 @@ found-empty c =
     map-read-found a.geometry.extent_blocks c.args.bytes.now (Some c.in-Some.bits) a.limits.blocks_high
     (subst (λ n. IsReading (IsMap n) map_bytes c.args.bytes.now (Some c.in-Some.bits)) blocks (subst (λ b. IsReading (IsMap c.blocks-2.inside.extent_blocks) map_bytes b (Some c.in-Some.bits)) bytes c.in-Some.ensures))
 
-taken-empty : (c : goal.After-go_on) → numbers c.choose-self.result.items
+taken-empty : (c : goal.After-go_on) → numbers c.choose.result.items
     ≡ take (c.args.self.now.count - length (hand_numbers c.args.space.now)) (free_from (hand_numbers c.args.space.now) (map_at c.args.space.now.geometry c.args.self.now.extent.0) c.in-Some.bits)
 taken-empty c =
     let a = c.args.space.now in
     let m = c.args.self.now in
     let need : c.saturating_sub-need.result ≡ m.count - length (hand_numbers a) = search rules in
-    c.choose-self.ensures.taken
+    c.choose.ensures.taken
     ∙ (ap (λ n. take n (free_from (numbers c.hand.result.now) m.map.0 c.in-Some.bits)) need
     ∙ (ap (λ hand. take (m.count - length (hand_numbers a)) (free_from hand m.map.0 c.in-Some.bits)) c.hand.ensures.blocks
     ∙ ap (λ block. take (m.count - length (hand_numbers a)) (free_from (hand_numbers a) block c.in-Some.bits)) c.requires.suits.map))
@@ -58,7 +58,7 @@ returns-then-is_empty-clause-rest c = λ o.
     let a = c.args.space.now in
     let m = c.args.self.now in
     let s = allocator_setting o.appliance a in
-    let items = c.choose-self.result.items in
+    let items = c.choose.result.items in
     let next = next_rest o a m in
     let t = taking_of o a m in
     let none' : length items ≡ 0 = search rules in
@@ -67,7 +67,7 @@ returns-then-is_empty-clause-rest c = λ o.
     ∙ (ap (λ blocks. set_part s m.extent.0 m.until c.in-Some.bits blocks next t) (sym (taken-empty c))
     ∙ set_part-none s m.extent.0 m.until c.in-Some.bits (numbers items) next t (any-none items none')))
 
-found-some : (c : goal.After-self-2-1) → read_map c.args.space.now.geometry.extent_blocks c.args.bytes.now ≡ Some c.in-Some.bits
+found-some : (c : goal.After-self-3-1) → read_map c.args.space.now.geometry.extent_blocks c.args.bytes.now ≡ Some c.in-Some.bits
 found-some c =
     let a = c.args.space.now in
     let blocks : c.blocks-2.inside.extent_blocks ≡ a.geometry.extent_blocks = search rules in
@@ -75,13 +75,13 @@ found-some c =
     map-read-found a.geometry.extent_blocks c.args.bytes.now (Some c.in-Some.bits) a.limits.blocks_high
     (subst (λ n. IsReading (IsMap n) map_bytes c.args.bytes.now (Some c.in-Some.bits)) blocks (subst (λ b. IsReading (IsMap c.blocks-2.inside.extent_blocks) map_bytes b (Some c.in-Some.bits)) bytes c.in-Some.ensures))
 
-taken-some : (c : goal.After-self-2-1) → numbers c.choose-self.result.items
+taken-some : (c : goal.After-self-3-1) → numbers c.choose.result.items
     ≡ take (c.args.self.now.count - length (hand_numbers c.args.space.now)) (free_from (hand_numbers c.args.space.now) (map_at c.args.space.now.geometry c.args.self.now.extent.0) c.in-Some.bits)
 taken-some c =
     let a = c.args.space.now in
     let m = c.args.self.now in
     let need : c.saturating_sub-need.result ≡ m.count - length (hand_numbers a) = search rules in
-    c.choose-self.ensures.taken
+    c.choose.ensures.taken
     ∙ (ap (λ n. take n (free_from (numbers c.hand.result.now) m.map.0 c.in-Some.bits)) need
     ∙ (ap (λ hand. take (m.count - length (hand_numbers a)) (free_from hand m.map.0 c.in-Some.bits)) c.hand.ensures.blocks
     ∙ ap (λ block. take (m.count - length (hand_numbers a)) (free_from (hand_numbers a) block c.in-Some.bits)) c.requires.suits.map))
@@ -93,12 +93,12 @@ returns-clause-rest c = λ o.
     let s = allocator_setting o.appliance a in
     let known = outer_known o a in
     let own = extent_use a.geometry m.extent.0 m.until in
-    let items = c.choose-self.result.items in
+    let items = c.choose.result.items in
     let next = next_rest o a m in
     let t = taking_of o a m in
     let some : length items ≢ 0 = search rules in
     let out : c.spell_map.new.block ≡ map_bytes (with_set (numbers items) (map_at a.geometry m.extent.0) c.in-Some.bits) =
-    c.spell_map.ensures ∙ (ap map_bytes c.choose-self.ensures.set
+    c.spell_map.ensures ∙ (ap map_bytes c.choose.ensures.set
     ∙ ap (λ block. map_bytes (with_set (numbers items) block c.in-Some.bits)) c.requires.suits.map) in
     ap (λ block. write_then s known own kind.Take block c.spell_map.new.block (next (with_taken t (numbers items)))) c.requires.suits.map
     ∙ (ap (λ bytes. write_then s known own kind.Take (map_at a.geometry m.extent.0) bytes (next (with_taken t (numbers items)))) out
@@ -114,7 +114,7 @@ returns-clause-suits c = λ none'.
     let stands = map-stands a m c.requires.at suits.stands in
     let blocks : c.blocks-2.inside.extent_blocks ≡ a.geometry.extent_blocks = search rules in
     let need : c.saturating_sub-need.result ≡ m.count - length (hand_numbers a) = search rules in
-    let few = c.choose-self.ensures.len in
+    let few = c.choose.ensures.len in
     let long = numbers-length a.hand.items in
     let most = m.most in
     let room = suits.room in
@@ -123,7 +123,7 @@ returns-clause-suits c = λ none'.
       map = suits.map;
       room = omega (arith, few, need, long, most, room);
       held = suits.held;
-      stands = record { lease = stands.lease; own = subst (λ n. AreBetween m.map.0 n c.choose-self.result.items) blocks c.choose-self.ensures.own };
+      stands = record { lease = stands.lease; own = subst (λ n. AreBetween m.map.0 n c.choose.result.items) blocks c.choose.ensures.own };
     }
 
 pub returns-clause-tells : goal.returns-clause-tells
@@ -132,13 +132,13 @@ returns-clause-tells c = λ none' hand.
     let m = c.args.self.now in
     let g = a.geometry in
     let n = m.count - length (hand_numbers a) in
-    let items = c.choose-self.result.items in
+    let items = c.choose.result.items in
     let map = m.map.0 in
     let blocks : c.blocks-2.inside.extent_blocks ≡ g.extent_blocks = search rules in
     let is : IsMap g.extent_blocks c.in-Some.bits = subst (λ n. IsMap n c.in-Some.bits) blocks c.in-Some.ensures.0 in
     let bytes : c.args.bytes.now ≡ map_bytes c.in-Some.bits = sym c.as_slice.ensures.same ∙ c.in-Some.ensures.1 in
     let out : c.spell_map.new.block ≡ map_bytes (with_set (numbers items) map c.in-Some.bits) =
-    c.spell_map.ensures ∙ (ap map_bytes c.choose-self.ensures.set) in
+    c.spell_map.ensures ∙ (ap map_bytes c.choose.ensures.set) in
     let taken : numbers items ≡ take n (free_from (hand_numbers a) map c.in-Some.bits) =
     taken-some c ∙ ap (λ block. take n (free_from (hand_numbers a) block c.in-Some.bits)) (sym c.requires.suits.map) in
     tells-taken g.extent_blocks (hand_numbers a) n map c.in-Some.bits (numbers items) c.args.bytes.now c.spell_map.new.block hand a.limits.blocks_high is bytes out taken
