@@ -3,5 +3,6 @@ pub mod Devices
 pub mod Flags
 pub mod Kept
 pub mod Landings
+pub mod Lending
 pub mod Lists
 pub mod Told

@@ -1,5 +1,6 @@
 pub mod Filled
 pub mod Landing
+pub mod Lending
 pub mod Missing
 pub mod Standing
 pub mod Stored

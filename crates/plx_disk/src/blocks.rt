@@ -1,5 +1,5 @@
 //! The blocks that are stored. A block that isn't is zeros.
-ghost use Rattle.std.specs.Prelude.{◌≡◌, ◌<◌, ℕ, Bool, true, length, IfOk, OnOk, OnErr, IsTrue};
+ghost use Rattle.std.specs.Prelude.{◌≡◌, ◌<◌, ℕ, Bool, true, false, length, IfOk, OnOk, OnErr, IsTrue};
 ghost use Rattle.plx_base.specs.Blocks.{zeros};
 ghost use Rattle.plx_base.specs.Sectors.{with_landed_sector, put};
 ghost use Rattle.plx_disk.specs.Stored.{device_of, is_stored};
@@ -7,6 +7,7 @@ ghost use Rattle.plx_disk.specs.Stored.{device_of, is_stored};
 use plx_base::{BLOCK_LEN, Block, NoMemory};
 use std::alloc::Global;
 use std::collections::BTreeMap;
+use std::mem;
 
 /// A block of these bytes.
 pub fn block_of(alloc: Global, bytes: &[u8]) -> Result<Block, NoMemory>
@@ -68,6 +69,25 @@ pub fn store(blocks: &mut BTreeMap<u64, Block>, block: u64, bytes: Block) -> Res
 {
     blocks.insert(block, bytes)?;
     Ok(())
+}
+
+/// What is stored of a block and the buffer change places. False, and nothing changes, where the block
+/// isn't stored.
+pub fn trade(blocks: &mut BTreeMap<u64, Block>, block: u64, buffer: &mut Block) -> bool
+    ensures found { result ≡ is_stored blocks.old block }
+    ensures given { IsTrue result → buffer.new ≡ device_of blocks.old block }
+    ensures instead { IsTrue result → (b : ℕ) → device_of blocks.new b
+        ≡ put (device_of blocks.old) block buffer.old b }
+    ensures none { result ≡ false → (b : ℕ) → device_of blocks.new b ≡ device_of blocks.old b }
+    ensures stored { (b : ℕ) → is_stored blocks.new b ≡ is_stored blocks.old b }
+{
+    match blocks.get_mut(&block) {
+        Some(stored) => {
+            mem::swap(stored, buffer);
+            true
+        }
+        None => false,
+    }
 }
 
 /// What stands in a block.

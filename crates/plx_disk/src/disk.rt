@@ -2,7 +2,7 @@
 ghost use Rattle.std.specs.Prelude.{◌<◌, ◌^◌};
 ghost use Rattle.plx_disk.specs.Stored.{ArePlaced};
 
-use crate::blocks::{block_of, copy_out, make_place, store};
+use crate::blocks::{block_of, clear, copy_out, make_place, store, trade};
 use crate::write::{Pending, Progress, Write};
 use plx_base::{Block, BlockNo, Boot, NoMemory, WriteKind};
 use std::alloc::Global;
@@ -28,6 +28,7 @@ impl Disk {
     ghost use Rattle.std.specs.Option.{unwrap_or};
     ghost use Rattle.plx_base.specs.Blocks.{zeros};
     ghost use Rattle.plx_disk.specs.Filled.{with_block};
+    ghost use Rattle.plx_disk.specs.Lending.{IsLent};
     ghost use Rattle.plx_disk.specs.Missing.{IsMissing, IsOwner, MissesNone};
     ghost use Rattle.plx_disk.specs.Standing.{Stands, Stays, Turns, device_size, issued_count};
     ghost use Rattle.plx_disk.specs.Writes.{Issued, Surface, MayLand, HasLanded, after_landing, blank, with_cancelled, fresh_write, with_issued, after_time};
@@ -91,6 +92,29 @@ impl Disk {
     {
         copy_out(&self.stored, block.0, into);
         let _bytes = into.as_slice();
+    }
+
+    /// What stands in a block comes into the buffer, whose bytes stand in the block until it is given
+    /// back. No bytes are copied.
+    pub fn lend(&mut self, block: BlockNo, buffer: &mut Block)
+        requires { block.0 < device_size self.old }
+        ensures lent { IsLent self.old self.new block.0 buffer.new }
+        ensures len { length buffer.new ≡ 4096 }
+        ensures blocks { device_size self.new ≡ device_size self.old }
+    {
+        if !trade(&mut self.stored, block.0, buffer) {
+            clear(buffer);
+        }
+        let _bytes = buffer.as_slice();
+    }
+
+    /// The block that was lent to the buffer is given back: the device stands as before it was lent.
+    pub fn take_back(&mut self, block: BlockNo, buffer: &mut Block)
+        ensures back { (lender : Disk) → IsLent lender self.old block.0 buffer.old
+            → Stays lender self.new }
+        ensures blocks { device_size self.new ≡ device_size self.old }
+    {
+        trade(&mut self.stored, block.0, buffer);
     }
 
     /// What stands in a block, or `None` where nothing was put and no write was issued: then it is

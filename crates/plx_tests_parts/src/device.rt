@@ -71,15 +71,17 @@ fn issue(disk: &mut Disk, guard: u64) -> bool {
     number == Ok(count)
 }
 
-fn has(alloc: Global, disk: &Disk, sectors: [bool; 8]) -> bool {
-    let Ok(mut seen) = Block::zeros(alloc) else {
+fn has(alloc: Global, disk: &mut Disk, sectors: [bool; 8]) -> bool {
+    let Ok(mut seen) = Block::filled(alloc, 9) else {
         return false;
     };
     if disk.blocks() <= 2 {
         return false;
     }
-    disk.read(BlockNo(2), &mut seen);
-    seen.as_slice() == spelled(sectors).as_slice()
+    disk.lend(BlockNo(2), &mut seen);
+    let is_spelled = seen.as_slice() == spelled(sectors).as_slice();
+    disk.take_back(BlockNo(2), &mut seen);
+    is_spelled
 }
 
 /// A block of sevens in these sectors, and zeros in the others.

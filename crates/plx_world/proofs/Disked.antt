@@ -1,6 +1,6 @@
 -- Writes land, and time passes.
 use Rattle.std.proofs.Common.{◌≡◌, ◌+◌, ◌^◌, ◌≤◌, ◌<◌, ℕ, List, length, Option, Some, None, Bool, true, false, refl, ap, sym, subst, ◌∙◌, IsTrue, ◌↔◌, arith}
-use Rattle.std.specs.Prelude.{MatchOption, slice_get}
+use Rattle.std.specs.Prelude.{MatchOption, reverse, slice_get}
 use Rattle.plx_base.specs.declared.numbers.ApplianceNo.{ApplianceNo}
 use Rattle.plx_commands.specs.declared.event.Event.{Event}
 use Rattle.plx_commands.specs.declared.event.Event.TheVariants as event
@@ -25,17 +25,23 @@ pub record OnlyDisk (old new : World) : Type 0 where
   pub seats : new.seats.items ≡ old.seats.items
   pub trace : new.trace.items ≡ old.trace.items
 
+-- all but the history is the same, and the device stands for what is there
+pub stands-over : (old new : World) (w v : rules.World) → OnlyDisk old new → WorldStands old w → v.geometry ≡ w.geometry → v.appliances ≡ w.appliances →
+    ((a : ℕ) → v.seats a ≡ w.seats a) → v.trace ≡ w.trace → ((a : ℕ) → own_numbers a 0 v.surface.writes ≡ own_numbers a 0 w.surface.writes) →
+    DiskStands new.disk v.surface → WorldStands new v
+stands-over old new w v only h geometry count seats trace numbers surface =
+    let P : List Seat → Type 0 = λ xs. (k : ℕ) (seat : Seat) → slice_get xs k ≡ Some seat → IsSeat v k seat in
+    record {
+      geometry = only.geometry ∙ (h.geometry ∙ sym geometry);
+      count = ap length only.seats ∙ (h.count ∙ sym count);
+      surface = surface;
+      seats = subst P (sym only.seats) (λ k seat found. seat-same w v k seat geometry (seats k) (numbers k) (h.seats k seat found));
+      trace = only.trace ∙ (h.trace ∙ ap reverse (sym trace));
+    }
+
 pub stands-disk : (old new : World) (w : rules.World) (one : Event) (s : Surface) → OnlyDisk old new → WorldStands old w →
     ((a : ℕ) → own_numbers a 0 s.writes ≡ own_numbers a 0 w.surface.writes) → DiskStands new.disk s → WorldStands new (with_surface w one s)
-stands-disk old new w one s only h numbers surface =
-    let P : List Seat → Type 0 = λ xs. (k : ℕ) (seat : Seat) → slice_get xs k ≡ Some seat → IsSeat (with_surface w one s) k seat in
-    record {
-      geometry = only.geometry ∙ h.geometry;
-      count = ap length only.seats ∙ h.count;
-      surface = surface;
-      seats = subst P (sym only.seats) (λ k seat found. seat-same w (with_surface w one s) k seat refl refl (numbers k) (h.seats k seat found));
-      trace = only.trace ∙ h.trace;
-    }
+stands-disk old new w one s only h numbers surface = stands-over old new w (with_surface w one s) only h refl refl (λ a. refl) refl numbers surface
 
 pub stays-disk : (old new : World) → OnlyDisk old new → DiskStays old.disk new.disk → StandsOn old new
 stays-disk old new only stays w h =

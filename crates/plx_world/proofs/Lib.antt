@@ -9,6 +9,7 @@ mod Going
 mod Inverted
 mod Issuing
 mod Left
+mod Lending
 pub mod Made
 mod Numbered
 mod Placed

@@ -15,7 +15,7 @@ use Rattle.plx_disk.specs.declared.ask.Ask.TheVariants as ask
 use Rattle.plx_rules.specs.Boot.{asks, replies_at, writes_out, first_part}
 use Rattle.plx_rules.specs.World as rules
 use Rattle.plx_rules.specs.World.{IsReadingAt, Step, stands, setting_of, goes_on, reads, read_faults, write_faults, dones, misses, begins, clocks, waits}
-use Rattle.plx_world.specs.Answering.{GivesBlock, IsAnswered, asked_by, pending_of}
+use Rattle.plx_world.specs.Answering.{AnswersRead, IsAnswered, asked_by, pending_of}
 use Rattle.plx_world.specs.Standing.{WorldStands, StandsOn, Steps}
 use Rattle.plx_world.specs.declared.world.World.{World}
 use Rattle.plx_world.proofs.Inverted as inverted
@@ -149,27 +149,19 @@ clocks-far old a reading time near now far shown = impossible old old (event.Rea
 
 -- ---- reads
 
-reads-block : (old new : World) (a : ApplianceNo) (block : BlockNo) (bytes : List ℕ) → IsAsk old a (Some (ask.Read block)) → length bytes ≡ 4096 →
-    ((s : Surface) → DiskStands old.disk s → bytes ≡ s.device block.0) → IsAnswered old new a (answer.Bytes bytes) → Steps old new (event.Read a) true
-reads-block old new a block bytes is whole stored answered w h =
+pub reads-block : (old new : World) (a : ApplianceNo) (block : BlockNo) → IsAsk old a (Some (ask.Read block)) → AnswersRead old new a block.0 →
+    Steps old new (event.Read a) true
+reads-block old new a block is read w h =
     let there = asks-there old a (ask.Read block) w is h in
     let found = asked-read (stands w a.0).place block there.1 in
     let one = event.Read a in
     let P : List ℕ → Type 0 = λ x. WorldStands new (goes_on w one a (ask.Read (record { 0 = block.0 })) [] (answer.Bytes x) (found.rest x)) in (
       goes_on w one a (ask.Read (record { 0 = block.0 })) [] (answer.Bytes (w.surface.device block.0)) (found.rest (w.surface.device block.0)),
       reads found.known found.command block.0 found.rest found.fault there.0 found.at,
-      subst P (stored w.surface h.surface)
-          (answered.leads w one (ask.Read (record { 0 = block.0 })) [] (found.rest bytes) h there.1 (ap writes_out found.at) whole
-          (ap (replies_at (setting_of w a.0) (answer.Bytes bytes) (stands w a.0)) found.at)),
+      subst P (read.stored w.surface h.surface)
+          (read.answered.leads w one (ask.Read (record { 0 = block.0 })) [] (found.rest read.bytes) h there.1 (ap writes_out found.at) read.whole
+          (ap (replies_at (setting_of w a.0) (answer.Bytes read.bytes) (stands w a.0)) found.at)),
     )
-
-pub gives-block : (old new : World) (a : ApplianceNo) (block : BlockNo) (given : Answer) → IsAsk old a (Some (ask.Read block)) → GivesBlock old.disk block.0 given →
-    IsAnswered old new a given → Steps old new (event.Read a) true
-gives-block old new a block (answer.Bytes bytes) is gives answered = reads-block old new a block bytes is gives.0 gives.1 answered
-gives-block old new a block answer.Done is gives answered = absurd gives
-gives-block old new a block (answer.Reading reading) is gives answered = absurd gives
-gives-block old new a block (answer.Missed reading) is gives answered = absurd gives
-gives-block old new a block answer.Fault is gives answered = absurd gives
 
 -- ---- faults
 

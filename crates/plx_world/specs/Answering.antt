@@ -9,6 +9,7 @@ use Rattle.plx_commands.specs.declared.entry.Entry.{Entry}
 use Rattle.plx_commands.specs.declared.entry.Entry.TheVariants as entry
 use Rattle.plx_commands.specs.declared.event.Event.{Event}
 use Rattle.plx_commands.specs.declared.reply.Reply.{Reply}
+use Rattle.plx_disk.specs.Lending.{IsLent}
 use Rattle.plx_disk.specs.Standing.{Stands as DiskStands}
 use Rattle.plx_disk.specs.Writes.{Surface}
 use Rattle.plx_disk.specs.declared.ask.Answer.{Answer}
@@ -56,13 +57,20 @@ pub record IsAnswered (old new : World) (appliance : ApplianceNo) (answer : Answ
       replies (setting_of w appliance.0) answer (stands w appliance.0) ≡ reply_of rest →
       WorldStands new (goes_on w event appliance ask bytes answer rest)
 
--- the answer is the bytes that stand in the block, 4,096 of them
-abbrev pub GivesBlock : Disk → ℕ → Answer → Type 0
-GivesBlock disk block (answer.Bytes bytes) = (length bytes ≡ 4096) × ((s : Surface) → DiskStands disk s → bytes ≡ s.device block)
-GivesBlock disk block answer.Done = ⊥
-GivesBlock disk block (answer.Reading reading) = ⊥
-GivesBlock disk block (answer.Missed reading) = ⊥
-GivesBlock disk block answer.Fault = ⊥
+-- the answer is the bytes of a block, 4,096 of them, which the device has lent
+abbrev pub LendsBlock : (old new : Disk) → ℕ → Answer → Type 0
+LendsBlock old new block (answer.Bytes bytes) = (length bytes ≡ 4096) × IsLent old new block bytes
+LendsBlock old new block answer.Done = ⊥
+LendsBlock old new block (answer.Reading reading) = ⊥
+LendsBlock old new block (answer.Missed reading) = ⊥
+LendsBlock old new block answer.Fault = ⊥
+
+-- the ask that stands was answered with the bytes that stand in a block
+pub record AnswersRead (old new : World) (appliance : ApplianceNo) (block : ℕ) : Type 0 where
+  pub bytes : List ℕ
+  pub whole : length bytes ≡ 4096
+  pub stored : (s : Surface) → DiskStands old.disk s → bytes ≡ s.device block
+  pub answered : IsAnswered old new appliance (answer.Bytes bytes)
 
 -- what a reply adds to a trace
 abbrev pub told_entries : ApplianceNo → Option Reply → List Entry

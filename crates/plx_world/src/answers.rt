@@ -1,9 +1,10 @@
 //! The ask that stands is answered.
-ghost use Rattle.std.specs.Prelude.{◌≡◌, ◌<◌, ◌^◌, ◌++◌, ◌∷◌, [], OnOk, IsTrue, ◌↔◌};
+ghost use Rattle.std.specs.Prelude.{◌≡◌, ◌<◌, ◌^◌, ◌++◌, ◌∷◌, [], OnErr, OnOk, IsTrue, ◌↔◌};
 ghost use Rattle.std.specs.Vec.{vec_capacity, vec_len};
-ghost use Rattle.plx_disk.specs.Standing.{device_size};
+ghost use Rattle.plx_disk.specs.Standing.{Stays, device_size};
+ghost use Rattle.plx_disk.specs.declared.disk.Disk.{Disk};
 ghost use Rattle.plx_rules.specs.World.{IsReadingAt};
-ghost use Rattle.plx_world.specs.Answering.{GivesBlock, told_entries};
+ghost use Rattle.plx_world.specs.Answering.{LendsBlock, told_entries};
 
 use crate::world::World;
 use plx_base::{ApplianceNo, Block, BlockNo, NoMemory};
@@ -15,9 +16,10 @@ use std::alloc::Global;
 const DRIFT: u64 = 50;
 
 impl World {
-    ghost use Rattle.std.specs.Prelude.{IfOk, OnErr};
+    ghost use Rattle.std.specs.Prelude.{IfOk};
     ghost use Rattle.plx_commands.specs.declared.event.Event.TheVariants as event;
-    ghost use Rattle.plx_world.specs.Answering.{IsAnswered, RunsCommand};
+    ghost use Rattle.plx_geom.specs.Geometry.{block_count};
+    ghost use Rattle.plx_world.specs.Answering.{AnswersRead, IsAnswered, RunsCommand};
     ghost use Rattle.plx_world.specs.Standing.{StandsOn, Steps};
 
     // The ask that stands is answered, and the reply told to which that leads.
@@ -25,6 +27,7 @@ impl World {
         requires { RunsCommand self.old appliance.0 }
         ensures ok { OnOk result (IsAnswered self.old self.new appliance answer.now) }
         ensures err { OnErr result (StandsOn self.old self.new) }
+        ensures disk { self.new.disk ≡ self.old.disk }
     {
         self.trace.reserve(1)?;
         let index = appliance.0 as usize;
@@ -33,7 +36,7 @@ impl World {
         Ok(())
     }
 
-    // The read that is asked for is answered, by way of the buffer.
+    // The read that is asked for is answered.
     pub(crate) fn read(
         &mut self,
         appliance: ApplianceNo,
@@ -44,8 +47,7 @@ impl World {
     {
         match self.asked(appliance) {
             Some(Ask::Read { block }) => {
-                fetch(self.alloc, &self.disk, block, buffer)?;
-                self.answer(appliance, buffer)?;
+                self.answer_read(appliance, block, buffer)?;
                 Ok(true)
             }
             Some(Ask::Write { .. }) => Ok(false),
@@ -53,6 +55,25 @@ impl World {
             Some(Ask::Until { .. }) => Ok(false),
             None => Ok(false),
         }
+    }
+
+    // The read of a block is answered with the device's own block, which lies in the buffer meanwhile.
+    fn answer_read(
+        &mut self,
+        appliance: ApplianceNo,
+        block: BlockNo,
+        buffer: &mut Answer,
+    ) -> Result<(), NoMemory>
+        requires runs { RunsCommand self.old appliance.0 }
+        requires within { block.0 < block_count self.old.geometry }
+        ensures ok { OnOk result (AnswersRead self.old self.new appliance block.0) }
+        ensures err { OnErr result (StandsOn self.old self.new) }
+    {
+        lend(self.alloc, &mut self.disk, block, buffer)?;
+        let told = self.answer(appliance, buffer);
+        take_back(&mut self.disk, block, buffer);
+        told?;
+        Ok(())
     }
 
     // The read or the write that is asked for is answered: it failed.
@@ -159,19 +180,32 @@ fn is_near(reading: u64, time: u64) -> bool
     reading <= time + DRIFT && time <= reading.saturating_add(DRIFT)
 }
 
-// What stands in a block, in the buffer. Memory is taken where it isn't the bytes of a block yet.
-fn fetch(alloc: Global, disk: &Disk, block: BlockNo, buffer: &mut Answer) -> Result<(), NoMemory>
-    requires { block.0 < device_size disk.now }
-    ensures { OnOk result (GivesBlock disk.now block.0 buffer.new) }
+// What stands in a block is lent to the buffer. Memory is taken where it isn't the bytes of a block yet.
+fn lend(alloc: Global, disk: &mut Disk, block: BlockNo, buffer: &mut Answer) -> Result<(), NoMemory>
+    requires { block.0 < device_size disk.old }
+    ensures ok { OnOk result (LendsBlock disk.old disk.new block.0 buffer.new) }
+    ensures err { OnErr result (disk.new ≡ disk.old) }
+    ensures blocks { device_size disk.new ≡ device_size disk.old }
 {
     if let Answer::Bytes(bytes) = buffer {
-        disk.read(block, bytes);
+        disk.lend(block, bytes);
         return Ok(());
     }
     let mut bytes = Block::zeros(alloc)?;
-    disk.read(block, &mut bytes);
+    disk.lend(block, &mut bytes);
     *buffer = Answer::Bytes(bytes);
     Ok(())
+}
+
+// The block that was lent to the buffer is given back.
+fn take_back(disk: &mut Disk, block: BlockNo, buffer: &mut Answer)
+    ensures back { (lender : Disk) → LendsBlock lender disk.old block.0 buffer.old
+        → Stays lender disk.new }
+    ensures blocks { device_size disk.new ≡ device_size disk.old }
+{
+    if let Answer::Bytes(bytes) = buffer {
+        disk.take_back(block, bytes);
+    }
 }
 
 // The reply, if there is one, becomes the last entry.

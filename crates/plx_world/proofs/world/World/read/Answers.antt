@@ -1,11 +1,10 @@
 use Rattle.std.proofs.Common.{None, refl}
-use Rattle.plx_world.proofs.Stepping.{gives-block, known-ask, reads-none}
+use Rattle.plx_world.proofs.Stepping.{known-ask, reads-block, reads-none}
 use Rattle.plx_world.proofs.world.World.read.Goals as goal
 
-pub returns-in_ok-answer-in-Some-Read-clause-ok : goal.returns-in_ok-answer-in-Some-Read-clause-ok
-returns-in_ok-answer-in-Some-Read-clause-ok c =
-    gives-block c.args.self.now c.answer.new.self c.args.appliance c.in-Some-Read.block c.fetch.new.buffer (λ w h. cc (c.in-Some-Read.ensures.ask w h)) c.in_ok-fetch-in-Some-Read.ensures
-    c.in_ok-answer-in-Some-Read.ensures.ok
+pub returns-in_ok-answer_read-in-Some-Read-clause-ok : goal.returns-in_ok-answer_read-in-Some-Read-clause-ok
+returns-in_ok-answer_read-in-Some-Read-clause-ok c =
+    reads-block c.args.self.now c.answer_read.new.self c.args.appliance c.in-Some-Read.block (λ w h. cc (c.in-Some-Read.ensures.ask w h)) c.in_ok-answer_read-in-Some-Read.ensures.ok
 
 pub returns-in-Some-Write-clause-ok : goal.returns-in-Some-Write-clause-ok
 returns-in-Some-Write-clause-ok c =
