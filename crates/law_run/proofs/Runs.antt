@@ -233,20 +233,20 @@ agrees s right log (boot.goes_on {log = older} {ask = a} {bytes = bytes} {answer
     let p = position s older in
     goes-on s right p p.place (commands s older) a bytes x (agrees s right older run) stands writes fits
 
-kept : (s : Setting) (holds : ℕ → Hold) (hand : List ℕ) (sample : Option ℕ) (found : Option (ℕ × List ℕ)) (here : Place) (so_far : Commands) → ((log : CommandLog) → so_far ≡ Within log → 1 ≤ bound s log.before log.command) →
+keeps-rules : (s : Setting) (holds : ℕ → Hold) (hand : List ℕ) (sample : Option ℕ) (found : Option (ℕ × List ℕ)) (here : Place) (so_far : Commands) → ((log : CommandLog) → so_far ≡ Within log → 1 ≤ bound s log.before log.command) →
     Agree s holds hand sample found here so_far → KeepsRules s so_far (asks here) (writes_out here)
-kept s holds hand sample found (Idle known) (Between before) least agree = agree.0
-kept s holds hand sample found (Idle known) (Within log) least agree = absurd agree
-kept s holds hand sample found (Begins known command) (Between before) least agree = absurd agree
-kept s holds hand sample found (Begins known command) (Within log) least agree =
+keeps-rules s holds hand sample found (Idle known) (Between before) least agree = agree.0
+keeps-rules s holds hand sample found (Idle known) (Within log) least agree = absurd agree
+keeps-rules s holds hand sample found (Begins known command) (Between before) least agree = absurd agree
+keeps-rules s holds hand sample found (Begins known command) (Within log) least agree =
     let b = agree.0 in record {
       older = b.older;
       allowed = subst (λ done. AllAllowed s log.before log.command done) (sym b.none_yet) tt;
       stands = λ a stands. (let is : ask.Clock ≡ a = cc in subst (λ (c : Ask). MayAsk s log c []) is (subst (λ done. WentOn done × Unit {0}) (sym b.none_yet) (tt, tt)));
       bounded = λ a stands. (let size : length log.exchanges ≡ 0 = ap (λ (d : List Exchange). length d) b.none_yet in let one = least log refl in omega arith);
     }
-kept s holds hand sample found (In known command part) (Between before) least agree = absurd agree
-kept s holds hand sample found (In known command part) (Within log) least agree =
+keeps-rules s holds hand sample found (In known command part) (Between before) least agree = absurd agree
+keeps-rules s holds hand sample found (In known command part) (Within log) least agree =
     let r = agree.0 in record {
       older = r.older;
       allowed = r.allowed;
@@ -260,7 +260,7 @@ kept s holds hand sample found (In known command part) (Within log) least agree 
 pub runs-keep : ((s : Setting) → IsSetting s → BeginsRight s) → ((s : Setting) (before : List Finished) (command : Command) → 1 ≤ bound s before command) → RunsKeepRules
 runs-keep right least s log setting run =
     let p = position s log in
-    kept s p.holds p.hand p.sample p.found p.place (commands s log) (λ l e. least s l.before l.command) (agrees s (right s setting) log run)
+    keeps-rules s p.holds p.hand p.sample p.found p.place (commands s log) (λ l e. least s l.before l.command) (agrees s (right s setting) log run)
 
 -- ---- leases and sessions
 

@@ -108,9 +108,9 @@ enters h result is tied inside suits = record {
 }
 
 -- a refusal
-pub refused : (h : Holdings) (reply : Reply) {part : Part End} →
+pub refusal-enters : (h : Holdings) (reply : Reply) {part : Part End} →
     ends reply (known_after reply (known_of h)) ≡ part → Enters h h part (Err reply)
-refused h reply is = enters h (Err reply) is tt tt tt
+refusal-enters h reply is = enters h (Err reply) is tt tt tt
 
 -- the machine of a command of an image is of the image's setting
 own-tied : (setting : Own) (image own : Leased) → image.setting ≡ setting → own ≡ image →
@@ -130,7 +130,7 @@ image-begins h image (work.Reserve r) same is = absurd is
 image-begins h image (work.Retire r) same is = absurd is
 
 -- a command of an attached image enters as its machine does
-pub entered : (h : Holdings) (reading : ℕ) (slot : SlotNo) (session : Session) (image : Leased)
+pub image-enters : (h : Holdings) (reading : ℕ) (slot : SlotNo) (session : Session) (image : Leased)
     (command : Setting → (image : ℕ) → Session → (until : ℕ) → Part End) (result : Result Work Reply) →
     work_entered (lent_of h) result ≡ command (rules_setting image.setting) image.slot.0 session image.until →
     IfOk result (IsOfImage image) → image.slot ≡ slot → image.setting ≡ h.setting →
@@ -140,7 +140,7 @@ pub entered : (h : Holdings) (reading : ℕ) (slot : SlotNo) (session : Session)
     (known_of h).sessions slot.0 ≡ Some session → slot.0 < h.sessions.count →
     Enters h h (of_attached (rules_setting h.setting) (known_of h) (holds_in h) reading slot.0
     (command (rules_setting h.setting) slot.0)) result
-entered h reading slot session image command result made is same_slot same_setting held some within =
+image-enters h reading slot session image command result made is same_slot same_setting held some within =
     let s = rules_setting h.setting in
     let same : command (rules_setting image.setting) image.slot.0 session image.until
     ≡ command s slot.0 session image.until = rw (same_slot, same_setting) refl in

@@ -53,11 +53,11 @@ pub record WorkIsAnswered (s : Setting) (lent later : Lent) (w new : Work) (log 
   pub hand_moves : held_hand s.geometry after.extents (hand_answered s.geometry (position s log).found q bytes a before.hand) ≡ after.hand
 
 -- the position after it
-went : (s : Setting) (lent : Lent) (w : Work) (log : List Happening) (q : Ask) (bytes : List ℕ) (a : Answer) → (i : IsInWork lent w (position s log)) →
+position-after : (s : Setting) (lent : Lent) (w : Work) (log : List Happening) (q : Ask) (bytes : List ℕ) (a : Answer) → (i : IsInWork lent w (position s log)) →
     position s (Asked q bytes a ∷ log)
     ≡ goes_to s.geometry i.before i.command (after_answer (position s log).sample q bytes a (position s log).holds)
     (hand_answered s.geometry (position s log).found q bytes a (position s log).hand) (sample_of a) (found_by q a) (answered (work_rest lent w) a)
-went s lent w log q bytes a i = ap (λ (place : Place). went_on s q bytes a (position s log) place) i.place_is
+position-after s lent w log q bytes a i = ap (λ (place : Place). went_on s q bytes a (position s log) place) i.place_is
 
 replies-in-work : (s : Setting) (lent : Lent) (w : Work) (log : List Happening) (a : Answer) → IsInWork lent w (position s log) →
     replies s a (position s log) ≡ reply_of (answered (work_rest lent w) a)
@@ -79,7 +79,7 @@ went-in s lent later w new log q bytes a before after h is =
     let next = position s (Asked q bytes a ∷ log) in
     let now = after_answer p.sample q bytes a p.holds in
     let all = hand_answered g p.found q bytes a before.hand in
-    let moved = went s lent w log q bytes a h.at in
+    let moved = position-after s lent w log q bytes a h.at in
     let asks = work-asks later new in
     let stays : after_part (answered (work_rest lent w) a) now ≡ now = ap (λ (part : Part End). after_part part now) (sym is) ∙ holds-asks (work_rest later new) now asks in
     let holding : next.holds ≡ now = ap (λ (r : Position). r.holds) moved ∙ stays in
@@ -115,7 +115,7 @@ went-out s lent later w new r log q bytes a before after h is =
     let g = s.geometry in
     let now = after_answer p.sample q bytes a p.holds in
     let all = hand_answered g p.found q bytes a before.hand in
-    let moved = went s lent w log q bytes a h.at in
+    let moved = position-after s lent w log q bytes a h.at in
     let stays : after_part (answered (work_rest lent w) a) now ≡ holds_after_reply r now = ap (λ (part : Part End). after_part part now) (sym is) in
     let holding : (position s (Asked q bytes a ∷ log)).holds ≡ holds_after_reply r now = ap (λ (x : Position). x.holds) moved ∙ stays in
     let leases = image_leases_after_write q a after.leases in

@@ -1,5 +1,5 @@
 -- Tables of lists.
-use Rattle.std.proofs.Common.{◌≡◌, ◌≢◌, ◌<◌, ◌≤◌, ℕ, List, length, map, replicate, refl, sym, ap, ◌∙◌, get_or, ◌+◌, ◌++◌, ◌∷◌, [], Bool, true, false, ◌⊎◌, inl, inr}
+use Rattle.std.proofs.Common.{◌≡◌, ◌≢◌, ◌<◌, ◌≤◌, ℕ, List, length, map, replicate, refl, sym, ap, ◌∙◌, get_or, ◌+◌, ◌++◌, ◌∷◌, [], true, false, ◌⊎◌, inl, inr}
 use Rattle.std.specs.Prelude.{if◌then◌else◌, ◌==◌, slice_set}
 use Rattle.std.proofs.Math.Path.{fun_ext}
 use Rattle.std.proofs.lemmas.Bool.Decides.{eqb_tells}
@@ -16,10 +16,6 @@ table-replicate {X} n x = fun_ext (λ k. each k (below-or-past k n))
     each : (k : ℕ) → (k < n) ⊎ (n ≤ k) → get_or (replicate n x) k x ≡ x
     each k (inl h) = get_or-replicate n k x x h
     each k (inr h) = get_or_past (replicate n x) k x (rw (length-replicate n x) h)
-
-by-choice : {X : Type 0} (b : Bool) (u v w : X) → (b ≡ true → w ≡ u) → (b ≡ false → w ≡ v) → w ≡ (if b then u else v)
-by-choice true u v w yes_case no_case = yes_case refl
-by-choice false u v w yes_case no_case = no_case refl
 
 -- the table of a list that is changed at one place
 pub table-set : {X : Type 0} (xs : List X) (k : ℕ) (x d : X) → k < length xs → table (slice_set xs k x) d ≡ at (table xs d) k x

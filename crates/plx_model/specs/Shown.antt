@@ -96,9 +96,9 @@ beyond None = []
 beyond (Some size) = OutOfRange size ∷ []
 
 -- the refusal that names this count
-abbrev pub worn : Option ℕ → List Reply
-worn None = []
-worn (Some count) = WornOut count ∷ []
+abbrev pub worn_refusal : Option ℕ → List Reply
+worn_refusal None = []
+worn_refusal (Some count) = WornOut count ∷ []
 
 -- the refusals of a command by the image in the slot that it names
 abbrev pub of_image : Image → Command → List Reply
@@ -112,7 +112,7 @@ of_image image command = []
 -- the refusals by images whose facts hold, in their order
 abbrev pub listed_images : ImageRefusals → List Reply
 listed_images facts =
-    where_holds facts.no_image NoImage ++ (where_holds facts.exists Exists ++ (beyond facts.range ++ worn facts.worn))
+    where_holds facts.no_image NoImage ++ (where_holds facts.exists Exists ++ (beyond facts.range ++ worn_refusal facts.worn))
 
 -- the refusals whose facts hold, in their order
 abbrev pub listed_refusals : Refusals → List Reply

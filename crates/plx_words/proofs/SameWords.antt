@@ -6,7 +6,7 @@ use Rattle.std.proofs.lemmas.List.{append_cancel_right}
 use Rattle.plx_words.specs.Pieces.{Piece, all_spelled}
 use Rattle.plx_words.specs.Texts.{text_of}
 use Rattle.plx_words.specs.Words.{line_text}
-use Rattle.plx_words.specs.Words.{spaced, split, words_of}
+use Rattle.plx_words.specs.Words.{spaced_text, split, words_of}
 use Rattle.plx_words.proofs.Clean.{All-clean, Is-clean}
 use Rattle.plx_words.proofs.Spaced.{line-parts}
 use Rattle.plx_words.proofs.Splits.{split-at, split-none}
@@ -18,24 +18,24 @@ lacks mark low text clean = λ k d below same. let above = clean k d below in ab
 -- a line without its line feed
 abbrev body : List (List ℕ) → List ℕ
 body [] = []
-body (first ∷ others) = first ++ spaced others
+body (first ∷ others) = first ++ spaced_text others
 
 -- each of these words may stand in a line
 abbrev pub Is-line : List (List ℕ) → Type 0
 Is-line [] = ⊥
 Is-line (first ∷ others) = Is-clean first × All-clean others
 
-words-body : (first : List ℕ) (others : List (List ℕ)) → Is-clean first → All-clean others → words_of (first ++ spaced others) ≡ first ∷ others
-unfolding spaced
+words-body : (first : List ℕ) (others : List (List ℕ)) → Is-clean first → All-clean others → words_of (first ++ spaced_text others) ≡ first ∷ others
+unfolding spaced_text
 words-body first [] clean all = ap words_of (append-nil first) ∙ split-none 32 first (lacks 32 (omega arith) first clean)
 words-body first (second ∷ others) clean all =
-    split-at 32 _ first (second ++ spaced others) refl (lacks 32 (omega arith) first clean) ∙ ap (λ (words : List (List ℕ)). first ∷ words) (words-body second others all.0 all.1)
+    split-at 32 _ first (second ++ spaced_text others) refl (lacks 32 (omega arith) first clean) ∙ ap (λ (words : List (List ℕ)). first ∷ words) (words-body second others all.0 all.1)
 
-spaced-lacks : (words : List (List ℕ)) → All-clean words → Each (λ (byte : ℕ). byte ≢ 10) (spaced words)
-unfolding spaced
+spaced-lacks : (words : List (List ℕ)) → All-clean words → Each (λ (byte : ℕ). byte ≢ 10) (spaced_text words)
+unfolding spaced_text
 spaced-lacks [] all = All-nil _
 spaced-lacks (first ∷ words) all =
-    All-append (λ (byte : ℕ). byte ≢ 10) (32 ∷ first) (spaced words)
+    All-append (λ (byte : ℕ). byte ≢ 10) (32 ∷ first) (spaced_text words)
     (All-cons (λ (byte : ℕ). byte ≢ 10) 32 first (λ same. omega arith) (lacks 10 (omega arith) first all.0)) (spaced-lacks words all.1)
 
 body-words : (words : List (List ℕ)) → Is-line words → words_of (body words) ≡ words
@@ -44,7 +44,7 @@ body-words (first ∷ others) line = words-body first others line.0 line.1
 
 body-lacks : (words : List (List ℕ)) → Is-line words → Each (λ (byte : ℕ). byte ≢ 10) (body words)
 body-lacks [] line = absurd line
-body-lacks (first ∷ others) line = All-append (λ (byte : ℕ). byte ≢ 10) first (spaced others) (lacks 10 (omega arith) first line.0) (spaced-lacks others line.1)
+body-lacks (first ∷ others) line = All-append (λ (byte : ℕ). byte ≢ 10) first (spaced_text others) (lacks 10 (omega arith) first line.0) (spaced-lacks others line.1)
 
 body-text : (words : List (List ℕ)) (rest : List ℕ) → Is-line words → line_text words ++ rest ≡ body words ++ 10 ∷ rest
 body-text [] rest line = absurd line

@@ -5,20 +5,20 @@ use Rattle.plx_words.specs.Pieces.{AllTell, Tells, Piece, all_spelled, piece_tex
 use Rattle.plx_words.specs.Texts.{LinesTell, text_of}
 use Rattle.plx_words.specs.Written.{AddsLine, AddsLines, AddsWords}
 use Rattle.plx_words.specs.Words.{line_text}
-use Rattle.plx_words.specs.Words.{spaced}
+use Rattle.plx_words.specs.Words.{spaced_text}
 
-pub spaced-append : (words others : List (List ℕ)) → spaced (words ++ others) ≡ spaced words ++ spaced others
-unfolding spaced
+pub spaced-append : (words others : List (List ℕ)) → spaced_text (words ++ others) ≡ spaced_text words ++ spaced_text others
+unfolding spaced_text
 spaced-append [] others = refl
-spaced-append (first ∷ words) others = ap (λ (text : List ℕ). 32 ∷ (first ++ text)) (spaced-append words others) ∙ sym (append_assoc (32 ∷ first) (spaced words) (spaced others))
+spaced-append (first ∷ words) others = ap (λ (text : List ℕ). 32 ∷ (first ++ text)) (spaced-append words others) ∙ sym (append_assoc (32 ∷ first) (spaced_text words) (spaced_text others))
 
 -- no word, and one more
-pub spaced-none : spaced [] ≡ []
-unfolding spaced
+pub spaced-none : spaced_text [] ≡ []
+unfolding spaced_text
 spaced-none = refl
 
-pub spaced-one : (last : List ℕ) → spaced (last ∷ []) ≡ 32 ∷ last
-unfolding spaced
+pub spaced-one : (last : List ℕ) → spaced_text (last ∷ []) ≡ 32 ∷ last
+unfolding spaced_text
 spaced-one last = simp append-nil
 
 spelled-append : (pieces others : List Piece) → all_spelled (pieces ++ others) ≡ all_spelled pieces ++ all_spelled others
@@ -31,17 +31,17 @@ tell-append (piece ∷ pieces) others here there = (here.0, tell-append pieces o
 
 -- one more piece
 pub spaced-more : {A : Type 0} (piece_of : A → Piece) (words : List A) (i : ℕ) (next : A) → i < length words → get_or words i next ≡ next
-    → spaced (all_spelled (map piece_of (take (i + 1) words))) ≡ spaced (all_spelled (map piece_of (take i words))) ++ 32 ∷ piece_text (piece_of next)
+    → spaced_text (all_spelled (map piece_of (take (i + 1) words))) ≡ spaced_text (all_spelled (map piece_of (take i words))) ++ 32 ∷ piece_text (piece_of next)
 spaced-more piece_of words i next below e = rw (take_more words i next below, e, map-append, spelled-append)
     (spaced-append (all_spelled (map piece_of (take i words))) (piece_text (piece_of next) ∷ [])
-    ∙ ap (λ (text : List ℕ). spaced (all_spelled (map piece_of (take i words))) ++ text) (spaced-one (piece_text (piece_of next))))
+    ∙ ap (λ (text : List ℕ). spaced_text (all_spelled (map piece_of (take i words))) ++ text) (spaced-one (piece_text (piece_of next))))
 
 pub tell-more : {A : Type 0} (piece_of : A → Piece) (words : List A) (i : ℕ) (next : A) → i < length words → get_or words i next ≡ next
     → AllTell (map piece_of (take i words)) → Tells (piece_of next) → AllTell (map piece_of (take (i + 1) words))
 tell-more piece_of words i next below e before here = rw (take_more words i next below, e, map-append) (tell-append (map piece_of (take i words)) (piece_of next ∷ []) before (here, tt))
 
 -- a line by its parts
-pub line-parts : (first : List ℕ) (others : List (List ℕ)) → line_text (first ∷ others) ≡ first ++ spaced others ++ 10 ∷ []
+pub line-parts : (first : List ℕ) (others : List (List ℕ)) → line_text (first ∷ others) ≡ first ++ spaced_text others ++ 10 ∷ []
 unfolding line_text
 line-parts first others = refl
 

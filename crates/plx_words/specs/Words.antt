@@ -17,10 +17,10 @@ words_left None = []
 words_left (Some text) = words_of text.now
 
 -- words, each after a space
-unfoldable pub spaced : List (List ℕ) → List ℕ
-spaced words = flat_map (λ word. 32 ∷ word) words
+unfoldable pub spaced_text : List (List ℕ) → List ℕ
+spaced_text words = flat_map (λ word. 32 ∷ word) words
 
 -- words with single spaces between them, and a line feed at the end
 unfoldable pub line_text : List (List ℕ) → List ℕ
 line_text [] = 10 ∷ []
-line_text (first ∷ others) = first ++ spaced others ++ 10 ∷ []
+line_text (first ∷ others) = first ++ spaced_text others ++ 10 ∷ []

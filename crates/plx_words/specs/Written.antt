@@ -4,7 +4,7 @@ use Rattle.plx_base.specs.Canonical.{payload_of}
 use Rattle.plx_base.specs.Payload.{bytes_of}
 use Rattle.plx_words.specs.Pieces.{AllTell, Piece, all_spelled, data_word, flag, label, named, number, word}
 use Rattle.plx_words.specs.Texts.{LinesTell, text_of}
-use Rattle.plx_words.specs.Words.{line_text, spaced}
+use Rattle.plx_words.specs.Words.{line_text, spaced_text}
 use Rattle.plx_words.specs.declared.text.Word.{Word}
 use Rattle.plx_words.specs.declared.text.Word.TheVariants as written
 
@@ -22,7 +22,7 @@ piece_of (written.Data payload) = data_word (payload_of (bytes_of payload.now))
 
 -- these words were put at the end of a text, each after a space, and they tell their values
 pub record AddsWords (old new : List ℕ) (pieces : List Piece) : Type 0 where
-  pub text : new ≡ old ++ spaced (all_spelled pieces)
+  pub text : new ≡ old ++ spaced_text (all_spelled pieces)
   pub tells : AllTell pieces
 
 -- this line was put at the end of a text, and its words tell their values

@@ -1,11 +1,11 @@
 use Rattle.std.proofs.Common.{◌<◌, refl, arith}
 use Rattle.plx_commands.specs.declared.reply.Reply.TheVariants as reply
 use Rattle.plx_appliance.specs.Kept.{known_of}
-use Rattle.plx_appliance.proofs.Entered.{attach-within, enters, refused}
+use Rattle.plx_appliance.proofs.Entered.{attach-within, enters, refusal-enters}
 use Rattle.plx_appliance.proofs.entering.enter_attach.Goals as goal
 
 pub returns-in-Some : goal.returns-in-Some
-returns-in-Some c = refused c.args.holdings.now reply.AlreadyAttached (rw c.in-Some.ensures.0 refl)
+returns-in-Some c = refusal-enters c.args.holdings.now reply.AlreadyAttached (rw c.in-Some.ensures.0 refl)
 
 pub returns-in-Some-get : goal.returns-in-Some-get
 returns-in-Some-get c =

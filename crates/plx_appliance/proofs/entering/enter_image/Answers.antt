@@ -5,7 +5,7 @@ use Rattle.plx_appliance.specs.Giving.{rules_setting}
 use Rattle.plx_appliance.specs.Kept.{known_of, session_of}
 use Rattle.plx_appliance.specs.Lent.{lent_of}
 use Rattle.plx_appliance.specs.RenewStarts.{holds_in}
-use Rattle.plx_appliance.proofs.Entered.{attached-none, by-lease, entered, refused}
+use Rattle.plx_appliance.proofs.Entered.{attached-none, by-lease, image-enters, refusal-enters}
 use Rattle.plx_appliance.proofs.entering.enter_image.Goals as goal
 
 pub leased-requires : goal.leased-requires
@@ -23,14 +23,14 @@ returns-in_default c =
     let h = c.args.holdings.now in
     let s = rules_setting h.setting in
     let rest = image_part s (known_of h) c.args.slot.0 c.args.command in
-    refused h reply.NotAttached (attached-none s (known_of h) (holds_in h) c.args.reading c.args.slot.0 rest c.in_default.ensures)
+    refusal-enters h reply.NotAttached (attached-none s (known_of h) (holds_in h) c.args.reading c.args.slot.0 rest c.in_default.ensures)
 
 pub returns-in-Err : goal.returns-in-Err
 returns-in-Err c =
     let h = c.args.holdings.now in
     let session = session_of c.in-Some.session.now in
     let rest = image_part (rules_setting h.setting) (known_of h) c.args.slot.0 c.args.command in
-    refused h c.in-Err.reply (by-lease h c.args.reading c.args.slot session rest
+    refusal-enters h c.in-Err.reply (by-lease h c.args.reading c.args.slot session rest
     (c.in-Err.ensures.part (known_of h) (rest session)) c.in-Some.ensures.0 c.in-Some.ensures.1)
 
 pub returns-in-Ok : goal.returns-in-Ok
@@ -40,7 +40,7 @@ returns-in-Ok c =
     let image = c.in-Ok.image in
     let slot = c.in-Ok.ensures.slot image refl in
     let e = c.enter_leased.ensures in
-    entered h c.args.reading c.args.slot (session_of c.in-Some.session.now) image
+    image-enters h c.args.reading c.args.slot (session_of c.in-Some.session.now) image
     (λ s named. image_part s (known_of h) named c.args.command) c.enter_leased.result
     (e.part (lent_of h) (rw slot some.0)) e.image slot (c.in-Ok.ensures.setting image refl)
     (c.in-Ok.ensures.part (known_of h)) some.0 some.1

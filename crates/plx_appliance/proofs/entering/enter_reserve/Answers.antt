@@ -1,7 +1,7 @@
 use Rattle.std.proofs.Common.{◌∙◌, refl, rules}
 use Rattle.plx_appliance.specs.Kept.{known_of, sessions_of}
 use Rattle.plx_appliance.specs.Reserves.{outer_of}
-use Rattle.plx_appliance.proofs.Entered.{enters, refused}
+use Rattle.plx_appliance.proofs.Entered.{enters, refusal-enters}
 use Rattle.plx_appliance.proofs.Lending.{reserve-lent}
 use Rattle.plx_appliance.proofs.entering.enter_reserve.Goals as goal
 
@@ -15,6 +15,6 @@ returns-in-Ok c =
 pub returns-in-Err : goal.returns-in-Err
 returns-in-Err c =
     let h = c.args.holdings.now in
-    refused h c.reserve_reply.result (c.reserve_reply.ensures (known_of h)
+    refusal-enters h c.reserve_reply.result (c.reserve_reply.ensures (known_of h)
     ∙ c.in-Err.ensures.rest (outer_of h.setting (sessions_of h.sessions.images.items))
     ∙ reserve-lent h c.args.need.count)

@@ -1,6 +1,6 @@
 use Rattle.std.proofs.Common.{ap}
 use Rattle.plx_appliance.specs.declared.setting.Setting.{Setting}
-use Rattle.plx_appliance.proofs.Entered.{enters, refused}
+use Rattle.plx_appliance.proofs.Entered.{enters, refusal-enters}
 use Rattle.plx_appliance.proofs.entering.enter_retire.Goals as goal
 
 pub returns-in-Ok : goal.returns-in-Ok
@@ -11,4 +11,4 @@ returns-in-Ok c =
     (e.tells _) e.suits
 
 pub returns-in-Err : goal.returns-in-Err
-returns-in-Err c = refused c.args.holdings.now _ c.in-Err.ensures.part
+returns-in-Err c = refusal-enters c.args.holdings.now _ c.in-Err.ensures.part

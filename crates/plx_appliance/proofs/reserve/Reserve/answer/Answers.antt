@@ -5,8 +5,8 @@ use Rattle.plx_appliance.specs.Reserves.{outer_of}
 use Rattle.plx_appliance.proofs.reserve.Reserve.answer.Goals as goal
 
 -- a reply isn't none
-replied : (reply : Reply) → Some reply ≡ None → ⊥
-replied reply none = absurd cc
+reply-is-some : (reply : Reply) → Some reply ≡ None → ⊥
+reply-is-some reply none = absurd cc
 
 pub returns-in-None : goal.returns-in-None
 returns-in-None c =
@@ -36,15 +36,15 @@ returns-in-Some c =
       rest = λ sessions leases.
           c.reserve_reply.ensures (lends sessions leases c.answer.new.space).known ∙ e.rest (outer_of setting sessions);
       setting = refl;
-      suits = λ none. absurd (replied _ none);
+      suits = λ none. absurd (reply-is-some _ none);
       held = e.held;
       same = e.same;
       moves = λ sessions leases. record {
         images = refl;
         end = Some c.in-Some.end;
-        goes_on = λ none. absurd (replied _ none);
+        goes_on = λ none. absurd (reply-is-some _ none);
         extents = e.leases;
         hand = e.hand;
-        found = λ fits none. absurd (replied _ none);
+        found = λ fits none. absurd (reply-is-some _ none);
       };
     }

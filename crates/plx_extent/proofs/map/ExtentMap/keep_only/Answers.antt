@@ -6,9 +6,9 @@ use Rattle.plx_extent.specs.Maps.{allocated_count, bits_of, kept_map}
 use Rattle.plx_extent.proofs.map.ExtentMap.keep_only.Given as given
 use Rattle.plx_extent.proofs.map.ExtentMap.keep_only.Goals as goal
 
-turned : (g : given.Over) (c : goal.After-keep_marked g) →
+bytes-spell-kept : (g : given.Over) (c : goal.After-keep_marked g) →
     SpellsMap c.self.inside.blocks c.keep_marked.new.bytes (kept_map (g.M.MarkSet.is_marked c.args.marks.now) (bits_of c.self.inside.blocks c.self.inside.bytes))
-turned g c =
+bytes-spell-kept g c =
     let m = c.self.inside in
     let long = length-bits_from m.blocks 0 m.bytes in
     let most = c.self.invariant.most in
@@ -16,10 +16,10 @@ turned g c =
     (c.keep_marked.ensures (bits_of m.blocks m.bytes) (omega (arith, long, most)) c.self.invariant.spelled)
 
 pub invariant_of-self : goal.invariant_of-self
-invariant_of-self g c = (turned g c).holds
+invariant_of-self g c = (bytes-spell-kept g c).holds
 
 pub returns-clause-kept : goal.returns-clause-kept
-returns-clause-kept g c = (turned g c.before).has ∙ ap (λ bits. kept_map (g.M.MarkSet.is_marked c.args.marks.now) bits) c.self.view_is
+returns-clause-kept g c = (bytes-spell-kept g c.before).has ∙ ap (λ bits. kept_map (g.M.MarkSet.is_marked c.args.marks.now) bits) c.self.view_is
 
 pub returns-clause-len : goal.returns-clause-len
 returns-clause-len g c = ap (λ bits. length bits) (returns-clause-kept g c) ∙ length-kept_bits (g.M.MarkSet.is_marked c.args.marks.now) 0 c.args.self.now

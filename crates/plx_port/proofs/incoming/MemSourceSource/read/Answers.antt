@@ -4,9 +4,9 @@ use Rattle.std.proofs.lemmas.List.{drop-drop, drop_at, take_rest}
 use Rattle.plx_port.proofs.incoming.MemSourceSource.read.Goals as goal
 
 -- what is left is the bytes given, and what is behind them
-given : (at n : ℕ) (bytes front rest : List ℕ) → n ≤ length (drop at bytes) → front ≡ take n (drop at bytes)
+given-rest : (at n : ℕ) (bytes front rest : List ℕ) → n ≤ length (drop at bytes) → front ≡ take n (drop at bytes)
     → drop at bytes ≡ take n (front ++ rest) ++ drop (at + n) bytes
-given at n bytes front rest short e =
+given-rest at n bytes front rest short e =
     let left = drop at bytes in
     let len : length front ≡ n = ap length e ∙ length-take-le n left short in
     let same : take n (front ++ rest) ≡ take n left = ap (λ k. take k (front ++ rest)) (sym len) ∙ take-append_seam front rest ∙ e in
@@ -30,7 +30,7 @@ returns-clause-given c =
     let least = c.min.ensures ∙ ap (λ l. min c.self.inside.piece (length l)) part in
     let count = c.min-count.ensures in
     rw (← c.self.view_is) (
-      given at n bytes c.copy_from_slice.new.self _ (omega (arith, least, count)) front,
+      given-rest at n bytes c.copy_from_slice.new.self _ (omega (arith, least, count)) front,
       at_end at n _ _ c.args.into.now c.copy_from_slice.new.self bytes count least c.self.invariant.1 c.copy_from_slice.ensures.len,
     )
 
