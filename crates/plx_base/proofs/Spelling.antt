@@ -11,7 +11,7 @@ use Rattle.plx_base.specs.Fields.{little, number_at}
 use Rattle.plx_base.specs.Sectors.{with_landed_sector}
 use Rattle.plx_base.specs.declared.stored.Field.{Field}
 use Rattle.plx_base.specs.declared.stored.Field.TheVariants.{U32, U64, U128}
-use Rattle.plx_base.specs.Spelling.{width_of, field_number, with_number, fields_width, fields_bytes, fields_at, head_of, padded, block_of_fields, read_by, IsReading, OnlySector}
+use Rattle.plx_base.specs.Spelling.{width_of, field_number, with_number, fields_width, fields_bytes, fields_at, head_of, padded_bytes, block_of_fields, read_by, IsReading, OnlySector}
 use Rattle.plx_base.proofs.Written.{length-written, drop-written, written-past}
 use Rattle.plx_base.proofs.Uniform.{All-replicate, replicate-All}
 use Rattle.plx_base.proofs.Fields.{length-little, number_at-along, number_at-little, little-number_at}
@@ -109,26 +109,26 @@ written-next at one other old within =
     rw (cut, past, far, append_assoc (take at old) one other) refl
 
 -- a write over a block of zeros, from its begin on
-pub written-zeros : (bytes : List ℕ) → with_bytes_at 0 bytes zeros ≡ padded bytes
-unfolding with_bytes_at padded zeros
+pub written-zeros : (bytes : List ℕ) → with_bytes_at 0 bytes zeros ≡ padded_bytes bytes
+unfolding with_bytes_at padded_bytes zeros
 written-zeros bytes = ap (λ rest. bytes ++ rest) (let e : 0 + length bytes ≡ length bytes = omega arith in ap (λ n. drop n (replicate 4096 0)) e ∙ drop-replicate (length bytes) 4096 0)
 
 -- a padded list fills a block
-pub length-padded : (bytes : List ℕ) → length bytes ≤ 4096 → length (padded bytes) ≡ 4096
-unfolding padded
+pub length-padded : (bytes : List ℕ) → length bytes ≤ 4096 → length (padded_bytes bytes) ≡ 4096
+unfolding padded_bytes
 length-padded bytes short =
     let a = length-append bytes (replicate (4096 - length bytes) 0) in
     let b = length-replicate {A = ℕ} (4096 - length bytes) 0 in
     omega (arith, a, b, short)
 
 -- nothing, padded, is a block of zeros
-pub padded-nil : padded [] ≡ zeros
-unfolding padded zeros
+pub padded-nil : padded_bytes [] ≡ zeros
+unfolding padded_bytes zeros
 padded-nil = refl
 
 -- past its bytes a padded list is zeros
-pub drop-padded : (place : ℕ) (bytes : List ℕ) → length bytes ≤ place → drop place (padded bytes) ≡ replicate (4096 - place) 0
-unfolding padded
+pub drop-padded : (place : ℕ) (bytes : List ℕ) → length bytes ≤ place → drop place (padded_bytes bytes) ≡ replicate (4096 - place) 0
+unfolding padded_bytes
 drop-padded place bytes short =
     let n = length bytes in
     let e : place - n + n ≡ place = omega (arith, short) in
@@ -138,14 +138,14 @@ drop-padded place bytes short =
     ∙ (ap (drop (place - n)) (drop_at bytes (replicate (4096 - n) 0) n refl) ∙ (drop-replicate (place - n) (4096 - n) 0 ∙ ap (λ m. replicate m 0) f)))
 
 -- up to its end a padded list is the list
-pub take-padded : (bytes : List ℕ) → take (length bytes) (padded bytes) ≡ bytes
-unfolding padded
+pub take-padded : (bytes : List ℕ) → take (length bytes) (padded_bytes bytes) ≡ bytes
+unfolding padded_bytes
 take-padded bytes = take_at bytes (replicate (4096 - length bytes) 0) (length bytes) refl
 
 -- a record, written out
 pub spelled-eq : (magic : List ℕ) (fields : List Field) (last : List ℕ) →
     block_of_fields magic fields last ≡ magic ++ (fields_bytes fields ++ (last ++ replicate (4096 - length (magic ++ (fields_bytes fields ++ last))) 0))
-unfolding block_of_fields padded
+unfolding block_of_fields padded_bytes
 spelled-eq magic fields last =
     let rest = replicate (4096 - length (magic ++ (fields_bytes fields ++ last))) 0 in
     append_assoc magic (fields_bytes fields ++ last) rest ∙ ap (λ xs. magic ++ xs) (append_assoc (fields_bytes fields) last rest)
@@ -204,8 +204,8 @@ only-first new old same = record {
         ∙ (ap (λ rest. take 512 old ++ rest) (landed-same other (drop 512 old)) ∙ take-append-drop 512 old)
 
 -- records within the first sector
-pub only-padded : (new old : List ℕ) → length new ≤ 512 → length old ≤ 512 → OnlySector 0 (padded new) (padded old)
-only-padded new old short short_old = only-first (padded new) (padded old) (drop-padded 512 new short ∙ sym (drop-padded 512 old short_old))
+pub only-padded : (new old : List ℕ) → length new ≤ 512 → length old ≤ 512 → OnlySector 0 (padded_bytes new) (padded_bytes old)
+only-padded new old short short_old = only-first (padded_bytes new) (padded_bytes old) (drop-padded 512 new short ∙ sym (drop-padded 512 old short_old))
 
 -- so two records differ in their first sector alone
 pub only-spelled : (magic : List ℕ) (fields : List Field) (last : List ℕ) (old_magic : List ℕ) (old_fields : List Field) (old_last : List ℕ) →
@@ -218,12 +218,12 @@ only-spelled magic fields last old_magic old_fields old_last short short_old =
     only-padded (magic ++ (fields_bytes fields ++ last)) (old_magic ++ (fields_bytes old_fields ++ old_last)) (omega (arith, a, short)) (omega (arith, b, short_old))
 
 -- a record and an empty block
-pub only-zeros : (new : List ℕ) → length new ≤ 512 → OnlySector 0 (padded new) zeros
-only-zeros new short = subst (OnlySector 0 (padded new)) padded-nil (only-padded new [] short (omega arith))
+pub only-zeros : (new : List ℕ) → length new ≤ 512 → OnlySector 0 (padded_bytes new) zeros
+only-zeros new short = subst (OnlySector 0 (padded_bytes new)) padded-nil (only-padded new [] short (omega arith))
 
 -- and the other way round
-pub zeros-only : (old : List ℕ) → length old ≤ 512 → OnlySector 0 zeros (padded old)
-zeros-only old short = subst (λ x. OnlySector 0 x (padded old)) padded-nil (only-padded [] old (omega arith) short)
+pub zeros-only : (old : List ℕ) → length old ≤ 512 → OnlySector 0 zeros (padded_bytes old)
+zeros-only old short = subst (λ x. OnlySector 0 x (padded_bytes old)) padded-nil (only-padded [] old (omega arith) short)
 
 -- after a sector that both have, the next one tells all
 only-next : (front : List ℕ) (sector : ℕ) (new old : List ℕ) → length front ≡ 512 → OnlySector sector new old → OnlySector (suc sector) (front ++ new) (front ++ old)
@@ -387,7 +387,7 @@ head-written magic fields last old end short here =
     ∙ ap (λ xs. with_bytes_at 0 xs old) (append_assoc magic (fields_bytes fields) last)))
 
 -- a record is its head, and zeros
-pub spelled-head : (magic : List ℕ) (fields : List Field) (last : List ℕ) → block_of_fields magic fields last ≡ padded (head_of magic fields last)
+pub spelled-head : (magic : List ℕ) (fields : List Field) (last : List ℕ) → block_of_fields magic fields last ≡ padded_bytes (head_of magic fields last)
 unfolding block_of_fields
 spelled-head magic fields last = refl
 
@@ -397,8 +397,8 @@ unfolding block_of_fields
 record-written magic fields last = written-zeros (head_of magic fields last)
 
 -- a short head over a sector of zeros, and the zeros of all other sectors, are the whole record
-padded-sectors : (head : List ℕ) → length head ≤ 512 → padded head ≡ with_bytes_at 0 head (replicate 512 0) ++ replicate 3584 0
-unfolding padded with_bytes_at
+padded-sectors : (head : List ℕ) → length head ≤ 512 → padded_bytes head ≡ with_bytes_at 0 head (replicate 512 0) ++ replicate 3584 0
+unfolding padded_bytes with_bytes_at
 padded-sectors head short =
     let n = length head in
     let e : 0 + n ≡ n = omega arith in
@@ -410,13 +410,13 @@ padded-sectors head short =
 
 -- so a block whose first sector is that, and whose others are zeros, is the record
 pub sectors-record : (bytes head sector : List ℕ) → length bytes ≡ 4096 → length head ≤ 512 → sector ≡ with_bytes_at 0 head (replicate 512 0) → take 512 bytes ≡ sector →
-    All (λ b. b ≡ 0) (drop 512 bytes) → bytes ≡ padded head
+    All (λ b. b ≡ 0) (drop 512 bytes) → bytes ≡ padded_bytes head
 sectors-record bytes head sector long short is first others =
     let rest : drop 512 bytes ≡ replicate 3584 0 = replicate-All 0 3584 (drop 512 bytes) (length-drop 512 bytes ∙ (let x : length bytes - 512 ≡ 3584 = omega (arith, long) in x)) others in
     sym (take-append-drop 512 bytes) ∙ (ap (λ xs. xs ++ drop 512 bytes) (first ∙ is) ∙ (ap (λ xs. with_bytes_at 0 head (replicate 512 0) ++ xs) rest ∙ sym (padded-sectors head short)))
 
 -- and the other way round
-pub record-sectors : (bytes head sector : List ℕ) → length head ≤ 512 → sector ≡ with_bytes_at 0 head (replicate 512 0) → bytes ≡ padded head →
+pub record-sectors : (bytes head sector : List ℕ) → length head ≤ 512 → sector ≡ with_bytes_at 0 head (replicate 512 0) → bytes ≡ padded_bytes head →
     (take 512 bytes ≡ sector) × All (λ b. b ≡ 0) (drop 512 bytes)
 record-sectors bytes head sector short is same =
     let zeros' : List ℕ = replicate 512 0 in

@@ -40,8 +40,8 @@ fields_at [] place bytes = []
 fields_at (field ∷ fields) place bytes = with_number field (number_at (width_of field) place bytes) ∷ fields_at fields (place + width_of field) bytes
 
 -- these bytes, and zeros up to the end of a block
-unfoldable pub padded : List ℕ → List ℕ
-padded bytes = bytes ++ replicate (4096 - length bytes) 0
+unfoldable pub padded_bytes : List ℕ → List ℕ
+padded_bytes bytes = bytes ++ replicate (4096 - length bytes) 0
 
 -- what a record has before its zeros: the magic, the fields and the last bytes, one after another
 abbrev pub head_of : (magic : List ℕ) (fields : List Field) (last : List ℕ) → List ℕ
@@ -49,7 +49,7 @@ head_of magic fields last = magic ++ (fields_bytes fields ++ last)
 
 -- the block that begins with the magic, and goes on with the fields and the last bytes
 unfoldable pub block_of_fields : (magic : List ℕ) (fields : List Field) (last : List ℕ) → List ℕ
-block_of_fields magic fields last = padded (head_of magic fields last)
+block_of_fields magic fields last = padded_bytes (head_of magic fields last)
 
 -- what bytes say, by what was found at its places: that, where it is within its limits and is spelled by these bytes, else nothing
 abbrev pub read_by : {A : Type 0} → (is_within : A → Bool) → (spelling : A → List ℕ) → (found : A) → List ℕ → Option A
