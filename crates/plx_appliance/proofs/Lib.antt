@@ -12,6 +12,7 @@ pub mod Lending
 pub mod Lengthened
 pub mod Moved
 pub mod Numbers
+pub mod PlacedBlocks
 pub mod Places
 pub mod Queued
 pub mod Reached

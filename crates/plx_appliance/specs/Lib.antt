@@ -12,6 +12,7 @@ pub mod Kept
 pub mod Lent
 pub mod Loads
 pub mod Moving
+pub mod PlacedWrites
 pub mod Pushing
 pub mod Releasing
 pub mod RenewStarts

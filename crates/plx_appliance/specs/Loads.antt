@@ -10,7 +10,7 @@ use Rattle.plx_rules.specs.Loading.{LoadEnd, load_found, load_part, load_read}
 use Rattle.plx_rules.specs.Parts.{followed_by}
 use Rattle.plx_rules.specs.Session.{Known, with_write_by_number}
 use Rattle.plx_appliance.specs.Giving.{rules_setting}
-use Rattle.plx_appliance.specs.Kept.{session_of}
+use Rattle.plx_appliance.specs.Kept.{session_of, writes_of}
 use Rattle.plx_appliance.specs.declared.load.Load.{Load}
 use Rattle.plx_appliance.specs.declared.load.LoadAt.{LoadAt}
 use Rattle.plx_appliance.specs.declared.load.LoadAt.TheVariants as load
@@ -27,13 +27,13 @@ slots_part l next writes = load_part l.image.setting.geometry l.image.slot.0 l.s
 abbrev pub data_part : Load → (number vblock : ℕ) → Part LoadEnd
 data_part l number vblock =
     load_read (data_at l.image.setting.geometry l.image.slot.0 l.next) (λ data'.
-    slots_part l (l.next + 1) (with_write_by_number (loaded_write number vblock data') l.session.writes.items))
+    slots_part l (l.next + 1) (with_write_by_number (loaded_write number vblock data') (writes_of l.session.journal)))
 
 -- what is asked once the descriptor of a slot was read
 abbrev pub found_part : Load → List ℕ → Part LoadEnd
 found_part l bytes =
     load_found (descriptor_at l.image.setting.geometry l.image.slot.0 l.next) (finding l.session.image l.image.setting.geometry.slots l.next bytes)
-    (slots_part l (l.next + 1) l.session.writes.items)
+    (slots_part l (l.next + 1) (writes_of l.session.journal))
     (λ number vblock. data_part l number vblock)
 
 -- the read of a slot, and what is asked after it

@@ -5,7 +5,7 @@ use Rattle.plx_appliance.specs.declared.session.Session.{Session}
 -- of how many slots the journal of a session is, if there is one
 abbrev pub slots_with_session : ℕ → Option Session → ℕ
 slots_with_session slots None = slots
-slots_with_session slots (Some session) = session.slots
+slots_with_session slots (Some session) = session.journal.slots
 
 -- all sessions are of journals of so many slots
 abbrev pub AreOf : ℕ → List (Option Session) → Type 0

@@ -65,8 +65,8 @@ impl Attach {
     ) -> Attach
         requires within { slot.0 < setting.geometry.images }
         requires number { number < last_claim }
-        requires slots { session.slots ≡ setting.geometry.slots }
-        requires empty { vec_len session.writes ≡ 0 }
+        requires slots { session.journal.slots ≡ setting.geometry.slots }
+        requires empty { vec_len session.journal.writes ≡ 0 }
         ensures rest { (known : Known) → attach_rest known result ≡ followed_by
             (claim_part (rules_setting setting).boot [] (image_lease slot.0) number)
             (after_claim (rules_setting setting) known slot.0) }
@@ -96,8 +96,8 @@ impl Attach {
 
     /// The lease is held up to this moment.
     pub fn load(alloc: Global, image: Leased, session: Session, lease: Block) -> Attach
-        requires slots { session.slots ≡ image.setting.geometry.slots }
-        requires empty { vec_len session.writes ≡ 0 }
+        requires slots { session.journal.slots ≡ image.setting.geometry.slots }
+        requires empty { vec_len session.journal.writes ≡ 0 }
         ensures rest { (known : Known) → attach_rest known result ≡ load_image
             (rules_setting image.setting) known image.slot.0 image.until }
         ensures at { result.at ≡ AttachAt.Load }

@@ -17,8 +17,8 @@ pub struct Room {
     pub session: Session,
     pub lease: Block,
     pub alloc: Global,
-    ghost same: { session.slots ≡ slots },
-    ghost empty: { vec_len session.writes ≡ 0 },
+    ghost same: { session.journal.slots ≡ slots },
+    ghost empty: { vec_len session.journal.writes ≡ 0 },
 }
 
 impl Room {

@@ -138,7 +138,7 @@ fn enter_image(
 
 // A command goes on at an image under its lease, with the image's session.
 fn enter_leased(command: ImageCommand, image: Leased, session: &Session) -> Result<Work, Reply>
-    requires { session.now.slots ≡ image.setting.geometry.slots }
+    requires { session.now.journal.slots ≡ image.setting.geometry.slots }
     ensures part { (lent : Lent) →
         lent.known.sessions image.slot.0 ≡ Some (session_of session.now) →
         work_entered lent result ≡ image_part (rules_setting image.setting) lent.known

@@ -19,8 +19,8 @@ pub enum Finding {
 
 /// What stands in a slot of the journal of a session's image, of the bytes of its descriptor.
 pub fn find(session: &Session, slot: u32, bytes: &Block) -> Finding
-    requires { slot < session.now.slots }
-    ensures { finding_shown result ≡ finding_in session.now.image session.now.slots slot bytes.now }
+    requires { slot < session.now.journal.slots }
+    ensures { finding_shown result ≡ finding_in session.now.image session.now.journal.slots slot bytes.now }
 {
     let Some(read) = read_descriptor(bytes.as_slice()) else {
         return Finding::Outside;
@@ -31,7 +31,7 @@ pub fn find(session: &Session, slot: u32, bytes: &Block) -> Finding
     if !is_unapplied(session, &descriptor) {
         return Finding::Unused;
     }
-    if !is_placed(session.slots, slot, &descriptor) || descriptor.vblock >= session.size() {
+    if !is_placed(session.journal.slots, slot, &descriptor) || descriptor.vblock >= session.size() {
         return Finding::Outside;
     }
     Finding::Counts(descriptor)

@@ -18,7 +18,7 @@ pub fn push(image: &mut Option<Session>, slots: u32, number: u64, vblock: u32, b
 {
     match image {
         Some(session) => {
-            if session.writes.len() < slots as usize {
+            if session.journal.len() < slots as usize {
                 session.push(number, vblock, bytes);
             }
         }

@@ -34,8 +34,8 @@ pub struct Load {
     pub next: u32,
     pub session: Session,
     pub alloc: Global,
-    ghost room: { vec_len session.writes ≤ next },
-    ghost same: { session.slots ≡ slots },
+    ghost room: { vec_len session.journal.writes ≤ next },
+    ghost same: { session.journal.slots ≡ slots },
     ghost inside: { slots_reached at next ≤ slots },
 }
 
@@ -51,13 +51,13 @@ impl Load {
     ghost use Rattle.plx_appliance.specs.Asking.{IsSpare};
     ghost use Rattle.plx_appliance.specs.Ending.{part_after};
     ghost use Rattle.plx_appliance.specs.Giving.{rules_setting};
-    ghost use Rattle.plx_appliance.specs.Kept.{known_by};
+    ghost use Rattle.plx_appliance.specs.Kept.{known_by, writes_of};
     ghost use Rattle.plx_appliance.specs.Loads.{damaged_rest, found_rest, loaded_write, load_rest, loaded_rest};
 
     /// The load of an image under its lease, with the memory of a session.
     pub fn begin(alloc: Global, image: Leased, session: Session) -> Load
-        requires slots { session.slots ≡ image.setting.geometry.slots }
-        requires empty { vec_len session.writes ≡ 0 }
+        requires slots { session.journal.slots ≡ image.setting.geometry.slots }
+        requires empty { vec_len session.journal.writes ≡ 0 }
         ensures rest { (known : Known) → load_rest known result ≡ load_image
             (rules_setting image.setting) known image.slot.0 image.until }
         ensures slots { result.slots ≡ image.setting.geometry.slots }
@@ -206,7 +206,7 @@ impl Load {
     fn stand(&mut self)
         requires own { self.old.slots ≡ self.old.image.setting.geometry.slots }
         ensures rest { (known : Known) → load_rest known self.new
-            ≡ loaded_rest known self.old self.old.next self.old.session.writes.items }
+            ≡ loaded_rest known self.old self.old.next (writes_of self.old.session.journal) }
         ensures image { self.new.image ≡ self.old.image }
         ensures slots { self.new.slots ≡ self.old.slots }
     {
@@ -250,7 +250,7 @@ impl Load {
         ensures rest { (known : Known) → load_rest known self.new ≡ loaded_rest known self.old
             (self.old.next + 1) (with_write_by_number
             (loaded_write descriptor.now.number descriptor.now.vblock bytes.now)
-            self.old.session.writes.items) }
+            (writes_of self.old.session.journal)) }
         ensures image { self.new.image ≡ self.old.image }
         ensures slots { self.new.slots ≡ self.old.slots }
     {

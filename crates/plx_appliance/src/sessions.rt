@@ -46,7 +46,7 @@ impl Sessions {
     pub fn get(&self, slot: SlotNo) -> Option<&Session>
         ensures { MatchOption result (sessions_of self.now.images.items slot.0 ≡ None)
             (λ s. (sessions_of self.now.images.items slot.0 ≡ Some (session_of s.now))
-            × (slot.0 < self.now.count) × (s.now.slots ≡ self.now.slots)) }
+            × (slot.0 < self.now.count) × (s.now.journal.slots ≡ self.now.slots)) }
     {
         let index = slot.0 as usize;
         if index >= self.images.len() {
@@ -70,7 +70,7 @@ impl Sessions {
     /// A session begins.
     pub fn put(&mut self, slot: SlotNo, session: Session)
         requires within { slot.0 < self.old.count }
-        requires same { session.slots ≡ self.old.slots }
+        requires same { session.journal.slots ≡ self.old.slots }
         ensures known { sessions_of self.new.images.items
             ≡ at (sessions_of self.old.images.items) slot.0 (Some (session_of session)) }
         ensures count { self.new.count ≡ self.old.count }

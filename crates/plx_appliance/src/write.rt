@@ -55,7 +55,7 @@ impl Write {
         block: Block,
         spelled: Block,
     ) -> Result<Write, Reply>
-        requires { session.now.slots ≡ image.setting.geometry.slots }
+        requires { session.now.journal.slots ≡ image.setting.geometry.slots }
         ensures part { (known : Known) → known.sessions image.slot.0
             ≡ Some (session_of session.now) → enter_part write_rest known result ≡ write_part
             (rules_setting image.setting) known image.slot.0 vblock block
@@ -74,7 +74,7 @@ impl Write {
             return Err(Reply::WornOut { count: LAST_WRITE });
         }
         let slots = image.setting.geometry.slots;
-        if session.writes.len() == slots as usize {
+        if session.journal.len() == slots as usize {
             return Err(Reply::Full);
         }
         let number = count + 1;
