@@ -1,10 +1,9 @@
 -- The blocks of a journal's writes lie one after another.
 use Rattle.std.proofs.Common.{◌≡◌, ℕ, ◌+◌, ◌*◌, ◌<◌, ◌≤◌, List, [], ◌∷◌, ◌++◌, length, take, drop, get_or, map, refl, subst, sym, ap, ◌∙◌, arith}
-use Rattle.std.specs.Prelude.{All}
 use Rattle.std.specs.List.{insert}
 use Rattle.std.proofs.lemmas.List.{take_all, take-append-le, drop-append-le, drop_at, length-drop, length-map, map-append, take-map, drop-map, get_or-map}
 use Rattle.std.proofs.lemmas.List.Edits.{insert_end}
-use Rattle.std.proofs.lemmas.List.Elements.{All-head, All-tail, All-append, All-cons, All-take, All-drop, All-weaker}
+use Rattle.std.proofs.lemmas.List.Elements.{All-head, All-tail}
 use Rattle.plx_rules.specs.declared.journaled.Journaled.{Journaled}
 use Rattle.plx_appliance.specs.PlacedWrites.{AreWithinBlocks, block_in, write_in, writes_in}
 use Rattle.plx_appliance.specs.declared.journal.PlacedWrite.{PlacedWrite}
@@ -51,20 +50,12 @@ writes-inserted bytes block count index number vblock writes long whole places =
     ∙ ap (λ (w : Journaled). take index (map f writes) ++ w ∷ drop index (map f writes)) same
     ∙ ap (λ (ws : List Journaled). insert ws index (record { number = number; vblock = vblock; block = block })) others
 
--- and has the last of the blocks
-pub places-inserted : (count index : ℕ) (writes : List PlacedWrite) (new : PlacedWrite) → new.place ≡ count → AreWithinBlocks count writes → AreWithinBlocks (count + 1) (insert writes index new)
-places-inserted count index writes new last places =
-    let P : PlacedWrite → Type 0 = λ w. w.place < count in
-    let Q : PlacedWrite → Type 0 = λ w. w.place < count + 1 in
-    let all : All Q writes = All-weaker P Q (λ w below. omega (arith, below)) writes places in
-    All-append Q (take index writes) (new ∷ drop index writes) (All-take Q index writes all) (All-cons Q new (drop index writes) (omega (arith, last)) (All-drop Q index writes all))
-
 -- how many writes there are
 pub length-writes : (bytes : List ℕ) (writes : List PlacedWrite) → length (writes_in bytes writes) ≡ length writes
 unfolding writes_in
 length-writes bytes writes = length-map writes (write_in bytes)
 
--- a write is read
+-- the write at an index, with its bytes
 pub write-at : (bytes : List ℕ) (writes : List PlacedWrite) (i : ℕ) (d : PlacedWrite) → i < length writes →
     let write = write_in bytes (get_or writes i d) in (i < length (writes_in bytes writes)) × (write ≡ get_or (writes_in bytes writes) i write)
 unfolding writes_in
@@ -74,17 +65,17 @@ write-at bytes writes i d within =
       sym (get_or-map f writes i d (f (get_or writes i d)) within),
     )
 
--- at the end all are read
+-- so of a write that was read there
+pub write-is : (bytes : List ℕ) (writes : List PlacedWrite) (i : ℕ) (write : PlacedWrite) → i < length writes → write ≡ get_or writes i write →
+    (i < length (writes_in bytes writes)) × (write_in bytes write ≡ get_or (writes_in bytes writes) i (write_in bytes write))
+write-is bytes writes i write within is =
+    let read = write-at bytes writes i write within in
+    subst (λ (w : PlacedWrite). (i < length (writes_in bytes writes)) × (write_in bytes w ≡ get_or (writes_in bytes writes) i (write_in bytes w))) (sym is) read
+
+-- past the last of the one list is past the last of the other
 pub writes-past : (bytes : List ℕ) (writes : List PlacedWrite) (i : ℕ) → length writes ≤ i → length (writes_in bytes writes) ≤ i
 writes-past bytes writes i past = omega (arith, past, length-writes bytes writes)
 
 -- one more write after the others
 pub writes-pushed : (bytes : List ℕ) (writes : List PlacedWrite) (new : Journaled) → insert (writes_in bytes writes) (length writes) new ≡ writes_in bytes writes ++ new ∷ []
 writes-pushed bytes writes new = rw (← length-writes bytes writes) (insert_end (writes_in bytes writes) new)
-
--- a write is read by an index
-pub write-is : (bytes : List ℕ) (writes : List PlacedWrite) (i : ℕ) (write : PlacedWrite) → i < length writes → write ≡ get_or writes i write →
-    (i < length (writes_in bytes writes)) × (write_in bytes write ≡ get_or (writes_in bytes writes) i (write_in bytes write))
-write-is bytes writes i write within is =
-    let read = write-at bytes writes i write within in
-    subst (λ (w : PlacedWrite). (i < length (writes_in bytes writes)) × (write_in bytes w ≡ get_or (writes_in bytes writes) i (write_in bytes w))) (sym is) read

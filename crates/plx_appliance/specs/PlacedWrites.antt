@@ -17,7 +17,7 @@ block_or_zeros bytes (Some place) = block_in bytes place
 abbrev pub write_in : List ℕ → PlacedWrite → Journaled
 write_in bytes write = record { number = write.number; vblock = write.vblock; block = block_in bytes write.place }
 
--- so of each write
+-- these writes, each with its bytes
 unfoldable pub writes_in : List ℕ → List PlacedWrite → List Journaled
 writes_in bytes writes = map (write_in bytes) writes
 

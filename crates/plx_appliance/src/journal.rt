@@ -52,7 +52,7 @@ impl Journal {
     /// A journal of so many slots that holds no write, with all the memory that it can need.
     pub fn new(alloc: Global, slots: u32) -> Result<Journal, NoMemory>
         ensures slots { IfOk result (λ j. j.slots ≡ slots) }
-        ensures none { IfOk result (λ j. vec_len j.writes ≡ 0) }
+        ensures empty { IfOk result (λ j. vec_len j.writes ≡ 0) }
     {
         let writes = Vec::with_capacity(alloc, slots as usize)?;
         let bytes = Vec::with_capacity(alloc, BLOCK_LEN * slots as usize)?;
@@ -128,7 +128,8 @@ impl Journal {
         self.writes.len()
     }
 
-    /// The number of the first write that doesn't follow on the one before it, after this one.
+    /// The number of the first write that doesn't follow on the one before it, or the first of them on the last write
+    /// that was applied.
     pub fn gap(&self, applied: u64) -> Option<u64>
         requires { applied < 2 ^ 48 }
         ensures { result ≡ first_gap applied (writes_of self.now) }
@@ -147,7 +148,7 @@ impl Journal {
     pub fn clear(&mut self)
         ensures slots { self.new.slots ≡ self.old.slots }
         ensures writes { writes_of self.new ≡ [] }
-        ensures none { vec_len self.new.writes ≡ 0 }
+        ensures empty { vec_len self.new.writes ≡ 0 }
     {
         self.writes.clear();
         self.bytes.clear();

@@ -35,7 +35,7 @@ impl Session {
     /// A session of a free slot, with all the memory that its journal can need.
     pub fn new(alloc: Global, slots: u32) -> Result<Session, NoMemory>
         ensures slots { IfOk result (λ s. s.journal.slots ≡ slots) }
-        ensures none { IfOk result (λ s. vec_len s.journal.writes ≡ 0) }
+        ensures empty { IfOk result (λ s. vec_len s.journal.writes ≡ 0) }
     {
         let journal = Journal::new(alloc, slots)?;
         Ok(Session {
@@ -154,7 +154,7 @@ impl Session {
         requires { is_image image ≡ true }
         ensures slots { self.new.journal.slots ≡ self.old.journal.slots }
         ensures session { session_of self.new ≡ new_session image }
-        ensures none { vec_len self.new.journal.writes ≡ 0 }
+        ensures empty { vec_len self.new.journal.writes ≡ 0 }
     {
         self.journal.clear();
         self.image = image;
