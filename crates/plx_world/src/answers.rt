@@ -58,7 +58,7 @@ impl World {
     }
 
     // The read of a block is answered with the device's own block, which lies in the buffer meanwhile.
-    fn answer_read(
+    pub(crate) fn answer_read(
         &mut self,
         appliance: ApplianceNo,
         block: BlockNo,

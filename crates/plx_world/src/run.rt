@@ -77,7 +77,10 @@ impl World {
         ensures err { OnErr result (StandsOn self.old self.new) }
     {
         match self.asked(appliance) {
-            Some(Ask::Read { .. }) => self.read(appliance, buffer),
+            Some(Ask::Read { block }) => {
+                self.answer_read(appliance, block, buffer)?;
+                Ok(true)
+            }
             Some(Ask::Write { guard, .. }) => self.write_on(appliance, guard),
             Some(Ask::Clock) => self.read_clock(appliance),
             Some(Ask::Until { .. }) => self.read_clock(appliance),

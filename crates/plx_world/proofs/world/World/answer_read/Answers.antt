@@ -44,6 +44,6 @@ invariant_of-self-2 c =
       sized = c.take_back.ensures.blocks ∙ told.sized;
       tied = told.tied;
       uncancelled = cancels-stays c.args.self.now.disk c.take_back.new.disk
-        (back-stays c.args.self.now.disk c.lend.new.disk told.disk c.take_back.new.disk c.args.block.0 c.lend.new.buffer c.in_ok-lend.ensures.ok c.answer-told.ensures.disk
-        c.take_back.ensures.back) c.args.self.now.uncancelled;
+          (back-stays c.args.self.now.disk c.lend.new.disk told.disk c.take_back.new.disk c.args.block.0 c.lend.new.buffer c.in_ok-lend.ensures.ok c.answer-told.ensures.disk
+          c.take_back.ensures.back) c.args.self.now.uncancelled;
     }
