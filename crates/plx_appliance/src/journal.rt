@@ -159,8 +159,8 @@ impl Journal {
         ensures { into.new ≡ latest zeros vblock (writes_of self.now) }
     {
         match self.last(vblock) {
-            Some(place) => set(into, self.block(place)),
-            None => clear(into),
+            Some(place) => into.set(self.block(place)),
+            None => into.clear(),
         }
     }
 
@@ -188,20 +188,4 @@ impl Journal {
         let start = BLOCK_LEN * place;
         &self.bytes[start..start + BLOCK_LEN]
     }
-}
-
-// Makes the block zeros.
-fn clear(block: &mut Block)
-    ensures { block.new ≡ zeros }
-{
-    set(block, &[0; BLOCK_LEN]);
-}
-
-// Makes the block equal to these bytes.
-fn set(block: &mut Block, bytes: &[u8])
-    requires { length bytes.now ≡ 4096 }
-    ensures { block.new ≡ bytes.now }
-{
-    let _bytes = block.as_slice();
-    block.copy_from(0, bytes);
 }

@@ -70,11 +70,19 @@ impl Block {
         are_all(self.as_slice(), byte)
     }
 
-    /// Makes the block equal to another.
-    pub fn set(&mut self, from: &Block)
-        ensures { self.new ≡ from.now }
+    /// Makes the block equal to these bytes.
+    pub fn set(&mut self, bytes: &[u8])
+        requires { length bytes.now ≡ 4096 }
+        ensures { self.new ≡ bytes.now }
     {
-        *self.bytes = *from.bytes;
+        self.bytes[..].copy_from_slice(bytes);
+    }
+
+    /// Makes the block zeros.
+    pub fn clear(&mut self)
+        ensures { self.new ≡ zeros }
+    {
+        self.bytes[..].fill(0);
     }
 
     /// Writes bytes at a place of the block.

@@ -4,7 +4,7 @@ ghost use Rattle.plx_base.specs.Blocks.{zeros};
 ghost use Rattle.plx_base.specs.Sectors.{with_landed_sector, put};
 ghost use Rattle.plx_disk.specs.Stored.{device_of, is_stored};
 
-use plx_base::{BLOCK_LEN, Block, NoMemory};
+use plx_base::{Block, NoMemory};
 use std::alloc::Global;
 use std::collections::BTreeMap;
 use std::mem;
@@ -15,16 +15,8 @@ pub fn block_of(alloc: Global, bytes: &[u8]) -> Result<Block, NoMemory>
     ensures { IfOk result (λ b. b ≡ bytes.now) }
 {
     let mut block = Block::zeros(alloc)?;
-    block.copy_from(0, bytes);
+    block.set(bytes);
     Ok(block)
-}
-
-/// Makes the block zeros.
-pub fn clear(block: &mut Block)
-    ensures { block.new ≡ zeros }
-{
-    let _bytes = block.as_slice();
-    block.copy_from(0, &[0; BLOCK_LEN]);
 }
 
 /// One sector of a write lands on its block.
@@ -87,15 +79,5 @@ pub fn trade(blocks: &mut BTreeMap<u64, Block>, block: u64, buffer: &mut Block) 
             true
         }
         None => false,
-    }
-}
-
-/// What stands in a block.
-pub fn copy_out(blocks: &BTreeMap<u64, Block>, block: u64, into: &mut Block)
-    ensures { into.new ≡ device_of blocks.now block }
-{
-    match blocks.get(&block) {
-        Some(bytes) => into.set(bytes),
-        None => clear(into),
     }
 }

@@ -2,7 +2,7 @@
 ghost use Rattle.std.specs.Prelude.{◌<◌, ◌^◌};
 ghost use Rattle.plx_disk.specs.Stored.{ArePlaced};
 
-use crate::blocks::{block_of, clear, copy_out, make_place, store, trade};
+use crate::blocks::{block_of, make_place, store, trade};
 use crate::write::{Pending, Progress, Write};
 use plx_base::{Block, BlockNo, Boot, NoMemory, WriteKind};
 use std::alloc::Global;
@@ -84,16 +84,6 @@ impl Disk {
         Ok(())
     }
 
-    /// What stands in a block.
-    pub fn read(&self, block: BlockNo, into: &mut Block)
-        requires { block.0 < device_size self.now }
-        ensures bytes { (s : Surface) → Stands self.now s → into.new ≡ s.device block.0 }
-        ensures len { length into.new ≡ 4096 }
-    {
-        copy_out(&self.stored, block.0, into);
-        let _bytes = into.as_slice();
-    }
-
     /// What stands in a block comes into the buffer, whose bytes stand in the block until it is given
     /// back. No bytes are copied.
     pub fn lend(&mut self, block: BlockNo, buffer: &mut Block)
@@ -103,7 +93,7 @@ impl Disk {
         ensures blocks { device_size self.new ≡ device_size self.old }
     {
         if !trade(&mut self.stored, block.0, buffer) {
-            clear(buffer);
+            buffer.clear();
         }
         let _bytes = buffer.as_slice();
     }
