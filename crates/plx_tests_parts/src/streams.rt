@@ -1,6 +1,6 @@
 //! Streams that are interrupted, give little, take nothing or fail.
-use crate::checks::{check, none_fails};
-use plx_port::{Failed, ReadError, ReadSource, Sink, Source, WriteSink, read_all, write_all};
+use crate::checks::{check, check_at};
+use plx_port::{ReadError, ReadSource, WriteSink, read_all, write_all};
 use std::alloc::Global;
 use std::io;
 use std::io::{BufReader, ErrorKind, Read, Write};
@@ -64,19 +64,6 @@ fn doing(alloc: Global, steps: &'static [Step]) -> Script {
     }
 }
 
-/// Whether a read to the end fails.
-fn fails<S: Source>(alloc: Global, source: &mut S) -> bool {
-    read_all(alloc, source, 9).err() == Some(ReadError::Failed)
-}
-
-/// Whether a read to the end gives these bytes.
-fn gives<S: Source>(alloc: Global, source: &mut S, bytes: &[u8]) -> bool {
-    match read_all(alloc, source, 9) {
-        Ok(found) => found.as_slice() == bytes,
-        Err(_) => false,
-    }
-}
-
 const INTERRUPTED: &[Step] = &[
     Step::Interrupt,
     Step::Interrupt,
@@ -107,7 +94,13 @@ fn reads(
         return false;
     };
     let mut source = ReadSource::new(reader);
-    (!fails_first || fails(alloc, &mut source)) && gives(alloc, &mut source, bytes)
+    if fails_first && read_all(alloc, &mut source, 9).err() != Some(ReadError::Failed) {
+        return false;
+    }
+    match read_all(alloc, &mut source, 9) {
+        Ok(found) => found.as_slice() == bytes,
+        Err(_) => false,
+    }
 }
 
 #[test]
@@ -134,34 +127,20 @@ const TAKING: &[Step] = &[
     Step::Move(0),
 ];
 
-/// Whether the writing of these bytes ends so.
-fn takes<K: Sink>(sink: &mut K, bytes: &[u8], wanted: Result<(), Failed>) -> bool {
-    write_all(sink, bytes) == wanted
-}
+/// Bytes, and whether their writing takes them all. It fails else.
+const WRITES: &[(&[u8], bool)] = &[(b"hello", false), (b"lo", true), (b"you", false)];
 
 /// Whether all steps are done, by which `hello` was taken.
 fn has_taken(writer: &Script) -> bool {
     writer.taken.as_slice() == b"hello".as_slice() && writer.at == 7
 }
 
-/// The number of the first write, counted from 1, that doesn't end as it should.
-fn first_wrong(writer: &mut Script) -> Option<usize> {
-    let mut sink = WriteSink::new(writer);
-    if !takes(&mut sink, b"hello", Err(Failed)) {
-        return Some(1);
-    }
-    if !takes(&mut sink, b"lo", Ok(())) {
-        return Some(2);
-    }
-    if !takes(&mut sink, b"you", Err(Failed)) {
-        return Some(3);
-    }
-    None
-}
-
 #[test]
 fn a_writer_is_given_what_it_has_not_taken(rt: HostRuntime) {
     let mut writer = doing(rt.alloc(), TAKING);
-    none_fails(&rt, first_wrong(&mut writer));
+    let mut sink = WriteSink::new(&mut writer);
+    for (case, &(bytes, is_taken)) in WRITES.iter().enumerate() {
+        check_at(&rt, write_all(&mut sink, bytes).is_ok() == is_taken, case);
+    }
     check(&rt, has_taken(&writer), "what is taken");
 }
