@@ -14,7 +14,7 @@ use Rattle.plx_geom.proofs.Places.{lease-lease, image-image}
 use Rattle.plx_base.proofs.Tests.{nat_lt-true, nat_le-true}
 use Rattle.plx_rules.specs.Part.{Part}
 use Rattle.plx_rules.specs.Attaching.{image_use}
-use Rattle.plx_rules.specs.Ends.{End, ends, lost, write_failed, in_time, ends_in_time}
+use Rattle.plx_rules.specs.Ends.{End, ends, lost_part, write_failed, in_time, ends_in_time}
 use Rattle.plx_rules.specs.Headline.{IsUndamaged}
 use Rattle.plx_rules.specs.Holds.{Hold, Held, no_holds, after_first, first_hold, session_at, hold_after_read, hold_after_reading, holds_after_reply}
 use Rattle.plx_rules.specs.InUse.{InUse, first_reached, unless_reached, earlier}
@@ -134,7 +134,7 @@ module _ (s : Setting) (a : ℕ) (command : Command) (known : Known) where
   abbrev pub IsFair : (ℕ → Hold) → Option ℕ → Bool → Part End → Type 0
   IsFair holds sample just part = Fair s.geometry a command known holds sample just part
 
-  pub fair-lost : (holds : ℕ → Hold) (sample : Option ℕ) (just : Bool) (k : Known) (due : InUse) (reading : ℕ) → IsFair holds sample just (lost s k due reading)
+  pub fair-lost : (holds : ℕ → Hold) (sample : Option ℕ) (just : Bool) (k : Known) (due : InUse) (reading : ℕ) → IsFair holds sample just (lost_part s k due reading)
   fair-lost holds sample just k due reading = record {
     kept = λ j. refl;
     backs = backs-none s.geometry known no_holds k.claims;
@@ -168,7 +168,7 @@ module _ (s : Setting) (a : ℕ) (command : Command) (known : Known) where
       (first_reached uses reading ≡ None → IsFair holds sample just part) → IsFair holds sample just (in_time s k uses reading part)
   fair-in-time holds sample just k uses reading part fair = by_reached (first_reached uses reading) refl
     where
-      by_reached : (o : Option InUse) → first_reached uses reading ≡ o → IsFair holds sample just (unless_reached o (λ due. lost s k due reading) part)
+      by_reached : (o : Option InUse) → first_reached uses reading ≡ o → IsFair holds sample just (unless_reached o (λ due. lost_part s k due reading) part)
       by_reached None e = fair e
       by_reached (Some due) e = fair-lost holds sample just k due reading
 

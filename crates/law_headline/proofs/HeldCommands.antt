@@ -28,7 +28,7 @@ use Rattle.plx_base.proofs.Tests.{eqb-true, nat_lt-false, nat_lt-tells, nat_le-f
 use Rattle.plx_rules.specs.Part.{Part}
 use Rattle.plx_rules.specs.declared.journaled.Journaled.{Journaled}
 use Rattle.plx_rules.specs.Attaching.{image_use, attach_ends, after_load, load_journal, after_record, load_image}
-use Rattle.plx_rules.specs.Ends.{End, ends, lost, read_failed, in_time, ends_in_time}
+use Rattle.plx_rules.specs.Ends.{End, ends, lost_part, read_failed, in_time, ends_in_time}
 use Rattle.plx_rules.specs.InUse.{InUse, first_reached, unless_reached}
 use Rattle.plx_rules.specs.Journal.{finding, Finding, Unused, Counts, descriptor_of}
 use Rattle.plx_rules.specs.Loading.{LoadEnd, load_found, load_part, gap_found}
@@ -65,7 +65,7 @@ lost-listed Reclaim = refl
 module _ (s : Setting) (a i : ℕ) (command : Command) (known : Known) (regime : Regime) (device : Device)
     (keeps : (m : Model) → Looks s.geometry a i command known regime m → HoldsSlot s.geometry device i (m.slots i)) where
   -- the end of a lease is reached
-  pub held-lost : (k : Known) (due : InUse) (reading : ℕ) → HeldPart s.geometry a i command known regime (lost s k due reading) device
+  pub held-lost : (k : Known) (due : InUse) (reading : ℕ) → HeldPart s.geometry a i command known regime (lost_part s k due reading) device
   held-lost k due reading = λ m looks. (let kept = keeps m looks in (
     other-answers m a command _ (lost-listed command) refl refl,
     record { kept = kept.kept; writes = kept.writes; journal = kept.journal; either = kept.either },
@@ -78,7 +78,7 @@ module _ (s : Setting) (a i : ℕ) (command : Command) (known : Known) (regime :
       HeldPart s.geometry a i command known regime (in_time s k uses reading part) device
   held-in-time k uses reading part held = by_reached (first_reached uses reading)
     where
-      by_reached : (o : Option InUse) → HeldPart s.geometry a i command known regime (unless_reached o (λ due. lost s k due reading) part) device
+      by_reached : (o : Option InUse) → HeldPart s.geometry a i command known regime (unless_reached o (λ due. lost_part s k due reading) part) device
       by_reached None = held
       by_reached (Some due) = held-lost k due reading
 

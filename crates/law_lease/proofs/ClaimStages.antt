@@ -32,7 +32,7 @@ use Rattle.plx_rules.specs.Parts.{followed_by}
 use Rattle.plx_rules.specs.Session.{Known}
 use Rattle.plx_rules.specs.Times.{is_expired, wait, window}
 use Rattle.plx_rules.specs.World.{with_reply_of}
-use Rattle.law_lease.proofs.Stages.{Spot, Stage, hold_next, same-places, clocked, read, ticked, waited, written}
+use Rattle.law_lease.proofs.Stages.{Spot, Stage, hold_next, same-places, stage-after-clock, stage-after-read, stage-after-tick, stage-after-wait, stage-after-write}
 
 module _ (g : Geometry) (appliances : ℕ) (few : appliances ≤ 8) (lease : ℕ) {t : ℕ} {d : Device} {p : ℕ → Spot} {tr : List Entry}
     (st : Stage g appliances few (lease_at lease) t d p tr) (a : ApplianceNo) (below : a.0 < appliances)
@@ -99,14 +99,14 @@ module _ (g : Geometry) (appliances : ℕ) (few : appliances ≤ 8) (lease : ℕ
     sampled_places = at p a.0 (spot Nothing (Some t) reads_lease)
 
     once-sampled : S t d sampled_places
-    once-sampled = clocked g appliances few (lease_at lease) st a below known command _ here reads_lease refl Nothing (ap (hold_after_reading t) none)
+    once-sampled = stage-after-clock g appliances few (lease_at lease) st a below known command _ here reads_lease refl Nothing (ap (hold_after_reading t) none)
 
     -- once it has read the lease
     abbrev seen_places : ℕ → Spot
     seen_places = at sampled_places a.0 (spot (Seen t) None writes_claim)
 
     once-seen : S t d seen_places
-    once-seen = read g appliances few (lease_at lease) once-sampled a below known command (lease_at lease) _ _ (place-next p (spot Nothing (Some t) reads_lease)) found there writes_claim
+    once-seen = stage-after-read g appliances few (lease_at lease) once-sampled a below known command (lease_at lease) _ _ (place-next p (spot Nothing (Some t) reads_lease)) found there writes_claim
         (ap (λ (x : Option LeaseRecord). followed_by (seen_part [] lease claim x) next) says ∙ ap (λ (x : Bool). followed_by (if_expired x seen (written_part [] lease claim)) next) over)
         (Seen t) (held-next p (spot Nothing (Some t) reads_lease) (ask.Read (record { 0 = lease_at lease })) [] (answer.Bytes found) writes_claim (Seen t)
         (at-same (λ b. Nothing) (lease_at lease) (seen_by (read_lease found) t)
@@ -117,7 +117,7 @@ module _ (g : Geometry) (appliances : ℕ) (few : appliances ≤ 8) (lease : ℕ
     written_places = at seen_places a.0 (spot (Wrote claim until) None awaits)
 
     once-written : S t (put d (lease_at lease) own_bytes) written_places
-    once-written = written g appliances few (lease_at lease) once-seen a below known command kind.Claim (lease_at lease) own_bytes (t + window) _ _ _
+    once-written = stage-after-write g appliances few (lease_at lease) once-seen a below known command kind.Claim (lease_at lease) own_bytes (t + window) _ _ _
         (place-next sampled_places (spot (Seen t) None writes_claim)) (omega arith) (length-lease (own_record claim)) awaits refl
         (Wrote claim until) (held-next sampled_places (spot (Seen t) None writes_claim) (ask.Write kind.Claim (record { 0 = lease_at lease }) (t + window)) own_bytes answer.Done awaits (Wrote claim until)
         (at-same (λ b. Seen t) (lease_at lease) (hold_after_claim (read_lease own_bytes)) ∙ ap hold_after_claim (lease-back (own_record claim) is)))
@@ -127,7 +127,7 @@ module _ (g : Geometry) (appliances : ℕ) (few : appliances ≤ 8) (lease : ℕ
     waited_places = at written_places a.0 (spot (Waited claim until) (Some (t + wait)) rereads)
 
     once-waited : S (t + wait) (put d (lease_at lease) own_bytes) waited_places
-    once-waited = waited g appliances few (lease_at lease) (ticked g appliances few (lease_at lease) once-written wait soon) a below known command (t + wait) _
+    once-waited = stage-after-wait g appliances few (lease_at lease) (stage-after-tick g appliances few (lease_at lease) once-written wait soon) a below known command (t + wait) _
         (place-next seen_places (spot (Wrote claim until) None awaits)) (omega arith) rereads
         (ap (λ (reached : Bool). followed_by (unless_reached (if reached then Some (own_use lease claim) else None) (λ due. Ends (ClaimLost due (t + wait))) (reread_part uses lease claim)) next)
         (nat_le-false until (t + wait) (omega arith)))
@@ -142,7 +142,7 @@ module _ (g : Geometry) (appliances : ℕ) (few : appliances ≤ 8) (lease : ℕ
     lease-claimed kept =
         let own : bytes_eq own_bytes own_bytes ≡ true = (bytes_eq-Decides own_bytes own_bytes).1 refl in
         same-places g appliances few (lease_at lease)
-        (read g appliances few (lease_at lease) once-waited a below known command (lease_at lease) _ _ (place-next written_places (spot (Waited claim until) (Some (t + wait)) rereads))
+        (stage-after-read g appliances few (lease_at lease) once-waited a below known command (lease_at lease) _ _ (place-next written_places (spot (Waited claim until) (Some (t + wait)) rereads))
         own_bytes (put-same d (lease_at lease) own_bytes) part_once_held
         (ap (λ (x : Bool). followed_by (reread_by x uses claim (read_lease own_bytes)) next) own)
         (Held claim until) (held-next written_places (spot (Waited claim until) (Some (t + wait)) rereads) (ask.Read (record { 0 = lease_at lease })) [] (answer.Bytes own_bytes) part_once_held (Held claim until)

@@ -27,7 +27,7 @@ use Rattle.plx_rules.specs.declared.journaled.Journaled.{Journaled}
 use Rattle.plx_rules.specs.Attaching.{image_use, after_load, load_journal, after_record, load_image, after_claim, claim_image, attach_part}
 use Rattle.plx_rules.specs.Claims.{ClaimEnd, ClaimHeld, ClaimBusy, ClaimLost, ClaimReadFault, ClaimWriteFault, ClaimDamaged, claim_of, own_record, own_use, claim_in_time, claim_damaged, reread_by, reread_part, written_part, if_expired, seen_part, claim_part}
 use Rattle.plx_rules.specs.Commands.{unless, attached_part, detach_part, record_part, create_part, delete_part, read_part, write_part, journal_part, next_slot, next_descriptor, next_write, later_of, renewal, renew_part}
-use Rattle.plx_rules.specs.Ends.{End, ends, lost, in_time, ends_in_time}
+use Rattle.plx_rules.specs.Ends.{End, ends, lost_part, in_time, ends_in_time}
 use Rattle.plx_rules.specs.Holds.{Hold, Nothing, Seen, Wrote, Waited, Held, first_hold, seen_by, hold_after_read, hold_after_reading}
 use Rattle.plx_rules.specs.InUse.{InUse, first_reached, unless_reached}
 use Rattle.plx_rules.specs.Journal.{Finding, Outside, Unused, Counts, finding}
@@ -182,7 +182,7 @@ module _ (s : Setting) (command : Command) where
       Right holds sample (in_time s known uses reading part)
   right-in_time known uses reading part holds sample right = by_found (first_reached uses reading)
     where
-      by_found : (found : Option InUse) → Right holds sample (unless_reached found (λ due. lost s known due reading) part)
+      by_found : (found : Option InUse) → Right holds sample (unless_reached found (λ due. lost_part s known due reading) part)
       by_found None = right
       by_found (Some due) = tt
 

@@ -165,8 +165,8 @@ module _ (g : Geometry) (appliances : ℕ) (few : appliances ≤ 8) (lease : ℕ
   }
 
   -- time passes
-  pub ticked : {t : ℕ} {d : Device} {p : ℕ → Spot} {tr : List Entry} → Stage t d p tr → (by : ℕ) → t + by < 2 ^ 47 → Stage (t + by) d p tr
-  ticked st by soon = record {
+  pub stage-after-tick : {t : ℕ} {d : Device} {p : ℕ → Spot} {tr : List Entry} → Stage t d p tr → (by : ℕ) → t + by < 2 ^ 47 → Stage (t + by) d p tr
+  stage-after-tick st by soon = record {
     device = st.device;
     writes = st.writes;
     rests = st.rests;
@@ -239,25 +239,25 @@ module _ (g : Geometry) (appliances : ℕ) (few : appliances ≤ 8) (lease : ℕ
         (spot-next known command part here asked bytes ans rest leads hold held (st.seats a.0) (st.places a.0))
 
     -- the clock answers
-    pub clocked : (known : Known) (command : Command) (next : ℕ → Part End) → r.place ≡ In known command (ClockThen next) → (rest : Part End) → next t ≡ rest →
+    pub stage-after-clock : (known : Known) (command : Command) (next : ℕ → Part End) → r.place ≡ In known command (ClockThen next) → (rest : Part End) → next t ≡ rest →
         (hold : Hold) → hold_next lease r ask.Clock [] (answer.Reading t) rest ≡ hold → Stage t d (at p a.0 (spot_next known command hold (answer.Reading t) rest)) (with_reply_of a rest tr)
-    clocked known command next here rest is hold held =
+    stage-after-clock known command next here rest is hold held =
         go-in known command (ClockThen next) here (event.Reading a t) ask.Clock [] (answer.Reading t) rest is hold held
         (world.clocks {reading = t} known command next below (stands-at _ here) now)
 
     -- a wait is over
-    pub waited : (known : Known) (command : Command) (from : ℕ) (next : ℕ → Part End) → r.place ≡ In known command (UntilThen from next) → from ≤ t → (rest : Part End) → next t ≡ rest →
+    pub stage-after-wait : (known : Known) (command : Command) (from : ℕ) (next : ℕ → Part End) → r.place ≡ In known command (UntilThen from next) → from ≤ t → (rest : Part End) → next t ≡ rest →
         (hold : Hold) → hold_next lease r (ask.Until from) [] (answer.Reading t) rest ≡ hold → Stage t d (at p a.0 (spot_next known command hold (answer.Reading t) rest)) (with_reply_of a rest tr)
-    waited known command from next here past rest is hold held =
+    stage-after-wait known command from next here past rest is hold held =
         go-in known command (UntilThen from next) here (event.Reading a t) (ask.Until from) [] (answer.Reading t) rest is hold held
         (world.waits {reading = t} known command from next below (stands-at _ here) now past)
 
     -- a read is answered
-    pub read : (known : Known) (command : Command) (block : ℕ) (next : List ℕ → Part End) (fault : Part End) → r.place ≡ In known command (ReadThen block next fault) →
+    pub stage-after-read : (known : Known) (command : Command) (block : ℕ) (next : List ℕ → Part End) (fault : Part End) → r.place ≡ In known command (ReadThen block next fault) →
         (found : List ℕ) → d block ≡ found → (rest : Part End) → next found ≡ rest →
         (hold : Hold) → hold_next lease r (ask.Read (record { 0 = block })) [] (answer.Bytes found) rest ≡ hold →
         Stage t d (at p a.0 (spot_next known command hold (answer.Bytes found) rest)) (with_reply_of a rest tr)
-    read known command block next fault here found there rest is hold held =
+    stage-after-read known command block next fault here found there rest is hold held =
         let P : List ℕ → Type 0 = λ bytes. Step w (event.Read a) (goes_on w (event.Read a) a (ask.Read (record { 0 = block })) [] (answer.Bytes bytes) (next bytes)) in
         go-in known command (ReadThen block next fault) here (event.Read a) (ask.Read (record { 0 = block })) [] (answer.Bytes found) rest is hold held
         (subst P (st.same block ∙ there) (world.reads known command block next fault below (stands-at _ here)))
@@ -365,9 +365,9 @@ module _ (g : Geometry) (appliances : ℕ) (few : appliances ≤ 8) (lease : ℕ
       abbrev pub last : World
       last = world_at t landed-whole.device landed-whole.writes since waiting tr landed-whole.history
 
-      pub written : (rest : Part End) → done ≡ rest → (hold : Hold) → hold_next lease r (ask.Write what (record { 0 = block }) guard) bytes answer.Done rest ≡ hold →
+      pub stage-after-write : (rest : Part End) → done ≡ rest → (hold : Hold) → hold_next lease r (ask.Write what (record { 0 = block }) guard) bytes answer.Done rest ≡ hold →
           Stage t (put d block bytes) (at p a.0 (spot_next known command hold answer.Done rest)) (with_reply_of a rest tr)
-      written rest is hold held = record {
+      stage-after-write rest is hold held = record {
         device = landed-whole.device;
         writes = landed-whole.writes;
         rests = since;

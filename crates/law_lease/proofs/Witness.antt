@@ -31,7 +31,7 @@ use Rattle.plx_rules.specs.Attaching.{image_use, attach_ends, after_load, after_
 use Rattle.plx_rules.specs.Boot.{Place, Idle, Begins, In, Position, position}
 use Rattle.plx_rules.specs.Claims.{claim_of, own_record, claim_part}
 use Rattle.plx_rules.specs.Commands.{record_part, journal_part, next_write}
-use Rattle.plx_rules.specs.Ends.{End, ends, ends_in_time, lost, write_then}
+use Rattle.plx_rules.specs.Ends.{End, ends, ends_in_time, lost_part, write_then}
 use Rattle.plx_rules.specs.Holds.{Hold, Nothing, Held}
 use Rattle.plx_rules.specs.Journal.{finding_of}
 use Rattle.plx_rules.specs.Loading.{LoadEnd, load_read, load_found, load_part}
@@ -45,7 +45,7 @@ use Rattle.plx_rules.specs.World.{setting_at}
 use Rattle.law_lease.specs.TakenOver.{one, other, slot, free_report, written_report, trace_before, trace_after, TakenOver}
 use Rattle.law_lease.proofs.FirstDevice.{formatted_device, formatted-is}
 use Rattle.law_lease.proofs.ClaimStages.{lease-claimed}
-use Rattle.law_lease.proofs.Stages.{Spot, Stage, world_at, starts-now, first-reading, clocked, read, written, ticked}
+use Rattle.law_lease.proofs.Stages.{Spot, Stage, world_at, starts-now, first-reading, stage-after-clock, stage-after-read, stage-after-write, stage-after-tick}
 
 -- one image, one extent and two journal slots, and its formatted device
 abbrev pub small_geometry : Geometry
@@ -233,7 +233,7 @@ abbrev p4 : ℕ → Spot
 p4 = one_at p3 (Held mine 11000) None (In k0 (Attach slot) (attach_ends s0 k1 0 11000 free_session))
 
 t4 : S 1601 d1 p4 e1
-t4 = read small_geometry 2 few 2 t3 one one-appliance-in k0 (Attach slot) 4 _ _ refl (image_bytes (image_is.Free 0)) refl (attach_ends s0 k1 0 11000 free_session)
+t4 = stage-after-read small_geometry 2 few 2 t3 one one-appliance-in k0 (Attach slot) 4 _ _ refl (image_bytes (image_is.Free 0)) refl (attach_ends s0 k1 0 11000 free_session)
     (ap (λ (found : Option ImageRecord). after_record s0 k1 0 11000 (plain_record found)) free-image)
     (Held mine 11000) refl
 
@@ -246,7 +246,7 @@ abbrev p5 : ℕ → Spot
 p5 = one_at p4 (Held mine 11000) (Some 1601) (Idle k2)
 
 t5 : S 1601 d1 p5 e2
-t5 = clocked small_geometry 2 few 2 t4 one one-appliance-in k0 (Attach slot) _ refl (ends (reply.Attached free_report) k2) refl (Held mine 11000) refl
+t5 = stage-after-clock small_geometry 2 few 2 t4 one one-appliance-in k0 (Attach slot) _ refl (ends (reply.Attached free_report) k2) refl (Held mine 11000) refl
 
 -- ---- it makes an image
 
@@ -285,7 +285,7 @@ abbrev p8 : ℕ → Spot
 p8 = one_at p7 (Held mine 11000) None (In k2 create (ends_in_time s0 k2 (image_use 0 11000) reply.Created k3))
 
 t8 : S 1601 d2 p8 (Start one create ∷ e2)
-t8 = written small_geometry 2 few 2 t7 one one-appliance-in k2 create kind.Record 4 (image_bytes made_image) 11000 _ _ _ refl (omega arith) (length-image made_image made-is)
+t8 = stage-after-write small_geometry 2 few 2 t7 one one-appliance-in k2 create kind.Record 4 (image_bytes made_image) 11000 _ _ _ refl (omega arith) (length-image made_image made-is)
     (ends_in_time s0 k2 (image_use 0 11000) reply.Created k3) refl (Held mine 11000) refl
 
 -- the trace once its create is answered
@@ -297,7 +297,7 @@ abbrev p9 : ℕ → Spot
 p9 = one_at p8 (Held mine 11000) (Some 1601) (Idle k3)
 
 t9 : S 1601 d2 p9 e3
-t9 = clocked small_geometry 2 few 2 t8 one one-appliance-in k2 create _ refl (ends reply.Created k3) refl (Held mine 11000) refl
+t9 = stage-after-clock small_geometry 2 few 2 t8 one one-appliance-in k2 create _ refl (ends reply.Created k3) refl (Held mine 11000) refl
 
 -- ---- and writes a block
 
@@ -344,21 +344,21 @@ abbrev p12 : ℕ → Spot
 p12 = one_at p11 (Held mine 11000) None (In k3 write commits)
 
 t12 : S 1601 d3 p12 (Start one write ∷ e3)
-t12 = written small_geometry 2 few 2 t11 one one-appliance-in k3 write kind.JData 7 block 11000 _ _ _ refl (omega arith) length-block commits refl (Held mine 11000) refl
+t12 = stage-after-write small_geometry 2 few 2 t11 one one-appliance-in k3 write kind.JData 7 block 11000 _ _ _ refl (omega arith) length-block commits refl (Held mine 11000) refl
 
 -- the places once its descriptor has landed
 abbrev p13 : ℕ → Spot
 p13 = one_at p12 (Held mine 11000) None (In k3 write final_part)
 
 t13 : S 1601 d4 p13 (Start one write ∷ e3)
-t13 = written small_geometry 2 few 2 t12 one one-appliance-in k3 write kind.JCommit 6 (descriptor_bytes d) 11000 _ _ _ refl (omega arith) (length-descriptor d) final_part refl (Held mine 11000) refl
+t13 = stage-after-write small_geometry 2 few 2 t12 one one-appliance-in k3 write kind.JCommit 6 (descriptor_bytes d) 11000 _ _ _ refl (omega arith) (length-descriptor d) final_part refl (Held mine 11000) refl
 
 -- the places once its write is answered
 abbrev p14 : ℕ → Spot
 p14 = one_at p13 (Held mine 11000) (Some 1601) (Idle k4)
 
 t14 : S 1601 d4 p14 trace_before
-t14 = clocked small_geometry 2 few 2 t13 one one-appliance-in k3 write _ refl (ends (reply.Written 1) k4) refl (Held mine 11000) refl
+t14 = stage-after-clock small_geometry 2 few 2 t13 one one-appliance-in k3 write _ refl (ends (reply.Written 1) k4) refl (Held mine 11000) refl
 
 -- ---- its lease ends, and the other attaches the image
 
@@ -375,7 +375,7 @@ abbrev e4 : List Entry
 e4 = Start other (Attach slot) ∷ trace_before
 
 t15 : S 11101 d4 p14 trace_before
-t15 = ticked small_geometry 2 few 2 t14 9500 (omega arith)
+t15 = stage-after-tick small_geometry 2 few 2 t14 9500 (omega arith)
 
 -- the places once the other begins its attach
 abbrev p16 : ℕ → Spot
@@ -431,7 +431,7 @@ abbrev p19 : ℕ → Spot
 p19 = other_at p18 (Held its 21101) None (In k0 (Attach slot) reads_journal)
 
 t19 : S 11702 d5 p19 e4
-t19 = read small_geometry 2 few 2 t18 other other-appliance-in k0 (Attach slot) 4 _ _ refl (image_bytes made_image) refl reads_journal
+t19 = stage-after-read small_geometry 2 few 2 t18 other other-appliance-in k0 (Attach slot) 4 _ _ refl (image_bytes made_image) refl reads_journal
     (ap (λ (found : Option ImageRecord). after_record s1 k1 0 21101 (plain_record found)) made-back)
     (Held its 21101) refl
 
@@ -440,7 +440,7 @@ abbrev p20 : ℕ → Spot
 p20 = other_at p19 (Held its 21101) None (In k0 (Attach slot) reads_data)
 
 t20 : S 11702 d5 p20 e4
-t20 = read small_geometry 2 few 2 t19 other other-appliance-in k0 (Attach slot) 6 _ _ refl (descriptor_bytes d) refl reads_data
+t20 = stage-after-read small_geometry 2 few 2 t19 other other-appliance-in k0 (Attach slot) 6 _ _ refl (descriptor_bytes d) refl reads_data
     (ap (λ (found : Option (Option Descriptor)). followed_by (load_found 6 (finding_of made_image 2 0 found) (load_part small_geometry 0 made_image 1 1 [])
     (λ number vblock. load_read 7 (λ data'. load_part small_geometry 0 made_image 1 1 (record { number = number; vblock = vblock; block = data' } ∷ [])))) then_end) d-back)
     (Held its 21101) refl
@@ -450,14 +450,14 @@ abbrev p21 : ℕ → Spot
 p21 = other_at p20 (Held its 21101) None (In k0 (Attach slot) reads_second)
 
 t21 : S 11702 d5 p21 e4
-t21 = read small_geometry 2 few 2 t20 other other-appliance-in k0 (Attach slot) 7 _ _ refl block refl reads_second refl (Held its 21101) refl
+t21 = stage-after-read small_geometry 2 few 2 t20 other other-appliance-in k0 (Attach slot) 7 _ _ refl block refl reads_second refl (Held its 21101) refl
 
 -- the places once it has read the second slot's descriptor, an empty one
 abbrev p22 : ℕ → Spot
 p22 = other_at p21 (Held its 21101) None (In k0 (Attach slot) (attach_ends s1 k1 0 21101 its_session))
 
 t22 : S 11702 d5 p22 e4
-t22 = read small_geometry 2 few 2 t21 other other-appliance-in k0 (Attach slot) 8 _ _ refl zeros refl (attach_ends s1 k1 0 21101 its_session)
+t22 = stage-after-read small_geometry 2 few 2 t21 other other-appliance-in k0 (Attach slot) 8 _ _ refl zeros refl (attach_ends s1 k1 0 21101 its_session)
     (ap (λ (found : Option (Option Descriptor)). followed_by (load_found 8 (finding_of made_image 2 1 found) (load_part small_geometry 0 made_image 0 2 witness_writes)
     (λ number vblock. load_read 9 (λ data'. load_part small_geometry 0 made_image 0 2 (with_write_by_number (record { number = number; vblock = vblock; block = data' }) witness_writes)))) then_end) read-zeros)
     (Held its 21101) refl
@@ -471,7 +471,7 @@ abbrev p23 : ℕ → Spot
 p23 = other_at p22 (Held its 21101) (Some 11702) (Idle k5)
 
 t23 : S 11702 d5 p23 e5
-t23 = clocked small_geometry 2 few 2 t22 other other-appliance-in k0 (Attach slot) _ refl (ends (reply.Attached written_report) k5) refl (Held its 21101) refl
+t23 = stage-after-clock small_geometry 2 few 2 t22 other other-appliance-in k0 (Attach slot) _ refl (ends (reply.Attached written_report) k5) refl (Held its 21101) refl
 
 -- ---- the one learns of its loss
 
@@ -491,7 +491,7 @@ abbrev p25 : ℕ → Spot
 p25 = one_at p24 Nothing (Some 11702) (Idle (nothing_known 1))
 
 t25 : S 11702 d5 p25 trace_after
-t25 = first-reading small_geometry 2 few 2 t24 one one-appliance-in k4 again refl (lost s0 k4 (record { lease = 1; until = 11000 }) 11702) (λ holds hand e. rw e refl) Nothing refl
+t25 = first-reading small_geometry 2 few 2 t24 one one-appliance-in k4 again refl (lost_part s0 k4 (record { lease = 1; until = 11000 }) 11702) (λ holds hand e. rw e refl) Nothing refl
 
 -- ---- who owns
 

@@ -13,7 +13,7 @@ use Rattle.plx_disk.specs.declared.ask.Answer.TheVariants as answer
 use Rattle.plx_geom.specs.Geometry.{Geometry, lease_count, lease_number, image_lease}
 use Rattle.plx_rules.specs.Part.{Part}
 use Rattle.plx_rules.specs.Attaching.{image_use}
-use Rattle.plx_rules.specs.Ends.{End, ends, lost, write_then, ends_in_time}
+use Rattle.plx_rules.specs.Ends.{End, ends, lost_part, write_then, ends_in_time}
 use Rattle.plx_rules.specs.Holds.{Hold, Nothing, Held}
 use Rattle.plx_rules.specs.InUse.{lease_name}
 use Rattle.plx_rules.specs.Owners.{Needs}
@@ -110,7 +110,7 @@ module _ (s : Setting) (before : List Finished) (known : Known) (command : Comma
 
   -- a reading has reached it
   pub lost-late : (done : List Exchange) (reading n : ℕ) → Going s before done slot.0 c → c.until ≤ reading →
-      Right s before command (clock reading ∷ done) (lost s known (record { lease = image_lease slot.0; until = c.until }) reading) n
+      Right s before command (clock reading ∷ done) (lost_part s known (record { lease = image_lease slot.0; until = c.until }) reading) n
   lost-late done reading n going' past =
       let after = going-clock s before done reading slot.0 c going' in
       subst (λ (name : LeaseName). Right s before command (clock reading ∷ done) (ends (reply.Lost name c.until reading) (nothing_known known.claims)) n) (sym (lease-name s.geometry slot.0 within)) (

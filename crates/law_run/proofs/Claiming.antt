@@ -23,7 +23,7 @@ use Rattle.plx_geom.proofs.Places.{image-below, lease-record, lease-log, lease-d
 use Rattle.plx_rules.specs.Part.{Part, Ends}
 use Rattle.plx_rules.specs.Attaching.{load_image, after_claim, claim_image}
 use Rattle.plx_rules.specs.Claims.{ClaimEnd, ClaimReadFault, ClaimDamaged, claim_of, own_record, own_use, claim_in_time, reread_by, reread_part, written_part, if_expired, seen_part}
-use Rattle.plx_rules.specs.Ends.{End, ends, lost}
+use Rattle.plx_rules.specs.Ends.{End, ends, lost_part}
 use Rattle.plx_rules.specs.Hands.{is_held}
 use Rattle.plx_rules.specs.Holds.{Hold, Nothing, Seen, Wrote, Waited, Held, hold_after_reread, hold_after_reading}
 use Rattle.plx_rules.specs.Parts.{followed_by}
@@ -299,13 +299,13 @@ module _ (s : Setting) (boot_small : s.boot < 2 ^ 128) (before : List Finished) 
 
   -- a reading has reached the end of the claim
   lost-name : (done : List Exchange) (until last n : ℕ) → Right s before (Attach slot) done (ends (reply.Lost (lease.Image slot) until last) (nothing_known (known.claims + 1))) n →
-      Right s before (Attach slot) done (lost s (with_claim known) (record { lease = image_lease slot.0; until = until }) last) n
+      Right s before (Attach slot) done (lost_part s (with_claim known) (record { lease = image_lease slot.0; until = until }) last) n
   lost-name done until last n right =
       subst (λ (name : LeaseName). Right s before (Attach slot) done (ends (reply.Lost name until last) (nothing_known (known.claims + 1))) n) (sym (lease-name s.geometry slot.0 within)) right
 
   -- the rest by the end of the claim's own lease
   by-own-rest : (P : Part End → Type 0) (sample last : ℕ) (rest : Part ClaimEnd) →
-      (sample + term ≤ last → P (lost s (with_claim known) (record { lease = image_lease slot.0; until = sample + term }) last)) →
+      (sample + term ≤ last → P (lost_part s (with_claim known) (record { lease = image_lease slot.0; until = sample + term }) last)) →
       (last < sample + term → P (followed_by rest (after_claim s (with_claim known) slot.0))) →
       P (followed_by (claim_in_time (own_use (image_lease slot.0) (claim_of s.boot known.claims sample) ∷ []) last rest) (after_claim s (with_claim known) slot.0))
   by-own-rest P sample last rest late soon = elim (leb_tells (sample + term) last) [

@@ -14,7 +14,7 @@ use Rattle.plx_geom.specs.Geometry.{Geometry, image_lease, lease_at}
 use Rattle.plx_rules.specs.Part.{Part}
 use Rattle.plx_rules.specs.Attaching.{image_use}
 use Rattle.plx_rules.specs.Commands.{attached_part, of_attached}
-use Rattle.plx_rules.specs.Ends.{End, ends, lost, in_time}
+use Rattle.plx_rules.specs.Ends.{End, ends, lost_part, in_time}
 use Rattle.plx_rules.specs.Holds.{Held}
 use Rattle.plx_rules.specs.InUse.{lease_name}
 use Rattle.plx_rules.specs.Session.{Session, Known, nothing_known}
@@ -115,7 +115,7 @@ lease-name g image within =
 
 -- the rest by one lease in use
 pub by-time : (P : Part End → Type 0) (s : Setting) (known : Known) (image until reading : ℕ) (part : Part End) →
-    (until ≤ reading → P (lost s known (record { lease = image_lease image; until = until }) reading)) → (reading < until → P part) →
+    (until ≤ reading → P (lost_part s known (record { lease = image_lease image; until = until }) reading)) → (reading < until → P part) →
     P (in_time s known (image_use image until) reading part)
 by-time P s known image until reading part late early = elim (leb_tells until reading) [
   | inl past ↦ rw past.0 (late past.1)
@@ -147,7 +147,7 @@ module _ (s : Setting) (before : List Finished) (known : Known) (command : Comma
 
   -- the first reading has reached the end of the lease
   late : (claim : Claim) (until : ℕ) → slot.0 < s.geometry.images → is_attached before slot.0 ≡ true → holds_after s.geometry before (lease_at (image_lease slot.0)) ≡ Held claim until → until ≤ reading → (left : ℕ) →
-      Right s before command (clock reading ∷ []) (lost s known (record { lease = image_lease slot.0; until = until }) reading) left
+      Right s before command (clock reading ∷ []) (lost_part s known (record { lease = image_lease slot.0; until = until }) reading) left
   late claim until within attached held past left =
       subst (λ (n : LeaseName). Right s before command (clock reading ∷ []) (ends (reply.Lost n until reading) (nothing_known known.claims)) left) (sym (lease-name s.geometry slot.0 within)) (
         refused 3 (reading, refl)

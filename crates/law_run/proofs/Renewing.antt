@@ -16,7 +16,7 @@ use Rattle.plx_gate.specs.Leases.{lease_bytes, read_lease, IsClaimed}
 use Rattle.plx_gate.proofs.Leases.{lease-back}
 use Rattle.plx_geom.specs.Geometry.{lease_count, image_lease, lease_at}
 use Rattle.plx_rules.specs.Commands.{later_of, renewal, renew_part, attached_uses, command_part}
-use Rattle.plx_rules.specs.Ends.{ends, lost}
+use Rattle.plx_rules.specs.Ends.{ends, lost_part}
 use Rattle.plx_rules.specs.Holds.{Hold, Nothing, Seen, Wrote, Waited, Held, hold_after_renewal}
 use Rattle.plx_rules.specs.InUse.{InUse, lease_name, first_reached, unless_reached}
 use Rattle.plx_rules.specs.Session.{Session, Known, nothing_known}
@@ -265,12 +265,12 @@ module _ (s : Setting) (before : List Finished) (known : Known) (reading : ℕ) 
 
   -- what the one to be named tells
   due-expired : (due : InUse) → IsFirstDue (attached_uses known (start s before reading) s.geometry.images 0) reading due → (left : ℕ) →
-      Right s before Renew (clock reading ∷ []) (lost s known due reading) left
+      Right s before Renew (clock reading ∷ []) (lost_part s known due reading) left
   due-expired due f left =
       let o = of-session known (start s before reading) s.geometry.images 0 due f.among in
       by-session o (rests.sessions o.image)
     where
-      by-session : (o : OfSession known (start s before reading) 0 due) → FitsAt s before o.image (known.sessions o.image) → Right s before Renew (clock reading ∷ []) (lost s known due reading) left
+      by-session : (o : OfSession known (start s before reading) 0 due) → FitsAt s before o.image (known.sessions o.image) → Right s before Renew (clock reading ∷ []) (lost_part s known due reading) left
       by-session o at_image =
           let fits = subst (λ (found : Option Session). FitsAt s before o.image found) o.has at_image in
           let h = fits.2 in
@@ -304,7 +304,7 @@ module _ (s : Setting) (before : List Finished) (known : Known) (reading : ℕ) 
 
   by-due : reading < 2 ^ 48 → (found : Option InUse) → TellsFirstDue (attached_uses known (start s before reading) s.geometry.images 0) reading found →
       Right s before Renew (clock reading ∷ [])
-      (unless_reached found (λ due. lost s known due reading) (renew_part s known (start s before reading) reading (lease_count s.geometry) 0))
+      (unless_reached found (λ due. lost_part s known due reading) (renew_part s known (start s before reading) reading (lease_count s.geometry) 0))
       (renewals (start s before reading) (lease_count s.geometry) 0)
   by-due small (Some due) tells = due-expired due tells (renewals (start s before reading) (lease_count s.geometry) 0)
   by-due small None tells =

@@ -20,7 +20,7 @@ use Rattle.plx_geom.specs.Geometry.{IsGeometry, lease_count, extent_lease, lease
 use Rattle.plx_rules.specs.Part.{Part, Ends}
 use Rattle.plx_rules.specs.Parts.{followed_by}
 use Rattle.plx_rules.specs.Claims.{ClaimEnd, ClaimLost, ClaimDamaged, claim_of, own_record, own_use, claim_in_time, reread_by, reread_part, written_part, if_expired, seen_part, claim_part}
-use Rattle.plx_rules.specs.Ends.{End, ends, lost}
+use Rattle.plx_rules.specs.Ends.{End, ends, lost_part}
 use Rattle.plx_rules.specs.Hands.{is_held}
 use Rattle.plx_rules.specs.Holds.{Hold, Nothing, Seen, Wrote, Waited, Held, seen_by, hold_after_read, hold_after_reading, hold_after_reread}
 use Rattle.plx_rules.specs.InUse.{InUse, first_reached, unless_reached}
@@ -267,7 +267,7 @@ module _ (s : Setting) (geometry : IsGeometry s.geometry) (small : s.boot < 2 ^ 
           IsLastReading done last → ((e' : ℕ) → lost_claim s.geometry (reply.Lost (lease.Extent (record { 0 = e' })) due.until last) (after_work first done) ≡ 0) →
           ((one : InUse) → IsUse one uses → (e' : ℕ) × (one.lease ≡ extent_lease s.geometry e') × IsExtentInUse s (log done) done e' one.until) →
           ((e' until : ℕ) → IsExtentInUse s (log done) done e' until → IsUse (extent_use s.geometry e' until) uses) → first_reached uses last ≡ Some due →
-          RightSo done (lost s (with_claim t.known) due last) n
+          RightSo done (lost_part s (with_claim t.known) due last) n
       lost-counted done last uses due n b begun is none sound complete reached =
           lost-reading s geometry first holds known count work done last (with_claim t.known) uses due n is
           (λ e'. (let none' = none e' in let c = counted done begun in omega (arith, none'))) sound complete reached

@@ -22,7 +22,7 @@ use Rattle.plx_gate.specs.Leases.{lease_bytes}
 use Rattle.plx_geom.proofs.Places.{lease-map, map-map, extent-below}
 use Rattle.plx_geom.specs.Geometry.{IsGeometry, lease_count, extent_lease, lease_at, map_at}
 use Rattle.plx_rules.specs.Part.{Part}
-use Rattle.plx_rules.specs.Ends.{End, ends, lost, damaged_part}
+use Rattle.plx_rules.specs.Ends.{End, ends, lost_part, damaged_part}
 use Rattle.plx_rules.specs.Hands.{is_held, set_since, hand_answered, hand_held}
 use Rattle.plx_rules.specs.Holds.{Hold, Held}
 use Rattle.plx_rules.specs.InUse.{InUse, lease_name, first_reached, unless_reached}
@@ -365,7 +365,7 @@ module _ (s : Setting) (geometry : IsGeometry s.geometry) (first : CommandLog) (
       ((e : ℕ) → k.claims ≡ claims_in s.geometry (after_work first done) + lost_claim s.geometry (reply.Lost (lease.Extent (record { 0 = e })) due.until last) (after_work first done) + claims_begun s.geometry first.before) →
       ((one : InUse) → IsUse one uses → (e : ℕ) × (one.lease ≡ extent_lease s.geometry e) × IsExtentInUse s (log done) done e one.until) →
       ((e until : ℕ) → IsExtentInUse s (log done) done e until → IsUse (extent_use s.geometry e until) uses) → first_reached uses last ≡ Some due →
-      Keeping done (lost s k due last) n
+      Keeping done (lost_part s k due last) n
   lost-reading done last k uses due n is counted sound complete reached =
       let f : IsFirstDue uses last due = subst (TellsFirstDue uses last) reached (first-tells uses last) in
       let own = sound due f.among in
@@ -425,7 +425,7 @@ module _ (s : Setting) (geometry : IsGeometry s.geometry) (first : CommandLog) (
           (own last claim until (subst (λ n'. hold_by_log s first.before (after_work first (clock last ∷ done)) (extent_lease s.geometry n') ≡ Held claim until) (sym same) held))
 
       go : (last : ℕ) (found : Option InUse) → first_reached uses last ≡ found →
-          Keeping (clock last ∷ done) (unless_reached found (λ due. lost s t.known due last) (ends (reply.Damaged (record { 0 = map_at s.geometry e })) t.known)) n
+          Keeping (clock last ∷ done) (unless_reached found (λ due. lost_part s t.known due last) (ends (reply.Damaged (record { 0 = map_at s.geometry e })) t.known)) n
       go last (Some due) is =
           let r2 = clock-taken M tried done t last r in
           lost-reading (clock last ∷ done) last t.known uses due n (of_clock (done, refl))

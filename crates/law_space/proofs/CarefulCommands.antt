@@ -20,7 +20,7 @@ use Rattle.plx_rules.specs.declared.journaled.Journaled.{Journaled}
 use Rattle.plx_rules.specs.Attaching.{image_use, after_load, load_journal, after_record, load_image, after_claim, claim_image, attach_held, attach_part}
 use Rattle.plx_rules.specs.Claims.{ClaimEnd, ClaimHeld, ClaimBusy, ClaimLost, ClaimReadFault, ClaimWriteFault, ClaimDamaged, claim_of, own_record, own_use, claim_in_time, claim_damaged, reread_by, reread_part, written_part, if_expired, seen_part, claim_part}
 use Rattle.plx_rules.specs.Commands.{unless, attached_part, detach_part, record_part, create_part, delete_part, read_part, write_part, journal_part, next_write, renewal, renew_part, attached_uses, command_part}
-use Rattle.plx_rules.specs.Ends.{End, ends, lost, in_time, ends_in_time}
+use Rattle.plx_rules.specs.Ends.{End, ends, lost_part, in_time, ends_in_time}
 use Rattle.plx_rules.specs.Holds.{Hold, Nothing, Seen, Wrote, Waited, Held}
 use Rattle.plx_rules.specs.InUse.{InUse, first_reached, unless_reached}
 use Rattle.plx_rules.specs.Journal.{Finding, Outside, Unused, Counts, finding}
@@ -112,7 +112,7 @@ module _ (s : Setting) where
   careful-in_time : (known : Known) (uses : List InUse) (reading : ℕ) (part : Part End) (found : Found) → Careful found part → Careful found (in_time s known uses reading part)
   careful-in_time known uses reading part found careful = by_found (first_reached uses reading)
     where
-      by_found : (due : Option InUse) → Careful found (unless_reached due (λ due. lost s known due reading) part)
+      by_found : (due : Option InUse) → Careful found (unless_reached due (λ due. lost_part s known due reading) part)
       by_found None = careful
       by_found (Some due) = tt
 

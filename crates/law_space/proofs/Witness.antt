@@ -39,7 +39,7 @@ use Rattle.law_lease.proofs.FirstDevice.{formatted-is}
 use Rattle.law_lease.specs.TakenOver.{one}
 use Rattle.law_lease.proofs.ClaimStages.{lease-claimed}
 use Rattle.law_lease.proofs.LeaseFrames.{grip-open}
-use Rattle.law_lease.proofs.Stages.{IsSpot, Spot, Stage, landed-whole, last, read, still-places, waits-for}
+use Rattle.law_lease.proofs.Stages.{IsSpot, Spot, Stage, landed-whole, last, stage-after-read, still-places, waits-for}
 use Rattle.law_lease.proofs.Witness.{first_device, free-back, k0, mine, mine-is, mine_bytes, one_at, p0, s0, small-is, small_geometry}
 use Rattle.law_space.proofs.Kept.{CarefulAt, KeptAt, MapKept}
 use Rattle.law_space.proofs.Lists.{append-in, filter-in, set-since}
@@ -169,7 +169,7 @@ abbrev claim_places : ℕ → Spot
 claim_places = one_at map_places Nothing None (In k0 reserve claims_extent)
 
 claim-stage : AtStage 1000 first_device claim_places trace
-claim-stage = read small_geometry 1 one-appliance 3 map-stage one appliance-in k0 reserve 10 _ _ refl empty_map refl claims_extent
+claim-stage = stage-after-read small_geometry 1 one-appliance 3 map-stage one appliance-in k0 reserve 10 _ _ refl empty_map refl claims_extent
     (ap (λ (seen : Option (List Bool)). other_found s0 1 0 seen then_taken none_taken) map-back) Nothing refl
 
 -- the device with its claim
@@ -188,7 +188,7 @@ abbrev write_places : ℕ → Spot
 write_places = one_at held_places (Held mine 11000) None (In k0 reserve writes_map)
 
 write-stage : AtStage 1601 claimed_device write_places trace
-write-stage = read small_geometry 1 one-appliance 3 held-stage one appliance-in k0 reserve 10 _ _ refl empty_map refl writes_map
+write-stage = stage-after-read small_geometry 1 one-appliance 3 held-stage one appliance-in k0 reserve 10 _ _ refl empty_map refl writes_map
     (ap (λ (seen : Option (List Bool)). take_found s0 1 0 11000 seen then_taken held_taken) map-back)
     (Held mine 11000) refl
 

@@ -12,7 +12,7 @@ use Rattle.plx_extent.specs.Maps.{map_bytes}
 use Rattle.plx_gate.specs.Leases.{lease_bytes, read_lease}
 use Rattle.plx_geom.specs.Geometry.{extent_lease, lease_at, map_at}
 use Rattle.plx_rules.specs.Claims.{ClaimEnd, ClaimHeld, ClaimBusy, ClaimLost, ClaimReadFault, ClaimWriteFault, ClaimDamaged, claim_damaged, claim_in_time, claim_of, claim_part, if_expired, own_record, own_use, reread_by, reread_part, seen_part, written_part}
-use Rattle.plx_rules.specs.Ends.{End, damaged_part, ends, lost, read_then, write_then}
+use Rattle.plx_rules.specs.Ends.{End, damaged_part, ends, lost_part, read_then, write_then}
 use Rattle.plx_rules.specs.Holds.{Hold, Nothing, Seen, Wrote, Waited, Held}
 use Rattle.plx_rules.specs.InUse.{InUse, earlier, unless_reached}
 use Rattle.plx_rules.specs.Part.{Part, Ends, ReadThen, WriteThen, ClockThen, UntilThen}
@@ -89,7 +89,7 @@ with_uses t others = record t { claimed = others }
 pub damaged-same : (s : Setting) (known : Known) (uses others : List InUse) → AreReachedAs uses others → (block : ℕ) →
     damaged_part s known uses block ≡ damaged_part s known others block
 damaged-same s known uses others same block =
-    ap ClockThen (fun_ext (λ reading. ap (λ due. unless_reached due (λ due. lost s known due reading) (ends (reply.Damaged (record { 0 = block })) known)) (same reading)))
+    ap ClockThen (fun_ext (λ reading. ap (λ due. unless_reached due (λ due. lost_part s known due reading) (ends (reply.Damaged (record { 0 = block })) known)) (same reading)))
 
 if-goes : (enough : Bool) (here rest : Taking → Part End) → GoesByReached here → GoesByReached rest → (t : Taking) (others : List InUse) →
     AreReachedAs t.claimed others → (if enough then rest t else here t) ≡ (if enough then rest (with_uses t others) else here (with_uses t others))

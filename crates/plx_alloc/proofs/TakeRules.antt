@@ -5,7 +5,7 @@ use Rattle.plx_commands.specs.Replies.{is_in}
 use Rattle.plx_commands.specs.declared.reply.Reply.TheVariants as reply
 use Rattle.plx_extent.specs.Maps.{map_bytes}
 use Rattle.plx_geom.specs.Geometry.{extent_lease, map_at}
-use Rattle.plx_rules.specs.Ends.{End, ends, lost}
+use Rattle.plx_rules.specs.Ends.{End, ends, lost_part}
 use Rattle.plx_rules.specs.Holds.{Held}
 use Rattle.plx_rules.specs.InUse.{InUse, first_reached, unless_reached}
 use Rattle.plx_rules.specs.Part.{Part, Ends}
@@ -71,7 +71,7 @@ module _ (s : Setting) (log : CommandLog) (count extent until : ℕ) (t : Taking
 
   -- the reading after bytes that are no map
   by-reading : (bytes : List ℕ) (last : ℕ) (found : Option InUse) → read_map s.geometry.extent_blocks bytes ≡ None → first_reached uses last ≡ found →
-      Takes (clock last ∷ read bytes) (unless_reached found (λ due. lost s t.known due last) (ends (reply.Damaged (record { 0 = place })) t.known)) 0
+      Takes (clock last ∷ read bytes) (unless_reached found (λ due. lost_part s t.known due last) (ends (reply.Damaged (record { 0 = place })) t.known)) 0
   by-reading bytes last (Some due) none is = reached due last (read bytes, refl) is
   by-reading bytes last None none is = damaged bytes last (inr (inl refl)) none (read bytes, refl) is
 

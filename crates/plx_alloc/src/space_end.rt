@@ -2,7 +2,7 @@
 ghost use Rattle.std.specs.Prelude.{◌≡◌};
 ghost use Rattle.plx_rules.specs.InUse.{lease_name as name_of_lease};
 ghost use Rattle.plx_lease.specs.Uses.{use_of};
-ghost use Rattle.plx_rules.specs.Ends.{End, lost as lost_part};
+ghost use Rattle.plx_rules.specs.Ends.{End, lost_part};
 ghost use Rattle.plx_rules.specs.Part.{Part};
 ghost use Rattle.plx_rules.specs.Session.{Known};
 ghost use Rattle.plx_alloc.specs.Ending.{space_end};

@@ -21,7 +21,7 @@ impl Leased {
     ghost use Rattle.plx_rules.specs.Part.{Part};
     ghost use Rattle.plx_rules.specs.Attaching.{image_use};
     ghost use Rattle.plx_rules.specs.Ends.{End, ends, in_time};
-    ghost use Rattle.plx_rules.specs.Ends.{lost as ends_lost};
+    ghost use Rattle.plx_rules.specs.Ends.{lost_part};
     ghost use Rattle.plx_rules.specs.Session.{Known};
     ghost use Rattle.plx_appliance.specs.Ending.{part_after, known_after};
     ghost use Rattle.plx_appliance.specs.Giving.{rules_setting};
@@ -42,7 +42,7 @@ impl Leased {
     /// The refusal that the lease is lost.
     pub fn lost(&self, reading: u64) -> Reply
         ensures { (known : Known) → ends result (known_after result known)
-            ≡ ends_lost (rules_setting self.now.setting) known (leased_use self.now) reading }
+            ≡ lost_part (rules_setting self.now.setting) known (leased_use self.now) reading }
     {
         Reply::Lost {
             lease: LeaseName::Image(self.slot),

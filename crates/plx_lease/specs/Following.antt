@@ -2,7 +2,7 @@
 use Rattle.std.specs.Prelude.{ℕ}
 use Rattle.plx_geom.specs.Geometry.{lease_at}
 use Rattle.plx_rules.specs.Part.{Part}
-use Rattle.plx_rules.specs.Ends.{End, lost, write_failed}
+use Rattle.plx_rules.specs.Ends.{End, lost_part, write_failed}
 use Rattle.plx_rules.specs.Session.{Known}
 use Rattle.plx_rules.specs.Settings.{Setting}
 use Rattle.law_run.specs.Releases.{ReleaseEnd, Released, ReleaseLost, ReleaseWriteFault}
@@ -11,11 +11,11 @@ use Rattle.law_run.specs.Renewals.{RenewalEnd, Renewed, RenewalLost, RenewalWrit
 -- after a renewal
 abbrev pub after_renewal : Setting → Known → (lease : ℕ) → (rest : Part End) → RenewalEnd → Part End
 after_renewal s known lease rest Renewed = rest
-after_renewal s known lease rest (RenewalLost due reading) = lost s known due reading
+after_renewal s known lease rest (RenewalLost due reading) = lost_part s known due reading
 after_renewal s known lease rest RenewalWriteFault = write_failed (lease_at lease) known
 
 -- after a release
 abbrev pub after_release : Setting → Known → (lease : ℕ) → (rest : Part End) → ReleaseEnd → Part End
 after_release s known lease rest Released = rest
-after_release s known lease rest (ReleaseLost due reading) = lost s known due reading
+after_release s known lease rest (ReleaseLost due reading) = lost_part s known due reading
 after_release s known lease rest ReleaseWriteFault = write_failed (lease_at lease) known

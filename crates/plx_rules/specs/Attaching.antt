@@ -6,7 +6,7 @@ use Rattle.plx_gate.specs.declared.image.ImageRecord.{ImageRecord}
 use Rattle.plx_geom.specs.Geometry.{image_lease, lease_at, record_at}
 use Rattle.plx_rules.specs.Part.{Part}
 use Rattle.plx_rules.specs.Claims.{ClaimEnd, ClaimHeld, ClaimBusy, ClaimLost, ClaimReadFault, ClaimWriteFault, ClaimDamaged, claim_part}
-use Rattle.plx_rules.specs.Ends.{End, ends, lost, read_failed, write_failed, read_then, ends_in_time, damaged_part}
+use Rattle.plx_rules.specs.Ends.{End, ends, lost_part, read_failed, write_failed, read_then, ends_in_time, damaged_part}
 use Rattle.plx_rules.specs.Holds.{Hold, Held}
 use Rattle.plx_rules.specs.InUse.{InUse, lease_name}
 use Rattle.plx_rules.specs.Loading.{LoadEnd, Loaded, LoadReadFault, LoadDamaged, load_part}
@@ -50,7 +50,7 @@ load_image s known image until =
 abbrev pub after_claim : Setting → Known → (image : ℕ) → ClaimEnd → Part End
 after_claim s known image (ClaimHeld claim until) = load_image s known image until
 after_claim s known image (ClaimBusy seen) = ends (reply.Busy (lease_name s.geometry (image_lease image)) seen) known
-after_claim s known image (ClaimLost due reading) = lost s known due reading
+after_claim s known image (ClaimLost due reading) = lost_part s known due reading
 after_claim s known image ClaimReadFault = read_failed (lease_at (image_lease image)) known
 after_claim s known image ClaimWriteFault = write_failed (lease_at (image_lease image)) known
 after_claim s known image ClaimDamaged = ends (reply.Damaged (record { 0 = lease_at (image_lease image) })) known

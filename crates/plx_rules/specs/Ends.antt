@@ -18,8 +18,8 @@ abbrev pub ends : Reply → Known → Part End
 ends reply known = Ends (record { reply = reply; known = known })
 
 -- a lease in use is lost: no session is left
-abbrev pub lost : Setting → Known → InUse → (reading : ℕ) → Part End
-lost s known due reading = ends (reply.Lost (lease_name s.geometry due.lease) due.until reading) (nothing_known known.claims)
+abbrev pub lost_part : Setting → Known → InUse → (reading : ℕ) → Part End
+lost_part s known due reading = ends (reply.Lost (lease_name s.geometry due.lease) due.until reading) (nothing_known known.claims)
 
 -- a read failed: what is known stays
 abbrev pub read_failed : (block : ℕ) → Known → Part End
@@ -36,11 +36,11 @@ read_then block known rest = ReadThen block rest (read_failed block known)
 -- a write of a command: its guard is the end of the lease on which it rests, of several the one to be named
 abbrev pub write_then : Setting → Known → InUse → WriteKind → (block : ℕ) → List ℕ → (done : Part End) → Part End
 write_then s known due kind block bytes done =
-    WriteThen kind block bytes due.until done (write_failed block known) (λ reading. lost s known due reading)
+    WriteThen kind block bytes due.until done (write_failed block known) (λ reading. lost_part s known due reading)
 
 -- what is asked where a reading has reached no lease in use
 abbrev pub in_time : Setting → Known → List InUse → (reading : ℕ) → Part End → Part End
-in_time s known uses reading part = unless_reached (first_reached uses reading) (λ due. lost s known due reading) part
+in_time s known uses reading part = unless_reached (first_reached uses reading) (λ due. lost_part s known due reading) part
 
 -- a reply that comes after one more reading, which has reached no lease in use
 abbrev pub ends_in_time : Setting → Known → List InUse → Reply → Known → Part End

@@ -12,7 +12,7 @@ use Rattle.plx_gate.specs.Leases.{lease_bytes}
 use Rattle.plx_geom.specs.Geometry.{Geometry, root_lease, image_lease, extent_lease, lease_at, map_at}
 use Rattle.plx_rules.specs.Part.{Part}
 use Rattle.plx_rules.specs.Claims.{ClaimEnd, ClaimHeld, ClaimBusy, ClaimLost, ClaimReadFault, ClaimWriteFault, ClaimDamaged, claim_part}
-use Rattle.plx_rules.specs.Ends.{End, ends, lost, read_failed, write_failed, read_then, write_then, damaged_part}
+use Rattle.plx_rules.specs.Ends.{End, ends, lost_part, read_failed, write_failed, read_then, write_then, damaged_part}
 use Rattle.plx_rules.specs.Holds.{Hold, Held}
 use Rattle.plx_rules.specs.InUse.{InUse, lease_name}
 use Rattle.plx_rules.specs.Parts.{followed_by}
@@ -123,7 +123,7 @@ take_held s count holds (suc left) extent rest t =
 abbrev pub after_extent_claim : Setting → (count extent : ℕ) → (rest : Taking → Part End) → Taking → ClaimEnd → Part End
 after_extent_claim s count extent rest t (ClaimHeld claim until) = take_here s count extent until rest (with_claimed t (extent_use s.geometry extent until))
 after_extent_claim s count extent rest t (ClaimBusy seen) = rest (with_busy t (extent_lease s.geometry extent) seen)
-after_extent_claim s count extent rest t (ClaimLost due reading) = lost s t.known due reading
+after_extent_claim s count extent rest t (ClaimLost due reading) = lost_part s t.known due reading
 after_extent_claim s count extent rest t ClaimReadFault = read_failed (lease_at (extent_lease s.geometry extent)) t.known
 after_extent_claim s count extent rest t ClaimWriteFault = write_failed (lease_at (extent_lease s.geometry extent)) t.known
 after_extent_claim s count extent rest t ClaimDamaged = ends (reply.Damaged (record { 0 = lease_at (extent_lease s.geometry extent) })) t.known

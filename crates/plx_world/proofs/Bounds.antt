@@ -22,7 +22,7 @@ use Rattle.plx_rules.specs.declared.journaled.Journaled.{Journaled}
 use Rattle.plx_rules.specs.Attaching.{image_use, attach_ends, after_load, load_journal, after_record, load_image, after_claim, claim_image, attach_held, attach_part}
 use Rattle.plx_rules.specs.Claims.{ClaimEnd, ClaimHeld, ClaimBusy, ClaimLost, ClaimReadFault, ClaimWriteFault, ClaimDamaged, claim_of, own_record, own_use, claim_in_time, claim_damaged, reread_by, reread_part, written_part, if_expired, seen_part, claim_part}
 use Rattle.plx_rules.specs.Commands.{unless, held_part, attached_part, of_attached, detach_part, record_part, create_part, delete_part, read_part, write_part, journal_part, next_write, renewal, renew_part, attached_uses, command_part}
-use Rattle.plx_rules.specs.Ends.{End, ends, lost, damaged_part, in_time, ends_in_time}
+use Rattle.plx_rules.specs.Ends.{End, ends, lost_part, damaged_part, in_time, ends_in_time}
 use Rattle.plx_rules.specs.Holds.{Hold, Nothing, Seen, Wrote, Waited, Held}
 use Rattle.plx_rules.specs.InUse.{InUse, first_reached, unless_reached}
 use Rattle.plx_rules.specs.Journal.{Finding, Outside, Unused, Counts, finding}
@@ -130,7 +130,7 @@ claim-most boot others lease number =
 
 -- a reading in time
 pub timed-most : (most : ℕ) (s : Setting) (known : Known) (uses : List InUse) (reading : ℕ) (part : Part End) → AtMost most part → AtMost most (in_time s known uses reading part)
-timed-most most s known uses reading part few = at-most-unless most (first_reached uses reading) (λ due. lost s known due reading) part (λ due. tt) few
+timed-most most s known uses reading part few = at-most-unless most (first_reached uses reading) (λ due. lost_part s known due reading) part (λ due. tt) few
 
 -- a reply after one more reading
 pub ends-most : (most : ℕ) (s : Setting) (known : Known) (uses : List InUse) (reply : Reply) (after : Known) → AtMost (suc most) (ends_in_time s known uses reply after)
