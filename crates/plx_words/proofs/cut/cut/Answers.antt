@@ -20,8 +20,8 @@ parts text mark at first =
     grind (arith, common_steps)
 
 -- and no mark stands before it
-unmarked : (text : List ℕ) (mark at : ℕ) → IsFirstMark text mark (Some at) → All (λ byte. byte ≢ mark) (take at text)
-unmarked text mark at first k d within same =
+no-mark-before : (text : List ℕ) (mark at : ℕ) → IsFirstMark text mark (Some at) → All (λ byte. byte ≢ mark) (take at text)
+no-mark-before text mark at first k d within same =
     let below : k < at = omega (arith, length-take-le at text (omega (arith, first.0))) in
     first.2 k d (omega arith) below (sym (get_or-take at text k d below) ∙ same)
 
@@ -31,6 +31,6 @@ returns c =
     let first = subst (IsFirstMark c.args.text.now c.args.mark) c.in_ok-at.was known in
     record {
       parts = parts c.args.text.now c.args.mark c.in_ok-at.at first;
-      first = unmarked c.args.text.now c.args.mark c.in_ok-at.at first;
+      first = no-mark-before c.args.text.now c.args.mark c.in_ok-at.at first;
       none = tt;
     }

@@ -7,11 +7,11 @@ use Rattle.plx_alloc.specs.Tables.{extent_hold}
 use Rattle.plx_alloc.proofs.allocator.Allocator.new.Goals as goal
 
 -- where nothing stands, nothing does past one more empty place
-none-more : {X : Type 0} (xs : List (Option X)) → ((k : ℕ) → get_or xs k None ≡ None) → (k : ℕ) → get_or (xs ++ None ∷ []) k None ≡ None
-none-more [] none zero = refl
-none-more [] none (suc k) = refl
-none-more (x ∷ xs) none zero = none 0
-none-more (x ∷ xs) none (suc k) = none-more xs (λ j. none (suc j)) k
+places-none : {X : Type 0} (xs : List (Option X)) → ((k : ℕ) → get_or xs k None ≡ None) → (k : ℕ) → get_or (xs ++ None ∷ []) k None ≡ None
+places-none [] none zero = refl
+places-none [] none (suc k) = refl
+places-none (x ∷ xs) none zero = none 0
+places-none (x ∷ xs) none (suc k) = places-none xs (λ j. none (suc j)) k
 
 pub loop-preserved : goal.loop-preserved
 loop-preserved c =
@@ -20,7 +20,7 @@ loop-preserved c =
     let long : vec_len c.push.new.self ≡ c.loop.counter + 1 = omega (arith, count, more) in (
       long,
       λ k. ap (λ xs. get_or xs k None) c.in_ok-push.ensures.items
-          ∙ none-more c.loop.extents.items c.loop.invariant.1 k,
+          ∙ places-none c.loop.extents.items c.loop.invariant.1 k,
     )
 
 pub invariant_of-result-2-clause-own : goal.invariant_of-result-2-clause-own

@@ -7,8 +7,8 @@ use Rattle.plx_appliance.specs.declared.attach.AttachAt.TheVariants as attach
 use Rattle.plx_appliance.proofs.attach.Attach.answer.Goals as goal
 
 -- an attach in its load isn't in its claim
-apart : (at : AttachAt) → at ≡ attach.Load → at ≡ attach.Claim → ⊥
-apart at load claim = absurd cc
+load-not-claim : (at : AttachAt) → at ≡ attach.Load → at ≡ attach.Claim → ⊥
+load-not-claim at load claim = absurd cc
 
 pub returns-in-None : goal.returns-in-None
 returns-in-None c =
@@ -50,7 +50,7 @@ returns-in-Some c =
         number = e.kept.number;
         slot = k.slot;
         leases = k.leases;
-        goes_on = λ none at. absurd (apart _ (k.held none) at);
+        goes_on = λ none at. absurd (load-not-claim _ (k.held none) at);
       });
     }
 
