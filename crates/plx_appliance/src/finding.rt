@@ -20,7 +20,8 @@ pub enum Finding {
 /// What stands in a slot of the journal of a session's image, of the bytes of its descriptor.
 pub fn find(session: &Session, slot: u32, bytes: &Block) -> Finding
     requires { slot < session.now.journal.slots }
-    ensures { finding_shown result ≡ finding_in session.now.image session.now.journal.slots slot bytes.now }
+    ensures { finding_shown result
+        ≡ finding_in session.now.image session.now.journal.slots slot bytes.now }
 {
     let Some(read) = read_descriptor(bytes.as_slice()) else {
         return Finding::Outside;
