@@ -2,7 +2,7 @@
 ghost use Rattle.std.specs.Prelude.{◌≡◌, ◌≤◌, ◌*◌, length};
 ghost use Rattle.std.specs.Vec.{vec_len, vec_capacity};
 ghost use Rattle.plx_base.specs.Blocks.{zeros};
-ghost use Rattle.plx_appliance.specs.PlacedWrites.{AreWithinBlocks};
+ghost use Rattle.plx_appliance.specs.PlacedWrites.{AreNumberedTo, AreWithinBlocks};
 
 use plx_base::{BLOCK_LEN, Block, NoMemory};
 use std::alloc::Global;
@@ -16,15 +16,17 @@ pub struct PlacedWrite {
 }
 
 /// The writes that a journal of so many slots holds, in order of number, and their blocks one after another, in the
-/// order in which they came. There is memory for a write in each slot.
+/// order in which they came. There is memory for a write in each slot. No write's number is above `greatest`.
 #[derive(Drop)]
 pub struct Journal {
     pub slots: u32,
     pub writes: Vec<PlacedWrite>,
     pub bytes: Vec<u8>,
+    pub greatest: u64,
     ghost few: { vec_len writes ≤ slots },
     ghost long: { vec_len bytes ≡ 4096 * vec_len writes },
     ghost places: { AreWithinBlocks (vec_len writes) writes.items },
+    ghost numbers: { AreNumberedTo greatest writes.items },
     ghost room: { slots ≤ vec_capacity writes },
     ghost blocks: { 4096 * slots ≤ vec_capacity bytes },
 }
@@ -46,6 +48,7 @@ impl Journal {
             slots: 0,
             writes: Vec::new(alloc),
             bytes: Vec::new(alloc),
+            greatest: 0,
         }
     }
 
@@ -60,6 +63,7 @@ impl Journal {
             slots,
             writes,
             bytes,
+            greatest: 0,
         })
     }
 
@@ -111,6 +115,7 @@ impl Journal {
             place,
         };
         self.writes.insert(index, write).unwrap();
+        self.greatest = self.greatest.max(number);
     }
 
     // Where a write of this number has its place.
@@ -120,6 +125,9 @@ impl Journal {
             with_write_by_number w (writes_of self.now)
             ≡ insert_at (writes_of self.now) result w }
     {
+        if self.greatest <= number {
+            return self.writes.len();
+        }
         for index in 0..self.writes.len() {
             if number < self.writes[index].number {
                 return index;
