@@ -1,7 +1,6 @@
 -- Writes in order of number.
 use Rattle.std.proofs.Common.{◌≡◌, ◌≢◌, inl, inr, ℕ, ◌+◌, ◌<◌, ◌≤◌, List, [], ◌∷◌, ◌++◌, length, take, drop, get_or, refl, sym, ap, ◌∙◌, arith, append_assoc, true, false, Some, None}
-use Rattle.std.specs.Prelude.{All, nat_lt, Option}
-use Rattle.std.proofs.lemmas.List.Elements.{All-head, All-tail}
+use Rattle.std.specs.Prelude.{nat_lt, Option}
 use Rattle.plx_alloc.specs.Tables.{next_number}
 use Rattle.plx_commands.specs.Limits.{last_claim}
 use Rattle.std.proofs.lemmas.List.{take_more, drop_more, drop_all}
@@ -41,13 +40,6 @@ from-here w writes i y within is here =
 pub from-end : (w : Journaled) (writes : List Journaled) (i : ℕ) → length writes ≤ i → from w writes i ≡ take i writes ++ w ∷ drop i writes
 from-end w writes i past =
     ap (λ ys. take i writes ++ with_write_by_number w ys) (drop_all i writes past) ∙ ap (λ ys. take i writes ++ w ∷ ys) (sym (drop_all i writes past))
-
--- no write has a greater number
-pub inserted-last : (w : Journaled) (writes : List Journaled) → All (λ (y : Journaled). y.number ≤ w.number) writes → with_write_by_number w writes ≡ writes ++ w ∷ []
-inserted-last w [] low = refl
-inserted-last w (y ∷ ys) low =
-    let P : Journaled → Type 0 = λ z. z.number ≤ w.number in
-    inserted-past w y ys (nat_lt-false w.number y.number (All-head P y ys low)) ∙ ap (λ (zs : List Journaled). y ∷ zs) (inserted-last w ys (All-tail P y ys low))
 
 -- the first gap from one write on
 gap-follows : (before : ℕ) (y : Journaled) (ys : List Journaled) → y.number ≡ before + 1 → first_gap before (y ∷ ys) ≡ first_gap (before + 1) ys

@@ -1,11 +1,11 @@
 -- The blocks of a journal's writes lie one after another.
 use Rattle.std.proofs.Common.{◌≡◌, ℕ, ◌+◌, ◌*◌, ◌<◌, ◌≤◌, List, [], ◌∷◌, ◌++◌, length, take, drop, get_or, map, refl, subst, sym, ap, ◌∙◌, arith}
-use Rattle.std.specs.List.{All, insert}
+use Rattle.std.specs.List.{insert}
 use Rattle.std.proofs.lemmas.List.{take_all, take-append-le, drop-append-le, drop_at, length-drop, length-map, map-append, take-map, drop-map, get_or-map}
 use Rattle.std.proofs.lemmas.List.Edits.{insert_end}
-use Rattle.std.proofs.lemmas.List.Elements.{All-head, All-map, All-tail}
+use Rattle.std.proofs.lemmas.List.Elements.{All-head, All-tail}
 use Rattle.plx_rules.specs.declared.journaled.Journaled.{Journaled}
-use Rattle.plx_appliance.specs.PlacedWrites.{AreNumberedTo, AreWithinBlocks, block_in, write_in, writes_in}
+use Rattle.plx_appliance.specs.PlacedWrites.{AreWithinBlocks, block_in, write_in, writes_in}
 use Rattle.plx_appliance.specs.declared.journal.PlacedWrite.{PlacedWrite}
 
 -- more bytes leave the blocks before them as they were
@@ -79,10 +79,3 @@ writes-past bytes writes i past = omega (arith, past, length-writes bytes writes
 -- one more write after the others
 pub writes-pushed : (bytes : List ℕ) (writes : List PlacedWrite) (new : Journaled) → insert (writes_in bytes writes) (length writes) new ≡ writes_in bytes writes ++ new ∷ []
 writes-pushed bytes writes new = rw (← length-writes bytes writes) (insert_end (writes_in bytes writes) new)
-
--- the numbers of writes are those of their places
-pub writes-numbered : (bytes : List ℕ) (writes : List PlacedWrite) (greatest number : ℕ) → AreNumberedTo greatest writes → greatest ≤ number →
-    All (λ (w : Journaled). w.number ≤ number) (writes_in bytes writes)
-unfolding writes_in
-writes-numbered bytes writes greatest number low high =
-    All-map (λ (w : Journaled). w.number ≤ number) (write_in bytes) writes (λ k d less. omega (arith, low k d less, high))

@@ -1,5 +1,5 @@
 -- The writes that a journal holds, by where their bytes lie.
-use Rattle.std.specs.Prelude.{◌<◌, ◌≤◌, ◌*◌, ℕ, List, take, drop, map, All, Option, Some, None}
+use Rattle.std.specs.Prelude.{◌<◌, ◌*◌, ℕ, List, take, drop, map, All, Option, Some, None}
 use Rattle.plx_base.specs.Blocks.{zeros}
 use Rattle.plx_rules.specs.declared.journaled.Journaled.{Journaled}
 use Rattle.plx_appliance.specs.declared.journal.PlacedWrite.{PlacedWrite}
@@ -24,7 +24,3 @@ writes_in bytes writes = map (write_in bytes) writes
 -- each write has its bytes in one of so many blocks
 abbrev pub AreWithinBlocks : ℕ → List PlacedWrite → Type 0
 AreWithinBlocks count writes = All (λ write. write.place < count) writes
-
--- no write has a number above this one
-abbrev pub AreNumberedTo : ℕ → List PlacedWrite → Type 0
-AreNumberedTo greatest writes = All (λ write. write.number ≤ greatest) writes

@@ -2,7 +2,7 @@
 ghost use Rattle.std.specs.Prelude.{◌≡◌, ◌≤◌, ◌*◌, length};
 ghost use Rattle.std.specs.Vec.{vec_len, vec_capacity};
 ghost use Rattle.plx_base.specs.Blocks.{zeros};
-ghost use Rattle.plx_appliance.specs.PlacedWrites.{AreNumberedTo, AreWithinBlocks};
+ghost use Rattle.plx_appliance.specs.PlacedWrites.{AreWithinBlocks};
 
 use plx_base::{BLOCK_LEN, Block, NoMemory};
 use std::alloc::Global;
@@ -16,17 +16,15 @@ pub struct PlacedWrite {
 }
 
 /// The writes that a journal of so many slots holds, in order of number, and their blocks one after another, in the
-/// order in which they came. There is memory for a write in each slot. No write's number is above `greatest`.
+/// order in which they came. There is memory for a write in each slot.
 #[derive(Drop)]
 pub struct Journal {
     pub slots: u32,
     pub writes: Vec<PlacedWrite>,
     pub bytes: Vec<u8>,
-    pub greatest: u64,
     ghost few: { vec_len writes ≤ slots },
     ghost long: { vec_len bytes ≡ 4096 * vec_len writes },
     ghost places: { AreWithinBlocks (vec_len writes) writes.items },
-    ghost numbers: { AreNumberedTo greatest writes.items },
     ghost room: { slots ≤ vec_capacity writes },
     ghost blocks: { 4096 * slots ≤ vec_capacity bytes },
 }
@@ -48,7 +46,6 @@ impl Journal {
             slots: 0,
             writes: Vec::new(alloc),
             bytes: Vec::new(alloc),
-            greatest: 0,
         }
     }
 
@@ -63,7 +60,6 @@ impl Journal {
             slots,
             writes,
             bytes,
-            greatest: 0,
         })
     }
 
@@ -115,7 +111,6 @@ impl Journal {
             place,
         };
         self.writes.insert(index, write).unwrap();
-        self.greatest = self.greatest.max(number);
     }
 
     // Where a write of this number has its place.
@@ -125,9 +120,6 @@ impl Journal {
             with_write_by_number w (writes_of self.now)
             ≡ insert_at (writes_of self.now) result w }
     {
-        if self.greatest <= number {
-            return self.writes.len();
-        }
         for index in 0..self.writes.len() {
             if number < self.writes[index].number {
                 return index;

@@ -1,8 +1,8 @@
-use Rattle.std.proofs.Common.{◌≡◌, ◌<◌, ◌≤◌, length, ◌∙◌, arith, sym}
+use Rattle.std.proofs.Common.{◌≡◌, ◌<◌, ◌≤◌, length, ◌∙◌, arith}
 use Rattle.plx_appliance.specs.Kept.{writes_of}
 use Rattle.plx_appliance.specs.PlacedWrites.{write_in}
-use Rattle.plx_appliance.proofs.Numbers.{from-next, from-here, from-end, inserted-last}
-use Rattle.plx_appliance.proofs.PlacedBlocks.{write-is, writes-numbered, writes-past, writes-pushed}
+use Rattle.plx_appliance.proofs.Numbers.{from-next, from-here, from-end}
+use Rattle.plx_appliance.proofs.PlacedBlocks.{write-is, writes-past}
 use Rattle.plx_appliance.proofs.journal.Journal.index.Goals as goal
 
 pub loop-index-preserved : goal.loop-index-preserved
@@ -25,12 +25,5 @@ pub returns-clause-place : goal.returns-clause-place
 returns-clause-place c = λ w is.
     let j = c.args.self.now in
     let past : length j.writes.items ≤ c.loop-index.index = omega (arith, c.loop-index-test.false, c.len-index-end.ensures, j.writes.ok.0) in
-    let at : c.len-2.result ≡ c.loop-index.index = omega (arith, c.len-2.ensures, c.len-index-end.ensures, c.loop-index-test.false, c.loop-index.auto.index-end) in
+    let at : c.len.result ≡ c.loop-index.index = omega (arith, c.len.ensures, c.len-index-end.ensures, c.loop-index-test.false, c.loop-index.auto.index-end) in
     c.loop-index.invariant w is ∙ rw at (from-end w (writes_of j) c.loop-index.index (writes-past j.bytes.items j.writes.items c.loop-index.index past))
-
-pub returns-then-self-number-clause-place : goal.returns-then-self-number-clause-place
-returns-then-self-number-clause-place c = λ w is.
-    let j = c.args.self.now in
-    let at : c.len.result ≡ length j.writes.items = omega (arith, c.len.ensures, j.writes.ok.0) in
-    inserted-last w (writes_of j) (rw is (writes-numbered j.bytes.items j.writes.items j.greatest c.args.number j.numbers c.if-self-number.true))
-    ∙ rw at (sym (writes-pushed j.bytes.items j.writes.items w))
