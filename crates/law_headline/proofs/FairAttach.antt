@@ -19,7 +19,7 @@ use Rattle.plx_geom.specs.Geometry.{IsGeometry, image_lease, lease_at, record_at
 use Rattle.plx_geom.proofs.Places.{image-below, lease-record, lease-data, lease-descriptor}
 use Rattle.plx_base.proofs.Tests.{nat_lt-true, nat_le-true}
 use Rattle.plx_rules.specs.Part.{Part, Ends, UntilThen}
-use Rattle.plx_rules.specs.declared.journaled.Journaled.{Journaled}
+use Rattle.plx_rules.specs.Journaled.{Journaled}
 use Rattle.plx_rules.specs.Attaching.{image_use, attach_ends, after_load, load_journal, after_record, load_image, after_claim, claim_image, attach_held}
 use Rattle.plx_rules.specs.Claims.{ClaimEnd, ClaimBusy, ClaimLost, claim_of, end_of_term, own_record, own_use, claim_in_time, reread_by, reread_part, written_part, if_expired, seen_part}
 use Rattle.plx_rules.specs.Ends.{End, read_failed, damaged_part}

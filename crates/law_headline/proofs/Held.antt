@@ -21,7 +21,7 @@ use Rattle.plx_gate.specs.Leases.{lease_bytes, IsLease, IsClaimed}
 use Rattle.plx_gate.specs.declared.image.ImageRecord.{ImageRecord}
 use Rattle.plx_geom.specs.Geometry.{Geometry, lease_count, image_lease, lease_at, record_at, descriptor_at, data_at, map_at}
 use Rattle.plx_rules.specs.Part.{Part, Ends, ReadThen, WriteThen, ClockThen, UntilThen}
-use Rattle.plx_rules.specs.declared.journaled.Journaled.{Journaled}
+use Rattle.plx_rules.specs.Journaled.{Journaled}
 use Rattle.plx_rules.specs.Ends.{End}
 use Rattle.plx_rules.specs.Headline.{IsUndamaged}
 use Rattle.plx_rules.specs.Holds.{Hold, Waited, Held, no_holds, after_answer, after_write, holds_after_reply, hold_after_reading}

@@ -26,7 +26,7 @@ use Rattle.plx_gate.specs.declared.image.ImageRecord.{ImageRecord}
 use Rattle.plx_geom.specs.Geometry.{record_at, descriptor_at, data_at}
 use Rattle.plx_base.proofs.Tests.{eqb-true, nat_lt-false, nat_lt-tells, nat_le-false, nat_le-tells, not-false, and-parts}
 use Rattle.plx_rules.specs.Part.{Part}
-use Rattle.plx_rules.specs.declared.journaled.Journaled.{Journaled}
+use Rattle.plx_rules.specs.Journaled.{Journaled}
 use Rattle.plx_rules.specs.Attaching.{image_use, attach_ends, after_load, load_journal, after_record, load_image}
 use Rattle.plx_rules.specs.Ends.{End, ends, lost_part, read_failed, in_time, ends_in_time}
 use Rattle.plx_rules.specs.InUse.{InUse, first_reached, unless_reached}

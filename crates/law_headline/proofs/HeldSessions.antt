@@ -35,7 +35,7 @@ use Rattle.plx_geom.specs.Geometry.{record_at, descriptor_at, data_at}
 use Rattle.law_headline.proofs.JournalFacts.{journal_slot-next}
 use Rattle.plx_base.proofs.Tests.{nat_lt-true, not-false, nat_le-past}
 use Rattle.plx_rules.specs.Part.{Part}
-use Rattle.plx_rules.specs.declared.journaled.Journaled.{Journaled}
+use Rattle.plx_rules.specs.Journaled.{Journaled}
 use Rattle.plx_rules.specs.Attaching.{image_use}
 use Rattle.plx_rules.specs.Commands.{unless, record_part, create_part, delete_part, read_part, journal_part, write_part}
 use Rattle.plx_rules.specs.Ends.{End, ends, write_then, ends_in_time}

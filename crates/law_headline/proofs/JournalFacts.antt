@@ -15,7 +15,7 @@ use Rattle.plx_gate.specs.declared.image.ImageRecord.TheVariants.{Free, Live}
 use Rattle.plx_gate.proofs.Descriptors.{read-descriptor, read-zeros}
 use Rattle.plx_geom.specs.Geometry.{Geometry, record_at, descriptor_at, data_at}
 use Rattle.plx_geom.proofs.Places.{record-data, record-descriptor}
-use Rattle.plx_rules.specs.declared.journaled.Journaled.{Journaled}
+use Rattle.plx_rules.specs.Journaled.{Journaled}
 use Rattle.law_lease.proofs.Lists.{push-cases}
 use Rattle.plx_base.proofs.Tests.{eqb-true, eqb-false, nat_lt-true, and-parts}
 use Rattle.plx_rules.specs.Journal.{journal_slot, is_unapplied, is_placed, counted_descriptor, counted_of, Outside, Unused, Counts, finding, finding_of, descriptor_of}

@@ -10,7 +10,7 @@ use Rattle.plx_gate.specs.Images.{image_bytes, IsImage, label_of}
 use Rattle.plx_gate.specs.declared.descriptor.Descriptor.{Descriptor}
 use Rattle.plx_gate.specs.declared.image.ImageRecord.{ImageRecord}
 use Rattle.plx_geom.specs.Geometry.{Geometry, record_at, descriptor_at, data_at}
-use Rattle.plx_rules.specs.declared.journaled.Journaled.{Journaled}
+use Rattle.plx_rules.specs.Journaled.{Journaled}
 use Rattle.plx_rules.specs.Journal.{Unused, finding, descriptor_of}
 use Rattle.plx_rules.specs.Records.{is_live, is_plain, generation_of, size_of, applied_of}
 use Rattle.plx_rules.specs.Session.{latest}

@@ -12,7 +12,7 @@ use Rattle.plx_gate.specs.Images.{read_image}
 use Rattle.plx_gate.specs.declared.descriptor.Descriptor.{Descriptor}
 use Rattle.plx_gate.specs.declared.image.ImageRecord.{ImageRecord}
 use Rattle.plx_geom.specs.Geometry.{Geometry, descriptor_at}
-use Rattle.plx_rules.specs.declared.journaled.Journaled.{Journaled}
+use Rattle.plx_rules.specs.Journaled.{Journaled}
 use Rattle.plx_rules.specs.Records.{is_plain, taken_of, root_of, applied_of}
 use Rattle.plx_rules.specs.Session.{latest}
 use Rattle.plx_rules.specs.Stored.{all_of, Holds, StoredImage, IsCounted, IsWriteCount, IsNewest, IsContent, journalled, unwritten, leads_to, digits_of, Stores, Agrees, StoresEither}

@@ -3,7 +3,7 @@ use Rattle.std.proofs.Common.{◌≡◌, ◌≢◌, ℕ, ◌+◌, ◌≤◌, Lis
 use Rattle.std.specs.Prelude.{slice_get, if◌then◌else◌, ◌==◌}
 use Rattle.std.proofs.lemmas.Bool.Decides.{eqb_tells}
 use Rattle.plx_rules.specs.Session.{latest}
-use Rattle.plx_rules.specs.declared.journaled.Journaled.{Journaled}
+use Rattle.plx_rules.specs.Journaled.{Journaled}
 
 -- the place of the last write
 last-write-place : (x : Journaled) (xs : List Journaled) → (k : ℕ) × (write : Journaled) × (slice_get (x ∷ xs) k ≡ Some write) × (k + 1 ≡ length (x ∷ xs))

@@ -23,7 +23,7 @@ use Rattle.plx_gate.proofs.Descriptors.{length-descriptor}
 use Rattle.plx_geom.specs.Geometry.{Geometry, data_at, descriptor_at, lease_count, image_lease, lease_at}
 use Rattle.plx_geom.proofs.Places.{lease-lease, image-below}
 use Rattle.plx_rules.specs.Part.{Part, Ends, ReadThen, WriteThen, ClockThen, UntilThen}
-use Rattle.plx_rules.specs.declared.journaled.Journaled.{Journaled}
+use Rattle.plx_rules.specs.Journaled.{Journaled}
 use Rattle.plx_rules.specs.Attaching.{image_use, after_load, load_journal, after_record, load_image, after_claim, claim_image, attach_part}
 use Rattle.plx_rules.specs.Claims.{ClaimEnd, ClaimHeld, ClaimBusy, ClaimLost, ClaimReadFault, ClaimWriteFault, ClaimDamaged, claim_of, own_record, own_use, claim_in_time, claim_damaged, reread_by, reread_part, written_part, if_expired, seen_part, claim_part}
 use Rattle.plx_rules.specs.Commands.{unless, attached_part, detach_part, record_part, create_part, delete_part, read_part, write_part, journal_part, next_slot, next_descriptor, next_write, later_of, renewal, renew_part}

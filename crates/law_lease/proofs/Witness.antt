@@ -26,7 +26,7 @@ use Rattle.plx_gate.specs.declared.image.ImageRecord.{ImageRecord}
 use Rattle.plx_gate.specs.declared.image.ImageRecord.TheVariants as image_is
 use Rattle.plx_geom.specs.Geometry.{Geometry, IsGeometry, image_lease, lease_at}
 use Rattle.plx_rules.specs.Part.{Part}
-use Rattle.plx_rules.specs.declared.journaled.Journaled.{Journaled}
+use Rattle.plx_rules.specs.Journaled.{Journaled}
 use Rattle.plx_rules.specs.Attaching.{image_use, attach_ends, after_load, after_record, load_image, after_claim}
 use Rattle.plx_rules.specs.Boot.{Place, Idle, Begins, In, Position, position}
 use Rattle.plx_rules.specs.Claims.{claim_of, own_record, claim_part}

@@ -14,7 +14,7 @@ use Rattle.plx_gate.specs.declared.image.ImageRecord.{ImageRecord}
 use Rattle.plx_geom.specs.Geometry.{Geometry, lease_count, image_lease, record_at, descriptor_at, data_at}
 use Rattle.plx_geom.proofs.Places.{record-record, record-log, record-descriptor, record-data, log-descriptor, descriptor-descriptor, data-descriptor}
 use Rattle.plx_rules.specs.Part.{Part}
-use Rattle.plx_rules.specs.declared.journaled.Journaled.{Journaled}
+use Rattle.plx_rules.specs.Journaled.{Journaled}
 use Rattle.plx_rules.specs.Attaching.{image_use, attach_ends, after_load, load_journal, after_record, load_image}
 use Rattle.plx_rules.specs.Ends.{End, read_then, damaged_part}
 use Rattle.plx_rules.specs.Journal.{journal_slot, Finding, Outside, Unused, Counts, finding, descriptor_of}

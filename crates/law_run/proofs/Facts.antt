@@ -8,7 +8,7 @@ use Rattle.plx_gate.specs.declared.descriptor.Descriptor.{Descriptor}
 use Rattle.plx_gate.specs.declared.image.ImageRecord.{ImageRecord}
 use Rattle.plx_gate.proofs.Images.{image-only}
 use Rattle.plx_geom.specs.Geometry.{Geometry, record_at, data_at}
-use Rattle.plx_rules.specs.declared.journaled.Journaled.{Journaled}
+use Rattle.plx_rules.specs.Journaled.{Journaled}
 use Rattle.plx_rules.specs.Journal.{journal_slot, descriptor_of}
 use Rattle.plx_rules.specs.Records.{is_live, generation_of, size_of, taken_of, root_of, applied_of, is_plain}
 use Rattle.plx_rules.specs.Session.{Session, write_count, latest, content}

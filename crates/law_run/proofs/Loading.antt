@@ -9,7 +9,7 @@ use Rattle.plx_gate.specs.declared.image.ImageRecord.{ImageRecord}
 use Rattle.plx_gate.proofs.Descriptors.{descriptor-back, descriptor-only, read-empty}
 use Rattle.plx_geom.specs.Geometry.{Geometry, record_at, descriptor_at, data_at}
 use Rattle.plx_geom.proofs.Places.{record-descriptor, record-data, data-descriptor}
-use Rattle.plx_rules.specs.declared.journaled.Journaled.{Journaled}
+use Rattle.plx_rules.specs.Journaled.{Journaled}
 use Rattle.plx_rules.specs.Journal.{journal_slot, is_unapplied, is_placed, counted_descriptor, counted_of, Finding, Outside, Unused, Counts, finding_of, descriptor_of}
 use Rattle.plx_rules.specs.Records.{is_plain, size_of, applied_of}
 use Rattle.plx_rules.specs.Session.{with_write_by_number, first_gap}

@@ -21,7 +21,7 @@ use Rattle.plx_gate.proofs.Descriptors.{descriptor-back}
 use Rattle.plx_geom.specs.Geometry.{Geometry, image_lease, descriptor_at, data_at}
 use Rattle.plx_geom.proofs.Places.{image-below}
 use Rattle.plx_rules.specs.Part.{Part}
-use Rattle.plx_rules.specs.declared.journaled.Journaled.{Journaled}
+use Rattle.plx_rules.specs.Journaled.{Journaled}
 use Rattle.plx_rules.specs.Attaching.{image_use}
 use Rattle.plx_rules.specs.Commands.{next_write, next_descriptor, write_part, journal_part, command_part}
 use Rattle.plx_rules.specs.Ends.{End, ends_in_time, write_then}

@@ -9,6 +9,5 @@ use plx_extent::ExtentMap;
 pub(crate) fn spell_map(map: &ExtentMap, block: &mut Block)
     ensures { block.new ≡ bytes_of_map map.now }
 {
-    let _old = block.as_slice();
-    block.copy_from(0, map.bytes());
+    block.set(map.bytes());
 }

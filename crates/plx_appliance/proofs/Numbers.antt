@@ -6,7 +6,7 @@ use Rattle.plx_commands.specs.Limits.{last_claim}
 use Rattle.std.proofs.lemmas.List.{take_more, drop_more, drop_all}
 use Rattle.std.proofs.lemmas.Bool.Decides.{eqb_tells}
 use Rattle.plx_rules.specs.Session.{with_write_by_number, first_gap}
-use Rattle.plx_rules.specs.declared.journaled.Journaled.{Journaled}
+use Rattle.plx_rules.specs.Journaled.{Journaled}
 use Rattle.plx_base.proofs.Tests.{nat_lt-false, nat_lt-true}
 
 -- a write that has its place among the writes from one on

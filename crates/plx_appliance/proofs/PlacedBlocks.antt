@@ -4,7 +4,7 @@ use Rattle.std.specs.List.{insert}
 use Rattle.std.proofs.lemmas.List.{take_all, take-append-le, drop-append-le, drop_at, length-drop, length-map, map-append, take-map, drop-map, get_or-map}
 use Rattle.std.proofs.lemmas.List.Edits.{insert_end}
 use Rattle.std.proofs.lemmas.List.Elements.{All-head, All-tail}
-use Rattle.plx_rules.specs.declared.journaled.Journaled.{Journaled}
+use Rattle.plx_rules.specs.Journaled.{Journaled}
 use Rattle.plx_appliance.specs.PlacedWrites.{AreWithinBlocks, block_in, write_in, writes_in}
 use Rattle.plx_appliance.specs.declared.journal.PlacedWrite.{PlacedWrite}
 

@@ -1,7 +1,7 @@
 -- What an appliance keeps between commands, as the definitions see it.
 use Rattle.std.specs.Prelude.{ℕ, List, Option, Some, None, slice_index_or}
 use Rattle.plx_rules.specs.Session.{Known}
-use Rattle.plx_rules.specs.declared.journaled.Journaled.{Journaled}
+use Rattle.plx_rules.specs.Journaled.{Journaled}
 use Rattle.plx_rules.specs.Session.{Session as KnownSession}
 use Rattle.plx_appliance.specs.declared.holdings.Holdings.{Holdings}
 use Rattle.plx_appliance.specs.declared.journal.Journal.{Journal}

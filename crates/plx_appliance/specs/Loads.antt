@@ -2,7 +2,7 @@
 use Rattle.std.specs.Prelude.{◌+◌, ◌-◌, ℕ, List}
 use Rattle.plx_geom.specs.Geometry.{descriptor_at, data_at}
 use Rattle.plx_rules.specs.Part.{Part}
-use Rattle.plx_rules.specs.declared.journaled.Journaled.{Journaled}
+use Rattle.plx_rules.specs.Journaled.{Journaled}
 use Rattle.plx_rules.specs.Attaching.{after_load, attach_ends, image_use, load_image}
 use Rattle.plx_rules.specs.Ends.{End, damaged_part}
 use Rattle.plx_rules.specs.Journal.{finding}

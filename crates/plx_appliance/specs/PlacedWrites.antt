@@ -1,7 +1,7 @@
 -- The writes that a journal holds, by where their bytes lie.
 use Rattle.std.specs.Prelude.{◌<◌, ◌*◌, ℕ, List, take, drop, map, All, Option, Some, None}
 use Rattle.plx_base.specs.Blocks.{zeros}
-use Rattle.plx_rules.specs.declared.journaled.Journaled.{Journaled}
+use Rattle.plx_rules.specs.Journaled.{Journaled}
 use Rattle.plx_appliance.specs.declared.journal.PlacedWrite.{PlacedWrite}
 
 -- the block at a place among blocks that lie one after another

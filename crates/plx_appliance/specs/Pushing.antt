@@ -1,7 +1,7 @@
 -- What becomes of a session.
 use Rattle.std.specs.Prelude.{ℕ, length, Option, Some, None, nat_lt, if◌then◌else◌}
 use Rattle.plx_gate.specs.declared.image.ImageRecord.{ImageRecord}
-use Rattle.plx_rules.specs.declared.journaled.Journaled.{Journaled}
+use Rattle.plx_rules.specs.Journaled.{Journaled}
 use Rattle.plx_rules.specs.Session.{Session, new_session, with_write}
 
 -- a session has one more write, if there is one whose journal has a slot for it

@@ -5,7 +5,7 @@ use Rattle.plx_commands.specs.declared.reply.Reply.{Reply}
 use Rattle.plx_commands.specs.declared.reply.Reply.TheVariants as reply
 use Rattle.plx_geom.specs.Geometry.{image_lease, lease_at, record_at, descriptor_at, data_at}
 use Rattle.plx_rules.specs.Part.{Part}
-use Rattle.plx_rules.specs.declared.journaled.Journaled.{Journaled}
+use Rattle.plx_rules.specs.Journaled.{Journaled}
 use Rattle.plx_rules.specs.Attaching.{image_use}
 use Rattle.plx_rules.specs.Ends.{End, ends, write_then, ends_in_time}
 use Rattle.plx_rules.specs.InUse.{InUse}

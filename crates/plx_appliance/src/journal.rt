@@ -34,7 +34,7 @@ impl Journal {
     ghost use Rattle.std.specs.List.{insert as insert_at};
     ghost use Rattle.std.specs.Option.{ForSome};
     ghost use Rattle.plx_rules.specs.Session.{first_gap, latest, with_write_by_number};
-    ghost use Rattle.plx_rules.specs.declared.journaled.Journaled.{Journaled as Written};
+    ghost use Rattle.plx_rules.specs.Journaled.{Journaled as Written};
     ghost use Rattle.plx_appliance.specs.Kept.{writes_of};
     ghost use Rattle.plx_appliance.specs.PlacedWrites.{block_in, block_or_zeros};
 

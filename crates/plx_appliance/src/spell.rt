@@ -15,8 +15,7 @@ pub fn spell_descriptor(descriptor: &Descriptor, block: &mut Block)
 {
     let mut bytes = [0; BLOCK_LEN];
     write_descriptor(descriptor, &mut bytes);
-    let _old = block.as_slice();
-    block.copy_from(0, &bytes);
+    block.set(&bytes);
 }
 
 /// Makes a block the spelling of an image's record.
@@ -26,6 +25,5 @@ pub fn spell_image(image: &ImageRecord, block: &mut Block)
 {
     let mut bytes = [0; BLOCK_LEN];
     write_image(image, &mut bytes);
-    let _old = block.as_slice();
-    block.copy_from(0, &bytes);
+    block.set(&bytes);
 }

@@ -1,10 +1,12 @@
 -- Blocks of one byte throughout.
-use Rattle.std.proofs.Common.{◌≡◌, ◌≤◌, ◌-◌, ◌↔◌, ◌∙◌, ℕ, true, zero, suc, List, [], ◌∷◌, length, replicate, take, drop, refl, ap, sym, arith, subst}
+use Rattle.std.proofs.Common.{◌≡◌, ◌<◌, ◌+◌, ◌↔◌, ◌&&◌, ℕ, Bool, Some, zero, suc, List, [], ◌∷◌, ◌++◌, length, replicate, take, IsTrue, nat_eq, slice_index_or, refl, ap, sym, arith, subst}
 use Rattle.std.specs.List.{All}
 use Rattle.std.specs.Prelude.{slice_index}
-use Rattle.std.proofs.lemmas.List.{length-replicate, take_all}
-use Rattle.std.proofs.lemmas.Slice.Eq.{bytes_eq-Decides}
-use Rattle.std.specs.Str.{bytes_eq}
+use Rattle.std.proofs.lemmas.List.{length-replicate}
+use Rattle.std.proofs.lemmas.List.Elements.{All-more, All-pop}
+use Rattle.std.proofs.Math.Seq.{take-suc}
+use Rattle.std.proofs.lemmas.Bool.Decides.{Decides-and, Decides-eqb}
+use native.Mathlib.Numerals.{unary_clauses}
 use Rattle.plx_base.specs.Blocks.{filled}
 use Rattle.plx_base.specs.Payload.{IsUniform}
 
@@ -24,35 +26,17 @@ All-replicate byte zero k d below = absurd (omega arith)
 All-replicate byte (suc n) zero d below = refl
 All-replicate byte (suc n) (suc k) d below = All-replicate byte n k d (omega arith)
 
--- where each byte is the one before it, all are the first
-shifted-All : (first : ℕ) (others : List ℕ) → others ≡ take (length others) (first ∷ others) → All (λ b. b ≡ first) (first ∷ others)
-shifted-All first others e zero d below = refl
-shifted-All first [] e (suc k) d below = absurd (omega arith)
-shifted-All first (second ∷ others) e (suc k) d below =
-    let same : second ≡ first = cc in
-    let rest : others ≡ take (length others) (second ∷ others) = cc in
-    shifted-All second others rest k d (omega (arith, below)) ∙ same
-
--- and the other way round
-All-shifted : (first : ℕ) (others : List ℕ) → All (λ b. b ≡ first) (first ∷ others) → others ≡ take (length others) (first ∷ others)
-All-shifted first [] h = refl
-All-shifted first (second ∷ others) h =
-    let same : second ≡ first = h 1 0 (omega arith) in
-    let rest = All-shifted second others (λ k d below. h (suc k) d (omega (arith, below)) ∙ sym same) in
-    ap (λ b. b ∷ others) same ∙ ap (λ bs. first ∷ bs) rest
-
--- a list is its first byte throughout exactly where all bytes but the first equal all but the last
-pub shifted-iff-All : (byte : ℕ) (xs : List ℕ) → 1 ≤ length xs → slice_index xs 0 ≡ byte → let others = take (length xs - 1) (drop 1 xs) in
-    (bytes_eq others (take (length others) xs) ≡ true) ↔ All (λ b. b ≡ byte) xs
-shifted-iff-All byte [] some head = absurd (omega (arith, some))
-shifted-iff-All byte (first ∷ rest) some head =
-    let others = take (length (first ∷ rest) - 1) (drop 1 (first ∷ rest)) in
-    let whole : others ≡ rest = take_all (length (first ∷ rest) - 1) rest (omega arith) in
-    let decides = bytes_eq-Decides others (take (length others) (first ∷ rest)) in
-    let P : List ℕ → Type 0 = λ bs. bs ≡ take (length bs) (first ∷ rest) in
-    let Q : ℕ → Type 0 = λ byte. All (λ b. b ≡ byte) (first ∷ rest) in (
-      (λ same. subst Q head (shifted-All first rest (subst P whole (decides.0 same)))),
-      λ all. decides.1 (subst P (sym whole) (All-shifted first rest (subst Q (sym head) all))),
+-- where none has differed, none has with one byte more exactly if that byte doesn't
+pub none-differs-more : (byte : ℕ) (xs : List ℕ) (i : ℕ) (same : Bool) → i < length xs →
+    IsTrue same ↔ All (λ b. b ≡ byte) (take i xs) →
+    IsTrue (same && nat_eq (slice_index_or xs i 0) byte) ↔ All (λ b. b ≡ byte) (take (i + 1) xs)
+none-differs-more byte xs i same below h =
+    let P : ℕ → Type 0 = λ b. b ≡ byte in
+    let x = slice_index_or xs i 0 in
+    let one : take (i + 1) xs ≡ take i xs ++ (x ∷ []) = simp unary_clauses (take-suc xs i 0 below) in
+    let both = Decides-and same (nat_eq x byte) h (Decides-eqb x byte) in (
+      (λ told. let each = both.0 told in All-more P xs i 0 below each.0 each.1),
+      λ all. both.1 (All-pop P (take (i + 1) xs) (take i xs) (Some x) one all),
     )
 
 -- a block whose bytes are all one byte is that byte throughout

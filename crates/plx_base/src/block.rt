@@ -114,11 +114,12 @@ impl Block {
 pub fn are_all(bytes: &[u8], byte: u8) -> bool
     ensures { IsTrue result ↔ All (λ b. b ≡ byte) bytes.now }
 {
-    match bytes {
-        [] => true,
-        // Each byte is the one before it.
-        [first, others @ ..] => *first == byte && others == &bytes[..others.len()],
+    // No early exit, so that many bytes are compared at once.
+    let mut same = true;
+    for other in bytes {
+        same &= *other == byte;
     }
+    same
 }
 
 // Writes bytes over those from a place on.

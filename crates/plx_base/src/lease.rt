@@ -2,7 +2,7 @@
 use crate::numbers::{Boot, ExtentNo, SlotNo};
 
 /// One claim of a lease.
-#[derive(Clone, Copy, PartialEq, Eq, Debug)]
+#[derive(Clone, Copy, PartialEq, Eq)]
 pub struct Claim {
     /// The boot that claims.
     pub boot: Boot,
@@ -13,7 +13,7 @@ pub struct Claim {
 }
 
 /// Which lease.
-#[derive(Clone, Copy, PartialEq, Eq, Debug)]
+#[derive(Clone, Copy, PartialEq, Eq)]
 pub enum LeaseName {
     Root,
     Image(SlotNo),
@@ -21,7 +21,7 @@ pub enum LeaseName {
 }
 
 /// What a lease's block says.
-#[derive(Clone, Copy, PartialEq, Eq, Debug)]
+#[derive(Clone, Copy, PartialEq, Eq)]
 pub enum LeaseRecord {
     Free,
     /// Claimed up to the moment `until`, in milliseconds.

@@ -12,7 +12,7 @@ const MARK: u64 = 1 << 63;
 const BLOCKS_END: u64 = 1 << 26;
 
 /// A pointer to a block, writable or frozen, or a hole.
-#[derive(Clone, Copy, PartialEq, Eq, Debug)]
+#[derive(Clone, Copy, PartialEq, Eq)]
 pub struct Ptr {
     value: u64,
 }

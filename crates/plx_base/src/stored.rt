@@ -8,7 +8,7 @@ use crate::block::{BLOCK_LEN, SECTOR_LEN, are_all, copy_at};
 use crate::field::{put_u32, put_u64, put_u128};
 
 /// A number as it is stored.
-#[derive(Clone, Copy, PartialEq, Eq, Debug)]
+#[derive(Clone, Copy)]
 pub enum Field {
     U32(u32),
     U64(u64),

@@ -1,7 +1,7 @@
 //! The kinds of a write.
 
 /// Why a block is written.
-#[derive(Clone, Copy, PartialEq, Eq, Debug)]
+#[derive(Clone, Copy, PartialEq, Eq)]
 pub enum WriteKind {
     /// A lease is claimed.
     Claim,

@@ -63,7 +63,7 @@ pub enum Event {
 }
 
 /// Where an `upto` stops.
-#[derive(Clone, Copy, PartialEq, Eq)]
+#[derive(Clone, Copy)]
 pub enum Stop {
     /// At a write of this kind that isn't issued yet.
     Write(WriteKind),
@@ -72,7 +72,7 @@ pub enum Stop {
 }
 
 /// A part of the device.
-#[derive(Clone, Copy, PartialEq, Eq)]
+#[derive(Clone, Copy)]
 pub enum Region {
     /// The leases, of all three kinds.
     Lease,

@@ -10,7 +10,7 @@ use plx_base::{Field, Ptr, get_u32, get_u64, put_fields};
 const ENTRY_LEN: usize = 32;
 
 /// An entry of a snapshot log.
-#[derive(Clone, Copy, PartialEq, Eq, Debug)]
+#[derive(Clone, Copy, PartialEq, Eq)]
 pub struct LogEntry {
     /// The root of the snapshot's tree, without the mark.
     pub root: Ptr,

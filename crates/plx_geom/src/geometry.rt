@@ -7,7 +7,7 @@ use std::marker::Model;
 use thiserror::Error;
 
 /// How a device is laid out. Each field is within its limits.
-#[derive(Clone, Copy, PartialEq, Eq, Debug)]
+#[derive(Clone, Copy, PartialEq, Eq)]
 pub struct Geometry {
     /// The images, from 1 to 256.
     pub images: u32,

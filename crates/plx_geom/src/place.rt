@@ -8,7 +8,7 @@ use crate::geometry::Geometry;
 use plx_base::{BlockNo, ExtentNo, SlotNo};
 
 /// What stands in a block.
-#[derive(Clone, Copy, PartialEq, Eq, Debug)]
+#[derive(Clone, Copy, PartialEq, Eq)]
 pub enum Place {
     /// The superblock.
     Super,

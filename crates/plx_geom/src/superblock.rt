@@ -11,7 +11,7 @@ use plx_base::{Block, BlockNo, Field, get_u32, is_record};
 const MAGIC: &[u8] = b"PLXSUPR1";
 
 /// A block whose bytes aren't in the format.
-#[derive(Clone, Copy, PartialEq, Eq, Debug)]
+#[derive(Clone, Copy)]
 pub struct Damaged {
     /// The block that was read.
     pub block: BlockNo,

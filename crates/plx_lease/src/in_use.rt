@@ -4,7 +4,7 @@ ghost use Rattle.plx_lease.specs.Uses.{use_if as reached_lease, uses_of};
 ghost use Rattle.plx_rules.specs.InUse.{first_reached as first};
 
 /// A lease in use.
-#[derive(Clone, Copy, PartialEq, Eq, Debug)]
+#[derive(Clone, Copy)]
 pub struct InUse {
     /// The lease by its number: the root's is 0, those of the images follow, and then those of the
     /// extents.

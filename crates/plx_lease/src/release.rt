@@ -10,7 +10,7 @@ use plx_disk::{Answer, Ask};
 use plx_token::{Held, LeaseKind};
 
 /// How a release ends.
-#[derive(Clone, Copy, PartialEq, Eq, Debug)]
+#[derive(Clone, Copy)]
 pub enum ReleaseEnd {
     /// The lease is free.
     Released,

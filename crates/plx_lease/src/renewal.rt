@@ -14,7 +14,7 @@ use plx_token::{Held, LeaseKind};
 const TERM: u64 = 10_000;
 
 /// How a renewal ends.
-#[derive(Clone, Copy, PartialEq, Eq, Debug)]
+#[derive(Clone, Copy)]
 pub enum RenewalEnd {
     /// The lease is held up to the later moment.
     Renewed,

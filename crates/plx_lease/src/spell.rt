@@ -13,6 +13,5 @@ pub fn spell_lease(lease: &LeaseRecord, block: &mut Block)
 {
     let mut bytes = [0; BLOCK_LEN];
     write_lease(lease, &mut bytes);
-    let _old = block.as_slice();
-    block.copy_from(0, &bytes);
+    block.set(&bytes);
 }

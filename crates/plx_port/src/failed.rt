@@ -1,5 +1,5 @@
 //! The fault of a call to the outside.
 
 /// The outside failed. Each such answer has raised the count of faults of the object that gave it.
-#[derive(Clone, Copy, Debug, PartialEq, Eq)]
+#[derive(Clone, Copy)]
 pub struct Failed;

@@ -12,7 +12,7 @@ use std::alloc::{AllocError, Global};
 const CHUNK: usize = 64 * 1024;
 
 /// Why a source was not read to its end.
-#[derive(Clone, Copy, Debug, PartialEq, Eq)]
+#[derive(Clone, Copy, PartialEq, Eq)]
 pub enum ReadError {
     /// The source failed.
     Failed,

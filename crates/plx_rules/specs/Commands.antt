@@ -19,7 +19,7 @@ use Rattle.plx_gate.specs.declared.image.ImageRecord.{ImageRecord}
 use Rattle.plx_gate.specs.declared.image.ImageRecord.TheVariants as image_is
 use Rattle.plx_geom.specs.Geometry.{lease_count, image_lease, lease_at, record_at, descriptor_at, data_at}
 use Rattle.plx_rules.specs.Part.{Part}
-use Rattle.plx_rules.specs.declared.journaled.Journaled.{Journaled}
+use Rattle.plx_rules.specs.Journaled.{Journaled}
 use Rattle.plx_rules.specs.Attaching.{image_use, attach_part}
 use Rattle.plx_rules.specs.Ends.{End, ends, write_then, in_time, ends_in_time}
 use Rattle.plx_rules.specs.Holds.{Hold, Held}

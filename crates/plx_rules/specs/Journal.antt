@@ -4,7 +4,7 @@ use Rattle.plx_gate.specs.Descriptors.{read_descriptor}
 use Rattle.plx_gate.specs.declared.descriptor.Descriptor.{Descriptor}
 use Rattle.plx_gate.specs.declared.image.ImageRecord.{ImageRecord}
 use Rattle.plx_rules.specs.Records.{is_live, generation_of, size_of, applied_of}
-use Rattle.plx_rules.specs.declared.journaled.Journaled.{Journaled}
+use Rattle.plx_rules.specs.Journaled.{Journaled}
 
 -- the journal slot of the write with this number
 abbrev pub journal_slot : (slots number : ℕ) → ℕ

@@ -6,6 +6,7 @@ pub mod Ends
 pub mod Holds
 pub mod InUse
 pub mod Journal
+pub mod Journaled
 pub mod Loading
 pub mod Machines
 pub mod Part

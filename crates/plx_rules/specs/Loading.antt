@@ -2,7 +2,7 @@
 use Rattle.std.specs.Prelude.{◌+◌, ℕ, List, zero, suc, Option, Some, None}
 use Rattle.plx_geom.specs.Geometry.{Geometry, descriptor_at, data_at}
 use Rattle.plx_rules.specs.Part.{Part, Ends, ReadThen}
-use Rattle.plx_rules.specs.declared.journaled.Journaled.{Journaled}
+use Rattle.plx_rules.specs.Journaled.{Journaled}
 use Rattle.plx_gate.specs.declared.image.ImageRecord.{ImageRecord}
 use Rattle.plx_rules.specs.Journal.{journal_slot, Finding, Outside, Unused, Counts, finding}
 use Rattle.plx_rules.specs.Records.{applied_of}

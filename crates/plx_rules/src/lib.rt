@@ -1,8 +1,2 @@
-//! What appliances and their world are allowed to do: the definitions.
-//!
-//! They stand in `specs/`; the code is the one type that they share with it.
+//! What appliances and their world are allowed to do: the definitions, in `specs/`. There is no code.
 #![tactic(auto)]
-
-mod journaled;
-
-pub use journaled::Journaled;

@@ -18,7 +18,7 @@ pub struct Claimed<K> {
 }
 
 /// Why a claim isn't confirmed.
-#[derive(Clone, Copy, PartialEq, Eq, Debug)]
+#[derive(Clone, Copy, PartialEq, Eq)]
 pub enum Unconfirmed {
     /// Another record stands there.
     NotMine { seen: LeaseRecord },

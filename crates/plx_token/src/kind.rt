@@ -14,15 +14,15 @@ pub trait LeaseKind: Copy {
 }
 
 /// The root's lease.
-#[derive(Clone, Copy, PartialEq, Eq, Debug)]
+#[derive(Clone, Copy)]
 pub struct Root;
 
 /// The lease of the image in this slot.
-#[derive(Clone, Copy, PartialEq, Eq, Debug)]
+#[derive(Clone, Copy)]
 pub struct Image(pub SlotNo);
 
 /// The lease of this extent.
-#[derive(Clone, Copy, PartialEq, Eq, Debug)]
+#[derive(Clone, Copy)]
 pub struct Extent(pub ExtentNo);
 
 impl LeaseKind for Root {

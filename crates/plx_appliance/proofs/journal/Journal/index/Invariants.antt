@@ -1,5 +1,5 @@
 use Rattle.std.proofs.Common.{◌≡◌}
-use Rattle.plx_rules.specs.declared.journaled.Journaled.{Journaled}
+use Rattle.plx_rules.specs.Journaled.{Journaled}
 use Rattle.plx_rules.specs.Session.{with_write_by_number}
 use Rattle.plx_appliance.specs.Kept.{writes_of}
 use Rattle.plx_appliance.proofs.Numbers.{from}
