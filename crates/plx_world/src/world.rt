@@ -10,9 +10,8 @@ use law_headline::maps_stay;
 use plx_base::{ApplianceNo, NoMemory};
 use plx_commands::Entry;
 use plx_disk::{Ask, Disk};
-use plx_format::formatted_disk;
+use plx_format::{allocated, formatted_disk};
 use plx_geom::Geometry;
-use plx_pool::allocated;
 use std::alloc::Global;
 
 /// Appliances over one device.

@@ -1,8 +1,8 @@
 use Rattle.std.proofs.Common.{◌∙◌, ◌<◌, ap, arith}
 use Rattle.plx_geom.specs.Geometry.{Geometry}
 use Rattle.plx_rules.specs.Pools.{allocated_from}
-use Rattle.plx_pool.proofs.Counted.{one-more-extent}
-use Rattle.plx_pool.proofs.count.allocated.Goals as goal
+use Rattle.plx_format.proofs.Counted.{one-more-extent}
+use Rattle.plx_format.proofs.count.allocated.Goals as goal
 
 pub loop-extent-preserved : goal.loop-extent-preserved
 loop-extent-preserved c =

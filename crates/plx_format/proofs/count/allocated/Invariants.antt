@@ -3,7 +3,7 @@ use Rattle.std.specs.Prelude.{◌-◌, ◌^◌}
 use Rattle.plx_disk.specs.Standing.{Stands}
 use Rattle.plx_disk.specs.Writes.{Surface}
 use Rattle.plx_rules.specs.Pools.{HasMaps, allocated_from}
-use Rattle.plx_pool.proofs.count.allocated.Given as goal
+use Rattle.plx_format.proofs.count.allocated.Given as goal
 
 abbrev pub invariant-loop-extent : goal.invariant-loop-extent
 invariant-loop-extent l = record {

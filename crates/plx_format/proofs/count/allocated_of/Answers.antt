@@ -1,7 +1,7 @@
 use Rattle.std.proofs.Common.{◌∙◌, ap, sym}
 use Rattle.plx_geom.specs.Geometry.{map_at}
-use Rattle.plx_pool.proofs.Counted.{zeros-none}
-use Rattle.plx_pool.proofs.count.allocated_of.Goals as goal
+use Rattle.plx_format.proofs.Counted.{zeros-none}
+use Rattle.plx_format.proofs.count.allocated_of.Goals as goal
 
 pub returns-in_default : goal.returns-in_default
 returns-in_default c =
