@@ -1,7 +1,7 @@
 //! How the program ends.
 
 /// How a run ends. The number is the program's exit status.
-#[derive(Clone, Copy)]
+#[derive(Clone, Copy, PartialEq, Eq)]
 pub enum Status {
     /// The work was done.
     Done = 0,

@@ -72,7 +72,7 @@ pub enum Stop {
 }
 
 /// A part of the device.
-#[derive(Clone, Copy)]
+#[derive(Clone, Copy, PartialEq, Eq)]
 pub enum Region {
     /// The leases, of all three kinds.
     Lease,

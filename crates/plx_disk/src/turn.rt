@@ -1,7 +1,7 @@
 //! Whether a machine goes on.
 
 /// Whether an ask stands once a machine was begun or answered.
-#[derive(Clone, Copy)]
+#[derive(Clone, Copy, PartialEq, Eq)]
 pub enum Turn {
     /// An ask stands.
     Again,
