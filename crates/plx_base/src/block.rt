@@ -114,6 +114,9 @@ impl Block {
 pub fn are_all(bytes: &[u8], byte: u8) -> bool
     ensures { IsTrue result ↔ All (λ b. b ≡ byte) bytes.now }
 {
+    if !bytes.is_empty() && bytes[0] != byte {
+        return false;
+    }
     // No early exit, so that many bytes are compared at once.
     let mut same = true;
     for other in bytes {
