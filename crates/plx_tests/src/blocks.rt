@@ -3,54 +3,32 @@ use crate::checks::check;
 use plx_base::{Block, NoMemory, Payload};
 use std::alloc::Global;
 
-/// A copy of a block of zeros but for its last sector, which is ones.
-fn landed(alloc: Global) -> Result<Block, NoMemory> {
-    let mut block = Block::zeros(alloc)?;
-    block.land(7, &Block::filled(alloc, 1)?);
-    block.copy(alloc)
-}
-
 /// A copy of the block's payload.
 fn payload(alloc: Global, block: &Block) -> Result<Payload, NoMemory> {
     Payload::of(alloc, block)?.copy(alloc)
 }
 
-/// Whether a block of ones is told by one byte.
-fn ones_are_told(alloc: Global) -> bool {
-    let Ok(ones) = Block::filled(alloc, 1) else {
-        return false;
-    };
-    matches!(payload(alloc, &ones), Ok(Payload::All(1)))
+/// Whether a block is told by one byte, a one.
+fn is_one(alloc: Global, block: &Block) -> bool {
+    matches!(payload(alloc, block), Ok(Payload::All(1)))
 }
 
-/// Whether the bytes are zeros but for the last sector, which is ones.
-fn are_landed(bytes: &[u8]) -> bool {
+/// Whether a block is told by all its bytes: zeros but for the last sector, which is ones.
+fn is_landed(alloc: Global, block: &Block) -> bool {
     let mut wanted = [0; 4096];
     wanted[3584..].fill(1);
-    bytes == wanted.as_slice()
-}
-
-/// Whether the payload has all bytes of the landed block.
-fn is_landed(alloc: Global, payload: &Payload) -> bool {
-    let Ok(block) = payload.to_block(alloc) else {
-        return false;
-    };
-    matches!(payload, Payload::Whole(_)) && are_landed(block.as_slice())
-}
-
-/// Whether the landed block is told by all its bytes.
-fn landed_is_told(alloc: Global) -> bool {
-    let Ok(block) = landed(alloc) else {
-        return false;
-    };
-    match payload(alloc, &block) {
-        Ok(payload) => is_landed(alloc, &payload),
-        Err(_) => false,
+    match payload(alloc, block) {
+        Ok(Payload::Whole(block)) => block.as_slice() == wanted.as_slice(),
+        _ => false,
     }
 }
 
 #[test]
 fn a_block_of_one_byte_is_told_by_it_and_another_by_all(rt: HostRuntime) {
-    check(&rt, ones_are_told(rt.alloc()), "one byte");
-    check(&rt, landed_is_told(rt.alloc()), "all bytes");
+    let ones = Block::filled(rt.alloc(), 1).expect(&rt, "memory");
+    check(&rt, is_one(rt.alloc(), &ones), "one byte");
+    let mut block = Block::zeros(rt.alloc()).expect(&rt, "memory");
+    block.land(7, &ones);
+    let landed = block.copy(rt.alloc()).expect(&rt, "memory");
+    check(&rt, is_landed(rt.alloc(), &landed), "all bytes");
 }

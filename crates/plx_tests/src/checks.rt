@@ -15,9 +15,9 @@ pub(crate) fn check_at(rt: &impl Abort, passes: bool, case: usize) {
     }
 }
 
-/// The test ends with the number of the case that fails, if there is one.
-pub(crate) fn none_fails(rt: &impl Abort, case: Option<usize>) {
-    if let Some(number) = case {
-        rt.panic(number);
+/// The test ends with the name of a case and the number of its step that fails, if there is one.
+pub(crate) fn none_fails(rt: &impl Abort, case: &str, step: Option<usize>) {
+    if let Some(number) = step {
+        panic!(rt; "{case}, step {number}");
     }
 }

@@ -1,7 +1,6 @@
 //! Blocks of a device, spelled by hand.
-use plx_base::Block;
+use plx_base::{Block, NoMemory};
 use std::alloc::Global;
-use std::process::Abort;
 
 /// What a block has.
 #[derive(Clone, Copy)]
@@ -30,8 +29,8 @@ pub(crate) enum Content {
 
 impl Content {
     /// The block.
-    pub(crate) fn block(self, rt: &impl Abort, alloc: Global) -> Block {
-        let mut block = zeros(rt, alloc);
+    pub(crate) fn block(self, alloc: Global) -> Result<Block, NoMemory> {
+        let mut block = Block::zeros(alloc)?;
         match self {
             Content::Zeros => {}
             Content::Filled(byte) => block.copy_from(0, &[byte; 4096]),
@@ -56,13 +55,16 @@ impl Content {
                 spell_descriptor(&mut block, generation, vblock, number);
             }
         }
-        block
+        Ok(block)
     }
-}
 
-/// A block of zeros.
-pub(crate) fn zeros(rt: &impl Abort, alloc: Global) -> Block {
-    Block::zeros(alloc).expect(rt, "memory")
+    /// Whether these are the block's bytes.
+    pub(crate) fn is(self, alloc: Global, bytes: &[u8]) -> bool {
+        match self.block(alloc) {
+            Ok(block) => block.as_slice() == bytes,
+            Err(_) => false,
+        }
+    }
 }
 
 // This byte at this place.

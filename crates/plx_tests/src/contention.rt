@@ -1,6 +1,5 @@
 //! Several appliances that share images: schedules and their traces, written out by hand from the rules.
-use crate::program::Start::{Empty, Open};
-use crate::program::{Story, plays_each};
+use crate::program::{END, OPEN, Story, plays_each};
 
 const RELEASED: &str = "tick 5000
 start 0 renew
@@ -367,41 +366,37 @@ run 1
 
 const STORIES: &[Story] = &[
     // A renewed and released lease goes to the next.
-    ("world 1 1 16 2 2\n", Open, &[RELEASED], "0"),
+    &["world 1 1 16 2 2\n", OPEN, RELEASED, END],
     // Of claims at once the last that landed is held.
-    ("world 1 1 16 2 2\n", Empty, &[CLAIMS, LANDED_SECOND], "0"),
-    ("world 1 1 16 2 2\n", Empty, &[CLAIMS, LANDED_FIRST], "0"),
+    &["world 1 1 16 2 2\n", CLAIMS, LANDED_SECOND, END],
+    &["world 1 1 16 2 2\n", CLAIMS, LANDED_FIRST, END],
     // A claim that lands last is held even of a dead boot.
-    ("world 1 1 16 2 2\n", Empty, &[DEAD_CLAIM, LATE_CLAIM], "0"),
-    (
-        "world 1 1 16 2 2\n",
-        Empty,
-        &[DEAD_CLAIM, TOO_LATE_CLAIM],
-        "0",
-    ),
+    &["world 1 1 16 2 2\n", DEAD_CLAIM, LATE_CLAIM, END],
+    &["world 1 1 16 2 2\n", DEAD_CLAIM, TOO_LATE_CLAIM, END],
     // Eight appliances claim one image.
-    ("world 1 1 16 2 8\n", Empty, &[EIGHT], "0"),
+    &["world 1 1 16 2 8\n", EIGHT, END],
     // A claim waits, and the first holder is lost.
-    ("world 1 1 16 2 2\n", Open, &[TAKEN_OVER], "0"),
+    &["world 1 1 16 2 2\n", OPEN, TAKEN_OVER, END],
     // Late sectors of a dead boot change nothing.
-    ("world 1 1 16 2 2\n", Open, &[LATE_SECTORS], "0"),
+    &["world 1 1 16 2 2\n", OPEN, LATE_SECTORS, END],
     // A release of a dead boot frees the lease in time.
-    ("world 1 1 16 2 2\n", Open, &[DEAD_RELEASE, RELEASE], "0"),
-    (
+    &["world 1 1 16 2 2\n", OPEN, DEAD_RELEASE, RELEASE, END],
+    &[
         "world 1 1 16 2 2\n",
-        Open,
-        &[DEAD_RELEASE, TOO_LATE_RELEASE],
-        "0",
-    ),
+        OPEN,
+        DEAD_RELEASE,
+        TOO_LATE_RELEASE,
+        END,
+    ],
     // A renewal of a dead or failed boot holds the lease longer.
-    ("world 1 1 16 2 2\n", Open, &[RENEWAL, CRASH, LONGER], "0"),
-    ("world 1 1 16 2 2\n", Open, &[RENEWAL, FAULT, LONGER], "0"),
+    &["world 1 1 16 2 2\n", OPEN, RENEWAL, CRASH, LONGER, END],
+    &["world 1 1 16 2 2\n", OPEN, RENEWAL, FAULT, LONGER, END],
     // Leases are renewed one after another.
-    ("world 2 1 16 2 2\n", Open, &[RENEWALS], "0"),
+    &["world 2 1 16 2 2\n", OPEN, RENEWALS, END],
     // Clocks at their limits leave no two holders.
-    ("world 1 1 16 2 2\n", Open, &[CLOCKS], "0"),
+    &["world 1 1 16 2 2\n", OPEN, CLOCKS, END],
     // Two appliances change their images.
-    ("world 2 1 16 2 2\n", Open, &[CHANGES], "0"),
+    &["world 2 1 16 2 2\n", OPEN, CHANGES, END],
 ];
 
 #[test]

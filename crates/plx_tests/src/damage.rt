@@ -1,7 +1,6 @@
 //! Bytes outside the format, which no schedule can put on a device: an attach ends with them after
 //! one more reading, as damaged or, where the lease is over then, as lost.
-use crate::boot::Before::{Claimed, Sampled, Waited};
-use crate::boot::{CLAIMED_AGAIN, play};
+use crate::boot::{CLAIMED, CLAIMED_AGAIN, SAMPLED, WAITED, play};
 use crate::content::Content;
 use crate::content::Content::{Descriptor, Filled, Lease, LiveSlot, NoSlot, Zeros};
 use crate::machine::Asked::Attach;
@@ -36,10 +35,11 @@ const LOST: &[Step] = &[
 fn what_is_no_lease_is_neither_claimed_nor_held(rt: HostRuntime) {
     for &(name, content) in NO_LEASES {
         let alloc = rt.alloc();
-        let found: &[Step] = &[Bytes(2, content)];
-        play(&rt, alloc, name, Sampled, found, NOT_LATE, &[]);
-        play(&rt, alloc, name, Waited, found, DAMAGED, CLAIMED_AGAIN);
-        play(&rt, alloc, name, Waited, found, LOST, CLAIMED_AGAIN);
+        let found = [Bytes(2, content)];
+        play(&rt, alloc, name, &[SAMPLED], &found, &[NOT_LATE]);
+        let waited = [SAMPLED, WAITED];
+        play(&rt, alloc, name, &waited, &found, &[DAMAGED, CLAIMED_AGAIN]);
+        play(&rt, alloc, name, &waited, &found, &[LOST, CLAIMED_AGAIN]);
     }
 }
 
@@ -92,7 +92,7 @@ const ANEW: &[Step] = &[Begins(Attach), Clock(1_700), Clock(1_700)];
 fn an_image_whose_journal_is_damaged_is_not_attached(rt: HostRuntime) {
     for &(name, found, damaged) in JOURNALS {
         let alloc = rt.alloc();
-        play(&rt, alloc, name, Claimed, found, damaged, HELD);
-        play(&rt, alloc, name, Claimed, found, LOST, ANEW);
+        play(&rt, alloc, name, &[CLAIMED], found, &[damaged, HELD]);
+        play(&rt, alloc, name, &[CLAIMED], found, &[LOST, ANEW]);
     }
 }

@@ -158,17 +158,15 @@ const LATE_OR_CANCELLED: &[Deed] = &[
     IsOf(1, Some(Boot(9))),
 ];
 
-#[test]
-fn a_block_that_was_set_is_read(rt: HostRuntime) {
-    none_fails(&rt, first_wrong(rt.alloc(), SET));
-}
+const TABLES: &[(&str, &[Deed])] = &[
+    ("a block that is set", SET),
+    ("sectors in another order", LANDINGS),
+    ("a late write and a cancelled one", LATE_OR_CANCELLED),
+];
 
 #[test]
-fn sectors_land_in_any_order_and_once(rt: HostRuntime) {
-    none_fails(&rt, first_wrong(rt.alloc(), LANDINGS));
-}
-
-#[test]
-fn a_late_or_cancelled_write_does_not_land(rt: HostRuntime) {
-    none_fails(&rt, first_wrong(rt.alloc(), LATE_OR_CANCELLED));
+fn sectors_land_in_any_order_and_once_and_neither_late_nor_cancelled(rt: HostRuntime) {
+    for &(name, deeds) in TABLES {
+        none_fails(&rt, name, first_wrong(rt.alloc(), deeds));
+    }
 }

@@ -1,9 +1,9 @@
 //! A device just formatted, whose blocks are written out by hand.
+use crate::checks::{check, check_at};
 use plx_base::{BlockNo, are_all};
 use plx_disk::Disk;
 use plx_format::formatted_disk;
 use plx_geom::Geometry;
-use std::process::Abort;
 
 /// How a block begins on the device of two images, two extents of 16 blocks and two slots:
 /// superblock, leases of the root, of the images and of the extents, records, and the maps. The
@@ -29,17 +29,24 @@ fn is_spelled(disk: &Disk, number: u64) -> bool {
     }
 }
 
-#[test]
-fn each_block_of_a_formatted_device_is_spelled_by_hand(rt: HostRuntime) {
-    let geometry = Geometry::new(2, 2, 16, 2).expect(&rt, "within the limits");
-    let disk = formatted_disk(rt.alloc(), &geometry, 1_000).expect(&rt, "memory");
-    has_all(&rt, &disk);
+/// The device's geometry.
+const TWO: Geometry = Geometry {
+    images: 2,
+    extents: 2,
+    extent_blocks: 16,
+    slots: 2,
+};
+
+/// Whether the device has its 50 blocks, and nothing was asked of it yet.
+fn is_fresh(disk: &Disk) -> bool {
+    disk.blocks() == 50 && disk.time() == 1_000 && disk.issued() == 0
 }
 
-/// The device has its 50 blocks, and nothing was asked of it yet.
-fn has_all(rt: &impl Abort, disk: &Disk) {
-    assert!(rt; disk.blocks() == 50 && disk.time() == 1_000 && disk.issued() == 0);
+#[test]
+fn each_block_of_a_formatted_device_is_spelled_by_hand(rt: HostRuntime) {
+    let disk = formatted_disk(rt.alloc(), &TWO, 1_000).expect(&rt, "memory");
+    check(&rt, is_fresh(&disk), "the device");
     for number in 0..50 {
-        assert!(rt; is_spelled(disk, number), "{number}");
+        check_at(&rt, is_spelled(&disk, number), number as usize);
     }
 }

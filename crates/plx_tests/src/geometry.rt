@@ -42,11 +42,19 @@ fn a_field_out_of_its_limits_is_named(rt: HostRuntime) {
 }
 
 /// The smallest device.
-const SMALL: Geometry = Geometry {
+pub(crate) const SMALL: Geometry = Geometry {
     images: 1,
     extents: 1,
     extent_blocks: 16,
     slots: 2,
+};
+
+/// The greatest device.
+pub(crate) const GREATEST: Geometry = Geometry {
+    images: 256,
+    extents: 512,
+    extent_blocks: 32_768,
+    slots: 64,
 };
 
 /// A device of two images.
@@ -130,19 +138,15 @@ fn changed(alloc: Global, place: usize, byte: u8) -> Result<Block, NoMemory> {
     Ok(block)
 }
 
-/// Whether the smallest device's superblock is written as this block.
-fn is_written(alloc: Global, spelled: &Block) -> bool {
+/// Whether the smallest device's superblock is written as this block, and read from it.
+fn is_spelled(alloc: Global, spelled: &Block) -> bool {
     let Ok(mut block) = Block::filled(alloc, 7) else {
         return false;
     };
     write_superblock(&SMALL, &mut block);
-    block.as_slice() == spelled.as_slice()
-}
-
-/// Whether the block is read as the smallest device's superblock.
-fn is_read(block: &Block) -> bool {
-    match read_superblock(block) {
-        Ok(geometry) => geometry == SMALL,
+    let is_written = block.as_slice() == spelled.as_slice();
+    match read_superblock(spelled) {
+        Ok(geometry) => is_written && geometry == SMALL,
         Err(_) => false,
     }
 }
@@ -167,30 +171,12 @@ const CHANGES: &[(usize, u8)] = &[
     (4095, 1),
 ];
 
-/// Whether the superblock is damaged with this byte at this place.
-fn is_damaged_by(alloc: Global, place: usize, byte: u8) -> bool {
-    match changed(alloc, place, byte) {
-        Ok(block) => is_damaged(&block),
-        Err(_) => false,
-    }
-}
-
 #[test]
-fn a_superblock_outside_the_format_is_damaged(rt: HostRuntime) {
+fn a_superblock_is_spelled_by_hand_and_damaged_by_other_bytes(rt: HostRuntime) {
+    let spelled = changed(rt.alloc(), 0, b'P').expect(&rt, "memory");
+    check(&rt, is_spelled(rt.alloc(), &spelled), "written and read");
     for &(place, byte) in CHANGES {
-        check_at(&rt, is_damaged_by(rt.alloc(), place, byte), place);
+        let block = changed(rt.alloc(), place, byte).expect(&rt, "memory");
+        check_at(&rt, is_damaged(&block), place);
     }
-}
-
-/// Whether the superblock is written and read as it is spelled.
-fn is_spelled(alloc: Global) -> bool {
-    match changed(alloc, 0, b'P') {
-        Ok(spelled) => is_written(alloc, &spelled) && is_read(&spelled),
-        Err(_) => false,
-    }
-}
-
-#[test]
-fn a_superblock_is_spelled_by_hand(rt: HostRuntime) {
-    check(&rt, is_spelled(rt.alloc()), "written and read");
 }

@@ -1,4 +1,5 @@
 //! Traces of several images and appliances, with the least rule that each entry breaks.
+use crate::checks::none_fails;
 use crate::entries::Asked::{
     Attach, Create, Delete, Detach, Flush, Read, Reclaim, Renew, Reserve, Retire, Write,
 };
@@ -28,8 +29,6 @@ const LOST: Told = Lost(Lease::Image(1), 11_000, 11_702);
 /// A step of the judge.
 #[derive(Clone, Copy)]
 enum Step {
-    /// A trace of so many images and appliances begins.
-    Trace(u32, u32),
     /// Appliance 0 makes an image of eight blocks in the slot, and writes this byte to its block 2.
     Made(u32, u8),
     /// An entry keeps all rules.
@@ -39,7 +38,7 @@ enum Step {
 }
 
 use Line::{Crash, Reply as Answer, Start};
-use Step::{Breaks, Keeps, Made, Trace};
+use Step::{Breaks, Keeps, Made};
 
 /// The least rule that the entry breaks, or 0 where it keeps all rules.
 fn rule(model: &mut Model, entry: &Entry) -> u8 {
@@ -65,51 +64,32 @@ fn make(model: &mut Model, slot: u32, byte: u8) -> bool {
         && breaks(model, 0, Answer(0, Written(1)))
 }
 
-/// The model is that of so many images and appliances.
-fn begin(alloc: Global, model: &mut Model, images: u32, appliances: u32) -> bool {
-    if images < 1 || 256 < images || appliances < 1 || 8 < appliances {
-        return false;
-    }
-    match Model::new(alloc, images, appliances) {
-        Ok(first) => {
-            *model = first;
-            true
-        }
-        Err(_) => false,
-    }
-}
-
 /// The step is taken. Whether it is judged as it should.
-fn take(alloc: Global, model: &mut Model, step: Step) -> bool {
+fn take(model: &mut Model, step: Step) -> bool {
     match step {
-        Trace(images, appliances) => begin(alloc, model, images, appliances),
         Made(slot, byte) => make(model, slot, byte),
         Keeps(line) => breaks(model, 0, line),
         Breaks(rule, line) => breaks(model, rule, line),
     }
 }
 
-/// The number of the trace, counted from 1, and the place in the table of the first step that isn't
-/// judged as it should.
-fn first_wrong(alloc: Global, steps: &[Step]) -> Option<(u32, usize)> {
-    let Ok(mut model) = Model::new(alloc, 1, 1) else {
-        return Some((0, 0));
+/// The first step that isn't judged as it should.
+fn first_wrong(alloc: Global, images: u32, appliances: u32, steps: &[Step]) -> Option<usize> {
+    if images < 1 || 256 < images || appliances < 1 || 8 < appliances {
+        return Some(0);
+    }
+    let Ok(mut model) = Model::new(alloc, images, appliances) else {
+        return Some(0);
     };
-    let mut trace = 0u32;
     for (at, step) in steps.iter().enumerate() {
-        if let Trace(..) = step {
-            trace = trace.saturating_add(1);
-        }
-        if !take(alloc, &mut model, *step) {
-            return Some((trace, at));
+        if !take(&mut model, *step) {
+            return Some(at);
         }
     }
     None
 }
 
-const TRACES: &[Step] = &[
-    // 1. Each rule is named where it is the least.
-    Trace(3, 2),
+const LEAST_RULES: &[Step] = &[
     Breaks(1, Start(2, Attach(0))),
     Breaks(1, Crash(2)),
     Breaks(1, Answer(2, Renewed)),
@@ -128,8 +108,9 @@ const TRACES: &[Step] = &[
     Keeps(Start(1, Read(1, 0))),
     Breaks(5, Answer(1, Data(0))),
     Keeps(Answer(1, NotAttached)),
-    // 2. A slot is made, deleted and made again.
-    Trace(2, 1),
+];
+
+const MADE_AGAIN: &[Step] = &[
     Made(0, 9),
     Keeps(Start(0, Write(0, 2, 9))),
     Breaks(6, Answer(0, Written(1))),
@@ -171,8 +152,9 @@ const TRACES: &[Step] = &[
     Breaks(6, Answer(0, Image(2, 4, 0, Disk))),
     Breaks(6, Answer(0, Free(2))),
     Keeps(Answer(0, Image(2, 4, 0, Other))),
-    // 3. An image of no block is refused.
-    Trace(1, 1),
+];
+
+const NO_BLOCK: &[Step] = &[
     Keeps(Start(0, Attach(0))),
     Keeps(Answer(0, Free(0))),
     Keeps(Start(0, Create(0, 0, Unnamed))),
@@ -182,8 +164,9 @@ const TRACES: &[Step] = &[
     Keeps(Answer(0, Free(0))),
     Keeps(Start(0, Create(0, 0, Unnamed))),
     Breaks(8, Answer(0, Created)),
-    // 4. An image of one block is made.
-    Trace(1, 1),
+];
+
+const ONE_BLOCK: &[Step] = &[
     Keeps(Start(0, Attach(0))),
     Keeps(Answer(0, Free(0))),
     Keeps(Start(0, Create(0, 1, Unnamed))),
@@ -193,8 +176,9 @@ const TRACES: &[Step] = &[
     Keeps(Answer(0, Free(0))),
     Keeps(Start(0, Create(0, 1, Unnamed))),
     Keeps(Answer(0, Created)),
-    // 5. An image of the most blocks is made.
-    Trace(1, 1),
+];
+
+const MOST_BLOCKS: &[Step] = &[
     Keeps(Start(0, Attach(0))),
     Keeps(Answer(0, Free(0))),
     Keeps(Start(0, Create(0, GREATEST_SIZE, Unnamed))),
@@ -204,8 +188,9 @@ const TRACES: &[Step] = &[
     Keeps(Answer(0, Free(0))),
     Keeps(Start(0, Create(0, GREATEST_SIZE, Unnamed))),
     Keeps(Answer(0, Created)),
-    // 6. An image of more blocks is refused.
-    Trace(1, 1),
+];
+
+const MORE_BLOCKS: &[Step] = &[
     Keeps(Start(0, Attach(0))),
     Keeps(Answer(0, Free(0))),
     Keeps(Start(0, Create(0, GREATEST_SIZE + 1, Unnamed))),
@@ -215,8 +200,9 @@ const TRACES: &[Step] = &[
     Keeps(Answer(0, Free(0))),
     Keeps(Start(0, Create(0, GREATEST_SIZE + 1, Unnamed))),
     Breaks(8, Answer(0, Created)),
-    // 7. A slot that there is not has no image.
-    Trace(2, 1),
+];
+
+const NO_SLOT: &[Step] = &[
     Keeps(Start(0, Attach(2))),
     Breaks(6, Answer(0, Free(0))),
     Keeps(Answer(0, NoImage)),
@@ -227,8 +213,9 @@ const TRACES: &[Step] = &[
     Keeps(Start(0, Delete(300))),
     Breaks(5, Answer(0, Deleted)),
     Keeps(Answer(0, NotAttached)),
-    // 8. Another appliance takes an image over.
-    Trace(3, 3),
+];
+
+const TAKEN_OVER: &[Step] = &[
     Made(1, 7),
     Made(2, 8),
     Keeps(Start(0, Write(1, 2, 9))),
@@ -255,8 +242,9 @@ const TRACES: &[Step] = &[
     Keeps(Start(2, Read(1, 2))),
     Breaks(6, Answer(2, Data(7))),
     Keeps(Answer(2, Data(5))),
-    // 9. A refusal gives up a change of the owner alone.
-    Trace(1, 3),
+];
+
+const GIVEN_UP: &[Step] = &[
     Made(0, 7),
     Keeps(Start(0, Write(0, 2, 9))),
     Keeps(Start(1, Attach(0))),
@@ -271,8 +259,9 @@ const TRACES: &[Step] = &[
     Keeps(Start(2, Attach(0))),
     Breaks(6, Answer(2, Image(1, 8, 3, Disk))),
     Keeps(Answer(2, Image(1, 8, 2, Disk))),
-    // 10. A loss ends all sessions, and the write isn't there.
-    Trace(2, 2),
+];
+
+const LOSS_WITHOUT: &[Step] = &[
     Made(0, 7),
     Made(1, 8),
     // A write of the first image begins.
@@ -291,8 +280,9 @@ const TRACES: &[Step] = &[
     Keeps(Start(1, Read(0, 2))),
     Breaks(6, Answer(1, Data(9))),
     Keeps(Answer(1, Data(7))),
-    // 11. A loss ends all sessions, and the write is there.
-    Trace(2, 2),
+];
+
+const LOSS_WITH: &[Step] = &[
     Made(0, 7),
     Made(1, 8),
     // A write of the first image begins.
@@ -311,8 +301,9 @@ const TRACES: &[Step] = &[
     Keeps(Start(1, Read(0, 2))),
     Breaks(6, Answer(1, Data(7))),
     Keeps(Answer(1, Data(9))),
-    // 12. A fault ends all sessions, and the write isn't there.
-    Trace(2, 2),
+];
+
+const FAULT_WITHOUT: &[Step] = &[
     Made(0, 7),
     Made(1, 8),
     // A write of the first image begins.
@@ -330,8 +321,9 @@ const TRACES: &[Step] = &[
     Keeps(Start(1, Read(0, 2))),
     Breaks(6, Answer(1, Data(9))),
     Keeps(Answer(1, Data(7))),
-    // 13. A fault ends all sessions, and the write is there.
-    Trace(2, 2),
+];
+
+const FAULT_WITH: &[Step] = &[
     Made(0, 7),
     Made(1, 8),
     // A write of the first image begins.
@@ -349,8 +341,9 @@ const TRACES: &[Step] = &[
     Keeps(Start(1, Read(0, 2))),
     Breaks(6, Answer(1, Data(7))),
     Keeps(Answer(1, Data(9))),
-    // 14. A crash ends all sessions, and the write isn't there.
-    Trace(2, 2),
+];
+
+const CRASH_WITHOUT: &[Step] = &[
     Made(0, 7),
     Made(1, 8),
     // A write of the first image begins.
@@ -368,8 +361,9 @@ const TRACES: &[Step] = &[
     Keeps(Start(1, Read(0, 2))),
     Breaks(6, Answer(1, Data(9))),
     Keeps(Answer(1, Data(7))),
-    // 15. A crash ends all sessions, and the write is there.
-    Trace(2, 2),
+];
+
+const CRASH_WITH: &[Step] = &[
     Made(0, 7),
     Made(1, 8),
     // A write of the first image begins.
@@ -387,8 +381,9 @@ const TRACES: &[Step] = &[
     Keeps(Start(1, Read(0, 2))),
     Breaks(6, Answer(1, Data(7))),
     Keeps(Answer(1, Data(9))),
-    // 16. Other refusals end no session.
-    Trace(2, 1),
+];
+
+const REFUSALS: &[Step] = &[
     Made(1, 8),
     // A flush of the second image is refused, which stays attached.
     Keeps(Start(0, Flush(1))),
@@ -411,8 +406,9 @@ const TRACES: &[Step] = &[
     Keeps(Start(0, Read(1, 2))),
     Breaks(7, Answer(0, NotAttached)),
     Keeps(Answer(0, Data(8))),
-    // 17. A boot without claims says so of commands that claim.
-    Trace(1, 1),
+];
+
+const WORN_OUT: &[Step] = &[
     Keeps(Start(0, Attach(0))),
     // The command may say that no claim is left.
     Breaks(7, Answer(0, WornOut(LAST_WRITE))),
@@ -479,8 +475,9 @@ const TRACES: &[Step] = &[
     Breaks(4, Answer(0, WornOut(LAST_GENERATION))),
     Breaks(4, Answer(0, WornOut(LAST_CLAIM))),
     Keeps(Crash(0)),
-    // 18. The model knows nothing of fresh blocks.
-    Trace(1, 1),
+];
+
+const FRESH_BLOCKS: &[Step] = &[
     Made(0, 7),
     Keeps(Start(0, Flush(0))),
     Breaks(6, Answer(0, Flushed(0))),
@@ -499,9 +496,87 @@ const TRACES: &[Step] = &[
     Keeps(Answer(0, Data(7))),
 ];
 
+/// What a trace shows, its numbers of images and appliances, and its steps.
+type Trace = (&'static str, u32, u32, &'static [Step]);
+
+const TRACES: &[Trace] = &[
+    (
+        "each rule is named where it is the least",
+        3,
+        2,
+        LEAST_RULES,
+    ),
+    ("a slot is made, deleted and made again", 2, 1, MADE_AGAIN),
+    ("an image of no block is refused", 1, 1, NO_BLOCK),
+    ("an image of one block is made", 1, 1, ONE_BLOCK),
+    ("an image of the most blocks is made", 1, 1, MOST_BLOCKS),
+    ("an image of more blocks is refused", 1, 1, MORE_BLOCKS),
+    ("a slot that there is not has no image", 2, 1, NO_SLOT),
+    ("another appliance takes an image over", 3, 3, TAKEN_OVER),
+    (
+        "a refusal gives up a change of the owner alone",
+        1,
+        3,
+        GIVEN_UP,
+    ),
+    (
+        "a loss ends all sessions, and the write isn't there",
+        2,
+        2,
+        LOSS_WITHOUT,
+    ),
+    (
+        "a loss ends all sessions, and the write is there",
+        2,
+        2,
+        LOSS_WITH,
+    ),
+    (
+        "a fault ends all sessions, and the write isn't there",
+        2,
+        2,
+        FAULT_WITHOUT,
+    ),
+    (
+        "a fault ends all sessions, and the write is there",
+        2,
+        2,
+        FAULT_WITH,
+    ),
+    (
+        "a crash ends all sessions, and the write isn't there",
+        2,
+        2,
+        CRASH_WITHOUT,
+    ),
+    (
+        "a crash ends all sessions, and the write is there",
+        2,
+        2,
+        CRASH_WITH,
+    ),
+    ("other refusals end no session", 2, 1, REFUSALS),
+    (
+        "a boot without claims says so of commands that claim",
+        1,
+        1,
+        WORN_OUT,
+    ),
+    (
+        "the model knows nothing of fresh blocks",
+        1,
+        1,
+        FRESH_BLOCKS,
+    ),
+];
+
 #[test]
 fn each_entry_of_a_trace_breaks_its_least_rule(rt: HostRuntime) {
-    if let Some((trace, step)) = first_wrong(rt.alloc(), TRACES) {
-        panic!(rt; "trace {trace}: step {step} of the table");
+    for &(name, images, appliances, steps) in TRACES {
+        none_fails(
+            &rt,
+            name,
+            first_wrong(rt.alloc(), images, appliances, steps),
+        );
     }
 }

@@ -1,53 +1,87 @@
 //! One large schedule: a body that wants memory past a small size fails here.
-use crate::program::Start::Open;
-use crate::program::{ends, opened};
-use std::alloc::AllocError;
+use crate::checks::check;
+use crate::program::{OPEN, tells};
+use std::alloc::{AllocError, Global};
 
-/// An event that isn't possible.
-const NOTHING: &str = "land 4294967295 18446744073709551615 255\n";
+/// Events that aren't possible.
+macro_rules! events {
+    ($event:literal) => {
+        concat!(
+            $event, $event, $event, $event, $event, $event, $event, $event, $event, $event, $event, $event,
+            $event, $event, $event, $event, $event, $event, $event, $event, $event, $event, $event, $event,
+            $event, $event, $event,
+        )
+    };
+}
+
+const NOTHING: &str = events!("land 4294967295 18446744073709551615 255\n");
 
 /// Events that aren't possible, and a boot of appliance 0 that writes once, and dies. The next boot waits until
 /// the lease is expired, and attaches the image.
 fn push_boot(story: &mut String, number: u32) -> Result<(), AllocError> {
-    for _ in 0..27 {
-        story.push_str(NOTHING)?;
-    }
     let writes = number.saturating_add(1);
     let (vblock, byte) = (number % 8, number % 100);
-    writeln!(story, "start 0 write 0 {vblock} all:{byte:02}")?;
-    writeln!(
+    write!(
         story,
-        "run 0\n#> reply 0 written {writes}\ncrash 0\ntick 9500"
-    )?;
-    writeln!(story, "start 0 attach 0\nrun 0\ntick 601\nrun 0")?;
-    writeln!(
-        story,
-        "#> reply 0 attached live=1 gen=1 size=8 writes={writes} taken=0 dropped=0 label=a"
+        "{NOTHING}start 0 write 0 {vblock} all:{byte:02}
+run 0
+#> reply 0 written {writes}
+crash 0
+tick 9500
+start 0 attach 0
+run 0
+tick 601
+run 0
+#> reply 0 attached live=1 gen=1 size=8 writes={writes} taken=0 dropped=0 label=a
+"
     )
 }
 
-/// What was written last to this virtual block is read.
-fn push_read(story: &mut String, vblock: u32) -> Result<(), AllocError> {
-    let byte = vblock.saturating_add(56);
-    writeln!(
-        story,
-        "start 0 read 0 {vblock}\nrun 0\n#> reply 0 data all:{byte:02}"
-    )
-}
+/// The journal has no room for one more write, and what was written last to each virtual block is read.
+const FULL: &str = "start 0 write 0 0 all:00
+run 0
+#> reply 0 full
+start 0 read 0 0
+run 0
+#> reply 0 data all:56
+start 0 read 0 1
+run 0
+#> reply 0 data all:57
+start 0 read 0 2
+run 0
+#> reply 0 data all:58
+start 0 read 0 3
+run 0
+#> reply 0 data all:59
+start 0 read 0 4
+run 0
+#> reply 0 data all:60
+start 0 read 0 5
+run 0
+#> reply 0 data all:61
+start 0 read 0 6
+run 0
+#> reply 0 data all:62
+start 0 read 0 7
+run 0
+#> reply 0 data all:63
+#> end reachable=0 allocated=0
+";
 
 /// Each of 64 boots writes once, and dies. The last one finds the journal full.
+fn push_story(story: &mut String) -> Result<(), AllocError> {
+    story.push_str("world 1 1 16 64 1\n")?;
+    story.push_str(OPEN)?;
+    for number in 0..64 {
+        push_boot(story, number)?;
+    }
+    story.push_str(FULL)
+}
+
 #[test]
 fn a_full_journal_is_filled_over_crashes(rt: HostRuntime) {
-    let mut story = opened(&rt, rt.alloc(), "world 1 1 16 64 1\n", Open);
-    for number in 0..64 {
-        push_boot(&mut story, number).expect(&rt, "memory");
-    }
-    story
-        .push_str("start 0 write 0 0 all:00\nrun 0\n#> reply 0 full\n")
-        .expect(&rt, "memory");
-    for vblock in 0..8 {
-        push_read(&mut story, vblock).expect(&rt, "memory");
-    }
-    assert!(rt; story.len() > 65_536);
-    ends(&rt, rt.alloc(), story.as_str(), "0", 100);
+    let mut story = String::new(rt.alloc());
+    let is_whole = push_story(&mut story).is_ok() && story.len() > 65_536;
+    check(&rt, is_whole, "memory");
+    tells(&rt, rt.alloc(), story.as_str(), 100);
 }

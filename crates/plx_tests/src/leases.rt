@@ -1,13 +1,14 @@
 //! Leases that are claimed, renewed and released by hand, with their records written out.
-ghost use Rattle.std.specs.Prelude.{◌≡◌, ◌<◌, ◌^◌};
+ghost use Rattle.std.specs.Prelude.{◌≡◌, ◌<◌, ◌^◌, IfSome};
 
+use crate::checks::{check, none_fails};
+use crate::content::Content;
 use crate::content::Content::{FreeBut, FreeLease, Lease, LeaseBut, Zeros};
-use crate::content::{Content, zeros};
 use crate::machine::Outcome::{Stands, Told};
 use crate::machine::Step::{Bytes, Clock, Done, Ends, Gets, Until};
 use crate::machine::Trouble::{Fault, Missed, Read, Reading};
-use crate::machine::{Machine, Step, plays};
-use plx_base::{BlockNo, Boot, Claim, LeaseName, LeaseRecord, SlotNo, WriteKind};
+use crate::machine::{Machine, Step, first_wrong};
+use plx_base::{Block, BlockNo, Boot, Claim, LeaseName, LeaseRecord, SlotNo, WriteKind};
 use plx_commands::Reply;
 use plx_disk::{Answer, Ask, Turn};
 use plx_lease::{
@@ -96,10 +97,21 @@ fn claims(
         Some(until) => Some(InUse { lease: 0, until }),
         None => None,
     };
-    let mut claim = LeaseClaim::begin(LEASE, BLOCK, BOOT, 3, others, zeros(rt, alloc));
     let before = FIVE.get(..at).unwrap_or(FIVE);
-    plays(rt, alloc, &mut claim, "before", before);
-    plays(rt, alloc, &mut claim, name, steps);
+    none_fails(rt, name, first_wrong_step(alloc, others, before, steps));
+}
+
+fn first_wrong_step(
+    alloc: Global,
+    others: Option<InUse>,
+    before: &[Step],
+    steps: &[Step],
+) -> Option<usize> {
+    let Ok(out) = Block::zeros(alloc) else {
+        return Some(0);
+    };
+    let mut claim = LeaseClaim::begin(LEASE, BLOCK, BOOT, 3, others, out);
+    first_wrong(alloc, &mut claim, &[before]).or(first_wrong(alloc, &mut claim, &[steps]))
 }
 
 /// Blocks that are no lease.
@@ -320,23 +332,25 @@ impl Machine for Claiming<Image> {
     }
 }
 
-#[test]
-fn a_free_lease_is_claimed_in_five_steps(rt: HostRuntime) {
-    let out = zeros(&rt, rt.alloc());
+/// Whether a free lease is claimed in five steps, and held then.
+fn is_claimed(alloc: Global) -> bool {
+    let Ok(out) = Block::zeros(alloc) else {
+        return false;
+    };
     let mut claiming = Claiming::begin(LEASE, BLOCK, BOOT, 3, out);
-    plays(&rt, rt.alloc(), &mut claiming, "five steps", FIVE);
-    assert!(rt; has_claimed(claiming));
-}
-
-/// Whether the claim has ended, and its lease is held.
-fn has_claimed(mut claiming: Claiming<Image>) -> bool {
-    if claiming.turn() == Turn::Again {
+    let wrong = first_wrong(alloc, &mut claiming, &[FIVE]);
+    if wrong.is_some() || claiming.turn() == Turn::Again {
         return false;
     }
     match claiming.end() {
         ClaimEnd::Held(held) => is_held(&held, 15_000),
         _ => false,
     }
+}
+
+#[test]
+fn a_free_lease_is_claimed_in_five_steps(rt: HostRuntime) {
+    check(&rt, is_claimed(rt.alloc()), "five steps");
 }
 
 /// Whether the lease is held by that claim up to this moment.
@@ -358,9 +372,11 @@ const LONGER: LeaseRecord = LeaseRecord::Claimed {
 
 #[test]
 fn a_claim_is_confirmed_by_its_own_record_before_its_end(rt: HostRuntime) {
-    assert!(rt; refusal(&RECORD, 14_999).is_none());
-    assert!(rt; refusal(&LONGER, 15_000) == Some(Unconfirmed::TooLate { now: 15_000 }));
-    assert!(rt; refusal(&LONGER, 14_999) == Some(Unconfirmed::NotMine { seen: LONGER }));
+    let late = Some(Unconfirmed::TooLate { now: 15_000 });
+    let longer = Some(Unconfirmed::NotMine { seen: LONGER });
+    check(&rt, refusal(&RECORD, 14_999).is_none(), "its own record");
+    check(&rt, refusal(&LONGER, 15_000) == late, "at its end");
+    check(&rt, refusal(&LONGER, 14_999) == longer, "another record");
 }
 
 /// Why that claim isn't confirmed by this record after this reading.
@@ -369,107 +385,90 @@ fn refusal(seen: &LeaseRecord, now: u64) -> Option<Unconfirmed> {
 }
 
 /// The lease as it is held by that claim.
-fn held(rt: &impl Abort) -> Held<Image>
-    ensures { result.lease.0.0 ≡ 2 }
+fn held() -> Option<Held<Image>>
+    ensures { IfSome result (λ held. held.lease.0.0 ≡ 2) }
 {
-    match Claimed::new(LEASE, CLAIM).confirm(&RECORD, 14_999) {
-        Ok(held) => held,
-        Err(_) => panic!(rt; "its own record"),
-    }
+    Claimed::new(LEASE, CLAIM).confirm(&RECORD, 14_999).ok()
 }
 
-impl Machine for Renewing<Image> {
-    fn asks(&mut self) -> Option<Ask> {
-        match self.turn() {
-            Turn::Again => Some(self.ask()),
-            Turn::Ended => None,
-        }
-    }
-
-    fn writes(&mut self, bytes: &[u8]) -> bool {
-        self.turn() == Turn::Again && self.out() == bytes
-    }
-
-    fn gets(&mut self, answer: &Answer) -> Option<Reply> {
-        if self.turn() == Turn::Again {
-            let _ = self.answer(answer);
-        }
-        None
-    }
-}
-
-/// The lease that is held by a renewal that has ended.
-fn renewed(rt: &impl Abort, mut renewing: Renewing<Image>) -> Held<Image> {
-    if renewing.turn() == Turn::Ended
-        && let RenewingEnd::Held(lease) = renewing.end()
-    {
-        return lease;
-    }
-    panic!(rt; "a lease that is held")
-}
-
-impl Machine for LeaseRelease {
-    fn asks(&mut self) -> Option<Ask> {
-        Some(self.ask())
-    }
-
-    fn writes(&mut self, bytes: &[u8]) -> bool {
-        self.out() == bytes
-    }
-
-    fn gets(&mut self, answer: &Answer) -> Option<Reply> {
-        match self.answer(answer) {
-            Some(ReleaseEnd::Released) => Some(Reply::Detached),
-            _ => None,
-        }
-    }
-}
-
-/// The lease is renewed at this reading, held up to this moment then, and released.
-fn renew_and_release(rt: &impl Abort, alloc: Global, reading: u32, until: u64) {
-    let lease = renew(rt, alloc, u64::from(reading), until);
-    assert!(rt; is_held(&lease, until));
-    release(rt, alloc, lease, until);
-}
-
-/// The lease is renewed.
-fn renew(rt: &impl Abort, alloc: Global, reading: u64, until: u64) -> Held<Image>
+/// Whether the lease is renewed at this reading, held up to this moment then, and released.
+fn is_renewed(alloc: Global, reading: u64, until: u64) -> bool
     requires { reading < 2 ^ 48 }
 {
-    let mut renewing = Renewing::begin(held(rt), BLOCK, reading, zeros(rt, alloc));
-    let write = Done(WriteKind::Renew, 4, 15_000, Lease(7, 3, 5_000, until));
-    plays(rt, alloc, &mut renewing, "renewed", &[write]);
-    renewed(rt, renewing)
+    let Some(lease) = held() else {
+        return false;
+    };
+    let Ok(out) = Block::zeros(alloc) else {
+        return false;
+    };
+    let mut renewing = Renewing::begin(lease, BLOCK, reading, out);
+    if !renews(alloc, &mut renewing, until) || renewing.turn() == Turn::Again {
+        return false;
+    }
+    match renewing.end() {
+        RenewingEnd::Held(lease) => is_released(alloc, lease, until),
+        _ => false,
+    }
 }
 
-/// The lease is released.
-fn release(rt: &impl Abort, alloc: Global, lease: Held<Image>, until: u64) {
-    let mut release = LeaseRelease::begin(lease, BLOCK, zeros(rt, alloc));
-    let write = Done(WriteKind::Release, 4, until, FreeLease);
-    plays(
-        rt,
-        alloc,
-        &mut release,
-        "released",
-        &[write, Ends(b"detached")],
-    );
+/// Whether the renewal asks for the write of a lease that is held up to this moment. That is done.
+fn renews(alloc: Global, renewing: &mut Renewing<Image>, until: u64) -> bool {
+    if renewing.turn() == Turn::Ended {
+        return false;
+    }
+    let asked = Ask::Write {
+        kind: WriteKind::Renew,
+        block: BLOCK,
+        guard: 15_000,
+    };
+    let is_asked = renewing.ask() == asked && Lease(7, 3, 5_000, until).is(alloc, renewing.out());
+    renewing.answer(&Answer::Done);
+    is_asked
+}
+
+/// Whether the lease is held up to this moment, and released by the write of a lease that is free.
+fn is_released(alloc: Global, lease: Held<Image>, until: u64) -> bool {
+    let is_held = is_held(&lease, until);
+    let Ok(out) = Block::zeros(alloc) else {
+        return false;
+    };
+    let mut release = LeaseRelease::begin(lease, BLOCK, out);
+    let asked = Ask::Write {
+        kind: WriteKind::Release,
+        block: BLOCK,
+        guard: until,
+    };
+    is_held
+        && release.ask() == asked
+        && FreeLease.is(alloc, release.out())
+        && release.answer(&Answer::Done) == Some(ReleaseEnd::Released)
 }
 
 #[test]
 fn a_held_lease_is_renewed_and_released(rt: HostRuntime) {
-    renew_and_release(&rt, rt.alloc(), 4_999, 15_000);
-    renew_and_release(&rt, rt.alloc(), 9_000, 19_000);
+    check(&rt, is_renewed(rt.alloc(), 4_999, 15_000), "held no longer");
+    check(&rt, is_renewed(rt.alloc(), 9_000, 19_000), "held longer");
+}
+
+/// Whether the lease of an image is held in its slot alone, until it is taken out.
+fn is_kept(alloc: Global) -> bool {
+    let Some(lease) = held() else {
+        return false;
+    };
+    let Ok(mut tokens) = Tokens::new(alloc, 3) else {
+        return false;
+    };
+    let is_empty = !has(&tokens, 2) && !has(&tokens, 3);
+    tokens.put_image(lease);
+    let is_put = has(&tokens, 2) && !has(&tokens, 1);
+    let is_taken = takes(&mut tokens) && !has(&tokens, 2);
+    tokens.drop_all();
+    is_empty && is_put && is_taken && is_without_lease(&mut tokens)
 }
 
 #[test]
 fn held_leases_are_kept_by_slot(rt: HostRuntime) {
-    let mut tokens = Tokens::new(rt.alloc(), 3).expect(&rt, "memory");
-    let is_empty = !has(&tokens, 2) && !has(&tokens, 3);
-    tokens.put_image(held(&rt));
-    assert!(rt; is_empty && has(&tokens, 2) && !has(&tokens, 1));
-    assert!(rt; takes(&mut tokens) && !has(&tokens, 2));
-    tokens.drop_all();
-    assert!(rt; is_without_lease(&mut tokens));
+    check(&rt, is_kept(rt.alloc()), "slots");
 }
 
 /// Whether the lease is taken out, and grants what a claim's does.

@@ -1,8 +1,8 @@
 //! Schedules that are read, line by line, and lines that are refused.
-use crate::checks::{check, check_at, none_fails};
+use crate::checks::{check, check_at};
+use crate::geometry::GREATEST;
 use plx_base::{NoMemory, Payload};
 use plx_commands::{Command, Event};
-use plx_geom::Geometry;
 use plx_text::{Schedule, TextError, read_schedule};
 use plx_words::Words;
 use std::alloc::Global;
@@ -188,15 +188,18 @@ const LIMITS: &str = limited![
     ("4294967295", "4294967296", "upto ", " jdata"),
 ];
 
+const CASES: &[&str] = &[WORLDS, SKIPPED, OUTSIDE, NOT_BUILT, LIMITS];
+
 #[test]
 fn texts_are_read_or_refused_at_their_first_bad_line(rt: HostRuntime) {
-    let alloc = rt.alloc();
-    are_read(&rt, alloc, WORLDS);
-    are_read(&rt, alloc, SKIPPED);
-    are_read(&rt, alloc, OUTSIDE);
-    are_read(&rt, alloc, NOT_BUILT);
-    are_read(&rt, alloc, LIMITS);
-    check(&rt, is_first_bad(alloc, NO_CHARACTER, 3), "no character");
+    for cases in CASES {
+        are_read(&rt, rt.alloc(), cases);
+    }
+    check(
+        &rt,
+        is_first_bad(rt.alloc(), NO_CHARACTER, 3),
+        "no character",
+    );
 }
 
 /// Each kind of line, 33 of them events, with numbers at their limits.
@@ -238,14 +241,6 @@ upto 0 give
 upto 0 r-map
 ";
 
-/// The greatest world.
-const GREATEST: Geometry = Geometry {
-    images: 256,
-    extents: 512,
-    extent_blocks: 32_768,
-    slots: 64,
-};
-
 fn is_each(schedule: &Schedule) -> bool {
     schedule.geometry == GREATEST && schedule.appliances == 8 && schedule.events.len() == 33
 }
@@ -274,15 +269,10 @@ pub(crate) fn with_digits(
     [start, digits.as_str(), end].concat(alloc)
 }
 
-/// Whether the bytes are `0x55`, but for the last, which is this one.
-fn are_fives(bytes: &[u8], last: u8) -> bool {
-    let mut wanted = [0x55; 4096];
-    wanted[4095] = last;
-    bytes == wanted.as_slice()
-}
-
 /// Whether the one event is a write of bytes `0x55`, but for the last, which is this one.
 fn writes_fives(events: &[Event], last: u8) -> bool {
+    let mut wanted = [0x55; 4096];
+    wanted[4095] = last;
     match events {
         [
             Event::Start {
@@ -292,7 +282,7 @@ fn writes_fives(events: &[Event], last: u8) -> bool {
                 },
                 ..
             },
-        ] => are_fives(block.as_slice(), last),
+        ] => block.as_slice() == wanted.as_slice(),
         _ => false,
     }
 }
@@ -371,29 +361,18 @@ fn is_label(words: &mut Words, label: &[u8]) -> bool {
     }
 }
 
-/// The number of the first word, counted from 1, that isn't read by its name.
-fn first_unread(words: &mut Words) -> Option<usize> {
-    if words.named(b"size=", 8) != Some(8) {
-        return Some(1);
-    }
-    if words.named_small(b"gen=").is_some() {
-        return Some(2);
-    }
-    if !is_label(words, b"disk-1") {
-        return Some(3);
-    }
-    if !is_label(words, b"") {
-        return Some(4);
-    }
-    if words.label(b"label=").is_some() {
-        return Some(5);
-    }
-    None
+/// Whether each word is read by its name, or not where it is none of that name.
+fn are_named(words: &mut Words) -> bool {
+    words.named(b"size=", 8) == Some(8)
+        && words.named_small(b"gen=").is_none()
+        && is_label(words, b"disk-1")
+        && is_label(words, b"")
+        && words.label(b"label=").is_none()
 }
 
 #[test]
 fn words_are_read_by_name(rt: HostRuntime) {
     let mut words = Words::of(b"size=8 gen=4294967296 label=disk-1 label=- label=");
-    none_fails(&rt, first_unread(&mut words));
+    check(&rt, are_named(&mut words), "names");
     check(&rt, words.end().is_some(), "the end");
 }

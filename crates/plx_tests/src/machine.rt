@@ -2,13 +2,13 @@
 ghost use Rattle.plx_rules.specs.Machines.{IsTimely};
 
 use crate::content::Content;
-use plx_base::{ApplianceNo, Block, BlockNo, NoMemory, WriteKind};
-use plx_commands::{Entries, Entry, Reply};
+use crate::geometry::SMALL;
+use plx_base::{ApplianceNo, Block, BlockNo, WriteKind};
+use plx_commands::{Entry, Reply};
 use plx_disk::{Answer, Ask};
-use plx_geom::Geometry;
 use plx_text::print_trace;
 use std::alloc::Global;
-use std::process::Abort;
+use std::slice;
 
 /// What asks, and is answered: a boot, or the work on a lease.
 pub(crate) trait Machine {
@@ -23,8 +23,8 @@ pub(crate) trait Machine {
         requires { IsTimely answer.now };
 
     /// Whether a command begins. Only a boot has commands, one at a time.
-    fn begins(&mut self, _alloc: Global, _asked: Asked) -> Result<bool, NoMemory> {
-        Ok(false)
+    fn begins(&mut self, _alloc: Global, _asked: Asked) -> bool {
+        false
     }
 }
 
@@ -82,102 +82,84 @@ pub(crate) enum Step {
     Ends(&'static [u8]),
 }
 
+use Outcome::{Goes, Stands, Told};
 use Step::{Begins, Bytes, Clock, Done, Ends, Gets, Until};
+use Trouble::{Fault, Missed, Read, Reading};
 
-/// The machine takes these steps, of the story of this name.
-pub(crate) fn plays(
-    rt: &impl Abort,
+/// The first step of these parts that the machine doesn't take as it was to, counted from 1.
+pub(crate) fn first_wrong(
     alloc: Global,
     machine: &mut dyn Machine,
-    name: &str,
-    steps: &[Step],
-) {
+    parts: &[&[Step]],
+) -> Option<usize> {
     let mut told = Vec::new(alloc);
-    let mut at = 0u32;
-    for step in steps {
-        at = at.saturating_add(1);
-        let fits = takes(rt, alloc, machine, &mut told, *step);
-        judge(rt, fits, name, at);
+    let mut at = 0usize;
+    let mut wrong = None;
+    for part in parts {
+        for step in *part {
+            at = at.saturating_add(1);
+            if wrong.is_none() && !takes(alloc, machine, &mut told, *step) {
+                wrong = Some(at);
+            }
+        }
     }
-    judge(rt, told.as_slice().is_empty(), name, at);
-}
-
-/// The machine took this step of the story as it was to.
-fn judge(rt: &impl Abort, fits: bool, name: &str, at: u32) {
-    assert!(rt; fits, "{name}, step {at}");
+    if wrong.is_none() && !told.as_slice().is_empty() {
+        return Some(at);
+    }
+    wrong
 }
 
 /// Whether the machine takes a step. What is told is a reply, until it is looked at.
-fn takes(
-    rt: &impl Abort,
-    alloc: Global,
-    machine: &mut dyn Machine,
-    told: &mut Vec<u8>,
-    step: Step,
-) -> bool {
+fn takes(alloc: Global, machine: &mut dyn Machine, told: &mut Vec<u8>, step: Step) -> bool {
     if let Ends(words) = step {
         return is_told(told, words);
     }
     if !told.as_slice().is_empty() {
         return false;
     }
-    match step {
-        Begins(asked) => machine.begins(alloc, asked).unwrap_or(false),
-        Gets(trouble, outcome) => {
-            let answer = trouble.answer(rt, alloc);
-            has_outcome(rt, alloc, machine, told, answer, outcome)
-        }
-        Clock(_) | Until(..) | Bytes(..) | Done(..) | Ends(_) => {
-            let block = content(step).block(rt, alloc);
-            let fits = is_asked(machine, step, block.as_slice());
-            give(rt, alloc, machine, told, answer(step, block));
-            fits
-        }
+    if let Begins(asked) = step {
+        return machine.begins(alloc, asked);
     }
+    answers(alloc, machine, told, step)
 }
 
-/// Whether this answer to the ask that stands has this outcome.
-fn has_outcome(
-    rt: &impl Abort,
-    alloc: Global,
-    machine: &mut dyn Machine,
-    told: &mut Vec<u8>,
-    answer: Answer,
-    outcome: Outcome,
-) -> bool
-    requires { IsTimely answer }
-{
+/// Whether the step answers the ask that stands, with the outcome that it names. The reply that is given
+/// with that is told.
+fn answers(alloc: Global, machine: &mut dyn Machine, told: &mut Vec<u8>, step: Step) -> bool {
+    let Ok(block) = content(step).block(alloc) else {
+        return false;
+    };
     let before = machine.asks();
-    give(rt, alloc, machine, told, answer);
-    match outcome {
-        Outcome::Told(words) => is_told(told, words),
-        Outcome::Goes => told.as_slice().is_empty(),
-        Outcome::Stands => told.as_slice().is_empty() && machine.asks() == before,
-    }
-}
-
-/// Whether the step answers the ask that stands.
-fn is_asked(machine: &mut dyn Machine, step: Step, bytes: &[u8]) -> bool {
-    if let Done(..) = step
-        && !machine.writes(bytes)
-    {
+    if !is_asked(machine, before, step, block.as_slice()) {
         return false;
     }
-    machine.asks() == Some(ask(step))
+    let reply = machine.gets(&answer(step, block));
+    tells(alloc, told, reply) && has_outcome(machine, told, before, step)
 }
 
-/// The machine is answered, and its reply is told.
-fn give(
-    rt: &impl Abort,
-    alloc: Global,
+/// Whether the step answers the ask that stands. Trouble needn't fit it.
+fn is_asked(machine: &mut dyn Machine, asked: Option<Ask>, step: Step, bytes: &[u8]) -> bool {
+    match step {
+        Gets(..) => true,
+        Done(..) => asked == Some(ask(step)) && machine.writes(bytes),
+        Begins(_) | Clock(_) | Until(..) | Bytes(..) | Ends(_) => asked == Some(ask(step)),
+    }
+}
+
+/// Whether trouble has the outcome that it was to have, at an ask.
+fn has_outcome(
     machine: &mut dyn Machine,
     told: &mut Vec<u8>,
-    answer: Answer,
-)
-    requires { IsTimely answer }
-{
-    if let Some(reply) = machine.gets(&answer) {
-        tell(rt, alloc, told, reply);
+    before: Option<Ask>,
+    step: Step,
+) -> bool {
+    let Gets(_, outcome) = step else {
+        return true;
+    };
+    match outcome {
+        Told(words) => is_told(told, words),
+        Goes => told.as_slice().is_empty(),
+        Stands => told.as_slice().is_empty() && machine.asks() == before,
     }
 }
 
@@ -188,23 +170,17 @@ fn is_told(told: &mut Vec<u8>, words: &[u8]) -> bool {
     is_same
 }
 
-const SMALL: Geometry = Geometry {
-    images: 1,
-    extents: 1,
-    extent_blocks: 16,
-    slots: 2,
-};
-
-/// The reply is told as in traces.
-fn tell(rt: &impl Abort, alloc: Global, told: &mut Vec<u8>, reply: Reply) {
+/// The reply is told as in traces, if there is one.
+fn tells(alloc: Global, told: &mut Vec<u8>, reply: Option<Reply>) -> bool {
+    let Some(reply) = reply else {
+        return true;
+    };
     let appliance = ApplianceNo(0);
-    let mut entries = Entries::new(alloc);
-    entries
-        .push(Entry::Reply { appliance, reply })
-        .expect(rt, "memory");
-    let text = print_trace(alloc, &SMALL, 1, entries.as_slice(), 0, 0).expect(rt, "memory");
-    told.extend_from_slice(words_of(text.as_slice()))
-        .expect(rt, "memory");
+    let entry = Entry::Reply { appliance, reply };
+    match print_trace(alloc, &SMALL, 1, slice::from_ref(&entry), 0, 0) {
+        Ok(text) => told.extend_from_slice(words_of(text.as_slice())).is_ok(),
+        Err(_) => false,
+    }
 }
 
 /// The words of the one reply of a trace.
@@ -214,19 +190,6 @@ fn words_of(trace: &[u8]) -> &[u8] {
         .unwrap_or(trace)
         .strip_suffix(b"\nend reachable=0 allocated=0\n")
         .unwrap_or(trace)
-}
-
-impl Trouble {
-    fn answer(self, rt: &impl Abort, alloc: Global) -> Answer
-        ensures { IsTimely result }
-    {
-        match self {
-            Trouble::Fault => Answer::Fault,
-            Trouble::Missed(reading) => Answer::Missed(u64::from(reading)),
-            Trouble::Reading(reading) => Answer::Reading(u64::from(reading)),
-            Trouble::Read(content) => Answer::Bytes(content.block(rt, alloc)),
-        }
-    }
 }
 
 /// The ask that the step answers.
@@ -248,7 +211,7 @@ fn ask(step: Step) -> Ask {
 /// What is read or written.
 fn content(step: Step) -> Content {
     match step {
-        Bytes(_, content) | Done(_, _, _, content) => content,
+        Bytes(_, content) | Done(_, _, _, content) | Gets(Read(content), _) => content,
         Begins(_) | Clock(_) | Until(..) | Gets(..) | Ends(_) => Content::Zeros,
     }
 }
@@ -258,8 +221,12 @@ fn answer(step: Step, block: Block) -> Answer
     ensures { IsTimely result }
 {
     match step {
-        Clock(reading) | Until(_, reading) => Answer::Reading(u64::from(reading)),
-        Bytes(..) => Answer::Bytes(block),
-        Begins(_) | Done(..) | Gets(..) | Ends(_) => Answer::Done,
+        Clock(reading) | Until(_, reading) | Gets(Reading(reading), _) => {
+            Answer::Reading(u64::from(reading))
+        }
+        Gets(Missed(reading), _) => Answer::Missed(u64::from(reading)),
+        Gets(Fault, _) => Answer::Fault,
+        Bytes(..) | Gets(Read(_), _) => Answer::Bytes(block),
+        Begins(_) | Done(..) | Ends(_) => Answer::Done,
     }
 }

@@ -1,20 +1,32 @@
 //! A run of the top call in memory, and schedules with the traces that they are to give.
+use crate::checks::check;
 use plx_cli::{MemSink, MemSource, Status, run};
 use std::alloc::{AllocError, Global};
 use std::process::Abort;
 
 /// What a run gave: its status, and what it wrote.
 #[derive(Drop)]
-pub(crate) struct Outcome {
+struct Outcome {
     status: Status,
-    written: Vec<u8>,
+    sink: MemSink,
 }
 
 impl Outcome {
+    /// What was written; nothing where that is no text.
+    fn written(&self) -> &str {
+        str::from_utf8(self.sink.held()).unwrap_or("")
+    }
+
     /// The run ended so, and wrote this.
-    pub(crate) fn is(&self, rt: &impl Abort, status: Status, written: &str) {
-        let found = str::from_utf8(self.written.as_slice()).unwrap_or("");
-        assert!(rt; self.status == status && found == written, "{found}");
+    fn is(&self, rt: &impl Abort, status: Status, written: &str) {
+        let found = self.written();
+        check(rt, self.status == status && found == written, found);
+    }
+
+    /// The run is done, and wrote the lines of a trace that the story has.
+    fn is_told(&self, rt: &impl Abort, story: &str) {
+        let is_told = self.status == Status::Done && is_trace(self.sink.held(), story);
+        check(rt, is_told, self.written());
     }
 }
 
@@ -74,40 +86,32 @@ fn text(rt: &impl Abort, alloc: Global, text: &str) -> String {
 }
 
 /// A run with these words between the streams.
-pub(crate) fn run_with(
-    rt: &impl Abort,
-    alloc: Global,
-    given: &[&str],
-    streams: Streams,
-) -> Outcome {
+fn run_with(rt: &impl Abort, alloc: Global, given: &[&str], streams: Streams) -> Outcome {
     let words = words(rt, alloc, given);
     let mut source = streams.source(alloc).expect(rt, "memory");
     let mut sink = streams.sink(alloc).expect(rt, "memory");
     let status = run(alloc, &words, &mut source, &mut sink);
-    let written = Vec::from_slice(alloc, sink.held()).expect(rt, "memory");
-    Outcome { status, written }
+    Outcome { status, sink }
 }
 
-/// `replay` between the streams.
-pub(crate) fn replay(rt: &impl Abort, alloc: Global, streams: Streams) -> Outcome {
-    run_with(rt, alloc, &["replay"], streams)
+/// A run with these words between the streams ends so, and writes this.
+pub(crate) fn ends(
+    rt: &impl Abort,
+    alloc: Global,
+    given: &[&str],
+    streams: Streams,
+    (status, written): (Status, &str),
+) {
+    run_with(rt, alloc, given, streams).is(rt, status, written);
 }
 
-/// What stands before a story.
-#[derive(Clone, Copy)]
-pub(crate) enum Start {
-    Empty,
-    /// Appliance 0 attaches slot 0, which is free, and makes an image of eight blocks there, named `a`.
-    /// It takes 601 ms.
-    Open,
-}
+/// A story: the parts of a schedule, the first of which has the world. A comment `#> ..` has a line of the trace,
+/// which has the world, the starts and the crashes too.
+pub(crate) type Story = &'static [&'static str];
 
-/// A story: the line of its world, what stands before it, its parts, and how many blocks of the pool are
-/// allocated at its end. Its lines are those of a schedule. A comment `#> ..` has a line of the trace,
-/// which has the starts and crashes too.
-pub(crate) type Story = (&'static str, Start, &'static [&'static str], &'static str);
-
-const OPEN: &str = "start 0 attach 0
+/// Appliance 0 attaches slot 0, which is free, and makes an image of eight blocks there, named `a`.
+/// It takes 601 ms.
+pub(crate) const OPEN: &str = "start 0 attach 0
 run 0
 tick 601
 run 0
@@ -117,60 +121,50 @@ run 0
 #> reply 0 created
 ";
 
+/// No block of the pool is allocated at the end.
+pub(crate) const END: &str = "#> end reachable=0 allocated=0\n";
+
 /// Each of these stories has a schedule that gives its trace.
 pub(crate) fn plays_each(rt: &impl Abort, alloc: Global, stories: &[Story]) {
-    for &(world, start, parts, allocated) in stories {
-        plays(rt, alloc, world, start, parts, allocated);
+    for parts in stories {
+        plays(rt, alloc, parts);
     }
 }
 
-/// The story has.
-pub(crate) fn plays(
-    rt: &impl Abort,
-    alloc: Global,
-    world: &str,
-    start: Start,
-    parts: &[&str],
-    allocated: &str,
-) {
-    let mut story = opened(rt, alloc, world, start);
-    for part in parts {
-        story.push_str(part).expect(rt, "memory");
-    }
-    ends(rt, alloc, story.as_str(), allocated, 4096);
+/// The story of these parts has.
+pub(crate) fn plays(rt: &impl Abort, alloc: Global, parts: &[&str]) {
+    let story = parts.concat(alloc).expect(rt, "memory");
+    tells(rt, alloc, story.as_str(), 4096);
 }
 
-/// The story up to its parts.
-pub(crate) fn opened(rt: &impl Abort, alloc: Global, world: &str, start: Start) -> String {
-    let mut story = text(rt, alloc, world);
-    if let Start::Open = start {
-        story.push_str(OPEN).expect(rt, "memory");
-    }
-    story
-}
-
-/// The story has a schedule that gives its trace, where so many blocks of the pool are allocated at its end,
-/// and each call of the streams gives or takes at most `piece` bytes.
-pub(crate) fn ends(rt: &impl Abort, alloc: Global, story: &str, allocated: &str, piece: usize) {
+/// The story has a schedule that gives its trace, where each call of the streams gives or takes at most `piece`
+/// bytes.
+pub(crate) fn tells(rt: &impl Abort, alloc: Global, story: &str, piece: usize) {
     let streams = Streams {
         gives: piece,
         takes: piece,
         ..Streams::of(story.as_bytes())
     };
-    let trace = trace(rt, alloc, story, allocated);
-    replay(rt, alloc, streams).is(rt, Status::Done, trace.as_str());
+    run_with(rt, alloc, &["replay"], streams).is_told(rt, story);
 }
 
-/// The trace of the story.
-fn trace(rt: &impl Abort, alloc: Global, story: &str, allocated: &str) -> String {
-    let mut trace = String::new(alloc);
+/// Whether the trace has the lines that the story has, and no other.
+fn is_trace(trace: &[u8], story: &str) -> bool {
+    let mut rest = trace;
     for line in story.lines() {
         if let Some(told) = told(line) {
-            writeln!(trace, "{told}").expect(rt, "memory");
+            let Some(left) = after(rest, told) else {
+                return false;
+            };
+            rest = left;
         }
     }
-    writeln!(trace, "end reachable=0 allocated={allocated}").expect(rt, "memory");
-    trace
+    rest.is_empty()
+}
+
+/// What stands in the trace after this line, where it begins with it.
+fn after<'a>(trace: &'a [u8], line: &str) -> Option<&'a [u8]> {
+    trace.strip_prefix(line.as_bytes())?.strip_prefix(b"\n")
 }
 
 /// The line of the trace that stands in this line of a story, if one does.

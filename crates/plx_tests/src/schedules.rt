@@ -1,6 +1,6 @@
 //! Whole schedules of one appliance and their traces, written out by hand from the rules.
-use crate::program::Start::{Empty, Open};
-use crate::program::{Story, Streams, plays, plays_each, replay};
+use crate::lines::with_digits;
+use crate::program::{END, OPEN, Story, Streams, ends, plays, plays_each};
 use plx_cli::Status;
 use std::alloc::Global;
 use std::process::Abort;
@@ -20,35 +20,29 @@ reply 0 data all:00
 end reachable=0 allocated=0
 ";
 
-/// The DATA of a block of the byte 5a, digit by digit.
-fn digits(rt: &impl Abort, alloc: Global) -> String {
-    let mut digits = String::from_str(alloc, "hex:").expect(rt, "memory");
-    for _ in 0..4096 {
-        digits.push_str("5a").expect(rt, "memory");
-    }
-    digits
-}
-
-/// A schedule with these lines that are skipped, and this DATA, has that trace.
-fn first_plays(rt: &impl Abort, alloc: Global, skipped: &str, data: &str) {
-    let schedule = format!(in alloc;
-        "world 1 1 16 2 1
-{skipped}start 0 attach 0
+/// The schedule, in parts between which its DATA stands.
+const MAKES: &str = "start 0 attach 0
 run 0
 tick 601
 run 0
 start 0 create 0 8 a
 run 0
-start 0 write 0 0 {data}
+start 0 write 0 0 ";
+
+const READS: &str = "
 run 0
 start 0 read 0 0
 run 0
 start 0 read 0 1
 run 0
-"
-    )
-    .expect(rt, "memory");
-    replay(rt, alloc, Streams::of(schedule.as_bytes())).is(rt, Status::Done, FIRST_TRACE);
+";
+
+/// The schedule with these lines that are skipped, and this DATA, has that trace.
+fn first_plays(rt: &impl Abort, alloc: Global, skipped: &str, data: &str) {
+    let parts = ["world 1 1 16 2 1\n", skipped, MAKES, data, READS];
+    let schedule = parts.concat(alloc).expect(rt, "memory");
+    let streams = Streams::of(schedule.as_bytes());
+    ends(rt, alloc, &["replay"], streams, (Status::Done, FIRST_TRACE));
 }
 
 #[test]
@@ -56,7 +50,8 @@ fn a_block_is_written_and_read_back(rt: HostRuntime) {
     let alloc = rt.alloc();
     first_plays(&rt, alloc, "", "all:5a");
     first_plays(&rt, alloc, "\n# an image of eight blocks\n", "all:5a");
-    first_plays(&rt, alloc, "", digits(&rt, alloc).as_str());
+    let digits = with_digits(alloc, "hex:", ("5a", 4096), "").expect(&rt, "memory");
+    first_plays(&rt, alloc, "", digits.as_str());
 }
 
 const NOT_POSSIBLE: &str = "world 1 1 16 2 2
@@ -150,7 +145,13 @@ end reachable=0 allocated=0
 #[test]
 fn events_that_are_not_possible_change_nothing(rt: HostRuntime) {
     let streams = Streams::of(NOT_POSSIBLE.as_bytes());
-    replay(&rt, rt.alloc(), streams).is(&rt, Status::Done, NOT_POSSIBLE_TRACE);
+    ends(
+        &rt,
+        rt.alloc(),
+        &["replay"],
+        streams,
+        (Status::Done, NOT_POSSIBLE_TRACE),
+    );
 }
 
 /// A second write begins, and its data is issued.
@@ -213,6 +214,8 @@ run 0
 #> reply 0 data all:00
 ";
 
+const WORLD: &str = "world 1 1 16 2 1\n";
+
 /// The first so many of the eight sectors land: a line for each.
 fn landings(count: usize) -> &'static str {
     SECTORS.get(..count.saturating_mul(11)).unwrap_or(SECTORS)
@@ -222,26 +225,49 @@ fn landings(count: usize) -> &'static str {
 #[test]
 fn a_crash_before_the_commit_leaves_nothing_of_a_write(rt: HostRuntime) {
     for landed in 0..9 {
-        let parts = [SECOND_WRITE, landings(landed), CRASH, NOT_COMMITTED];
-        plays(&rt, rt.alloc(), "world 1 1 16 2 1\n", Open, &parts, "0");
+        let landings = landings(landed);
+        let parts = [
+            WORLD,
+            OPEN,
+            SECOND_WRITE,
+            landings,
+            CRASH,
+            NOT_COMMITTED,
+            END,
+        ];
+        plays(&rt, rt.alloc(), &parts);
     }
-    let parts = [SECOND_WRITE, SECTORS, DESCRIPTOR, CRASH, NOT_COMMITTED];
-    plays(&rt, rt.alloc(), "world 1 1 16 2 1\n", Open, &parts, "0");
+    plays(&rt, rt.alloc(), ISSUED);
 }
+
+/// The descriptor is issued, and none of its sectors lands.
+const ISSUED: Story = &[
+    WORLD,
+    OPEN,
+    SECOND_WRITE,
+    SECTORS,
+    DESCRIPTOR,
+    CRASH,
+    NOT_COMMITTED,
+    END,
+];
 
 #[test]
 fn a_crash_after_the_commit_leaves_the_whole_write(rt: HostRuntime) {
     for landed in 1..9 {
         let landings = landings(landed);
         let parts = [
+            WORLD,
+            OPEN,
             SECOND_WRITE,
             SECTORS,
             DESCRIPTOR,
             landings,
             CRASH,
             COMMITTED,
+            END,
         ];
-        plays(&rt, rt.alloc(), "world 1 1 16 2 1\n", Open, &parts, "0");
+        plays(&rt, rt.alloc(), &parts);
     }
 }
 
@@ -565,51 +591,45 @@ run 1
 
 const STORIES: &[Story] = &[
     // A journal is full, and an attached image stays attached.
-    ("world 1 1 16 2 1\n", Open, &[FULL], "0"),
+    &["world 1 1 16 2 1\n", OPEN, FULL, END],
     // Slots are filled, emptied and filled again.
-    ("world 2 1 16 2 1\n", Open, &[FILLED], "0"),
+    &["world 2 1 16 2 1\n", OPEN, FILLED, END],
     // A crash at a create leaves an image or a free slot.
-    ("world 1 1 16 2 1\n", Empty, &[CREATE, MADE], "0"),
-    ("world 1 1 16 2 1\n", Empty, &[CREATE, NOT_MADE], "0"),
+    &["world 1 1 16 2 1\n", CREATE, MADE, END],
+    &["world 1 1 16 2 1\n", CREATE, NOT_MADE, END],
     // A lease is lost at its end.
-    ("world 1 1 16 2 1\n", Open, &[LOST], "0"),
+    &["world 1 1 16 2 1\n", OPEN, LOST, END],
     // A renewal never shortens a lease.
-    ("world 1 1 16 2 1\n", Open, &[RENEWED], "0"),
+    &["world 1 1 16 2 1\n", OPEN, RENEWED, END],
     // One lost lease ends all sessions.
-    ("world 2 1 16 2 1\n", Open, &[SESSIONS], "0"),
+    &["world 2 1 16 2 1\n", OPEN, SESSIONS, END],
     // A failed write ends the session and leaves the lease.
-    ("world 1 1 16 2 1\n", Open, &[FAILED_WRITE], "0"),
+    &["world 1 1 16 2 1\n", OPEN, FAILED_WRITE, END],
     // A failed write may land later.
-    (
+    &["world 1 1 16 2 1\n", OPEN, WRITE, BOOT_CRASH, LANDED, END],
+    &["world 1 1 16 2 1\n", OPEN, WRITE, BOOT_FAULT, LANDED, END],
+    &[
         "world 1 1 16 2 1\n",
-        Open,
-        &[WRITE, BOOT_CRASH, LANDED],
-        "0",
-    ),
-    (
+        OPEN,
+        WRITE,
+        BOOT_CRASH,
+        NOT_LANDED,
+        END,
+    ],
+    &[
         "world 1 1 16 2 1\n",
-        Open,
-        &[WRITE, BOOT_FAULT, LANDED],
-        "0",
-    ),
-    (
-        "world 1 1 16 2 1\n",
-        Open,
-        &[WRITE, BOOT_CRASH, NOT_LANDED],
-        "0",
-    ),
-    (
-        "world 1 1 16 2 1\n",
-        Open,
-        &[WRITE, BOOT_FAULT, NOT_LANDED],
-        "0",
-    ),
+        OPEN,
+        WRITE,
+        BOOT_FAULT,
+        NOT_LANDED,
+        END,
+    ],
     // A failed read leaves what was got.
-    ("world 1 1 16 2 1\n", Empty, &[FAILED_READS], "0"),
+    &["world 1 1 16 2 1\n", FAILED_READS, END],
     // A claim that comes too late is lost.
-    ("world 1 1 16 2 1\n", Empty, &[LATE_CLAIM], "0"),
+    &["world 1 1 16 2 1\n", LATE_CLAIM, END],
     // A retire gives up images without a session.
-    ("world 2 1 16 2 2\n", Open, &[RETIRED], "0"),
+    &["world 2 1 16 2 2\n", OPEN, RETIRED, END],
 ];
 
 #[test]

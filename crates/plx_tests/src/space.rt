@@ -1,8 +1,7 @@
 //! Fresh blocks that are taken and given back, with traces written out by hand from the rules.
 //!
 //! In a world of one image and two journal slots the maps of extents of 16 blocks are blocks 10 and 26.
-use crate::program::Start::Empty;
-use crate::program::{Story, plays_each};
+use crate::program::{END, Story, plays_each};
 
 /// Appliance 0 takes three blocks, and then all others of the one extent.
 const FILLED: &str = "start 0 reserve 3
@@ -148,27 +147,52 @@ run 0
 
 const STORIES: &[Story] = &[
     // An extent is filled and given back.
-    ("world 1 1 16 2 2\n", Empty, &[FILLED, GIVEN_BACK], "0"),
-    (
+    &["world 1 1 16 2 2\n", FILLED, GIVEN_BACK, END],
+    &[
         "world 1 1 16 2 2\n",
-        Empty,
-        &[FILLED, GIVEN_BACK, TAKEN_AGAIN],
-        "2",
-    ),
+        FILLED,
+        GIVEN_BACK,
+        TAKEN_AGAIN,
+        "#> end reachable=0 allocated=2\n",
+    ],
     // Blocks in hand are allocated.
-    ("world 1 1 16 2 2\n", Empty, &[FILLED], "15"),
+    &[
+        "world 1 1 16 2 2\n",
+        FILLED,
+        "#> end reachable=0 allocated=15\n",
+    ],
     // A take goes past a busy extent.
-    ("world 1 3 16 2 2\n", Empty, &[PAST_BUSY], "34"),
+    &[
+        "world 1 3 16 2 2\n",
+        PAST_BUSY,
+        "#> end reachable=0 allocated=34\n",
+    ],
     // A crash leaves its blocks allocated.
-    ("world 1 1 16 2 1\n", Empty, &[CRASHED], "3"),
+    &[
+        "world 1 1 16 2 1\n",
+        CRASHED,
+        "#> end reachable=0 allocated=3\n",
+    ],
     // Blocks are given up with their lease.
-    ("world 1 1 16 2 1\n", Empty, &[GIVEN_UP], "4"),
+    &[
+        "world 1 1 16 2 1\n",
+        GIVEN_UP,
+        "#> end reachable=0 allocated=4\n",
+    ],
     // A renew keeps an extent.
-    ("world 1 1 16 2 1\n", Empty, &[RENEWED], "0"),
+    &["world 1 1 16 2 1\n", RENEWED, END],
     // A take that fails loses the extent.
-    ("world 1 1 16 2 1\n", Empty, &[FAILED_TAKE], "3"),
+    &[
+        "world 1 1 16 2 1\n",
+        FAILED_TAKE,
+        "#> end reachable=0 allocated=3\n",
+    ],
     // A give that is missed loses the extent.
-    ("world 1 1 16 2 1\n", Empty, &[MISSED_GIVE], "3"),
+    &[
+        "world 1 1 16 2 1\n",
+        MISSED_GIVE,
+        "#> end reachable=0 allocated=3\n",
+    ],
 ];
 
 #[test]

@@ -1,5 +1,5 @@
 //! How a run of the program ends: its status, and what it wrote.
-use crate::program::{Streams, replay, run_with};
+use crate::program::{Streams, ends};
 use plx_cli::Status;
 
 /// A world without events, and its trace.
@@ -22,7 +22,7 @@ const WORDS: &[&[&str]] = &[
 fn words_that_are_not_known_are_refused(rt: HostRuntime) {
     for words in WORDS {
         let streams = Streams::of(WORLD.as_bytes());
-        run_with(&rt, rt.alloc(), words, streams).is(&rt, Status::Usage, "");
+        ends(&rt, rt.alloc(), words, streams, (Status::Usage, ""));
     }
 }
 
@@ -49,7 +49,8 @@ const INPUTS: &[(&str, Status, &str)] = &[
 #[test]
 fn an_input_has_a_status_and_a_text(rt: HostRuntime) {
     for &(input, status, text) in INPUTS {
-        replay(&rt, rt.alloc(), Streams::of(input.as_bytes())).is(&rt, status, text);
+        let streams = Streams::of(input.as_bytes());
+        ends(&rt, rt.alloc(), &["replay"], streams, (status, text));
     }
 }
 
@@ -61,7 +62,13 @@ fn a_source_that_fails_at_any_call_gives_nothing(rt: HostRuntime) {
             failed_reads: &[call],
             ..Streams::of(WORLD.as_bytes())
         };
-        replay(&rt, rt.alloc(), streams).is(&rt, Status::SourceFault, "");
+        ends(
+            &rt,
+            rt.alloc(),
+            &["replay"],
+            streams,
+            (Status::SourceFault, ""),
+        );
     }
 }
 
@@ -74,6 +81,12 @@ fn a_sink_that_fails_at_any_call_holds_a_front_of_the_trace(rt: HostRuntime) {
             ..Streams::of(WORLD.as_bytes())
         };
         let front = WORLD_TRACE.get(..call).unwrap_or(WORLD_TRACE);
-        replay(&rt, rt.alloc(), streams).is(&rt, Status::SinkFault, front);
+        ends(
+            &rt,
+            rt.alloc(),
+            &["replay"],
+            streams,
+            (Status::SinkFault, front),
+        );
     }
 }

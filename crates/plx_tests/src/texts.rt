@@ -10,28 +10,15 @@ use crate::entries::Told::{
     NoImage, NotAttached, OutOfRange, ReadFault, Renewed, Snapshots, WornOut, WriteFault, Written,
 };
 use crate::entries::{Line, entry};
+use crate::geometry::{GREATEST, SMALL};
 use crate::lines::with_digits;
 use plx_base::{ApplianceNo, Block, NoMemory, Payload};
 use plx_commands::{Entries, Entry, Reply};
 use plx_geom::Geometry;
 use plx_text::print_trace;
 use std::alloc::Global;
+use std::process::Abort;
 use std::slice;
-
-const SMALL: Geometry = Geometry {
-    images: 1,
-    extents: 1,
-    extent_blocks: 16,
-    slots: 2,
-};
-
-/// The greatest device.
-const GREATEST: Geometry = Geometry {
-    images: 256,
-    extents: 512,
-    extent_blocks: 32_768,
-    slots: 64,
-};
 
 /// The entries of these lines.
 fn entries(alloc: Global, lines: &[Line]) -> Result<Entries, NoMemory> {
@@ -53,20 +40,6 @@ fn is_printed(
 ) -> bool {
     match print_trace(alloc, geometry, appliances, entries, reachable, allocated) {
         Ok(text) => text.as_slice() == spelled.as_bytes(),
-        Err(_) => false,
-    }
-}
-
-/// The same of the trace of these lines.
-fn are_printed(
-    alloc: Global,
-    world: (&Geometry, u32),
-    lines: &[Line],
-    counts: (u64, u64),
-    spelled: &str,
-) -> bool {
-    match entries(alloc, lines) {
-        Ok(entries) => is_printed(alloc, world, entries.as_slice(), counts, spelled),
         Err(_) => false,
     }
 }
@@ -156,12 +129,25 @@ const REFUSAL_LINES: &[Line] = &[
     Answer(7, WornOut(4_294_967_295)),
 ];
 
+/// The trace of these lines is spelled so.
+fn prints(
+    rt: &impl Abort,
+    alloc: Global,
+    world: (&Geometry, u32),
+    lines: &[Line],
+    counts: (u64, u64),
+    spelled: &str,
+) {
+    let entries = entries(alloc, lines).expect(rt, "memory");
+    let is_printed = is_printed(alloc, world, entries.as_slice(), counts, spelled);
+    check(rt, is_printed, spelled);
+}
+
 #[test]
 fn commands_and_refusals_have_their_words(rt: HostRuntime) {
-    let commands = are_printed(rt.alloc(), (&GREATEST, 8), COMMAND_LINES, (20, 3), COMMANDS);
-    check(&rt, commands, COMMANDS);
-    let refusals = are_printed(rt.alloc(), (&SMALL, 1), REFUSAL_LINES, (0, 0), REFUSALS);
-    check(&rt, refusals, REFUSALS);
+    let alloc = rt.alloc();
+    prints(&rt, alloc, (&GREATEST, 8), COMMAND_LINES, (20, 3), COMMANDS);
+    prints(&rt, alloc, (&SMALL, 1), REFUSAL_LINES, (0, 0), REFUSALS);
 }
 
 /// A reply that a block was read whose bytes are this one but for the last.

@@ -1,6 +1,5 @@
 //! A fault, a missed write or a late reading, at each ask of a command, and what is held after it.
-use crate::boot::Before::{Attached, Creating, Nothing, Unread};
-use crate::boot::{Before, Story, play, play_each};
+use crate::boot::{CLAIMED, CREATES, LIVE, Story, UNREAD, play, play_each};
 use crate::content::Content::{Descriptor, Filled, FreeLease, Lease, LiveSlot, Zeros};
 use crate::machine::Asked::{Attach, Detach, Read, Renew, Write};
 use crate::machine::Outcome::{Goes, Stands, Told};
@@ -11,23 +10,21 @@ use plx_base::WriteKind;
 use std::alloc::Global;
 use std::process::Abort;
 
-/// Up to one of the asks of its steps a boot goes on as it is told. That one is answered by trouble,
-/// with this outcome; and where it ended a command, this comes next.
+/// After these parts a boot's ask is answered by trouble, with this outcome; and where that ended a command,
+/// this comes next.
 fn play_troubled(
     rt: &impl Abort,
     alloc: Global,
     name: &str,
-    (before, steps, at): (Before, &[Step], usize),
+    parts: &[&[Step]],
     (trouble, outcome): (Trouble, Outcome),
     next: &[Step],
 ) {
-    let up_to = steps.get(..at).unwrap_or(steps);
     let after = match outcome {
         Told(_) => next,
         Stands | Goes => &[],
     };
-    let found = [Gets(trouble, outcome)];
-    play(rt, alloc, name, before, up_to, &found, after);
+    play(rt, alloc, name, parts, &[Gets(trouble, outcome)], &[after]);
 }
 
 /// An attach of an image that was written once.
@@ -79,10 +76,11 @@ const ATTACHING: &[(usize, Outcome, Outcome, Outcome, &[Step])] = &[
 fn trouble_at_each_ask_of_an_attach(rt: HostRuntime) {
     for &(at, fault, missed, late, next) in ATTACHING {
         let alloc = rt.alloc();
-        let ask = (Nothing, WRITTEN_ONCE, at);
-        play_troubled(&rt, alloc, "a fault", ask, (Fault, fault), next);
-        play_troubled(&rt, alloc, "a miss", ask, (Missed(1_201), missed), CLAIMS);
-        play_troubled(&rt, alloc, "late", ask, (Reading(11_000), late), CLAIMS);
+        let up_to = WRITTEN_ONCE.get(..at).unwrap_or(WRITTEN_ONCE);
+        let ask = [up_to];
+        play_troubled(&rt, alloc, "a fault", &ask, (Fault, fault), next);
+        play_troubled(&rt, alloc, "a miss", &ask, (Missed(1_201), missed), CLAIMS);
+        play_troubled(&rt, alloc, "late", &ask, (Reading(11_000), late), CLAIMS);
     }
 }
 
@@ -159,13 +157,14 @@ const NOT_ATTACHED: &[Step] = &[
 fn trouble_on_an_attached_image(rt: HostRuntime) {
     for &(name, steps, at, fault, missed, late) in ATTACHED {
         let alloc = rt.alloc();
-        let ask = (Attached, steps, at);
-        play_troubled(&rt, alloc, name, ask, (Fault, fault), NOT_ATTACHED);
+        let up_to = steps.get(..at).unwrap_or(steps);
+        let ask = [CLAIMED, LIVE, up_to];
+        play_troubled(&rt, alloc, name, &ask, (Fault, fault), NOT_ATTACHED);
         play_troubled(
             &rt,
             alloc,
             name,
-            ask,
+            &ask,
             (Missed(11_001), missed),
             NOT_ATTACHED,
         );
@@ -173,11 +172,18 @@ fn trouble_on_an_attached_image(rt: HostRuntime) {
             &rt,
             alloc,
             name,
-            ask,
+            &ask,
             (Missed(11_000), Stands),
             NOT_ATTACHED,
         );
-        play_troubled(&rt, alloc, name, ask, (Reading(11_000), late), NOT_ATTACHED);
+        play_troubled(
+            &rt,
+            alloc,
+            name,
+            &ask,
+            (Reading(11_000), late),
+            NOT_ATTACHED,
+        );
     }
 }
 
@@ -185,71 +191,88 @@ const STORIES: &[Story] = &[
     // What the ask to write the record of a create is answered.
     (
         "a create whose write gets a read",
-        Creating,
         &[
-            Gets(Trouble::Read(Zeros), Stands),
-            Done(WriteKind::Record, 4, 11_000, LiveSlot(1, 0)),
+            CLAIMED,
+            CREATES,
+            &[
+                Gets(Trouble::Read(Zeros), Stands),
+                Done(WriteKind::Record, 4, 11_000, LiveSlot(1, 0)),
+            ],
         ],
     ),
     (
         "a create whose write fails",
-        Creating,
-        &[Gets(Fault, Told(b"write-fault block=4"))],
+        &[
+            CLAIMED,
+            CREATES,
+            &[Gets(Fault, Told(b"write-fault block=4"))],
+        ],
     ),
     (
         "a create whose write is missed",
-        Creating,
-        &[Gets(Missed(11_001), MISSED)],
+        &[CLAIMED, CREATES, &[Gets(Missed(11_001), MISSED)]],
     ),
     // The lease is claimed up to 11,000 ms. Then, where it is held and where it is over: a command
     // that is refused drops it too, and a renew renews it or nothing.
     (
         "a read while the lease is held",
-        Unread,
         &[
-            Begins(Read),
-            Clock(10_999),
-            Ends(b"not-attached"),
-            Begins(Attach),
-            Clock(1_700),
-            Bytes(4, LiveSlot(1, 0)),
+            CLAIMED,
+            UNREAD,
+            &[
+                Begins(Read),
+                Clock(10_999),
+                Ends(b"not-attached"),
+                Begins(Attach),
+                Clock(1_700),
+                Bytes(4, LiveSlot(1, 0)),
+            ],
         ],
     ),
     (
         "a read once the lease is over",
-        Unread,
         &[
-            Begins(Read),
-            Clock(11_000),
-            Ends(b"not-attached"),
-            Begins(Attach),
-            Clock(1_700),
-            Clock(1_700),
+            CLAIMED,
+            UNREAD,
+            &[
+                Begins(Read),
+                Clock(11_000),
+                Ends(b"not-attached"),
+                Begins(Attach),
+                Clock(1_700),
+                Clock(1_700),
+            ],
         ],
     ),
     (
         "a renew while the lease is held",
-        Unread,
         &[
-            Begins(Renew),
-            Clock(10_999),
-            Done(WriteKind::Renew, 2, 11_000, Lease(7, 0, 1_000, 20_999)),
-            Ends(b"renewed"),
-            Begins(Attach),
-            Clock(1_700),
-            Bytes(4, LiveSlot(1, 0)),
+            CLAIMED,
+            UNREAD,
+            &[
+                Begins(Renew),
+                Clock(10_999),
+                Done(WriteKind::Renew, 2, 11_000, Lease(7, 0, 1_000, 20_999)),
+                Ends(b"renewed"),
+                Begins(Attach),
+                Clock(1_700),
+                Bytes(4, LiveSlot(1, 0)),
+            ],
         ],
     ),
     (
         "a renew once the lease is over",
-        Unread,
         &[
-            Begins(Renew),
-            Clock(11_000),
-            Ends(b"renewed"),
-            Begins(Attach),
-            Clock(1_700),
-            Clock(1_700),
+            CLAIMED,
+            UNREAD,
+            &[
+                Begins(Renew),
+                Clock(11_000),
+                Ends(b"renewed"),
+                Begins(Attach),
+                Clock(1_700),
+                Clock(1_700),
+            ],
         ],
     ),
 ];
