@@ -441,7 +441,7 @@ fn is_released(alloc: Global, lease: Held<Image>, until: u64) -> bool {
     is_held
         && release.ask() == asked
         && FreeLease.is(alloc, release.out())
-        && release.answer(&Answer::Done) == Some(ReleaseEnd::Released)
+        && matches!(release.answer(&Answer::Done), Some(ReleaseEnd::Released))
 }
 
 #[test]
