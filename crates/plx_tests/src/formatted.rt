@@ -30,7 +30,7 @@ fn is_spelled(disk: &Disk, number: u64) -> bool {
 }
 
 /// The device's geometry.
-const TWO: Geometry = Geometry {
+const GEOMETRY: Geometry = Geometry {
     images: 2,
     extents: 2,
     extent_blocks: 16,
@@ -44,7 +44,7 @@ fn is_fresh(disk: &Disk) -> bool {
 
 #[test]
 fn each_block_of_a_formatted_device_is_spelled_by_hand(rt: HostRuntime) {
-    let disk = formatted_disk(rt.alloc(), &TWO, 1_000).expect(&rt, "memory");
+    let disk = formatted_disk(rt.alloc(), &GEOMETRY, 1_000).expect(&rt, "memory");
     check(&rt, is_fresh(&disk), "the device");
     for number in 0..50 {
         check_at(&rt, is_spelled(&disk, number), number as usize);

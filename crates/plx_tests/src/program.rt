@@ -65,34 +65,26 @@ impl<'a> Streams<'a> {
     }
 }
 
-/// The program's name, and these words.
-fn words(rt: &impl Abort, alloc: Global, given: &[&str]) -> Vec<String> {
+/// These words.
+fn words(alloc: Global, given: &[&str]) -> Result<Vec<String>, AllocError> {
     let mut words = Vec::new(alloc);
-    push(rt, &mut words, text(rt, alloc, "plx"));
     for word in given {
-        push(rt, &mut words, text(rt, alloc, word));
+        words.push(String::from_str(alloc, word)?)?;
     }
-    words
-}
-
-/// One more word.
-fn push(rt: &impl Abort, words: &mut Vec<String>, word: String) {
-    words.push(word).expect(rt, "memory");
-}
-
-/// A text.
-fn text(rt: &impl Abort, alloc: Global, text: &str) -> String {
-    String::from_str(alloc, text).expect(rt, "memory")
+    Ok(words)
 }
 
 /// A run with these words between the streams.
 fn run_with(rt: &impl Abort, alloc: Global, given: &[&str], streams: Streams) -> Outcome {
-    let words = words(rt, alloc, given);
+    let words = words(alloc, given).expect(rt, "memory");
     let mut source = streams.source(alloc).expect(rt, "memory");
     let mut sink = streams.sink(alloc).expect(rt, "memory");
     let status = run(alloc, &words, &mut source, &mut sink);
     Outcome { status, sink }
 }
+
+/// The words that play the schedule of the input.
+pub(crate) const REPLAY: &[&str] = &["plx", "replay"];
 
 /// A run with these words between the streams ends so, and writes this.
 pub(crate) fn ends(
@@ -145,7 +137,7 @@ pub(crate) fn tells(rt: &impl Abort, alloc: Global, story: &str, piece: usize) {
         takes: piece,
         ..Streams::of(story.as_bytes())
     };
-    run_with(rt, alloc, &["replay"], streams).is_told(rt, story);
+    run_with(rt, alloc, REPLAY, streams).is_told(rt, story);
 }
 
 /// Whether the trace has the lines that the story has, and no other.

@@ -1,6 +1,6 @@
 //! Whole schedules of one appliance and their traces, written out by hand from the rules.
 use crate::lines::with_digits;
-use crate::program::{END, OPEN, Story, Streams, ends, plays, plays_each};
+use crate::program::{END, OPEN, REPLAY, Story, Streams, ends, plays, plays_each};
 use plx_cli::Status;
 use std::alloc::Global;
 use std::process::Abort;
@@ -42,7 +42,7 @@ fn first_plays(rt: &impl Abort, alloc: Global, skipped: &str, data: &str) {
     let parts = ["world 1 1 16 2 1\n", skipped, MAKES, data, READS];
     let schedule = parts.concat(alloc).expect(rt, "memory");
     let streams = Streams::of(schedule.as_bytes());
-    ends(rt, alloc, &["replay"], streams, (Status::Done, FIRST_TRACE));
+    ends(rt, alloc, REPLAY, streams, (Status::Done, FIRST_TRACE));
 }
 
 #[test]
@@ -148,7 +148,7 @@ fn events_that_are_not_possible_change_nothing(rt: HostRuntime) {
     ends(
         &rt,
         rt.alloc(),
-        &["replay"],
+        REPLAY,
         streams,
         (Status::Done, NOT_POSSIBLE_TRACE),
     );

@@ -1,5 +1,5 @@
 //! How a run of the program ends: its status, and what it wrote.
-use crate::program::{Streams, ends};
+use crate::program::{REPLAY, Streams, ends};
 use plx_cli::Status;
 
 /// A world without events, and its trace.
@@ -9,13 +9,13 @@ const WORLD_TRACE: &str = "world 1 1 16 2 1\nend reachable=0 allocated=0\n";
 
 /// Words that are not known.
 const WORDS: &[&[&str]] = &[
-    &[],
-    &["replay", "x"],
-    &["replay", "--"],
-    &["reply"],
-    &["Replay"],
-    &["check"],
-    &[""],
+    &["plx"],
+    &["plx", "replay", "x"],
+    &["plx", "replay", "--"],
+    &["plx", "reply"],
+    &["plx", "Replay"],
+    &["plx", "check"],
+    &["plx", ""],
 ];
 
 #[test]
@@ -50,7 +50,7 @@ const INPUTS: &[(&str, Status, &str)] = &[
 fn an_input_has_a_status_and_a_text(rt: HostRuntime) {
     for &(input, status, text) in INPUTS {
         let streams = Streams::of(input.as_bytes());
-        ends(&rt, rt.alloc(), &["replay"], streams, (status, text));
+        ends(&rt, rt.alloc(), REPLAY, streams, (status, text));
     }
 }
 
@@ -62,13 +62,7 @@ fn a_source_that_fails_at_any_call_gives_nothing(rt: HostRuntime) {
             failed_reads: &[call],
             ..Streams::of(WORLD.as_bytes())
         };
-        ends(
-            &rt,
-            rt.alloc(),
-            &["replay"],
-            streams,
-            (Status::SourceFault, ""),
-        );
+        ends(&rt, rt.alloc(), REPLAY, streams, (Status::SourceFault, ""));
     }
 }
 
@@ -81,12 +75,6 @@ fn a_sink_that_fails_at_any_call_holds_a_front_of_the_trace(rt: HostRuntime) {
             ..Streams::of(WORLD.as_bytes())
         };
         let front = WORLD_TRACE.get(..call).unwrap_or(WORLD_TRACE);
-        ends(
-            &rt,
-            rt.alloc(),
-            &["replay"],
-            streams,
-            (Status::SinkFault, front),
-        );
+        ends(&rt, rt.alloc(), REPLAY, streams, (Status::SinkFault, front));
     }
 }
