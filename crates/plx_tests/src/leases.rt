@@ -101,6 +101,7 @@ fn claims(
     none_fails(rt, name, first_wrong_step(alloc, others, before, steps));
 }
 
+/// The first step that isn't as it should be, of those before or else of those that follow.
 fn first_wrong_step(
     alloc: Global,
     others: Option<InUse>,
