@@ -1,7 +1,7 @@
 #!/usr/bin/env bash
 # Plays three generated schedules of 300,000 lines with `plx replay`, and prints plain events and input bytes a processor second and peak
 # memory, beside the processor time that `cat` takes over the same bytes. Each word is a further program that is timed in turn with it, such as
-# an older build. Not a part of the gate.
+# an older build; one from before there were leases plays the rounds of `attaches` without them, and no other schedule. Not a part of the gate.
 set -eu
 cd "$(dirname "$0")/.."
 work=$(mktemp -d)
@@ -39,6 +39,15 @@ def attaches():
         yield from [(f"start 0 write 0 {number % 8} all:{number:02x}", 1), ("run 0", 1 + DONE + DONE + 1)]
     while True:
         yield from [("crash 0", 1), ("tick 9500", 1)] + claimed(0) + [("run 0", 3 + 128 + 1)]
+        for vblock in range(8):
+            yield from [("tick 1", 1), (f"start 0 read 0 {vblock}", 1), ("run 0", 2)]
+
+def attaches_without_leases():
+    yield from [("world 1 1 16 64 1", 0), ("start 0 attach 0", 1), ("run 0", 1 + 64 + 1)]
+    for number in range(64):
+        yield from [(f"start 0 write 0 {number % 8} all:{number:02x}", 1), ("run 0", 1 + DONE + DONE + 1)]
+    while True:
+        yield from [("crash 0", 1), ("start 0 attach 0", 1), ("run 0", 1 + 128 + 1)]
         for vblock in range(8):
             yield from [("tick 1", 1), (f"start 0 read 0 {vblock}", 1), ("run 0", 2)]
 
@@ -86,8 +95,8 @@ def contention():
         yield from [(f"land {holder} 0 0", 0) for _, holder in pairs]
         rounds += 1
 
-for name, lines in ("attaches", attaches()), ("landings", landings()), ("contention", contention()):
-    events = 0
+for schedule in attaches, attaches_without_leases, landings, contention:
+    name, lines, events = schedule.__name__, schedule(), 0
     with open(f"{sys.argv[1]}/{name}", "w") as out:
         for _, (line, count) in zip(range(LINES), lines):
             print(line, file=out)
@@ -100,22 +109,28 @@ python3 - "$work" "$plx" "$@" <<'PY'
 import os, subprocess, sys
 work, programs = sys.argv[1], sys.argv[2:]
 
-def timed(command, path):
-    """The processor seconds that a command takes over a file, and its peak memory in MiB."""
-    with open(path) as source, open(os.devnull, "w") as sink:
-        child = subprocess.Popen(command, stdin=source, stdout=sink)
+def timed(command, name):
+    """The status of a command over a schedule, its processor seconds and its peak memory in MiB."""
+    with open(f"{work}/{name}") as source, open(os.devnull, "w") as null:
+        child = subprocess.Popen(command, stdin=source, stdout=null, stderr=null)
         _, status, used = os.wait4(child.pid, 0)
-    if status:
-        sys.exit(f"replay.sh: {command[0]} ended with {status}")
-    return used.ru_utime + used.ru_stime, used.ru_maxrss / 1024
+    return status, used.ru_utime + used.ru_stime, used.ru_maxrss / 1024
 
-for name in "attaches", "landings", "contention":
-    path = f"{work}/{name}"
-    size, events = os.path.getsize(path), int(open(f"{path}.events").read())
-    print(f"{name}: 300000 lines, {size} input bytes, {events} plain events")
-    runs = [[timed([program, "replay"], path) for program in programs] for _ in range(5)]
-    for program, figures in zip(programs, zip(*runs)):
-        best, peak = min(it[0] for it in figures), max(it[1] for it in figures)
-        print(f"  {program}: {best:.3f} s, {events / best:,.0f} events/s, {size / best:,.0f} input bytes/s, peak memory {peak:.1f} MiB")
-    print(f"  cat: {min(timed(['cat'], path)[0] for _ in range(5)):.4f} s")
+def played(program, names):
+    """The program with the first of these schedules that it plays, or nothing."""
+    return [(program, name) for name in names if timed([program, "replay"], name)[0] == 0][:1]
+
+for names in ["attaches", "attaches_without_leases"], ["landings"], ["contention"]:
+    turns = [turn for program in programs for turn in played(program, names)]
+    if (programs[0], names[0]) not in turns:
+        sys.exit(f"replay.sh: {programs[0]} doesn't play {names[0]}")
+    rounds = [[timed([program, "replay"], name) for program, name in turns] for _ in range(9)]
+    for (program, name), runs in zip(turns, zip(*rounds)):
+        if any(status for status, _, _ in runs):
+            sys.exit(f"replay.sh: {program} played {name} once, and then ended with another status")
+        size, events = os.path.getsize(f"{work}/{name}"), int(open(f"{work}/{name}.events").read())
+        best, median, peak = min(it[1] for it in runs), sorted(it[1] for it in runs)[4], max(it[2] for it in runs)
+        print(f"{name}: 300000 lines, {size} input bytes, {events} plain events: {program}")
+        print(f"  best of 9 {best:.3f} s, median {median:.3f} s, {events / best:,.0f} events/s, {size / best:,.0f} input bytes/s, peak memory {peak:.1f} MiB")
+        print(f"  cat {min(timed(['cat'], name)[1] for _ in range(5)):.4f} s")
 PY
