@@ -174,10 +174,10 @@ module _ (w : World) (content : KeepsContent w) (a : ℕ) (below : a < w.applian
   is-none (Some s) e = absurd (let P : ⊥ = cc in P)
 
   -- a seat that waits for no write holds what its position says
-  seat-holds : (log : List Happening) (known : Known) (command : Command) (holds : ℕ → Hold) (hand : List ℕ) (sample : Option ℕ) (found : Option (ℕ × List ℕ)) (part : Part End) →
-      position s log ≡ goes_to g known command holds hand sample found part → (i : ℕ) (claim : Claim) (until : ℕ) →
+  seat-holds : (log : List Happening) (known : Known) (command : Command) (holds : ℕ → Hold) (hand : List ℕ) (filled : List (ℕ × List ℕ)) (sample : Option ℕ) (found : Option (ℕ × List ℕ)) (part : Part End) →
+      position s log ≡ goes_to g known command holds hand filled sample found part → (i : ℕ) (claim : Claim) (until : ℕ) →
       Grips g time writes a (record { boots = (w.seats a).boots; log = log; pending = None }) i claim until → holds (lease_at (image_lease i)) ≡ Held claim until
-  seat-holds log known command holds hand sample found part leads i claim until grips =
+  seat-holds log known command holds hand filled sample found part leads i claim until grips =
       let P : Position → Type 0 = λ q. grip_at q.place None (lease_at (image_lease i)) (q.holds (lease_at (image_lease i))) ≡ Held claim until in
       let e : after_part part holds (lease_at (image_lease i)) ≡ Held claim until =
       sym (grip-open (place_of known command part) None (lease_at (image_lease i)) (after_part part holds (lease_at (image_lease i))) refl) ∙ subst P leads grips.0 in
@@ -221,21 +221,21 @@ module _ (w : World) (content : KeepsContent w) (a : ℕ) (below : a < w.applian
   -- ---- the clock
 
   -- a reading in a command that serves an image, or doesn't
-  read-clock : (event : Event) (log : List Happening) (known : Known) (command : Command) (part : Part End) (reading : ℕ) (hand : List ℕ) → NoMap g hand → starts_and_crashes w.trace ≡ events_told (event ∷ w.history) →
+  read-clock : (event : Event) (log : List Happening) (known : Known) (command : Command) (part : Part End) (reading : ℕ) (hand : List ℕ) (filled : List (ℕ × List ℕ)) → NoMap g hand → starts_and_crashes w.trace ≡ events_told (event ∷ w.history) →
       (place : Place) → p.place ≡ place → ((b : ℕ) (x : Issued) → IsAskedAt place b x → ⊥) → IsReadingAt reading time → ModelRuns g a command known m →
       Leased (went_to w content a below event log known command (λ block. hold_after_reading reading (p.holds block)) (Some reading) (just_at g command (λ block. hold_after_reading reading (p.holds block)) reading) (with_reply_of (appliance_no a) part w.trace)) →
-      position s log ≡ goes_to g known command (λ block. hold_after_reading reading (p.holds block)) hand (Some reading) None part →
+      position s log ≡ goes_to g known command (λ block. hold_after_reading reading (p.holds block)) hand filled (Some reading) None part →
       Fair g a command known (λ block. hold_after_reading reading (p.holds block)) (Some reading) (just_at g command (λ block. hold_after_reading reading (p.holds block)) reading) part →
       ((i : ℕ) → i < g.images → Minds g time writes m a (w.seats a) i →
       (Names command i → (regime : Regime) × Looks g a i command known regime m × HeldPart g a i command known regime part device × IsOn g i device regime) × ((Names command i → ⊥) → HasContent g a i known device m)) →
       KeepsContent (went_to w content a below event log known command (λ block. hold_after_reading reading (p.holds block)) (Some reading) (just_at g command (λ block. hold_after_reading reading (p.holds block)) reading) (with_reply_of (appliance_no a) part w.trace))
-  read-clock event log known command part reading hand none said place here no-ask is running leased leads fair own =
+  read-clock event log known command part reading hand filled none said place here no-ask is running leased leads fair own =
       let free = free-at place here no-ask in
       let h : ℕ → Hold = λ block. hold_after_reading reading (p.holds block) in
-      content-went w content a below event log known command h (Some reading) (just_at g command h reading) said running part hand None none tt leased leads fair
+      content-went w content a below event log known command h (Some reading) (just_at g command h reading) said running part hand filled None none tt leased leads fair
       (λ i within minds.
       let mine = own i within (minds-back i log (λ claim until grips. grips-now free i claim until
-      (timed-held reading (p.holds (lease_at (image_lease i))) claim until (seat-holds log known command h hand (Some reading) None part leads i claim until grips)) grips.1) minds) in
+      (timed-held reading (p.holds (lease_at (image_lease i))) claim until (seat-holds log known command h hand filled (Some reading) None part leads i claim until grips)) grips.1) minds) in
       ((λ names. inl (mine.0 names)), mine.1))
       (inl (quiet-free _ free))
       (λ e.
@@ -252,7 +252,7 @@ module _ (w : World) (content : KeepsContent w) (a : ℕ) (below : a < w.applian
         let place = In known command (ClockThen rest) in
         let fits = fits-at place here in
         let early : reading < 2 ^ 48 = (let e = is.early in let t = content.leased.early in omega arith) in
-        read-clock (event.Reading (appliance_no a) reading) (Asked ask.Clock [] (answer.Reading reading) ∷ (w.seats a).log) known command (rest reading) reading p.hand in-hand.hand content.told place here (λ b x no'. no') is fits.0
+        read-clock (event.Reading (appliance_no a) reading) (Asked ask.Clock [] (answer.Reading reading) ∷ (w.seats a).log) known command (rest reading) reading p.hand _ in-hand.hand content.told place here (λ b x no'. no') is fits.0
         leased
         (ap (went_on s ask.Clock [] (answer.Reading reading) p) here)
         (fits.1 reading early)
@@ -266,7 +266,7 @@ module _ (w : World) (content : KeepsContent w) (a : ℕ) (below : a < w.applian
         let place = In known command (UntilThen from rest) in
         let fits = fits-at place here in
         let early : reading < 2 ^ 48 = (let e = is.early in let t = content.leased.early in omega arith) in
-        read-clock (event.Reading (appliance_no a) reading) (Asked (ask.Until from) [] (answer.Reading reading) ∷ (w.seats a).log) known command (rest reading) reading p.hand in-hand.hand content.told place here (λ b x no'. no') is fits.0
+        read-clock (event.Reading (appliance_no a) reading) (Asked (ask.Until from) [] (answer.Reading reading) ∷ (w.seats a).log) known command (rest reading) reading p.hand _ in-hand.hand content.told place here (λ b x no'. no') is fits.0
         leased
         (ap (went_on s (ask.Until from) [] (answer.Reading reading) p) here)
         (fits.1 reading past early)
@@ -291,14 +291,14 @@ module _ (w : World) (content : KeepsContent w) (a : ℕ) (below : a < w.applian
           let h = at p.holds block (hold_after_read p.sample bytes (p.holds block)) in
           let log = Asked (ask.Read (record { 0 = block })) [] (answer.Bytes bytes) ∷ (w.seats a).log in
           let leads = ap (went_on s (ask.Read (record { 0 = block })) [] (answer.Bytes bytes) p) here in
-          content-went w content a below (event.Read (appliance_no a)) log known command h None false content.told fits.0 (rest bytes) p.hand (Some (block, bytes)) in-hand.hand (spelled-now block).map
+          content-went w content a below (event.Read (appliance_no a)) log known command h None false content.told fits.0 (rest bytes) p.hand _ (Some (block, bytes)) in-hand.hand (spelled-now block).map
           leased leads (fits.1.0 bytes (spelled-now block))
           (λ i within minds. elim minds [
             | inl gripped ↦ (
                 let claim = gripped.0 in
                 let until = gripped.1 in
                 let grips = gripped.2 in
-                let holds = seat-holds log known command h p.hand None (Some (block, bytes)) (rest bytes) leads i claim until grips in
+                let holds = seat-holds log known command h p.hand _ None (Some (block, bytes)) (rest bytes) leads i claim until grips in
                 let was : (p.holds (lease_at (image_lease i)) ≡ Held claim until) ⊎ ((lease_at (image_lease i) ≡ block) × (p.holds (lease_at (image_lease i)) ≡ Waited claim until) × (bytes ≡ lease_bytes (Claimed claim until))) =
                 (elim (eqb_tells (lease_at (image_lease i)) block) [
                   | inl same ↦
@@ -339,10 +339,10 @@ module _ (w : World) (content : KeepsContent w) (a : ℕ) (below : a < w.applian
           let free = free-at place here (λ b x no'. no') in
           let log = Asked (ask.Read (record { 0 = block })) [] answer.Fault ∷ (w.seats a).log in
           let leads = ap (went_on s (ask.Read (record { 0 = block })) [] answer.Fault p) here in
-          content-went w content a below (event.Fault (appliance_no a)) log known command p.holds None false content.told fits.0 fault p.hand None in-hand.hand tt
+          content-went w content a below (event.Fault (appliance_no a)) log known command p.holds None false content.told fits.0 fault p.hand _ None in-hand.hand tt
           leased leads fits.1.1
           (λ i within minds.
-          let mine = owned-at place here i within (minds-back i log (λ claim until grips. grips-now free i claim until (seat-holds log known command p.holds p.hand None None fault leads i claim until grips) grips.1) minds) in
+          let mine = owned-at place here i within (minds-back i log (λ claim until grips. grips-now free i claim until (seat-holds log known command p.holds p.hand _ None None fault leads i claim until grips) grips.1) minds) in
           ((λ names. let s = mine.0 names in inl (s.regime, s.looks, s.held.2, s.on)), mine.1))
           (inl (quiet-free _ free))
           never
@@ -378,10 +378,10 @@ module _ (w : World) (content : KeepsContent w) (a : ℕ) (below : a < w.applian
           let fits = fits-at wplace here in
           let log = Asked (ask.Write what (record { 0 = block }) guard) bytes answer.Fault ∷ (w.seats a).log in
           let leads = ap (went_on s (ask.Write what (record { 0 = block }) guard) bytes answer.Fault p) here in
-          content-went w content a below (event.Fault (appliance_no a)) log known command no_holds None false content.told fits.0 fault p.hand None in-hand.hand tt
+          content-went w content a below (event.Fault (appliance_no a)) log known command no_holds None false content.told fits.0 fault p.hand _ None in-hand.hand tt
           leased leads fits.1.3
           (λ i within minds. elim minds [
-            | inl grips ↦ unheld grips.0 grips.1 (seat-holds log known command no_holds p.hand None None fault leads i grips.0 grips.1 grips.2)
+            | inl grips ↦ unheld grips.0 grips.1 (seat-holds log known command no_holds p.hand _ None None fault leads i grips.0 grips.1 grips.2)
             | inr owner ↦ ((λ names. inr (dropped (event.Fault (appliance_no a)) log no_holds fault fits.1.5 fits.1.3 i)), (owned-at wplace here i within (inr owner)).1)
           ])
           (inr fits.1.5)
@@ -393,10 +393,10 @@ module _ (w : World) (content : KeepsContent w) (a : ℕ) (below : a < w.applian
           let fits = fits-at wplace here in
           let log = Asked (ask.Write what (record { 0 = block }) guard) bytes (answer.Missed reading) ∷ (w.seats a).log in
           let leads = ap (went_on s (ask.Write what (record { 0 = block }) guard) bytes (answer.Missed reading) p) here in
-          content-went w content a below (event.Miss (appliance_no a) reading) log known command no_holds None false content.told fits.0 (missed reading) p.hand None in-hand.hand tt
+          content-went w content a below (event.Miss (appliance_no a) reading) log known command no_holds None false content.told fits.0 (missed reading) p.hand _ None in-hand.hand tt
           leased leads (fits.1.4 reading)
           (λ i within minds. elim minds [
-            | inl grips ↦ unheld grips.0 grips.1 (seat-holds log known command no_holds p.hand None None (missed reading) leads i grips.0 grips.1 grips.2)
+            | inl grips ↦ unheld grips.0 grips.1 (seat-holds log known command no_holds p.hand _ None None (missed reading) leads i grips.0 grips.1 grips.2)
             | inr owner ↦ ((λ names. inr (dropped (event.Miss (appliance_no a) reading) log no_holds (missed reading) (fits.1.6 reading) (fits.1.4 reading) i)), (owned-at wplace here i within (inr owner)).1)
           ])
           (inr (fits.1.6 reading))
@@ -478,11 +478,11 @@ module _ (w : World) (content : KeepsContent w) (a : ℕ) (below : a < w.applian
             let hand' = hand_answered g p.found (ask.Write what (record { 0 = block }) guard) bytes answer.Done p.hand in
             let log = Asked (ask.Write what (record { 0 = block }) guard) bytes answer.Done ∷ (w.seats a).log in
             let leads = ap (went_on s (ask.Write what (record { 0 = block }) guard) bytes answer.Done p) here in
-            content-went w content a below (event.Done (appliance_no a)) log known command h None false content.told fits.0 done hand' None
+            content-went w content a below (event.Done (appliance_no a)) log known command h None false content.told fits.0 done hand' _ None
             (hand-done g content.leased.geometry what block bytes _ (placed-may g s.boot p.holds _ what block bytes guard may) p.found in-hand.found p.hand in-hand.hand) tt
             leased leads fits.1.2
             (λ i within minds.
-            let mine = owned-at wplace here i within (minds-back i log (λ claim until grips. done-grips i claim until (seat-holds log known command h hand' None None done leads i claim until grips) grips.1) minds) in (
+            let mine = owned-at wplace here i within (minds-back i log (λ claim until grips. done-grips i claim until (seat-holds log known command h hand' _ None None done leads i claim until grips) grips.1) minds) in (
               λ names. (let s = mine.0 names in
                   inl (
                     s.regime,
@@ -638,13 +638,13 @@ module _ (w : World) (content : KeepsContent w) (a : ℕ) (below : a < w.applian
         λ names. serves known reading i within claim until held command fits.0 fits.2 fits.3 names (known.sessions i) refl (mine.0 names),
         mine.1,
       )) in
-      content-went w content a below (event.Reading (appliance_no a) reading) log known command h (Some reading) (just_at g command h reading) content.told fits.0 part p.hand None in-hand.hand tt
+      content-went w content a below (event.Reading (appliance_no a) reading) log known command h (Some reading) (just_at g command h reading) content.told fits.0 part p.hand [] None in-hand.hand tt
       leased leads
       (fair-command s content.leased.geometry a (omega (arith, below, few, boots)) known reading h (hand_held g h p.hand) (no-map-filter g _ p.hand in-hand.hand) backs
       (λ i. first-rests (session_at g known (lease_at (image_lease i))) reading (p.holds (lease_at (image_lease i)))) limits command fits.2 fits.3 early)
       (λ i within minds. elim minds [
         | inl grips ↦
-            let held = seat-holds log known command h p.hand (Some reading) None part leads i grips.0 grips.1 grips.2 in
+            let held = seat-holds log known command h p.hand [] (Some reading) None part leads i grips.0 grips.1 grips.2 in
             own i within grips.0 grips.1 held (inl (
               grips.0,
               grips.1,

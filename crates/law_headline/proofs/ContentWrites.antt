@@ -167,7 +167,7 @@ module _ (w : World) (content : KeepsContent w) where
     may = let P : Place → Type 0 = λ q. LawfulAt g boot (p a).holds (p a).sample q in (subst P here (content.leased.seated a below).lawful).0
 
     -- of its block only its own bytes differ, its image is kept, and it is the appliance's in the model
-    new-keeps : (i : ℕ) → i < g.images → IsOf g i block → is_in (image_lease i) leases ≡ true →
+    pub new-keeps : (i : ℕ) → i < g.images → IsOf g i block → is_in (image_lease i) leases ≡ true →
         (time ≤ guard + 50) ⊎ ((claim : Claim) × (until : ℕ) × Grips g time writes a (w.seats a) i claim until) →
         OnlyBytes what bytes (device block) × KeepsAll g device i (m.slots i) block bytes × ((m.slots i).owner ≡ Some a)
     new-keeps i within of needs live = elim (placed-cases g geometry what block bytes leases (placed-may g boot (p a).holds leases what block bytes guard may) i within) [
@@ -330,7 +330,7 @@ module _ (w : World) (content : KeepsContent w) where
     cases : (i : ℕ) → i < g.images → (IsOf g i write.block × IsJournalled write.kind × IsOpen g w.rests w.appliances time writes w.seats (image_lease i) number write × (home_of (w.rests number) ≡ Some (image_lease i)))
         ⊎ ((IsOf g i write.block → ⊥) × Same g i device after)
     cases i within = elim (frame.each (image_lease i) (image-below g i within)) [
-      | inl own ↦ (let its = image-write g i write.block write.bytes (w.rests number) within own.covers own.home write.kind right.placed in inl (its.0, its.1, own.opens, own.home))
+      | inl own ↦ (let its = image-write g geometry i write.block write.bytes (w.rests number) within own.covers own.home write.kind right.placed in inl (its.0, its.1, own.opens, own.home))
       | inr away ↦ inr ((λ of. away.uncovered (of-covers g i write.block within of)), same-under g i device after within away.same)
     ]
 

@@ -15,7 +15,7 @@ use Rattle.plx_rules.specs.Ends.{End}
 use Rattle.plx_rules.specs.Holds.{Hold}
 use Rattle.plx_rules.specs.Rests.{home_of}
 use Rattle.plx_rules.specs.Session.{Known}
-use Rattle.law_lease.proofs.Covers.{Covers, one-cover, lease-uncovered, home-covers, write-covered}
+use Rattle.law_lease.proofs.Covers.{Covers, one-cover, lease-uncovered, pool-uncovered, home-covers, write-covered}
 use Rattle.law_lease.proofs.Frame.{SameUnder}
 use Rattle.law_lease.proofs.Leased.{MayIssue, MayUse, IsPlaced}
 use Rattle.law_lease.proofs.Rests.{home-in}
@@ -34,18 +34,21 @@ of-image : (g : Geometry) (i j block : ℕ) (rests : List ℕ) → home_of rests
 of-image g i j block rests home all of = subst (λ (n : ℕ). IsOf g n block) (image-image j i (same-some (image_lease j) (image_lease i) (sym (ap home_of all) ∙ home))) of
 
 -- a write that its image's lease covers is one of its record or journal
-pub image-write : (g : Geometry) (i block : ℕ) (bytes rests : List ℕ) → i < g.images → Covers g (image_lease i) block → home_of rests ≡ Some (image_lease i) →
+pub image-write : (g : Geometry) → IsGeometry g → (i block : ℕ) (bytes rests : List ℕ) → i < g.images → Covers g (image_lease i) block → home_of rests ≡ Some (image_lease i) →
     (k : WriteKind) → IsPlaced g k block bytes rests → IsOf g i block × IsJournalled k
-image-write g i block bytes rests within covers home kind.Claim placed = absurd (lease-uncovered g (image_lease i) block placed.0 placed.1 placed.2 covers)
-image-write g i block bytes rests within covers home kind.Renew placed = absurd (lease-uncovered g (image_lease i) block placed.0 placed.1 placed.2 covers)
-image-write g i block bytes rests within covers home kind.Release placed = absurd (lease-uncovered g (image_lease i) block placed.0 placed.1 placed.2 covers)
-image-write g i block bytes rests within covers home kind.Take placed = absurd (image-extent g i placed.0 within (same-some (image_lease i) (extent_lease g placed.0) (sym home ∙ ap home_of placed.3)))
-image-write g i block bytes rests within covers home kind.Give placed = absurd (image-extent g i placed.0 within (same-some (image_lease i) (extent_lease g placed.0) (sym home ∙ ap home_of placed.3)))
-image-write g i block bytes rests within covers home kind.Sweep placed = absurd (image-extent g i placed.0 within (same-some (image_lease i) (extent_lease g placed.0) (sym home ∙ ap home_of placed.3)))
-image-write g i block bytes rests within covers home kind.Record placed = (of-image g i placed.0 block rests home placed.3 (inl placed.2), tt)
-image-write g i block bytes rests within covers home kind.JData placed = (of-image g i placed.0 block rests home placed.5 (inr (placed.1, placed.3, inr placed.4)), tt)
-image-write g i block bytes rests within covers home kind.JCommit placed = (of-image g i placed.0 block rests home placed.5 (inr (placed.1, placed.3, inl placed.4)), tt)
-image-write g i block bytes rests within covers home other placed = absurd placed
+image-write g geometry i block bytes rests within covers home kind.Claim placed = absurd (lease-uncovered g (image_lease i) block placed.0 placed.1 placed.2 covers)
+image-write g geometry i block bytes rests within covers home kind.Renew placed = absurd (lease-uncovered g (image_lease i) block placed.0 placed.1 placed.2 covers)
+image-write g geometry i block bytes rests within covers home kind.Release placed = absurd (lease-uncovered g (image_lease i) block placed.0 placed.1 placed.2 covers)
+image-write g geometry i block bytes rests within covers home kind.Take placed = absurd (image-extent g i placed.0 within (same-some (image_lease i) (extent_lease g placed.0) (sym home ∙ ap home_of placed.3)))
+image-write g geometry i block bytes rests within covers home kind.Give placed = absurd (image-extent g i placed.0 within (same-some (image_lease i) (extent_lease g placed.0) (sym home ∙ ap home_of placed.3)))
+image-write g geometry i block bytes rests within covers home kind.Sweep placed = absurd (image-extent g i placed.0 within (same-some (image_lease i) (extent_lease g placed.0) (sym home ∙ ap home_of placed.3)))
+image-write g geometry i block bytes rests within covers home kind.Fresh placed = absurd (image-extent g i placed.0 within (same-some (image_lease i) (extent_lease g placed.0) (sym home ∙ ap home_of placed.3)))
+image-write g geometry i block bytes rests within covers home kind.Link placed = absurd (pool-uncovered g geometry (image_lease i) placed.2.0 placed.2.1 block placed.2.2 covers)
+image-write g geometry i block bytes rests within covers home kind.Overwrite placed = absurd (pool-uncovered g geometry (image_lease i) placed.2.0 placed.2.1 block placed.2.2 covers)
+image-write g geometry i block bytes rests within covers home kind.Record placed = (of-image g i placed.0 block rests home placed.3 (inl placed.2), tt)
+image-write g geometry i block bytes rests within covers home kind.JData placed = (of-image g i placed.0 block rests home placed.5 (inr (placed.1, placed.3, inr placed.4)), tt)
+image-write g geometry i block bytes rests within covers home kind.JCommit placed = (of-image g i placed.0 block rests home placed.5 (inr (placed.1, placed.3, inl placed.4)), tt)
+image-write g geometry i block bytes rests within covers home other placed = absurd placed
 
 -- it is of an image that its command names
 pub named-image : (g : Geometry) (command : Command) (block : ℕ) (k : WriteKind) → IsJournalled k → IsNamed g command k block → (i : ℕ) × (i < g.images) × IsOf g i block × Names command i
@@ -86,6 +89,9 @@ placed-block g kind.Release block bytes rests home placed is = inr (λ device sl
 placed-block g kind.Take block bytes rests home placed is = inr (λ device slots. tt)
 placed-block g kind.Give block bytes rests home placed is = inr (λ device slots. tt)
 placed-block g kind.Sweep block bytes rests home placed is = inr (λ device slots. tt)
+placed-block g kind.Fresh block bytes rests home placed is = inr (λ device slots. tt)
+placed-block g kind.Link block bytes rests home placed is = inr (λ device slots. tt)
+placed-block g kind.Overwrite block bytes rests home placed is = inr (λ device slots. tt)
 placed-block g kind.Record block bytes rests home placed is = inl (placed.0, placed.1, same-some home (image_lease placed.0) (sym is ∙ ap home_of placed.3), inl placed.2, tt)
 placed-block g kind.JData block bytes rests home placed is = inl (placed.0, placed.2, same-some home (image_lease placed.0) (sym is ∙ ap home_of placed.5), inr (placed.1, placed.3, inr placed.4), tt)
 placed-block g kind.JCommit block bytes rests home placed is = inl (placed.0, placed.2, same-some home (image_lease placed.0) (sym is ∙ ap home_of placed.5), inr (placed.1, placed.3, inl placed.4), tt)
@@ -143,10 +149,11 @@ pub placed-cases : (g : Geometry) → IsGeometry g → (k : WriteKind) (block : 
     (IsOf g i block × IsJournalled k × (is_in (image_lease i) rests ≡ true)) ⊎ (IsOf g i block → ⊥)
 placed-cases g geometry k block bytes rests placed i within = elim (home-covers g k block bytes rests placed) [
   | inl lease ↦ inr (λ of. lease-uncovered g (image_lease i) block lease.0 lease.1 lease.2 (of-covers g i block within of))
-  | inr home ↦ elim (eqb_tells home.0 (image_lease i)) [
+  | inr (inr pool) ↦ inr (λ of. pool-uncovered g geometry (image_lease i) pool.0 pool.1 block pool.2 (of-covers g i block within of))
+  | inr (inl home) ↦ elim (eqb_tells home.0 (image_lease i)) [
     | inl same ↦
         let is : home_of rests ≡ Some (image_lease i) = home.1 ∙ ap Some same.1 in
-        let its = image-write g i block bytes rests within (subst (λ (l : ℕ). Covers g l block) same.1 home.2) is k placed in
+        let its = image-write g geometry i block bytes rests within (subst (λ (l : ℕ). Covers g l block) same.1 home.2) is k placed in
         inl (its.0, its.1, home-in (image_lease i) rests is)
     | inr away ↦ inr (λ of. away.1 (same-some home.0 (image_lease i) (sym home.1 ∙ write-covered g geometry k block bytes rests placed (image_lease i) (of-covers g i block within of))))
   ]

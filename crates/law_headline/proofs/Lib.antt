@@ -31,3 +31,4 @@ pub mod PlacedByKind
 pub mod Replied
 pub mod StoredFacts
 pub mod WaitsByKind
+pub mod TreeRules

@@ -8,7 +8,7 @@ use Rattle.plx_commands.specs.Replies.{is_in}
 use Rattle.plx_extent.proofs.EmptyMaps.{is_map-empty, map_bytes-empty}
 use Rattle.plx_extent.proofs.Maps.{holds-map}
 use Rattle.plx_extent.specs.Maps.{IsMap, HoldsMap, bits_of, map_bytes, empty_bits}
-use Rattle.plx_geom.proofs.Places.{lease-map, record-map, map-data, map-descriptor}
+use Rattle.plx_geom.proofs.Places.{lease-map, record-map, map-data, map-descriptor, map-pool}
 use Rattle.plx_geom.specs.Geometry.{Geometry, map_at}
 use Rattle.plx_rules.specs.Formatted.{empty_map}
 use Rattle.plx_rules.specs.Space.{is_own_set, read_map, with_set, with_clear}
@@ -72,6 +72,9 @@ map-write g extent kind.Release block bytes rests placed here spells = absurd (l
 map-write g extent kind.Take block bytes rests placed here spells = spells
 map-write g extent kind.Give block bytes rests placed here spells = spells
 map-write g extent kind.Sweep block bytes rests placed here spells = spells
+map-write g extent kind.Fresh block bytes rests placed here spells = absurd (map-pool g extent placed.0 placed.1 placed.2.bit_low placed.2.bit_high (here ∙ placed.2.here))
+map-write g extent kind.Link block bytes rests placed here spells = absurd (map-pool g extent placed.2.0 placed.2.1 placed.2.2.bit_low placed.2.2.bit_high (here ∙ placed.2.2.here))
+map-write g extent kind.Overwrite block bytes rests placed here spells = absurd (map-pool g extent placed.2.0 placed.2.1 placed.2.2.bit_low placed.2.2.bit_high (here ∙ placed.2.2.here))
 map-write g extent kind.Record block bytes rests placed here spells = absurd (record-map g placed.0 extent placed.1 (sym (here ∙ placed.2)))
 map-write g extent kind.JData block bytes rests placed here spells = absurd (map-data g extent placed.0 placed.1 placed.2 placed.3 (here ∙ placed.4))
 map-write g extent kind.JCommit block bytes rests placed here spells = absurd (map-descriptor g extent placed.0 placed.1 placed.2 placed.3 (here ∙ placed.4))

@@ -6,6 +6,7 @@
 
 ghost use Rattle.law_headline.specs.Crashes.{CrashesLeaveFreshBoots};
 ghost use Rattle.plx_rules.specs.Headline.{HeadlineOfAll, NeverDamaged};
+ghost use Rattle.law_tree.specs.Laws.{OneLevel, OnePath, ReachableAllocated};
 ghost use Rattle.plx_rules.specs.Pools.{MapsStay};
 
 /// Every world that events lead to meets the headline: its trace tells of its possible starts and
@@ -28,4 +29,12 @@ pub fn crash_leaves_a_fresh_boot()
 /// The block of each extent's map holds a map, in every world that events lead to.
 pub fn maps_stay()
     ensures { MapsStay }
+{}
+
+/// Each block that a path from a root reaches is allocated, in every world that events lead to; it has one
+/// level, and one on a marked path is on no other.
+pub fn reachable_blocks_are_allocated()
+    ensures allocated { ReachableAllocated }
+    ensures level { OneLevel }
+    ensures single { OnePath }
 {}

@@ -1,6 +1,6 @@
 -- What is open after an event was open before, and what the landing of a sector leaves alone, as each lease sees it.
 use Rattle.std.proofs.Common.{◌≡◌, ◌≢◌, ℕ, zero, suc, ◌+◌, ◌≤◌, ◌<◌, ◌⊎◌, inl, inr, List, [], ◌∷◌, ◌++◌, Bool, true, false, Option, Some, None, refl, ap, sym, subst, ◌∙◌, arith, length, slice_set}
-use Rattle.std.specs.Prelude.{slice_get, ◌==◌}
+use Rattle.std.specs.Prelude.{slice_get, ◌==◌, ◌||◌}
 use Rattle.std.proofs.lemmas.Bool.Decides.{eqb_tells}
 use Rattle.std.proofs.lemmas.Option.{slice_get_within}
 use Rattle.plx_base.specs.Sectors.{Device, put, with_landed_sector}
@@ -18,13 +18,13 @@ use Rattle.plx_geom.specs.Geometry.{Geometry, lease_count, lease_at, root_lease,
 use Rattle.plx_rules.specs.Boot.{Position, position}
 use Rattle.plx_rules.specs.Holds.{Held}
 use Rattle.plx_rules.specs.Owners.{pending_write, first_landed, is_set}
-use Rattle.plx_rules.specs.Rests.{IsUnder, home_of}
+use Rattle.plx_rules.specs.Rests.{IsUnder, extent_of, extents_of, home_of}
 use Rattle.plx_rules.specs.Settings.{boot_number}
 use Rattle.plx_rules.specs.World.{World, Seat, setting_at}
-use Rattle.law_lease.proofs.Covers.{Covers, lease-uncovered, home-covers, write-covered}
+use Rattle.law_lease.proofs.Covers.{Covers, lease-uncovered, pool-uncovered, home-covers, write-covered}
 use Rattle.law_lease.proofs.LeaseFrames.{grip-open, grip_while-open, grip_while-away}
 use Rattle.law_lease.proofs.LeaseLands.{MayBeAsked, unlanded-before, asked-may, grip-asked, first-set, pending-other, not-whole}
-use Rattle.law_lease.proofs.Leased.{IsPlaced, IsAskedAt, IsRight, Unlanded, grip_while, grip_at, Leased}
+use Rattle.law_lease.proofs.Leased.{AreWithin, IsPlaced, IsAskedAt, IsRight, Unlanded, grip_while, grip_at, Leased}
 use Rattle.law_lease.proofs.Lists.{pending-is, push-cases}
 use Rattle.law_lease.proofs.Open.{GripsLease, IsOpen, open-found, open-alone, lands-open}
 use Rattle.law_lease.proofs.Rests.{either-in, home-in, rests-home, needs-before, needs-last}
@@ -57,6 +57,22 @@ pub record Frame (g : Geometry) (rests : ℕ → List ℕ) (appliances time : �
 alone-within : (g : Geometry) (lease home : ℕ) (rests : List ℕ) → home < lease_count g → rests ≡ home ∷ [] → is_in lease rests ≡ true → lease < lease_count g
 alone-within g lease home rests within all under = subst (λ (l : ℕ). l < lease_count g) (sym (rests-home lease home rests all under)) within
 
+-- one that rests on an image's lease and on those of the extents of some blocks
+linked-within : (g : Geometry) (lease : ℕ) (named : List ℕ) → AreWithin g named → is_in lease (extents_of g named) ≡ true → lease < lease_count g
+linked-within g lease [] within under = absurd (let P : ⊥ = cc in P)
+linked-within g lease (block ∷ blocks) within under = elim (eqb_tells lease (extent_lease g (extent_of g block))) [
+  | inl here ↦ (let b = extent-below g (extent_of g block) within.0 in subst (λ (l : ℕ). l < lease_count g) (sym here.1) b)
+  | inr away ↦ linked-within g lease blocks within.1 (subst (λ (t : Bool). (t || is_in lease (extents_of g blocks)) ≡ true) away.0 under)
+]
+
+link-within : (g : Geometry) (lease image : ℕ) (named rests : List ℕ) → image < g.images → AreWithin g named → rests ≡ image_lease image ∷ extents_of g named → is_in lease rests ≡ true → lease < lease_count g
+link-within g lease image named rests below within all under = elim (eqb_tells lease (image_lease image)) [
+  | inl here ↦ (let b = image-below g image below in subst (λ (l : ℕ). l < lease_count g) (sym here.1) b)
+  | inr away ↦
+      let P : List ℕ → Type 0 = λ l. is_in lease l ≡ true in
+      linked-within g lease named within (subst (λ (t : Bool). (t || is_in lease (extents_of g named)) ≡ true) away.0 (subst P all under))
+]
+
 -- what each kind shows of its landing: where a lease covers its block, each of its sectors may change something
 covered-unlanded : (g : Geometry) (lease : ℕ) (k : WriteKind) (block : ℕ) (bytes rests : List ℕ) (flags : List Bool) → Covers g lease block → IsPlaced g k block bytes rests → flags ≢ all_sectors → Unlanded k flags
 covered-unlanded g lease kind.Claim block bytes rests flags covers placed missing = absurd (lease-uncovered g lease block placed.0 placed.1 placed.2 covers)
@@ -77,6 +93,9 @@ placed-within g lease kind.Sweep block bytes rests placed under =
       | inl home ↦ (let b = extent-below g placed.0 placed.1 in subst (λ (l : ℕ). l < lease_count g) (sym home) b)
       | inr root ↦ omega (arith, root)
     ]
+placed-within g lease kind.Fresh block bytes rests placed under = alone-within g lease (extent_lease g placed.0) rests (extent-below g placed.0 placed.2.extent_high) placed.3 under
+placed-within g lease kind.Link block bytes rests placed under = link-within g lease placed.0 placed.3.0 rests placed.1 placed.3.1 placed.3.2 under
+placed-within g lease kind.Overwrite block bytes rests placed under = alone-within g lease (image_lease placed.0) rests (image-below g placed.0 placed.1) placed.3 under
 placed-within g lease kind.Record block bytes rests placed under = alone-within g lease (image_lease placed.0) rests (image-below g placed.0 placed.1) placed.3 under
 placed-within g lease kind.JData block bytes rests placed under = alone-within g lease (image_lease placed.0) rests (image-below g placed.0 placed.2) placed.5 under
 placed-within g lease kind.JCommit block bytes rests placed under = alone-within g lease (image_lease placed.0) rests (image-below g placed.0 placed.2) placed.5 under
@@ -316,7 +335,8 @@ module _ (w : World) (leased : Leased w) (number sector : ℕ) (write : Issued) 
   sees : (lease : ℕ) → lease < lease_count g → (IsAtHome g w.rests w.appliances time writes w.seats number write lease) ⊎ (IsAway g device after write.block lease)
   sees lease within = elim (home-covers g write.kind write.block write.bytes (w.rests number) right.placed) [
     | inl at ↦ inr (is-away (lease-uncovered g lease write.block at.0 at.1 at.2))
-    | inr home ↦ elim (eqb_tells home.0 lease) [
+    | inr (inr pool) ↦ inr (is-away (pool-uncovered g leased.geometry lease pool.0 pool.1 write.block pool.2))
+    | inr (inl home) ↦ elim (eqb_tells home.0 lease) [
       | inl same ↦
           let covers : Covers g lease write.block = subst (λ (l : ℕ). Covers g l write.block) same.1 home.2 in
           let is : home_of (w.rests number) ≡ Some lease = home.1 ∙ ap Some same.1 in

@@ -274,6 +274,7 @@ module _ (g : Geometry) (rests : ℕ → List ℕ) (appliances time : ℕ) (devi
     done-of kind.Take leases may good = good
     done-of kind.Give leases may good = good
     done-of kind.Sweep leases may good = good
+    done-of kind.Fresh leases may good = good
     done-of kind.Record leases may good = good
     done-of kind.JData leases may good = good
     done-of kind.JCommit leases may good = good

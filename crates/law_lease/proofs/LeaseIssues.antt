@@ -276,6 +276,7 @@ module _ (g : Geometry) (rests : ℕ → List ℕ) (appliances time : ℕ) (devi
     issue-of kind.Take is may = issue-use kind.Take is may (λ k. let P : ⊥ = cc in P) (λ c u limits. tt)
     issue-of kind.Give is may = issue-use kind.Give is may (λ k. let P : ⊥ = cc in P) (λ c u limits. tt)
     issue-of kind.Sweep is may = issue-use kind.Sweep is may (λ k. let P : ⊥ = cc in P) (λ c u limits. tt)
+    issue-of kind.Fresh is may = issue-use kind.Fresh is may (λ k. let P : ⊥ = cc in P) (λ c u limits. tt)
     issue-of kind.Record is may = issue-use kind.Record is may (λ k. let P : ⊥ = cc in P) (λ c u limits. tt)
     issue-of kind.JData is may = issue-use kind.JData is may (λ k. let P : ⊥ = cc in P) (λ c u limits. tt)
     issue-of kind.JCommit is may = issue-use kind.JCommit is may (λ k. let P : ⊥ = cc in P) (λ c u limits. tt)

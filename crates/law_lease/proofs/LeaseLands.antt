@@ -28,7 +28,7 @@ use Rattle.plx_gate.proofs.Leases.{lease-back, lease-same}
 use Rattle.law_lease.proofs.LeaseSectors.{sector-first, sector-past}
 use Rattle.law_lease.proofs.LeaseFrames.{Shrinks, good-shrinks, good-changed, claim-alone, claim-clears, renew-clears, grip_while-open, grip_while-away}
 use Rattle.law_lease.proofs.Leased.{MayIssue, LawfulAt, Unlanded, IsLiveWrite, NoneLive, IsBacked, IsOfKind, SparesLease, IsClaimWrite, Good, grip_while, grip_at, GoodSeat, LeaseOn, IsPlaced, IsRight, IsAskedAt, IsLawfulSeat}
-use Rattle.plx_geom.proofs.Places.{lease-lease, lease-data, lease-descriptor, lease-map, lease-record}
+use Rattle.plx_geom.proofs.Places.{lease-lease, lease-data, lease-descriptor, lease-map, lease-pool, lease-record}
 
 -- a missing flag of a write on which one more sector has landed was missing before
 pub unlanded-before : (kind : WriteKind) (flags : List Bool) (k : ℕ) → slice_get flags k ≡ Some false → Unlanded kind (slice_set flags k true) → Unlanded kind flags
@@ -430,6 +430,9 @@ module _ (g : Geometry) (rests : ℕ → List ℕ) (appliances time : ℕ) (devi
   land-of kind.Take s is at placed = land-away (λ e. lease-map g lease placed.0 within (e ∙ placed.2))
   land-of kind.Give s is at placed = land-away (λ e. lease-map g lease placed.0 within (e ∙ placed.2))
   land-of kind.Sweep s is at placed = land-away (λ e. lease-map g lease placed.0 within (e ∙ placed.2))
+  land-of kind.Fresh s is at placed = land-away (λ e. lease-pool g lease placed.0 placed.1 within (e ∙ placed.2.here))
+  land-of kind.Link s is at placed = land-away (λ e. lease-pool g lease placed.2.0 placed.2.1 within (e ∙ placed.2.2.here))
+  land-of kind.Overwrite s is at placed = land-away (λ e. lease-pool g lease placed.2.0 placed.2.1 within (e ∙ placed.2.2.here))
   land-of kind.Record s is at placed = land-away (λ e. lease-record g lease placed.0 within (e ∙ placed.2))
   land-of other s is at placed = absurd placed
 

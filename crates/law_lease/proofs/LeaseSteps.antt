@@ -142,12 +142,12 @@ module _ (w : World) (leased : Leased w) (a : ℕ) (below : a < w.appliances) (t
   }
 
   -- an ask was answered
-  went-leased : (log : List Happening) (known : Known) (command : Command) (holds : ℕ → Hold) (hand : List ℕ) (sample : Option ℕ) (found : Option (ℕ × List ℕ)) (part : Part End) →
-      position setting log ≡ goes_to g known command holds hand sample found part →
+  went-leased : (log : List Happening) (known : Known) (command : Command) (holds : ℕ → Hold) (hand : List ℕ) (filled : List (ℕ × List ℕ)) (sample : Option ℕ) (found : Option (ℕ × List ℕ)) (part : Part End) →
+      position setting log ≡ goes_to g known command holds hand filled sample found part →
       ((lease : ℕ) (within : lease < lease_count g) → Good w.rests time writes lease (leased.on lease within).standing boot None (holds (lease_at lease))) →
       LawfulRest g boot command holds sample part → ((s : ℕ) → sample ≡ Some s → s ≤ time + 50) → Leased (with-log log)
-  went-leased log known command holds hand sample found part leads good lawful sampled =
-      log-leased log (goes_to g known command holds hand sample found part) leads
+  went-leased log known command holds hand filled sample found part leads good lawful sampled =
+      log-leased log (goes_to g known command holds hand filled sample found part) leads
       (λ lease within. good-part w.rests time writes lease (leased.on lease within).standing boot part holds (lease_at lease) (good lease within))
       (lawful-placed g boot known command holds sample part lawful) sampled
 
@@ -176,7 +176,7 @@ module _ (w : World) (leased : Leased w) (a : ℕ) (below : a < w.appliances) (t
       Leased (with-log (Asked ask.Clock [] (answer.Reading reading) ∷ seat.log))
   begin-leased known command reading here is =
       let free = not-waiting g time writes a seat (Begins known command) (leased.seated a below) here (λ b x no'. no') in
-      went-leased (Asked ask.Clock [] (answer.Reading reading) ∷ seat.log) known command (after_first g known reading p.holds) _ (Some reading) _
+      went-leased (Asked ask.Clock [] (answer.Reading reading) ∷ seat.log) known command (after_first g known reading p.holds) _ [] (Some reading) _
       (first_part setting known reading command p)
       (ap (went_on setting ask.Clock [] (answer.Reading reading) p) here)
       (λ lease within. good-first w.rests time writes lease (leased.on lease within).standing boot (session_at g known (lease_at lease)) reading (p.holds (lease_at lease))
@@ -191,7 +191,7 @@ module _ (w : World) (leased : Leased w) (a : ℕ) (below : a < w.appliances) (t
         let free = not-waiting g time writes a seat _ (leased.seated a below) here (λ b x no'. no') in
         let bytes = w.surface.device block in
         went-leased (Asked (ask.Read (record { 0 = block })) [] (answer.Bytes bytes) ∷ seat.log) known command
-        (after_answer p.sample (ask.Read (record { 0 = block })) [] (answer.Bytes bytes) p.holds) _ None _ (rest bytes)
+        (after_answer p.sample (ask.Read (record { 0 = block })) [] (answer.Bytes bytes) p.holds) _ _ None _ (rest bytes)
         (ap (went_on setting (ask.Read (record { 0 = block })) [] (answer.Bytes bytes) p) here)
         (λ lease within. good-read g w.rests w.appliances time w.surface.device writes w.seats lease (leased.on lease within) a below free (leased.seated a below).sampled block)
         ((lawful-at (In known command (ReadThen block rest fault)) here).0 bytes)
@@ -201,7 +201,7 @@ module _ (w : World) (leased : Leased w) (a : ℕ) (below : a < w.appliances) (t
         Leased (with-log (Asked (ask.Read (record { 0 = block })) [] answer.Fault ∷ seat.log))
     fault-leased block rest fault here =
         let free = not-waiting g time writes a seat _ (leased.seated a below) here (λ b x no'. no') in
-        went-leased (Asked (ask.Read (record { 0 = block })) [] answer.Fault ∷ seat.log) known command p.holds _ None _ fault
+        went-leased (Asked (ask.Read (record { 0 = block })) [] answer.Fault ∷ seat.log) known command p.holds _ _ None _ fault
         (ap (went_on setting (ask.Read (record { 0 = block })) [] answer.Fault p) here)
         (λ lease within. good-free g w.rests w.appliances time w.surface.device writes w.seats lease (leased.on lease within) a below free)
         (lawful-at (In known command (ReadThen block rest fault)) here).1
@@ -211,7 +211,7 @@ module _ (w : World) (leased : Leased w) (a : ℕ) (below : a < w.appliances) (t
         Leased (with-log (Asked ask.Clock [] (answer.Reading reading) ∷ seat.log))
     clock-leased rest reading here is =
         let free = not-waiting g time writes a seat _ (leased.seated a below) here (λ b x no'. no') in
-        went-leased (Asked ask.Clock [] (answer.Reading reading) ∷ seat.log) known command (λ block. hold_after_reading reading (p.holds block)) _ (Some reading) _ (rest reading)
+        went-leased (Asked ask.Clock [] (answer.Reading reading) ∷ seat.log) known command (λ block. hold_after_reading reading (p.holds block)) _ _ (Some reading) _ (rest reading)
         (ap (went_on setting ask.Clock [] (answer.Reading reading) p) here)
         (λ lease within. good-timed w.rests time writes lease (leased.on lease within).standing boot reading (p.holds (lease_at lease)) is.early
         (good-free g w.rests w.appliances time w.surface.device writes w.seats lease (leased.on lease within) a below free))
@@ -222,7 +222,7 @@ module _ (w : World) (leased : Leased w) (a : ℕ) (below : a < w.appliances) (t
         Leased (with-log (Asked (ask.Until from) [] (answer.Reading reading) ∷ seat.log))
     wait-leased from rest reading here is past =
         let free = not-waiting g time writes a seat _ (leased.seated a below) here (λ b x no'. no') in
-        went-leased (Asked (ask.Until from) [] (answer.Reading reading) ∷ seat.log) known command (λ block. hold_after_reading reading (p.holds block)) _ (Some reading) _ (rest reading)
+        went-leased (Asked (ask.Until from) [] (answer.Reading reading) ∷ seat.log) known command (λ block. hold_after_reading reading (p.holds block)) _ _ (Some reading) _ (rest reading)
         (ap (went_on setting (ask.Until from) [] (answer.Reading reading) p) here)
         (λ lease within. good-timed w.rests time writes lease (leased.on lease within).standing boot reading (p.holds (lease_at lease)) is.early
         (good-free g w.rests w.appliances time w.surface.device writes w.seats lease (leased.on lease within) a below free))
@@ -234,13 +234,13 @@ module _ (w : World) (leased : Leased w) (a : ℕ) (below : a < w.appliances) (t
         (here : p.place ≡ In known command (WriteThen what block bytes guard done fault missed)) where
       pub write-fault-leased : Leased (with-log (Asked (ask.Write what (record { 0 = block }) guard) bytes answer.Fault ∷ seat.log))
       write-fault-leased =
-          went-leased (Asked (ask.Write what (record { 0 = block }) guard) bytes answer.Fault ∷ seat.log) known command no_holds _ None _ fault
+          went-leased (Asked (ask.Write what (record { 0 = block }) guard) bytes answer.Fault ∷ seat.log) known command no_holds _ _ None _ fault
           (ap (went_on setting (ask.Write what (record { 0 = block }) guard) bytes answer.Fault p) here)
           (λ lease within. tt) (lawful-at _ here).2 (λ s e. absurd (none-some s e))
 
       pub miss-leased : (reading : ℕ) → Leased (with-log (Asked (ask.Write what (record { 0 = block }) guard) bytes (answer.Missed reading) ∷ seat.log))
       miss-leased reading =
-          went-leased (Asked (ask.Write what (record { 0 = block }) guard) bytes (answer.Missed reading) ∷ seat.log) known command no_holds _ None _ (missed reading)
+          went-leased (Asked (ask.Write what (record { 0 = block }) guard) bytes (answer.Missed reading) ∷ seat.log) known command no_holds _ _ None _ (missed reading)
           (ap (went_on setting (ask.Write what (record { 0 = block }) guard) bytes (answer.Missed reading) p) here)
           (λ lease within. tt) ((lawful-at _ here).3 reading) (λ s e. absurd (none-some s e))
 
@@ -253,7 +253,7 @@ module _ (w : World) (leased : Leased w) (a : ℕ) (below : a < w.appliances) (t
           let all : write.landed ≡ all_sectors = ap (λ (x : Issued). x.landed) (sym same) ∙ landed.2 in
           let P : Place → Type 0 = λ q. IsAskedAt q boot write in
           let asked' = subst P here asked.2 in
-          went-leased (Asked (ask.Write what (record { 0 = block }) guard) bytes answer.Done ∷ seat.log) known command (after_write what block bytes p.holds) _ None _ done
+          went-leased (Asked (ask.Write what (record { 0 = block }) guard) bytes answer.Done ∷ seat.log) known command (after_write what block bytes p.holds) _ _ None _ done
           (ap (went_on setting (ask.Write what (record { 0 = block }) guard) bytes answer.Done p) here)
           (λ lease within.
           let good = good-written g w.rests w.appliances time w.surface.device writes w.seats lease (leased.on lease within) a below leased.few (leased.seated a below).boots n write waited asked.1 all asked.2
@@ -273,6 +273,7 @@ placed-may g b holds rests kind.Release block bytes guard may = (may.lease, may.
 placed-may g b holds rests kind.Take block bytes guard may = may.placed
 placed-may g b holds rests kind.Give block bytes guard may = may.placed
 placed-may g b holds rests kind.Sweep block bytes guard may = may.placed
+placed-may g b holds rests kind.Fresh block bytes guard may = may.placed
 placed-may g b holds rests kind.Record block bytes guard may = may.placed
 placed-may g b holds rests kind.JData block bytes guard may = may.placed
 placed-may g b holds rests kind.JCommit block bytes guard may = may.placed

@@ -14,16 +14,21 @@ use Rattle.plx_rules.specs.Part.{Part, Ends, ReadThen, WriteThen, ClockThen, Unt
 use Rattle.plx_rules.specs.Boot.{Place, Idle, Begins, In, Position, position}
 use Rattle.plx_rules.specs.Claims.{claim_of}
 use Rattle.plx_rules.specs.Commands.{IsWellFormed}
-use Rattle.plx_rules.specs.Rests.{IsUnder, rests_on}
+use Rattle.plx_rules.specs.Rests.{IsUnder, extent_of, extents_of, rests_on}
 use Rattle.plx_commands.specs.Replies.{is_in}
 use Rattle.plx_commands.specs.declared.command.Command.{Command}
-use Rattle.plx_geom.specs.Geometry.{Geometry, IsGeometry, lease_count, root_lease, image_lease, extent_lease, map_at, record_at, lease_at, descriptor_at, data_at}
+use Rattle.plx_geom.specs.Geometry.{Geometry, IsGeometry, IsPoolBlock, lease_count, root_lease, image_lease, extent_lease, map_at, record_at, lease_at, descriptor_at, data_at}
 use Rattle.plx_rules.specs.Holds.{Hold, Nothing, Seen, Wrote, Waited, Held, no_holds, after_answer, after_write, hold_after_renewal, hold_after_reading}
 use Rattle.plx_gate.specs.Leases.{lease_bytes, read_lease, IsLease, IsClaimed}
 use Rattle.plx_rules.specs.Owners.{first_landed, pending_write}
 use Rattle.plx_rules.specs.Settings.{boot_number}
 use Rattle.plx_rules.specs.Times.{window, term}
 use Rattle.plx_rules.specs.World.{World, Seat, setting_at}
+
+-- blocks lie in extents that there are
+abbrev pub AreWithin : Geometry → List ℕ → Type 0
+AreWithin g [] = Unit {0}
+AreWithin g (block ∷ blocks) = (extent_of g block < g.extents) × AreWithin g blocks
 
 -- a write is where its kind may be, and rests on these leases, its home first
 abbrev pub IsPlaced : Geometry → WriteKind → ℕ → List ℕ → (rests : List ℕ) → Type 0
@@ -36,6 +41,11 @@ IsPlaced g kind.Release block bytes rests =
 IsPlaced g kind.Take block bytes rests = (extent : ℕ) × (extent < g.extents) × (block ≡ map_at g extent) × (rests ≡ extent_lease g extent ∷ [])
 IsPlaced g kind.Give block bytes rests = (extent : ℕ) × (extent < g.extents) × (block ≡ map_at g extent) × (rests ≡ extent_lease g extent ∷ [])
 IsPlaced g kind.Sweep block bytes rests = (extent : ℕ) × (extent < g.extents) × (block ≡ map_at g extent) × (rests ≡ extent_lease g extent ∷ root_lease ∷ [])
+IsPlaced g kind.Fresh block bytes rests = (extent : ℕ) × (bit : ℕ) × IsPoolBlock g extent bit block × (rests ≡ extent_lease g extent ∷ [])
+IsPlaced g kind.Link block bytes rests =
+    (image : ℕ) × (image < g.images) × ((extent : ℕ) × (bit : ℕ) × IsPoolBlock g extent bit block) × ((named : List ℕ) × AreWithin g named × (rests ≡ image_lease image ∷ extents_of g named))
+IsPlaced g kind.Overwrite block bytes rests =
+    (image : ℕ) × (image < g.images) × ((extent : ℕ) × (bit : ℕ) × IsPoolBlock g extent bit block) × (rests ≡ image_lease image ∷ [])
 IsPlaced g kind.Record block bytes rests = (image : ℕ) × (image < g.images) × (block ≡ record_at g image) × (rests ≡ image_lease image ∷ [])
 IsPlaced g kind.JData block bytes rests =
     (image : ℕ) × (slot : ℕ) × (image < g.images) × (slot < g.slots) × (block ≡ data_at g image slot) × (rests ≡ image_lease image ∷ [])
@@ -106,6 +116,7 @@ MayIssue g boot holds rests kind.Release block bytes guard = MayRelease g holds 
 MayIssue g boot holds rests kind.Take block bytes guard = MayUse g holds rests kind.Take block bytes guard
 MayIssue g boot holds rests kind.Give block bytes guard = MayUse g holds rests kind.Give block bytes guard
 MayIssue g boot holds rests kind.Sweep block bytes guard = MayUse g holds rests kind.Sweep block bytes guard
+MayIssue g boot holds rests kind.Fresh block bytes guard = MayUse g holds rests kind.Fresh block bytes guard
 MayIssue g boot holds rests kind.Record block bytes guard = MayUse g holds rests kind.Record block bytes guard
 MayIssue g boot holds rests kind.JData block bytes guard = MayUse g holds rests kind.JData block bytes guard
 MayIssue g boot holds rests kind.JCommit block bytes guard = MayUse g holds rests kind.JCommit block bytes guard

@@ -18,7 +18,7 @@ use Rattle.law_run.proofs.Runs as runs
 use Rattle.law_run.proofs.Runs.{BeginsRight, runs-keep}
 use Rattle.law_run.proofs.Writing.{write-begins}
 
-begins-right : (s : Setting) → IsSetting s → BeginsRight s
+pub begins-right : (s : Setting) → IsSetting s → BeginsRight s
 begins-right s is before known (Attach slot) reading formed built older rests small =
     let r = attach-begins s is.boot before known slot reading rests in (r.0, (let b = r.1 in omega arith), r.2)
 begins-right s is before known (Detach slot) reading formed built older rests small = (1, omega arith, detach-begins s before known slot reading rests)

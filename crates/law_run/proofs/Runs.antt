@@ -12,7 +12,7 @@ use Rattle.plx_rules.specs.Boot as boot
 use Rattle.plx_rules.specs.Boot.{Happening, Place, Idle, Begins, In, Position, position, goes_to, place_after_begin, went_on, asks, writes_out, reply_of, replies_at, Fits, IsRun}
 use Rattle.plx_rules.specs.Commands.{IsBuilt, IsWellFormed, command_part}
 use Rattle.plx_rules.specs.Ends.{End}
-use Rattle.plx_rules.specs.Hands.{found_by, hand_answered, hand_held}
+use Rattle.plx_rules.specs.Hands.{found_by, filled_answered, hand_answered, hand_held}
 use Rattle.plx_rules.specs.Holds.{Hold, Nothing, Seen, Wrote, Waited, Held, after_answer, sample_of, holds_after_reply, first_hold, after_first}
 use Rattle.plx_rules.specs.Session.{Session, Known}
 use Rattle.plx_rules.specs.Settings.{Setting}
@@ -129,32 +129,32 @@ abbrev pub AgreeAt : Setting → Position → Commands → Type 0
 AgreeAt s p commands = Agree s p.holds p.hand p.sample p.found p.place commands
 
 -- an answered ask is one more exchange
-along : (s : Setting) (log : CommandLog) (x : Exchange) (known : Known) (command : Command) (holds : ℕ → Hold) (hand : List ℕ) (part : Part End) (left : ℕ) → AllKept s log.before → Rests s log.before known →
+along : (s : Setting) (log : CommandLog) (x : Exchange) (known : Known) (command : Command) (holds : ℕ → Hold) (hand : List ℕ) (filled : List (ℕ × List ℕ)) (part : Part End) (left : ℕ) → AllKept s log.before → Rests s log.before known →
     AllAllowed s log.before log.command log.exchanges → MayAsk s log x.ask x.bytes → Right s log.before log.command (x ∷ log.exchanges) part left →
     length log.exchanges + suc left ≤ bound s log.before log.command →
     holds ≡ holds_along s.geometry (is_attached log.before) (holds_after s.geometry log.before) (x ∷ log.exchanges) →
     hand ≡ hand_told s.geometry (is_attached log.before) (holds_after s.geometry log.before) (hand_after s.geometry log.before) (x ∷ log.exchanges) →
-    AgreeAt s (goes_to s.geometry known command holds hand (sample_of x.answer) (found_by x.ask x.answer) part) (commands_after_exchange x (reply_of part) (Within log))
-along s log x known command holds hand (Ends end) left older rests allowed may right bounded same told =
+    AgreeAt s (goes_to s.geometry known command holds hand filled (sample_of x.answer) (found_by x.ask x.answer) part) (commands_after_exchange x (reply_of part) (Within log))
+along s log x known command holds hand filled (Ends end) left older rests allowed may right bounded same told =
     ((record { allowed = (may, allowed); replied = right.0; bounded = omega arith }, older), right.1, ap (holds_after_reply end.reply) same, λ i. hand_held s.geometry (holds_after_reply end.reply (same i)) (told i))
-along s log x known command holds hand (ReadThen block rest fault) left older rests allowed may right bounded same told =
+along s log x known command holds hand filled (ReadThen block rest fault) left older rests allowed may right bounded same told =
     (record { older = older; allowed = (may, allowed); left = left; right = right; bounded = omega arith }, same, refl, tt, rests, λ i. hand_held s.geometry (same i) (told i), refl)
-along s log x known command holds hand (WriteThen kind block bytes guard done fault missed) left older rests allowed may right bounded same told =
+along s log x known command holds hand filled (WriteThen kind block bytes guard done fault missed) left older rests allowed may right bounded same told =
     (record { older = older; allowed = (may, allowed); left = left; right = right; bounded = omega arith }, same, refl, tt, rests, λ i. hand_held s.geometry (same i) (told i), refl)
-along s log x known command holds hand (ClockThen rest) left older rests allowed may right bounded same told =
+along s log x known command holds hand filled (ClockThen rest) left older rests allowed may right bounded same told =
     (record { older = older; allowed = (may, allowed); left = left; right = right; bounded = omega arith }, same, refl, tt, rests, λ i. hand_held s.geometry (same i) (told i), refl)
-along s log x known command holds hand (UntilThen from rest) left older rests allowed may right bounded same told =
+along s log x known command holds hand filled (UntilThen from rest) left older rests allowed may right bounded same told =
     (record { older = older; allowed = (may, allowed); left = left; right = right; bounded = omega arith }, same, refl, tt, rests, λ i. hand_held s.geometry (same i) (told i), refl)
 
 -- what follows the answer to the ask that stands
-follows : (s : Setting) (log : CommandLog) (known : Known) (command : Command) (holds : ℕ → Hold) (hand : List ℕ) (sample : Option ℕ) (found : Option (ℕ × List ℕ)) (part : Part End) (a : Ask) (x : Answer) →
+follows : (s : Setting) (log : CommandLog) (known : Known) (command : Command) (holds : ℕ → Hold) (hand : List ℕ) (filled : List (ℕ × List ℕ)) (sample : Option ℕ) (found : Option (ℕ × List ℕ)) (part : Part End) (a : Ask) (x : Answer) →
     Agree s holds hand sample found (In known command part) (Within log) → standing part ≡ Some a → Fits a x →
-    AgreeAt s (goes_to s.geometry known command (after_answer sample a (bytes_out part) x holds) (hand_answered s.geometry found a (bytes_out part) x hand) (sample_of x) (found_by a x) (answered part x))
+    AgreeAt s (goes_to s.geometry known command (after_answer sample a (bytes_out part) x holds) (hand_answered s.geometry found a (bytes_out part) x hand) (filled_answered a (bytes_out part) x filled) (sample_of x) (found_by a x) (answered part x))
     (commands_after_exchange (exchange a (bytes_out part) x) (reply_of (answered part x)) (Within log))
-follows s log known command holds hand sample found part a x agree stands fits =
+follows s log known command holds hand filled sample found part a x agree stands fits =
     let r = agree.0 in
     let next = meets-next (May s log.before log.command) (Shows s log.before log.command) part log.exchanges a r.left r.right stands in
-    along s log (exchange a (bytes_out part) x) known command (after_answer sample a (bytes_out part) x holds) (hand_answered s.geometry found a (bytes_out part) x hand) (answered part x) next.left r.older agree.4 r.allowed next.allowed
+    along s log (exchange a (bytes_out part) x) known command (after_answer sample a (bytes_out part) x holds) (hand_answered s.geometry found a (bytes_out part) x hand) (filled_answered a (bytes_out part) x filled) (answered part x) next.left r.older agree.4 r.allowed next.allowed
     (next.follows x fits) (let within = r.bounded in let fewer = next.fewer in omega arith)
     (ap (λ h. after_answer sample a (bytes_out part) x h) agree.1
     ∙ (ap (λ o. after_answer o a (bytes_out part) x (held_in s log)) agree.2
@@ -165,7 +165,7 @@ follows s log known command holds hand sample found part a x agree stands fits =
 -- where the first reading of a command leads
 abbrev first_at : Setting → CommandLog → Known → Command → (reading : ℕ) → (ℕ → Hold) → List ℕ → Type 0
 first_at s log known command reading holds hand =
-    AgreeAt s (goes_to s.geometry known command holds hand (Some reading) None (command_part s known holds (hand_held s.geometry holds hand) reading command))
+    AgreeAt s (goes_to s.geometry known command holds hand [] (Some reading) None (command_part s known holds (hand_held s.geometry holds hand) reading command))
     (commands_after_exchange (clock reading) (reply_of (command_part s known holds (hand_held s.geometry holds hand) reading command)) (Within log))
 
 -- the first reading of a command
@@ -185,7 +185,7 @@ right-at-first s right log known command holds hand reading b same in_hand small
     let limit : bound s log.before log.command ≡ bound s log.before command = ap (bound s log.before) b.is in
     subst (λ (h : ℕ → Hold). first_at s log known command reading h hand) (sym here)
     (subst (λ (k : List ℕ). first_at s log known command reading (start s log.before reading) k) (sym in_hand)
-    (along s log (clock reading) known command (start s log.before reading) (hand_after s.geometry log.before) part next.0 b.older b.rests
+    (along s log (clock reading) known command (start s log.before reading) (hand_after s.geometry log.before) [] part next.0 b.older b.rests
     (subst Q (sym b.none_yet) tt) (subst (λ done. WentOn done × Unit {0}) (sym b.none_yet) (tt, tt)) moved (let n = next.1 in omega arith)
     (ap (λ done. holds_along s.geometry (is_attached log.before) H (clock reading ∷ done)) (sym b.none_yet))
     (ap (λ done. hand_told s.geometry (is_attached log.before) H (hand_after s.geometry log.before) (clock reading ∷ done)) (sym b.none_yet))))
@@ -214,7 +214,7 @@ goes-on s right p (Begins known command) (Within log) a bytes x agree stands wri
 goes-on s right p (In known command part) (Between before) a bytes x agree stands writes fits = absurd agree
 goes-on s right p (In known command part) (Within log) a bytes x agree stands writes fits =
     let P : List ℕ → Type 0 = λ out. AgreeAt s (went_on s a out x p (In known command part)) (commands_after_exchange (exchange a out x) (reply_of (answered part x)) (Within log)) in
-    subst P writes (follows s log known command p.holds p.hand p.sample p.found part a x agree stands fits)
+    subst P writes (follows s log known command p.holds p.hand p.filled p.sample p.found part a x agree stands fits)
 
 begins : (s : Setting) (holds : ℕ → Hold) (hand : List ℕ) (sample : Option ℕ) (found : Option (ℕ × List ℕ)) (known : Known) (so_far : Commands) (command : Command) → IsWellFormed command → IsBuilt command →
     Agree s holds hand sample found (Idle known) so_far → Agree s holds hand None None (Begins known command) (commands_after_start command so_far)
@@ -222,7 +222,7 @@ begins s holds hand sample found known (Between before) command formed built agr
     (record { older = agree.0; rests = agree.1; is = refl; none_yet = refl; formed = formed; built = built }, agree.2, agree.3)
 begins s holds hand sample found known (Within log) command formed built agree = absurd agree
 
-agrees : (s : Setting) → BeginsRight s → (log : List Happening) → IsRun s log → AgreeAt s (position s log) (commands s log)
+pub agrees : (s : Setting) → BeginsRight s → (log : List Happening) → IsRun s log → AgreeAt s (position s log) (commands s log)
 agrees s right log boot.empty = (tt, record { sessions = λ image. refl; claims = refl }, refl, refl)
 agrees s right log (boot.begins {log = older} {command = command} known run idle formed built) =
     let p = position s older in

@@ -8,7 +8,7 @@ use Rattle.law_run.specs.Worlds.{BootsKeepRules}
 use Rattle.law_run.proofs.Begun.{runs-keep-rules}
 
 -- what each boot is given is within the limits
-given-within : (w : World) → Reached w → (appliance : ℕ) → appliance < w.appliances → IsSetting (setting_of w appliance)
+pub given-within : (w : World) → Reached w → (appliance : ℕ) → appliance < w.appliances → IsSetting (setting_of w appliance)
 given-within w reached appliance below =
     let leased = reached-leased reached in
     let few = leased.few in

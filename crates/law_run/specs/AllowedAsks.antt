@@ -28,6 +28,7 @@ use Rattle.plx_rules.specs.Commands.{later_of}
 use Rattle.plx_rules.specs.Holds.{Wrote}
 use Rattle.plx_rules.specs.Journal.{journal_slot}
 use Rattle.plx_rules.specs.Records.{is_live, generation_of, made_record}
+use Rattle.plx_rules.specs.Rests.{extent_of}
 use Rattle.plx_rules.specs.Settings.{Setting}
 use Rattle.plx_rules.specs.Space.{read_map, free_from, with_set, with_clear}
 use Rattle.plx_rules.specs.Stored.{Given, record_on, IsCounted, IsWriteCount}
@@ -111,6 +112,8 @@ pub data MayWrite (s : Setting) (log : CommandLog) : WriteKind → (block : ℕ)
       extent < s.geometry.extents → block ≡ map_at s.geometry extent → Holds s log (extent_lease s.geometry extent) claim guard → HasRead log block read →
       read_map s.geometry.extent_blocks read ≡ Some bits → ((b : ℕ) → is_in b blocks ≡ true → is_in b (hand_by_log s log.before log.exchanges) ≡ true) →
       bytes ≡ map_bytes (with_clear blocks block bits) → MayWrite s log kind.Give block bytes guard
+  fresh_of_block : {block : ℕ} {bytes : List ℕ} {guard : ℕ} (claim : Claim) → Holds s log (extent_lease s.geometry (extent_of s.geometry block)) claim guard →
+      is_in block (hand_by_log s log.before log.exchanges) ≡ true → MayWrite s log kind.Fresh block bytes guard
 
 -- a wait may be asked for: from 601 ms after the sample of a claim that was written
 pub record MayWait (s : Setting) (log : CommandLog) (from : ℕ) : Type 0 where

@@ -48,7 +48,7 @@ pub record TurnsBlock (w : World) (number sector : ℕ) (write : Issued) (block 
   pub after : is_allocated w.geometry (after_landing w.surface number write sector).device block ≡ bit_of write.bytes (block - map_at w.geometry (extent_of w.geometry block))
 
 -- it changes nothing of a block, or is such a landing
-landing-turns : (w : World) → Reached w → (number sector : ℕ) (write : Issued) → MayLand w.surface number sector write → (block : ℕ) →
+pub landing-turns : (w : World) → Reached w → (number sector : ℕ) (write : Issued) → MayLand w.surface number sector write → (block : ℕ) →
     (is_allocated w.geometry (after_landing w.surface number write sector).device block ≡ is_allocated w.geometry w.surface.device block) ⊎ TurnsBlock w number sector write block
 landing-turns w reached number sector write may block = elim (eqb_tells map write.block) [
   | inr away ↦ inl (ap (λ (x : List ℕ). bit_of x bit) (put-other device write.block (with_landed_sector sector write.bytes (device write.block)) map away.1))

@@ -14,7 +14,7 @@ use Rattle.plx_extent.proofs.Landings.{mixed-bit}
 use Rattle.plx_extent.proofs.Maps.{get_or-bits_of, length-bits_from}
 use Rattle.plx_extent.specs.Landing.{bit_sector}
 use Rattle.plx_extent.specs.Maps.{bit_of, bits_of}
-use Rattle.plx_geom.proofs.Places.{lease-map, map-data, map-descriptor, map-map, record-map}
+use Rattle.plx_geom.proofs.Places.{lease-map, map-data, map-descriptor, map-map, map-pool, record-map}
 use Rattle.plx_geom.specs.Geometry.{Geometry, IsGeometry, extent_lease, root_lease, map_at}
 use Rattle.plx_rules.specs.Hands.{hand_from, hand_written, set_since, blocks_without}
 use Rattle.plx_rules.specs.Rests.{extent_of}
@@ -39,6 +39,9 @@ on-map g geometry kind.Sweep block bytes rests placed extent here = (
   subst (λ (l : List ℕ). is_in (extent_lease g extent) l ≡ true) (sym placed.3)
       (in-either (extent_lease g extent) (extent_lease g placed.0) root_lease (inl (ap (extent_lease g) (map-map g extent placed.0 (let b = geometry.blocks_low in omega arith) (sym here ∙ placed.2))))),
 )
+on-map g geometry kind.Fresh block bytes rests placed extent here = absurd (map-pool g extent placed.0 placed.1 placed.2.bit_low placed.2.bit_high (sym here ∙ placed.2.here))
+on-map g geometry kind.Link block bytes rests placed extent here = absurd (map-pool g extent placed.2.0 placed.2.1 placed.2.2.bit_low placed.2.2.bit_high (sym here ∙ placed.2.2.here))
+on-map g geometry kind.Overwrite block bytes rests placed extent here = absurd (map-pool g extent placed.2.0 placed.2.1 placed.2.2.bit_low placed.2.2.bit_high (sym here ∙ placed.2.2.here))
 on-map g geometry kind.Record block bytes rests placed extent here = absurd (record-map g placed.0 extent placed.1 (sym placed.2 ∙ here))
 on-map g geometry kind.JData block bytes rests placed extent here = absurd (map-data g extent placed.0 placed.1 placed.2 placed.3 (sym here ∙ placed.4))
 on-map g geometry kind.JCommit block bytes rests placed extent here = absurd (map-descriptor g extent placed.0 placed.1 placed.2 placed.3 (sym here ∙ placed.4))

@@ -18,7 +18,7 @@ use Rattle.plx_extent.specs.Maps.{bit_of}
 use Rattle.plx_geom.specs.Geometry.{Geometry, extent_lease, lease_at, map_at}
 use Rattle.plx_rules.specs.Boot.{Happening, Began, Asked, Place, Idle, Begins, In, Position, position, place_of, after_part, goes_to, place_after_begin, first_part, went_on}
 use Rattle.plx_rules.specs.Ends.{End}
-use Rattle.plx_rules.specs.Hands.{hand_from, hand_held, is_held}
+use Rattle.plx_rules.specs.Hands.{filled_done, hand_from, hand_held, is_held}
 use Rattle.plx_rules.specs.Holds.{Hold, Held, no_holds, after_answer, after_write, after_first, session_at, hold_after_reading}
 use Rattle.plx_rules.specs.Owners.{first_landed, pending_write}
 use Rattle.plx_rules.specs.Part.{Part, Ends, ReadThen, WriteThen, ClockThen, UntilThen}
@@ -92,12 +92,12 @@ module _ (w : World) (leased : Leased w) (spaced : Spaced w) (a : ℕ) (below : 
   }
 
   -- an ask was answered
-  went-spaced : (log : List Happening) (known : Known) (command : Command) (holds : ℕ → Hold) (hand : List ℕ) (sample : Option ℕ) (found : Option (ℕ × List ℕ)) (part : Part End) →
-      position setting log ≡ goes_to g known command holds hand sample found part → Careful found part →
+  went-spaced : (log : List Happening) (known : Known) (command : Command) (holds : ℕ → Hold) (hand : List ℕ) (filled : List (ℕ × List ℕ)) (sample : Option ℕ) (found : Option (ℕ × List ℕ)) (part : Part End) →
+      position setting log ≡ goes_to g known command holds hand filled sample found part → Careful found part →
       ((extent : ℕ) → extent < g.extents → (claim : Claim) (until : ℕ) → holds (lease_block g extent) ≡ Held claim until → time ≤ until + 50 → MapKept g extent (map_now extent) None hand found) →
       Spaced (with-log log)
-  went-spaced log known command holds hand sample found part leads careful kept =
-      log-spaced log (goes_to g known command holds hand sample found part) leads (careful-placed found known command part careful)
+  went-spaced log known command holds hand filled sample found part leads careful kept =
+      log-spaced log (goes_to g known command holds hand filled sample found part) leads (careful-placed found known command part careful)
       (λ extent within claim until e live.
       let lease = lease_block g extent in
       let held : holds lease ≡ Held claim until =
@@ -110,7 +110,7 @@ module _ (w : World) (leased : Leased w) (spaced : Spaced w) (a : ℕ) (below : 
   careful-at place here = let P : Place → Type 0 = λ q. CarefulAt p.found q in subst P here (spaced.careful a below)
 
   -- the maps of extents whose leases are held, where no write is waited for
-  kept-free : seat.pending ≡ None → (extent : ℕ) → extent < g.extents → (claim : Claim) (until : ℕ) → p.holds (lease_block g extent) ≡ Held claim until → time ≤ until + 50 →
+  pub kept-free : seat.pending ≡ None → (extent : ℕ) → extent < g.extents → (claim : Claim) (until : ℕ) → p.holds (lease_block g extent) ≡ Held claim until → time ≤ until + 50 →
       MapKept g extent (map_now extent) None p.hand p.found
   kept-free free extent within claim until held live =
       let K : Option ℕ → Type 0 = λ o. KeptAt g time extent (map_now extent) (pending_write writes o) p in
@@ -132,7 +132,7 @@ module _ (w : World) (leased : Leased w) (spaced : Spaced w) (a : ℕ) (below : 
   pub begin-spaced : (known : Known) (command : Command) (reading : ℕ) → p.place ≡ Begins known command → Spaced (with-log (Asked ask.Clock [] (answer.Reading reading) ∷ seat.log))
   begin-spaced known command reading here =
       let free = not-waiting g time writes a seat (Begins known command) (leased.seated a below) here (λ b x no'. no') in
-      went-spaced (Asked ask.Clock [] (answer.Reading reading) ∷ seat.log) known command (after_first g known reading p.holds) p.hand (Some reading) None
+      went-spaced (Asked ask.Clock [] (answer.Reading reading) ∷ seat.log) known command (after_first g known reading p.holds) p.hand [] (Some reading) None
       (first_part setting known reading command p)
       (ap (went_on setting ask.Clock [] (answer.Reading reading) p) here)
       (careful-command setting leased.geometry known (after_first g known reading p.holds) (hand_held g (after_first g known reading p.holds) p.hand) reading command None)
@@ -146,7 +146,7 @@ module _ (w : World) (leased : Leased w) (spaced : Spaced w) (a : ℕ) (below : 
         let free = not-waiting g time writes a seat _ (leased.seated a below) here (λ b x no'. no') in
         let bytes = w.surface.device block in
         went-spaced (Asked (ask.Read (record { 0 = block })) [] (answer.Bytes bytes) ∷ seat.log) known command
-        (after_answer p.sample (ask.Read (record { 0 = block })) [] (answer.Bytes bytes) p.holds) p.hand None (Some (block, bytes)) (rest bytes)
+        (after_answer p.sample (ask.Read (record { 0 = block })) [] (answer.Bytes bytes) p.holds) p.hand p.filled None (Some (block, bytes)) (rest bytes)
         (ap (went_on setting (ask.Read (record { 0 = block })) [] (answer.Bytes bytes) p) here)
         ((careful-at (In known command (ReadThen block rest fault)) here).0 bytes)
         (λ extent within claim until e live.
@@ -166,7 +166,7 @@ module _ (w : World) (leased : Leased w) (spaced : Spaced w) (a : ℕ) (below : 
         Spaced (with-log (Asked (ask.Read (record { 0 = block })) [] answer.Fault ∷ seat.log))
     fault-spaced block rest fault here =
         let free = not-waiting g time writes a seat _ (leased.seated a below) here (λ b x no'. no') in
-        went-spaced (Asked (ask.Read (record { 0 = block })) [] answer.Fault ∷ seat.log) known command p.holds p.hand None None fault
+        went-spaced (Asked (ask.Read (record { 0 = block })) [] answer.Fault ∷ seat.log) known command p.holds p.hand p.filled None None fault
         (ap (went_on setting (ask.Read (record { 0 = block })) [] answer.Fault p) here)
         (careful-at (In known command (ReadThen block rest fault)) here).1
         (λ extent within claim until e live. kept-since free extent within claim until e live)
@@ -175,7 +175,7 @@ module _ (w : World) (leased : Leased w) (spaced : Spaced w) (a : ℕ) (below : 
         Spaced (with-log (Asked ask.Clock [] (answer.Reading reading) ∷ seat.log))
     clock-spaced rest reading here =
         let free = not-waiting g time writes a seat _ (leased.seated a below) here (λ b x no'. no') in
-        went-spaced (Asked ask.Clock [] (answer.Reading reading) ∷ seat.log) known command (λ block. hold_after_reading reading (p.holds block)) p.hand (Some reading) None (rest reading)
+        went-spaced (Asked ask.Clock [] (answer.Reading reading) ∷ seat.log) known command (λ block. hold_after_reading reading (p.holds block)) p.hand p.filled (Some reading) None (rest reading)
         (ap (went_on setting ask.Clock [] (answer.Reading reading) p) here)
         (careful-at (In known command (ClockThen rest)) here reading)
         (λ extent within claim until e live. kept-since free extent within claim until (timed-held reading (p.holds (lease_block g extent)) claim until e) live)
@@ -184,7 +184,7 @@ module _ (w : World) (leased : Leased w) (spaced : Spaced w) (a : ℕ) (below : 
         Spaced (with-log (Asked (ask.Until from) [] (answer.Reading reading) ∷ seat.log))
     wait-spaced from rest reading here =
         let free = not-waiting g time writes a seat _ (leased.seated a below) here (λ b x no'. no') in
-        went-spaced (Asked (ask.Until from) [] (answer.Reading reading) ∷ seat.log) known command (λ block. hold_after_reading reading (p.holds block)) p.hand (Some reading) None (rest reading)
+        went-spaced (Asked (ask.Until from) [] (answer.Reading reading) ∷ seat.log) known command (λ block. hold_after_reading reading (p.holds block)) p.hand p.filled (Some reading) None (rest reading)
         (ap (went_on setting (ask.Until from) [] (answer.Reading reading) p) here)
         (careful-at (In known command (UntilThen from rest)) here reading)
         (λ extent within claim until e live. kept-since free extent within claim until (timed-held reading (p.holds (lease_block g extent)) claim until e) live)
@@ -194,20 +194,20 @@ module _ (w : World) (leased : Leased w) (spaced : Spaced w) (a : ℕ) (below : 
         (here : p.place ≡ In known command (WriteThen what block bytes guard done fault missed)) where
       pub write-fault-spaced : Spaced (with-log (Asked (ask.Write what (record { 0 = block }) guard) bytes answer.Fault ∷ seat.log))
       write-fault-spaced =
-          went-spaced (Asked (ask.Write what (record { 0 = block }) guard) bytes answer.Fault ∷ seat.log) known command no_holds p.hand None None fault
+          went-spaced (Asked (ask.Write what (record { 0 = block }) guard) bytes answer.Fault ∷ seat.log) known command no_holds p.hand p.filled None None fault
           (ap (went_on setting (ask.Write what (record { 0 = block }) guard) bytes answer.Fault p) here)
           (careful-at _ here).2 (λ extent within claim until e live. nothing-held claim until e)
 
       pub miss-spaced : (reading : ℕ) → Spaced (with-log (Asked (ask.Write what (record { 0 = block }) guard) bytes (answer.Missed reading) ∷ seat.log))
       miss-spaced reading =
-          went-spaced (Asked (ask.Write what (record { 0 = block }) guard) bytes (answer.Missed reading) ∷ seat.log) known command no_holds p.hand None None (missed reading)
+          went-spaced (Asked (ask.Write what (record { 0 = block }) guard) bytes (answer.Missed reading) ∷ seat.log) known command no_holds p.hand p.filled None None (missed reading)
           (ap (went_on setting (ask.Write what (record { 0 = block }) guard) bytes (answer.Missed reading) p) here)
           ((careful-at _ here).3 reading) (λ extent within claim until e live. nothing-held claim until e)
 
       pub done-spaced : (n : ℕ) → seat.pending ≡ Some n → HasLanded w.surface n →
           Spaced (with-log (Asked (ask.Write what (record { 0 = block }) guard) bytes answer.Done ∷ seat.log))
       done-spaced n waited landed =
-          went-spaced (Asked (ask.Write what (record { 0 = block }) guard) bytes answer.Done ∷ seat.log) known command (after_write what block bytes p.holds) (hand_from g p.found what block bytes p.hand) None None done
+          went-spaced (Asked (ask.Write what (record { 0 = block }) guard) bytes answer.Done ∷ seat.log) known command (after_write what block bytes p.holds) (hand_from g p.found what block bytes p.hand) (filled_done what block bytes p.filled) None None done
           (ap (went_on setting (ask.Write what (record { 0 = block }) guard) bytes answer.Done p) here)
           (careful-at _ here).1 kept
         where

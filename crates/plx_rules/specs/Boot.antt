@@ -10,7 +10,7 @@ use Rattle.plx_geom.specs.Geometry.{Geometry}
 use Rattle.plx_rules.specs.Part.{Part, Ends, ReadThen, WriteThen, ClockThen, UntilThen, answered, standing, bytes_out}
 use Rattle.plx_rules.specs.Commands.{IsBuilt, IsWellFormed, command_part}
 use Rattle.plx_rules.specs.Ends.{End}
-use Rattle.plx_rules.specs.Hands.{found_by, hand_answered, hand_held}
+use Rattle.plx_rules.specs.Hands.{found_by, filled_answered, filled_held, hand_answered, hand_held}
 use Rattle.plx_rules.specs.Holds.{Hold, no_holds, after_answer, sample_of, holds_after_reply, after_first}
 use Rattle.plx_rules.specs.Session.{Known, nothing_known}
 use Rattle.plx_rules.specs.Settings.{Setting}
@@ -26,11 +26,13 @@ pub data Place : Type 0 where
   Begins : Known → Command → Place
   In : Known → Command → Part End → Place
 
--- what a boot holds, by the block of each lease; the blocks in its hand, in the order in which they were taken; its last answer, where that was a
+-- what a boot holds, by the block of each lease; the blocks in its hand, in the order in which they were taken; those that
+-- it filled since its last link, with their bytes; its last answer, where that was a
 -- reading; the block that it read last, with the bytes, where its last ask was a read; and where it stands
 pub record Position : Type 0 where
   pub holds : ℕ → Hold
   pub hand : List ℕ
+  pub filled : List (ℕ × List ℕ)
   pub sample : Option ℕ
   pub found : Option (ℕ × List ℕ)
   pub place : Place
@@ -49,10 +51,11 @@ after_part (Ends end) holds = holds_after_reply end.reply holds
 after_part other holds = holds
 
 -- the position at which this is the rest of a command: of the hand that stays whose extents are held
-abbrev pub goes_to : Geometry → Known → Command → (ℕ → Hold) → List ℕ → Option ℕ → Option (ℕ × List ℕ) → Part End → Position
-goes_to g known command holds hand sample found part = record {
+abbrev pub goes_to : Geometry → Known → Command → (ℕ → Hold) → List ℕ → List (ℕ × List ℕ) → Option ℕ → Option (ℕ × List ℕ) → Part End → Position
+goes_to g known command holds hand filled sample found part = record {
   holds = after_part part holds;
   hand = hand_held g (after_part part holds) hand;
+  filled = filled_held g (after_part part holds) filled;
   sample = sample;
   found = found;
   place = place_of known command part;
@@ -71,7 +74,7 @@ first_part s known reading command p =
 -- the first reading of a command drops expired leases, and then the command asks
 abbrev pub first_read : Setting → Known → Command → Answer → Position → Position
 first_read s known command (answer.Reading reading) p =
-    goes_to s.geometry known command (after_first s.geometry known reading p.holds) p.hand (Some reading) None
+    goes_to s.geometry known command (after_first s.geometry known reading p.holds) p.hand [] (Some reading) None
     (first_part s known reading command p)
 first_read s known command other p = p
 
@@ -80,12 +83,12 @@ abbrev pub went_on : Setting → Ask → List ℕ → Answer → Position → Pl
 went_on s ask bytes answer p (Idle known) = p
 went_on s ask bytes answer p (Begins known command) = first_read s known command answer p
 went_on s ask bytes answer p (In known command part) =
-    goes_to s.geometry known command (after_answer p.sample ask bytes answer p.holds) (hand_answered s.geometry p.found ask bytes answer p.hand)
+    goes_to s.geometry known command (after_answer p.sample ask bytes answer p.holds) (hand_answered s.geometry p.found ask bytes answer p.hand) (filled_answered ask bytes answer p.filled)
     (sample_of answer) (found_by ask answer) (answered part answer)
 
 -- where a boot stands after its log, whose newest happening stands first
 abbrev pub position : Setting → List Happening → Position
-position s [] = record { holds = no_holds; hand = []; sample = None; found = None; place = Idle (nothing_known 0) }
+position s [] = record { holds = no_holds; hand = []; filled = []; sample = None; found = None; place = Idle (nothing_known 0) }
 position s (Began command ∷ older) = record (position s older) { sample = None; found = None; place = place_after_begin command (position s older).place }
 position s (Asked ask bytes answer ∷ older) = went_on s ask bytes answer (position s older) (position s older).place
 

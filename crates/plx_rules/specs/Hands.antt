@@ -55,3 +55,21 @@ hand_answered g found ask bytes answer hand = hand
 -- of these blocks those that lie in an extent whose lease is held
 abbrev pub hand_held : Geometry → (holds : ℕ → Hold) → List ℕ → List ℕ
 hand_held g holds hand = filter (λ block. is_held (holds (lease_at (extent_lease g (extent_of g block))))) hand
+
+-- ---- fresh blocks that were filled
+
+-- the fresh blocks that were filled since the last link, with their bytes, once a write is done: a link and the write of a record link them
+abbrev pub filled_done : WriteKind → (block : ℕ) → List ℕ → List (ℕ × List ℕ) → List (ℕ × List ℕ)
+filled_done kind.Fresh block bytes filled = (block, bytes) ∷ filter (λ one. not (one.0 == block)) filled
+filled_done kind.Link block bytes filled = []
+filled_done kind.Record block bytes filled = []
+filled_done other block bytes filled = filled
+
+-- the same after an answer
+abbrev pub filled_answered : Ask → List ℕ → Answer → List (ℕ × List ℕ) → List (ℕ × List ℕ)
+filled_answered (ask.Write kind block guard) bytes answer.Done filled = filled_done kind block.0 bytes filled
+filled_answered ask bytes answer filled = filled
+
+-- of these those that lie in an extent whose lease is held
+abbrev pub filled_held : Geometry → (holds : ℕ → Hold) → List (ℕ × List ℕ) → List (ℕ × List ℕ)
+filled_held g holds filled = filter (λ one. is_held (holds (lease_at (extent_lease g (extent_of g one.0))))) filled

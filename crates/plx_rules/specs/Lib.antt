@@ -25,3 +25,4 @@ pub mod World
 pub mod Headline
 pub mod Sequences
 pub mod Stored
+pub mod Putting

@@ -5,7 +5,7 @@ use Rattle.plx_base.specs.declared.write_kind.WriteKind.{WriteKind}
 use Rattle.plx_base.specs.declared.write_kind.WriteKind.TheVariants as kind
 use Rattle.plx_disk.specs.Writes.{Issued, MayLand, after_landing}
 use Rattle.plx_gate.specs.Leases.{read_lease}
-use Rattle.plx_geom.specs.Geometry.{Geometry, lease_count, root_lease, image_lease, extent_lease, lease_at, record_at, descriptor_at, data_at, map_at}
+use Rattle.plx_geom.specs.Geometry.{Geometry, IsPoolBlock, lease_count, root_lease, image_lease, extent_lease, lease_at, record_at, descriptor_at, data_at, map_at}
 use Rattle.plx_rules.specs.Part.{WriteThen}
 use Rattle.plx_rules.specs.Boot.{Place, In}
 use Rattle.plx_rules.specs.Holds.{Hold, Nothing, Held, hold_after_renewal}
@@ -62,7 +62,7 @@ Needs g kind.Take block lease = (extent : ℕ) × (extent < g.extents) × (block
 Needs g kind.Give block lease = (extent : ℕ) × (extent < g.extents) × (block ≡ map_at g extent) × (lease ≡ extent_lease g extent)
 Needs g kind.Sweep block lease =
     (extent : ℕ) × (extent < g.extents) × (block ≡ map_at g extent) × ((lease ≡ extent_lease g extent) ⊎ (lease ≡ root_lease))
-Needs g kind.Fresh block lease = ⊥
+Needs g kind.Fresh block lease = (extent : ℕ) × (bit : ℕ) × IsPoolBlock g extent bit block × (lease ≡ extent_lease g extent)
 Needs g kind.Link block lease = ⊥
 Needs g kind.Overwrite block lease = ⊥
 Needs g kind.Record block lease = (image : ℕ) × (image < g.images) × (block ≡ record_at g image) × (lease ≡ image_lease image)
@@ -91,7 +91,13 @@ Exclusion = (w : World) → Reached w → HasOneOwner w
 abbrev pub Guarding : Type 0
 Guarding = (w : World) → Reached w → IsGuarded w
 
+-- the block of a write tells its leases: of a link and of an overwrite it doesn't
+abbrev pub IsTold : WriteKind → Type 0
+IsTold kind.Link = ⊥
+IsTold kind.Overwrite = ⊥
+IsTold other = Unit {0}
+
 -- each issued write rests on the leases that its kind needs for its block, and on no others
 abbrev pub RestsAsNeeded : Type 0
-RestsAsNeeded = (w : World) → Reached w → (number : ℕ) (write : Issued) → slice_get w.surface.writes number ≡ Some write → (lease : ℕ) →
+RestsAsNeeded = (w : World) → Reached w → (number : ℕ) (write : Issued) → slice_get w.surface.writes number ≡ Some write → IsTold write.kind → (lease : ℕ) →
     (Needs w.geometry write.kind write.block lease → IsUnder w.rests number lease) × (IsUnder w.rests number lease → Needs w.geometry write.kind write.block lease)

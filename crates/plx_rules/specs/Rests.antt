@@ -32,13 +32,18 @@ rests_on g command holds kind.Release block bytes = lease_in block ∷ []
 rests_on g command holds kind.Take block bytes = extent_lease g (extent_of g block) ∷ []
 rests_on g command holds kind.Give block bytes = extent_lease g (extent_of g block) ∷ []
 rests_on g command holds kind.Sweep block bytes = extent_lease g (extent_of g block) ∷ root_lease ∷ []
-rests_on g command holds kind.Fresh block bytes = []
+rests_on g command holds kind.Fresh block bytes = extent_lease g (extent_of g block) ∷ []
 rests_on g command holds kind.Link block bytes = []
 rests_on g command holds kind.Overwrite block bytes = []
 rests_on g command holds kind.Record block bytes = image_lease (image_of_record g block) ∷ []
 rests_on g command holds kind.Log block bytes = []
 rests_on g command holds kind.JData block bytes = image_lease (image_of_journal g block) ∷ []
 rests_on g command holds kind.JCommit block bytes = image_lease (image_of_journal g block) ∷ []
+
+-- the leases of the extents of these blocks
+abbrev pub extents_of : Geometry → (blocks : List ℕ) → List ℕ
+extents_of g [] = []
+extents_of g (block ∷ blocks) = extent_lease g (extent_of g block) ∷ extents_of g blocks
 
 -- the issued write with this number stands under a lease: it rests on it
 abbrev pub IsUnder : (rests : ℕ → List ℕ) → (number lease : ℕ) → Type 0

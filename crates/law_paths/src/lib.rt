@@ -1,0 +1,16 @@
+//! Copy-on-write trees keep what they share.
+#![tactic(auto)]
+
+ghost use Rattle.law_paths.specs.Roots.{RootsKeep, RootsReach};
+ghost use Rattle.law_paths.specs.Links.{LinksKeep};
+
+/// A link keeps the facts on levels and marked paths.
+pub fn links_keep()
+    ensures { LinksKeep }
+{}
+
+/// So do a snapshot, a clone, a drop and a delete.
+pub fn roots_keep()
+    ensures kept { RootsKeep }
+    ensures reached { RootsReach }
+{}

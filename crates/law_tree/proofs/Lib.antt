@@ -1,0 +1,13 @@
+pub mod Roots
+pub mod Moved
+pub mod ByKind
+pub mod OwnLands
+pub mod Treed
+pub mod Asked
+pub mod TreeLands
+pub mod TreeSeats
+pub mod Fills
+pub mod Contents
+pub mod Names
+pub mod TreeSteps
+pub mod SpaceMeets
