@@ -17,6 +17,7 @@ use Rattle.plx_gate.specs.declared.image.ImageRecord.TheVariants as image_is
 use Rattle.plx_geom.specs.Geometry.{Geometry, image_lease, extent_lease, log_at}
 use Rattle.plx_geom.specs.declared.place.Place.TheVariants.{Record}
 use Rattle.plx_radix.specs.Nodes.{pointer_of}
+use Rattle.plx_radix.proofs.Nodes.{pointer-hole}
 use Rattle.plx_radix.proofs.Paths.{paths_agree}
 use Rattle.plx_radix.specs.Paths.{Hole, To, end}
 use Rattle.plx_rules.specs.Boot.{Place, In, Position}
@@ -38,11 +39,11 @@ use Rattle.law_run.specs.AllowedAsks.{MayWrite, fresh_of_block}
 use Rattle.law_space.proofs.Kept.{CarefulAt}
 use Rattle.law_space.proofs.MapWrites.{on-map}
 use Rattle.law_space.proofs.SpaceSteps.{reached-spaced}
-use Rattle.law_tree.specs.Laws.{ReachableAllocated, OneLevel, OnePath}
-use Rattle.law_tree.specs.Trees.{live_root, entry_root, root_on, trees_of}
+use Rattle.plx_rules.specs.Reachable.{trees_in, ReachableAllocated, OneLevel, OnePath}
+use Rattle.plx_rules.specs.Trees.{live_root, entry_root, root_on, trees_of}
 use Rattle.law_tree.proofs.ByKind.{OnFresh, OnRecord, clears, RecordWaits}
 use Rattle.law_tree.proofs.Roots.{root-hole}
-use Rattle.law_tree.proofs.SpaceMeets.{AsksWrite, in-hand-free, take-free, give-clears, rule}
+use Rattle.law_tree.proofs.SpaceMeets.{WriteAsked, in-hand-free, take-free, give-clears, rule}
 use Rattle.law_tree.proofs.TreeSteps.{HoldsInTime, MeetsTree, RulesOfTrees, keeps-trees}
 use Rattle.law_tree.proofs.Treed.{Treed, IsFree, hand_while}
 use Rattle.law_headline.proofs.Content.{KeepsContent}
@@ -53,10 +54,6 @@ use Rattle.law_headline.proofs.StoredFacts.{plain-root, plain-taken}
 -- no write links blocks yet
 abbrev pub no_names : ℕ → ℕ → Type 0
 no_names = λ number block. ⊥
-
-pointer-hole : pointer_of 0 ≡ Hole
-unfolding pointer_of
-pointer-hole = refl
 
 -- the record of an image without tree and snapshots makes holes of its roots
 hole-live : (kept : ImageRecord) → root_of kept ≡ 0 → live_root (Some kept) ≡ Hole
@@ -131,7 +128,7 @@ module _ (w : World) (reached : Reached w) (content : KeepsContent w) (treed : T
         let free = in-hand-free no_names w reached treed a below none block (by_rule asks asks.may) (subst (λ (l : ℕ). HoldsInTime p.holds w.surface.time l) its holds) in
         record { pool = free.pool; lease = its; off = free.off }
       where
-        by_rule : (asks : AsksWrite (setting_of w a) p kind.Fresh block bytes guard) → MayWrite (setting_of w a) asks.of kind.Fresh block bytes guard → is_in block p.hand ≡ true
+        by_rule : (asks : WriteAsked (setting_of w a) p kind.Fresh block bytes guard) → MayWrite (setting_of w a) asks.of kind.Fresh block bytes guard → is_in block p.hand ≡ true
         by_rule asks (fresh_of_block claim held in_hand) = subst (λ (x : List ℕ). is_in block x ≡ true) (sym asks.hand) in_hand
 
     abbrev Meets : WriteKind → Type 0
@@ -212,24 +209,22 @@ reached-treed (world.later {w = w} reached step) = keeps-trees no_names step rea
 
 pub reachable-allocated : ReachableAllocated
 reachable-allocated w reached block is =
-    let t = reached-treed reached in
-    let e = (paths_agree (trees_of w.geometry w.surface.device) is.0 is.1).leads block is.2 is.4 in
-    t.rooted is.0 is.1 block e.0 is.3 e.1
+    let e = (paths_agree (trees_in w) is.root is.digits).leads block is.stands.mark is.stands.there in
+    (reached-treed reached).rooted is.root is.digits block e.0 is.stands.short e.1
 
 pub one-level : OneLevel
-one-level w reached r q ds es block m n ld le at at' =
-    let t = trees_of w.geometry w.surface.device in
-    let e = (paths_agree t r ds).leads block m at in
-    let f = (paths_agree t q es).leads block n at' in
-    (reached-treed reached).shared.level r q ds es block e.0 f.0 ld le e.1 f.1
+one-level w reached r q ds es block one other =
+    let e = (paths_agree (trees_in w) r ds).leads block one.mark one.there in
+    let f = (paths_agree (trees_in w) q es).leads block other.mark other.there in
+    (reached-treed reached).shared.level r q ds es block e.0 f.0 one.short other.short e.1 f.1
 
 pub one-path : OnePath
-one-path w reached r q ds es block m n ld le at marked at' =
-    let t = trees_of w.geometry w.surface.device in
-    let e = (paths_agree t r ds).leads block m at in
-    let f = (paths_agree t q es).leads block n at' in
+one-path w reached r q ds es block one marked other =
+    let e = (paths_agree (trees_in w) r ds).leads block one.mark one.there in
+    let f = (paths_agree (trees_in w) q es).leads block other.mark other.there in
     by_mark e.0 e.1 f.0 f.1
   where
-    by_mark : (a : Bool) → end (trees_of w.geometry w.surface.device) r ds ≡ To block a → (b : Bool) → end (trees_of w.geometry w.surface.device) q es ≡ To block b → (q ≡ r) × (es ≡ ds)
-    by_mark true here b there = (reached-treed reached).shared.single r q ds es block b ld le here there
-    by_mark false here b there = absurd ((paths_agree (trees_of w.geometry w.surface.device) r ds).unmarked block here marked)
+    by_mark : (a : Bool) → end (trees_in w) r ds ≡ To block a → (b : Bool) → end (trees_in w) q es ≡ To block b →
+        (q ≡ r) × (es ≡ ds)
+    by_mark true here b there = (reached-treed reached).shared.single r q ds es block b one.short other.short here there
+    by_mark false here b there = absurd ((paths_agree (trees_in w) r ds).unmarked block here marked)

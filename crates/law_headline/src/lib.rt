@@ -6,7 +6,7 @@
 
 ghost use Rattle.law_headline.specs.Crashes.{CrashesLeaveFreshBoots};
 ghost use Rattle.plx_rules.specs.Headline.{HeadlineOfAll, NeverDamaged};
-ghost use Rattle.law_tree.specs.Laws.{OneLevel, OnePath, ReachableAllocated};
+ghost use Rattle.plx_rules.specs.Reachable.{OneLevel, OnePath, ReachableAllocated};
 ghost use Rattle.plx_rules.specs.Pools.{MapsStay};
 
 /// Every world that events lead to meets the headline: its trace tells of its possible starts and

@@ -18,13 +18,13 @@ use Rattle.plx_geom.specs.Geometry.{Geometry, lease_count, lease_at, root_lease,
 use Rattle.plx_rules.specs.Boot.{Position, position}
 use Rattle.plx_rules.specs.Holds.{Held}
 use Rattle.plx_rules.specs.Owners.{pending_write, first_landed, is_set}
-use Rattle.plx_rules.specs.Rests.{IsUnder, extent_of, extents_of, home_of}
+use Rattle.plx_rules.specs.Rests.{AreWithin, IsUnder, extent_of, extents_of, home_of}
 use Rattle.plx_rules.specs.Settings.{boot_number}
 use Rattle.plx_rules.specs.World.{World, Seat, setting_at}
 use Rattle.law_lease.proofs.Covers.{Covers, lease-uncovered, pool-uncovered, home-covers, write-covered}
 use Rattle.law_lease.proofs.LeaseFrames.{grip-open, grip_while-open, grip_while-away}
 use Rattle.law_lease.proofs.LeaseLands.{MayBeAsked, unlanded-before, asked-may, grip-asked, first-set, pending-other, not-whole}
-use Rattle.law_lease.proofs.Leased.{AreWithin, IsPlaced, IsAskedAt, IsRight, Unlanded, grip_while, grip_at, Leased}
+use Rattle.law_lease.proofs.Leased.{IsPlaced, IsAskedAt, IsRight, Unlanded, grip_while, grip_at, Leased}
 use Rattle.law_lease.proofs.Lists.{pending-is, push-cases}
 use Rattle.law_lease.proofs.Open.{GripsLease, IsOpen, open-found, open-alone, lands-open}
 use Rattle.law_lease.proofs.Rests.{either-in, home-in, rests-home, needs-before, needs-last}

@@ -14,7 +14,7 @@ use Rattle.plx_rules.specs.Part.{Part, Ends, ReadThen, WriteThen, ClockThen, Unt
 use Rattle.plx_rules.specs.Boot.{Place, Idle, Begins, In, Position, position}
 use Rattle.plx_rules.specs.Claims.{claim_of}
 use Rattle.plx_rules.specs.Commands.{IsWellFormed}
-use Rattle.plx_rules.specs.Rests.{IsUnder, extent_of, extents_of, rests_on}
+use Rattle.plx_rules.specs.Rests.{AreWithin, IsUnder, extent_of, extents_of, rests_on}
 use Rattle.plx_commands.specs.Replies.{is_in}
 use Rattle.plx_commands.specs.declared.command.Command.{Command}
 use Rattle.plx_geom.specs.Geometry.{Geometry, IsGeometry, IsPoolBlock, lease_count, root_lease, image_lease, extent_lease, map_at, record_at, lease_at, descriptor_at, data_at}
@@ -24,11 +24,6 @@ use Rattle.plx_rules.specs.Owners.{first_landed, pending_write}
 use Rattle.plx_rules.specs.Settings.{boot_number}
 use Rattle.plx_rules.specs.Times.{window, term}
 use Rattle.plx_rules.specs.World.{World, Seat, setting_at}
-
--- blocks lie in extents that there are
-abbrev pub AreWithin : Geometry → List ℕ → Type 0
-AreWithin g [] = Unit {0}
-AreWithin g (block ∷ blocks) = (extent_of g block < g.extents) × AreWithin g blocks
 
 -- a write is where its kind may be, and rests on these leases, its home first
 abbrev pub IsPlaced : Geometry → WriteKind → ℕ → List ℕ → (rests : List ℕ) → Type 0

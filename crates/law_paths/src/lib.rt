@@ -1,4 +1,4 @@
-//! Copy-on-write trees keep what they share.
+//! Copy-on-write trees keep what they share: a link, and changes of roots, keep the levels and the marked paths.
 #![tactic(auto)]
 
 ghost use Rattle.law_paths.specs.Roots.{RootsKeep, RootsReach};

@@ -8,7 +8,7 @@ use Rattle.plx_radix.specs.Paths.{To, Trees, end}
 use Rattle.plx_rules.specs.Pools.{is_allocated}
 use Rattle.plx_rules.specs.Rests.{extent_of}
 use Rattle.law_paths.specs.Links.{Copies}
-use Rattle.law_tree.specs.Trees.{trees_of}
+use Rattle.plx_rules.specs.Trees.{trees_of}
 use Rattle.law_tree.proofs.ByKind.{Chain}
 use Rattle.law_tree.proofs.Treed.{IsFree}
 

@@ -17,9 +17,9 @@ use Rattle.plx_rules.specs.Rests.{extent_of, home_of}
 use Rattle.law_paths.specs.Links.{Copies, CanLink}
 use Rattle.law_lease.proofs.Covers.{Covers}
 use Rattle.law_lease.proofs.Frame.{SameUnder}
-use Rattle.law_tree.specs.Trees.{live_root, entry_root, lease_of_root, trees_of, InPool, IsRooted}
-use Rattle.law_tree.proofs.Moved.{IsNamed, Moved, Writes, moved-other, moved-off, apart-path, apart-free}
-use Rattle.law_tree.proofs.Roots.{lease-live, pool-within}
+use Rattle.plx_rules.specs.Trees.{live_root, entry_root, lease_of_root, trees_of, InPool, IsRooted}
+use Rattle.law_tree.proofs.Moved.{IsNamedBlock, Moved, WritesTree, moved-other, moved-off, apart-path, apart-free}
+use Rattle.law_tree.proofs.Roots.{lease-live, pool-extent-within}
 
 -- ---- its place
 
@@ -71,7 +71,7 @@ TreePlaced other g d home block bytes = Unit {0}
 -- fresh blocks in their order, which a link at this place makes reachable
 pub record Chain (g : Geometry) (d : Device) (rests : List ℕ) (names : ℕ → Type 0) (image : ℕ) (fresh : ℕ → ℕ) (post at : List ℕ) : Type 0 where
   pub can : CanLink (trees_of g d) image fresh post at
-  pub named : (j : ℕ) → j ≤ length post → IsNamed g d rests names (fresh j)
+  pub named : (j : ℕ) → j ≤ length post → IsNamedBlock g d rests names (fresh j)
 
 -- the link of a node
 pub record LinkWaits (g : Geometry) (d : Device) (rests : List ℕ) (names : ℕ → Type 0) (block : ℕ) (bytes : List ℕ) (landed : List Bool) : Type 0 where
@@ -155,14 +155,14 @@ pub log-covers : (g : Geometry) (image : ℕ) → image < g.images → Covers g 
 log-covers g image within = record { place = Log (record { 0 = image }); is = within; here = refl; under = refl }
 
 -- a block stays allocated where the map of its extent stays
-pub bit-same : (g : Geometry) (d e : Device) (b : ℕ) → InPool g b → SameUnder g (extent_lease g (extent_of g b)) d e → is_allocated g e b ≡ is_allocated g d b
-bit-same g d e b pool same =
-    ap (λ (x : List ℕ). bit_of x (b - map_at g (extent_of g b))) (same (map_at g (extent_of g b)) (map-covers g (extent_of g b) (pool-within g b pool)))
+pub allocated-same : (g : Geometry) (d e : Device) (b : ℕ) → InPool g b → SameUnder g (extent_lease g (extent_of g b)) d e → is_allocated g e b ≡ is_allocated g d b
+allocated-same g d e b pool same =
+    ap (λ (x : List ℕ). bit_of x (b - map_at g (extent_of g b))) (same (map_at g (extent_of g b)) (map-covers g (extent_of g b) (pool-extent-within g b pool)))
 
 -- ---- beside the landing of a write that rests on other leases
 
 module _ (g : Geometry) (d e : Device) (rests : List ℕ) (names : ℕ → Type 0) (block : ℕ) (shared : Shared (trees_of g d)) (rooted : IsRooted g d)
-    (moved : Moved g d e rests names) (writes : Writes g d rests block) (others : (c : ℕ) → c ≢ block → e c ≡ d c) where
+    (moved : Moved g d e rests names) (writes : WritesTree g d rests block) (others : (c : ℕ) → c ≢ block → e c ≡ d c) where
   -- an image's paths and their blocks stay
   pub paths-aside : (home image : ℕ) → image < g.images → home ≡ image_lease image → (is_in home rests ≡ true → ⊥) → (is_in (lease_of_root g image) rests ≡ true → ⊥)
   paths-aside home image within lease away under = away (subst (λ (l : ℕ). is_in l rests ≡ true) (lease-live g image within ∙ sym lease) under)
@@ -234,7 +234,7 @@ module _ (g : Geometry) (d e : Device) (rests : List ℕ) (names : ℕ → Type 
       chain-moves g d e its called image fresh post at (path-ends home image within lease away)
       (λ j le. (let n = chain.named j le in others (fresh j) (apart-free g d rests block writes (fresh j) n.pool (chain.can.unreachable j le) (apart (extent_lease g (extent_of g (fresh j))) n.under))))
       (λ j le. (let n = chain.named j le in free-stays (fresh j) (apart (extent_lease g (extent_of g (fresh j))) n.under) (chain.can.unreachable j le)))
-      (λ j le. (let n = chain.named j le in bit-same g d e (fresh j) n.pool (same (extent_lease g (extent_of g (fresh j))) n.under)))
+      (λ j le. (let n = chain.named j le in allocated-same g d e (fresh j) n.pool (same (extent_lease g (extent_of g (fresh j))) n.under)))
       chain
 
   moves-aside : (its : List ℕ) (called : ℕ → Type 0) (home image : ℕ) (bytes : List ℕ) → image < g.images → home ≡ image_lease image → is_in home its ≡ true →
@@ -268,10 +268,10 @@ module _ (g : Geometry) (d e : Device) (rests : List ℕ) (names : ℕ → Type 
       ((lease : ℕ) → is_in lease its ≡ true → SameUnder g lease d e) → TreeWaits k g d its called b bytes landed → TreeWaits k g e its called b bytes landed
   waits-aside kind.Give its called b bytes landed homes maps apart same waits = λ c pool here set clear.
       (let under = maps (extent_of g c) (sym here) in
-      free-stays c (apart (extent_lease g (extent_of g c)) under) (waits c pool here (sym (bit-same g d e c pool (same (extent_lease g (extent_of g c)) under)) ∙ set) clear))
+      free-stays c (apart (extent_lease g (extent_of g c)) under) (waits c pool here (sym (allocated-same g d e c pool (same (extent_lease g (extent_of g c)) under)) ∙ set) clear))
   waits-aside kind.Sweep its called b bytes landed homes maps apart same waits = λ c pool here set clear.
       (let under = maps (extent_of g c) (sym here) in
-      free-stays c (apart (extent_lease g (extent_of g c)) under) (waits c pool here (sym (bit-same g d e c pool (same (extent_lease g (extent_of g c)) under)) ∙ set) clear))
+      free-stays c (apart (extent_lease g (extent_of g c)) under) (waits c pool here (sym (allocated-same g d e c pool (same (extent_lease g (extent_of g c)) under)) ∙ set) clear))
   waits-aside kind.Link its called b bytes landed homes maps apart same waits =
       let under = homes waits.home waits.is_home in
       let on = waits.on in

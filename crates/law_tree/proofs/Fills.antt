@@ -34,7 +34,7 @@ use Rattle.law_lease.proofs.LeaseSteps.{reached-leased}
 use Rattle.law_lease.proofs.Leased.{Leased}
 use Rattle.law_lease.proofs.Open.{GripsLease, grips-only}
 use Rattle.law_tree.proofs.Moved.{apart-free}
-use Rattle.law_tree.proofs.Roots.{pool-within}
+use Rattle.law_tree.proofs.Roots.{pool-extent-within}
 use Rattle.law_tree.proofs.TreeLands.{lands}
 use Rattle.law_tree.proofs.Treed.{Treed, due}
 use Rattle.plx_geom.proofs.Places.{extent-below}
@@ -55,13 +55,13 @@ filled-filter test block bytes (one ∷ others) is = by_test (test one) refl (fi
     by_test false e rest later = (let r = rest later in (inr r.0, r.1))
 
 -- it isn't being written now
-abbrev pub IsWritten : List Issued → (pending : Option ℕ) → (block : ℕ) → Type 0
-IsWritten writes pending block = (n : ℕ) (x : Issued) → pending ≡ Some n → slice_get writes n ≡ Some x → x.block ≢ block
+abbrev pub IsNotPending : List Issued → (pending : Option ℕ) → (block : ℕ) → Type 0
+IsNotPending writes pending block = (n : ℕ) (x : Issued) → pending ≡ Some n → slice_get writes n ≡ Some x → x.block ≢ block
 
 -- a block that a boot has filled is in its hand, and holds those bytes
 abbrev pub FilledSeat : Geometry → (time : ℕ) → Device → List Issued → (appliance : ℕ) → Seat → Type 0
 FilledSeat g time d writes a seat =
-    (block : ℕ) (bytes : List ℕ) → IsFilled block bytes (position (setting_at g a seat.boots) seat.log).filled → IsWritten writes seat.pending block →
+    (block : ℕ) (bytes : List ℕ) → IsFilled block bytes (position (setting_at g a seat.boots) seat.log).filled → IsNotPending writes seat.pending block →
     (claim : Claim) (until : ℕ) → GripsLease g time writes a seat (extent_lease g (extent_of g block)) claim until →
     (d block ≡ bytes) × (is_in block (position (setting_at g a seat.boots) seat.log).hand ≡ true)
 
@@ -104,10 +104,10 @@ module _ (names : ℕ → ℕ → Type 0) (w : World) (reached : Reached w) (tre
       let free = treed.fresh b below c (hand-in w.geometry (w.seats b).pending p.place p.found p.hand c old.1) was.0 was.1 was.2 in
       let L = lands names w reached treed number sector write may in
       let ne : c ≢ write.block = λ at. apart-free w.geometry w.surface.device L.under write.block L.writes c free.pool free.off
-      (λ under. unwritten' number write (grips-only w leased lease (extent-below w.geometry (extent_of w.geometry c) (pool-within w.geometry c free.pool)) b below was.0 was.1 was.2 number write (L.opens lease under)) may.found (sym at)) at in
+      (λ under. unwritten' number write (grips-only w leased lease (extent-below w.geometry (extent_of w.geometry c) (pool-extent-within w.geometry c free.pool)) b below was.0 was.1 was.2 number write (L.opens lease under)) may.found (sym at)) at in
       (put-other w.surface.device write.block (with_landed_sector sector write.bytes (w.surface.device write.block)) c ne ∙ old.0, old.1)
     where
-      unwritten' : IsWritten w.surface.writes (w.seats b).pending c
+      unwritten' : IsNotPending w.surface.writes (w.seats b).pending c
       unwritten' n y waits found = elim (eqb_tells n number) [
         | inl same ↦
             let there : slice_get w.surface.writes number ≡ Some y = subst (λ (m : ℕ). slice_get w.surface.writes m ≡ Some y) same.1 found in

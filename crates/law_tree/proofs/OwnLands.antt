@@ -15,16 +15,16 @@ use Rattle.plx_geom.proofs.Places.{record-record, record-log, record-map}
 use Rattle.plx_geom.specs.Geometry.{Geometry, IsGeometry, image_lease, record_at, log_at, map_at}
 use Rattle.plx_geom.specs.declared.place.Place.TheVariants.{Record, Log, Map}
 use Rattle.plx_radix.specs.Nodes.{pointer_at}
-use Rattle.plx_radix.specs.Paths.{Ptr, Hole, To, end, Unreachable, Shared}
+use Rattle.plx_radix.specs.Paths.{Pointer, Hole, To, end, Unreachable, Shared}
 use Rattle.plx_rules.specs.Pools.{is_allocated}
 use Rattle.plx_rules.specs.Rests.{extent_of}
 use Rattle.law_paths.specs.Links.{SamePaths, NodeLinked, RootLinked, down}
-use Rattle.law_paths.proofs.Kept.{same_paths, leaf_off, node_changes, root_changes, link_above, node_place}
-use Rattle.law_tree.specs.Trees.{live_root, entry_root, root_on, lease_of_root, trees_of, InPool, IsRooted}
+use Rattle.law_paths.proofs.Kept.{same-paths, leaf-off, node-changes, root-changes, link-above, node-place}
+use Rattle.plx_rules.specs.Trees.{live_root, entry_root, root_on, lease_of_root, trees_of, InPool, IsRooted}
 use Rattle.law_tree.proofs.ByKind.{OnFresh, OnNode, OnLeaf, OnRecord, Chain, LinkWaits, RecordMoves, stays, clears, links, RecordWaits, chain-moves, only-moves}
 use Rattle.law_tree.proofs.Contents.{behind, content-linked, content-own, node-off}
 use Rattle.law_tree.proofs.Moved.{Moved, same, made, turned}
-use Rattle.law_tree.proofs.Roots.{root-live, lease-live, pool-only, pool-within, roots-put, put-paths}
+use Rattle.law_tree.proofs.Roots.{root-live, lease-live, pool-only, pool-extent-within, roots-put, put-paths}
 
 -- ---- roots
 
@@ -117,7 +117,7 @@ module _ (g : Geometry) (geometry : IsGeometry g) (d : Device) (shared : Shared 
   brings sector only is = here ∙ (ap (λ (x : ℕ). with_landed_sector x bytes (d block)) is ∙ only.own)
 
   nothing-moves : ((c : ℕ) → after c ≡ d c) → SamePaths (trees_of g d) (trees_of g after)
-  nothing-moves each = same_paths (trees_of g d) (trees_of g after)
+  nothing-moves each = same-paths (trees_of g d) (trees_of g after)
       (λ q. root-at g d after q (λ less. ap (λ (x : List ℕ). live_root (read_image x)) (each (record_at g q)))
       (λ less. ap (λ (y : List ℕ). entry_root (read_image (after (record_at g ((q - g.images) / 128)))) y ((q - g.images) % 128)) (each (log_at g ((q - g.images) / 128)))
       ∙ ap (λ (x : List ℕ). entry_root (read_image x) (d (log_at g ((q - g.images) / 128))) ((q - g.images) % 128)) (each (record_at g ((q - g.images) / 128)))))
@@ -126,7 +126,7 @@ module _ (g : Geometry) (geometry : IsGeometry g) (d : Device) (shared : Shared 
   still-content : ((c : ℕ) → after c ≡ d c) → (q : ℕ) (ds : List ℕ) → length ds ≡ 3 → behind after (end (trees_of g after) q ds) ≡ behind d (end (trees_of g d) q ds)
   still-content each q ds three = ap (behind after) (nothing-moves each q ds (omega (arith, three))) ∙ by_pointer (end (trees_of g d) q ds)
     where
-      by_pointer : (p : Ptr) → behind after p ≡ behind d p
+      by_pointer : (p : Pointer) → behind after p ≡ behind d p
       by_pointer Hole = refl
       by_pointer (To b m) = each b
 
@@ -142,7 +142,7 @@ module _ (g : Geometry) (geometry : IsGeometry g) (d : Device) (shared : Shared 
 
   -- where no map is written each block stays allocated or clear
   maps-stay : ((extent : ℕ) → extent < g.extents → map_at g extent ≢ block) → (b : ℕ) → InPool g b → is_allocated g after b ≡ is_allocated g d b
-  maps-stay away b pool = ap (λ (x : List ℕ). bit_of x (b - map_at g (extent_of g b))) (there (map_at g (extent_of g b)) (away (extent_of g b) (pool-within g b pool)))
+  maps-stay away b pool = ap (λ (x : List ℕ). bit_of x (b - map_at g (extent_of g b))) (there (map_at g (extent_of g b)) (away (extent_of g b) (pool-extent-within g b pool)))
 
   -- ---- a fresh block
 
@@ -157,7 +157,7 @@ module _ (g : Geometry) (geometry : IsGeometry g) (d : Device) (shared : Shared 
   pub leaf-moves : (home : ℕ) → OnLeaf g d home block → SamePaths (trees_of g d) (trees_of g after)
   leaf-moves home on =
       let pool = (rooted on.image on.at block true (let w = on.whole in omega (arith, w)) on.owned).0 in
-      put-paths g d block (with_landed_sector s bytes (d block)) (pool-record pool) (pool-log pool) (leaf_off (trees_of g d) on.image on.at block shared on.whole on.owned)
+      put-paths g d block (with_landed_sector s bytes (d block)) (pool-record pool) (pool-log pool) (leaf-off (trees_of g d) on.image on.at block shared on.whole on.owned)
 
   pub leaf-after : (home : ℕ) → OnLeaf g d home block → OnLeaf g after home block
   leaf-after home on = record {
@@ -248,11 +248,11 @@ module _ (g : Geometry) (geometry : IsGeometry g) (d : Device) (shared : Shared 
               entries = λ e ne. ap (λ (x : List ℕ). pointer_at x e) is ∙ entries e ne;
               others = λ c e ne. ap (λ (x : List ℕ). pointer_at x e) (there c ne);
             } in
-            let changes = node_changes (trees_of g d) (trees_of g after) on.image waits.fresh waits.post on.digit on.above block shared on.owned chain.can linked in
+            let changes = node-changes (trees_of g d) (trees_of g after) on.image waits.fresh waits.post on.digit on.above block shared on.owned chain.can linked in
             record {
               contents = λ q ds three own. content-linked g d after block there shared on.image waits.fresh waits.post (on.digit ∷ on.above) changes (node-off g d shared on.image on.above block on.low on.owned) q ds three own;
               own = λ here'. (content-own g d after block there on.image waits.fresh waits.post (on.digit ∷ on.above) changes
-                  (node_place (trees_of g d) (trees_of g after) on.image waits.fresh waits.post on.digit on.above block changes on.owned linked)
+                  (node-place (trees_of g d) (trees_of g after) on.image waits.fresh waits.post on.digit on.above block changes on.owned linked)
                   ∙ there (waits.fresh 0) (λ at. chain.can.unreachable 0 (omega arith) on.image on.above true (let l = on.low in omega (arith, l)) (on.owned ∙ ap (λ (x : ℕ). To x true) (sym at))));
               moved = made on.image on.within (subst (λ (l : ℕ). is_in l rests ≡ true) on.lease under) waits.fresh waits.post (on.digit ∷ on.above) changes chain.named (maps-stay (λ extent less is'. pool-map pool extent less is'));
               waits_after = record {
@@ -266,7 +266,7 @@ module _ (g : Geometry) (geometry : IsGeometry g) (d : Device) (shared : Shared 
                   above = on.above;
                   small = on.small;
                   low = on.low;
-                  owned = link_above (trees_of g d) (trees_of g after) on.image waits.fresh waits.post (on.digit ∷ on.above) changes on.image on.above (omega arith) ∙ on.owned;
+                  owned = link-above (trees_of g d) (trees_of g after) on.image waits.fresh waits.post (on.digit ∷ on.above) changes on.image on.above (omega arith) ∙ on.owned;
                   only = only-moves (on.digit / 64) bytes bytes (after block) is (record { own = landed-same (on.digit / 64) bytes; others = λ other ne. landed-same other bytes });
                 };
                 fresh = waits.fresh;
@@ -317,7 +317,7 @@ module _ (g : Geometry) (geometry : IsGeometry g) (d : Device) (shared : Shared 
             by_cases (links fresh post chain root was) = links fresh post (chain-same i fresh post [] each chain) root (entries was)
 
         by_moves : (is : after (record_at g i) ≡ bytes) → RecordMoves g d rests names i bytes → Moved g d after rests names
-        by_moves is (stays root was) = same (same_paths (trees_of g d) (trees_of g after)
+        by_moves is (stays root was) = same (same-paths (trees_of g d) (trees_of g after)
             (root-all g d after i on.within others (ap (λ (x : List ℕ). live_root (read_image x)) is ∙ root)
             (λ n. ap (λ (x : List ℕ). entry_root (read_image x) (d (log_at g i)) n) is ∙ was n)) nodes-stay)
         by_moves is (clears root none) =
@@ -332,7 +332,7 @@ module _ (g : Geometry) (geometry : IsGeometry g) (d : Device) (shared : Shared 
             } in
             let off : Unreachable (trees_of g d) block = λ q ds m le at. pool-only g geometry block (rooted q ds block m le at).0 (Record (record { 0 = i })) on.within (sym on.place) in
             made i on.within (subst (λ (l : ℕ). is_in l rests ≡ true) on.lease under) fresh post []
-            (root_changes (trees_of g d) (trees_of g after) i block fresh post chain.can off
+            (root-changes (trees_of g d) (trees_of g after) i block fresh post chain.can off
             (λ j le is'. pool-only g geometry (fresh j) (chain.named j le).pool (Record (record { 0 = i })) on.within (sym (is' ∙ on.place))) linked) chain.named (maps-stay (λ extent less is'. record-map g i extent on.within (sym (is' ∙ on.place))))
 
         go : ((s == 0) ≡ true) × (s ≡ 0) ⊎ ((s == 0) ≡ false) × (s ≢ 0) → RecordLands waits

@@ -14,9 +14,9 @@ use Rattle.plx_radix.specs.Nodes.{pointer_at}
 use Rattle.plx_radix.specs.Paths.{Hole, To, end}
 use Rattle.plx_rules.specs.Rests.{extent_of}
 use Rattle.law_paths.specs.Links.{SamePaths}
-use Rattle.law_paths.proofs.Kept.{same_but}
+use Rattle.law_paths.proofs.Kept.{same-but}
 use Rattle.law_space.proofs.Lists.{bit-extent}
-use Rattle.law_tree.specs.Trees.{live_root, entry_root, root_on, trees_of, lease_of_root, InPool, IsRooted}
+use Rattle.plx_rules.specs.Trees.{live_root, entry_root, root_on, trees_of, lease_of_root, InPool, IsRooted}
 
 -- a root goes by its image's record and log
 pub root-same : (g : Geometry) (d e : Device) (q : ℕ) → ((i : ℕ) → i < g.images → live_root (read_image (e (record_at g i))) ≡ live_root (read_image (d (record_at g i)))) →
@@ -77,13 +77,13 @@ pool-only g geometry b pool p is here =
 pub pool-extent : (g : Geometry) (b : ℕ) → (pool : InPool g b) → extent_of g b ≡ pool.extent
 pool-extent g b pool = let i = pool.is in bit-extent g pool.extent pool.bit b i.bit_high (i.here ∙ omega arith)
 
-pub pool-within : (g : Geometry) (b : ℕ) → InPool g b → extent_of g b < g.extents
-pool-within g b pool = let e = pool-extent g b pool in let h = pool.is.extent_high in omega (arith, e, h)
+pub pool-extent-within : (g : Geometry) (b : ℕ) → InPool g b → extent_of g b < g.extents
+pool-extent-within g b pool = let e = pool-extent g b pool in let h = pool.is.extent_high in omega (arith, e, h)
 
 -- ---- a block changes
 
 -- a block that is none of the pool, of a record or of a log
-pub record IsQuiet (g : Geometry) (block : ℕ) : Type 0 where
+pub record IsTreeless (g : Geometry) (block : ℕ) : Type 0 where
   pub pool : (b : ℕ) → InPool g b → b ≢ block
   pub records : (i : ℕ) → i < g.images → record_at g i ≢ block
   pub logs : (i : ℕ) → i < g.images → log_at g i ≢ block
@@ -100,9 +100,9 @@ roots-put g d block bytes records logs q = root-same g d (put d block bytes) q
 pub put-paths : (g : Geometry) (d : Device) (block : ℕ) (bytes : List ℕ) → ((i : ℕ) → i < g.images → record_at g i ≢ block) → ((i : ℕ) → i < g.images → log_at g i ≢ block) →
     ((q : ℕ) (ds : List ℕ) (m : Bool) → length ds ≤ 2 → end (trees_of g d) q ds ≢ To block m) → SamePaths (trees_of g d) (trees_of g (put d block bytes))
 put-paths g d block bytes records logs off =
-    same_but (trees_of g d) (trees_of g (put d block bytes)) block (roots-put g d block bytes records logs)
+    same-but (trees_of g d) (trees_of g (put d block bytes)) block (roots-put g d block bytes records logs)
     (λ c k ne. ap (λ (x : List ℕ). pointer_at x k) (put-other d block bytes c ne)) off
 
-pub quiet-paths : (g : Geometry) (d : Device) (block : ℕ) (bytes : List ℕ) → IsRooted g d → IsQuiet g block → SamePaths (trees_of g d) (trees_of g (put d block bytes))
+pub quiet-paths : (g : Geometry) (d : Device) (block : ℕ) (bytes : List ℕ) → IsRooted g d → IsTreeless g block → SamePaths (trees_of g d) (trees_of g (put d block bytes))
 quiet-paths g d block bytes rooted quiet =
     put-paths g d block bytes quiet.records quiet.logs (λ q ds m le e. quiet.pool block (rooted q ds block m (omega (arith, le)) e).0 refl)

@@ -41,7 +41,7 @@ use Rattle.law_run.proofs.Worlds.{given-within}
 use Rattle.law_space.proofs.Lists.{bit-extent, in-append}
 use Rattle.law_space.proofs.Marks.{read-spells}
 use Rattle.law_space.proofs.SpaceSteps.{kept-free, reached-spaced}
-use Rattle.law_tree.specs.Trees.{trees_of}
+use Rattle.plx_rules.specs.Trees.{trees_of}
 use Rattle.law_tree.proofs.ByKind.{Clears}
 use Rattle.law_tree.proofs.Roots.{pool-extent}
 use Rattle.law_tree.proofs.TreeSteps.{HoldsInTime}
@@ -49,26 +49,26 @@ use Rattle.law_tree.proofs.Treed.{Treed, IsFree, due}
 
 -- ---- the rule of the write that stands, by the exchanges of its command
 
-pub record AsksWrite (s : Setting) (p : Position) (k : WriteKind) (block : ℕ) (bytes : List ℕ) (guard : ℕ) : Type 0 where
+pub record WriteAsked (s : Setting) (p : Position) (k : WriteKind) (block : ℕ) (bytes : List ℕ) (guard : ℕ) : Type 0 where
   pub of : CommandLog
   pub may : MayWrite s of k block bytes guard
   pub hand : p.hand ≡ hand_by_log s of.before of.exchanges
   pub found : p.found ≡ last_found of.exchanges
 
-pub asks-write : (s : Setting) (log : List Happening) → IsSetting s → IsRun s log → (known : Known) (command : Command) (k : WriteKind) (block : ℕ) (bytes : List ℕ) (guard : ℕ) (done fault : Part End) (missed : ℕ → Part End) →
-    (position s log).place ≡ In known command (WriteThen k block bytes guard done fault missed) → AsksWrite s (position s log) k block bytes guard
-asks-write s log setting run known command k block bytes guard done fault missed here =
+pub write-asked : (s : Setting) (log : List Happening) → IsSetting s → IsRun s log → (known : Known) (command : Command) (k : WriteKind) (block : ℕ) (bytes : List ℕ) (guard : ℕ) (done fault : Part End) (missed : ℕ → Part End) →
+    (position s log).place ≡ In known command (WriteThen k block bytes guard done fault missed) → WriteAsked s (position s log) k block bytes guard
+write-asked s log setting run known command k block bytes guard done fault missed here =
     by_log (commands s log) (let P : Place → Type 0 = λ q. Agree s (position s log).holds (position s log).hand (position s log).sample (position s log).found q (commands s log) in subst P here (agrees s (begins-right s setting) log run))
   where
     p : Position
     p = position s log
 
     by_left : (of : CommandLog) (left : ℕ) → Right s of.before of.command of.exchanges (WriteThen k block bytes guard done fault missed) left →
-        (position s log).hand ≡ hand_by_log s of.before of.exchanges → (position s log).found ≡ last_found of.exchanges → AsksWrite s (position s log) k block bytes guard
+        (position s log).hand ≡ hand_by_log s of.before of.exchanges → (position s log).found ≡ last_found of.exchanges → WriteAsked s (position s log) k block bytes guard
     by_left of zero right hand found = absurd right
     by_left of (suc left) right hand found = record { of = of; may = right.0.1; hand = hand; found = found }
 
-    by_log : (so_far : Commands) → Agree s (position s log).holds (position s log).hand (position s log).sample (position s log).found (In known command (WriteThen k block bytes guard done fault missed)) so_far → AsksWrite s (position s log) k block bytes guard
+    by_log : (so_far : Commands) → Agree s (position s log).holds (position s log).hand (position s log).sample (position s log).found (In known command (WriteThen k block bytes guard done fault missed)) so_far → WriteAsked s (position s log) k block bytes guard
     by_log (Between before) agree = absurd agree
     by_log (Within of) agree = by_left of agree.0.left agree.0.right agree.5 agree.6
 
@@ -156,16 +156,16 @@ module _ (names : ℕ → ℕ → Type 0) (w : World) (reached : Reached w) (tre
       kept.laid_now ∙ kept.shown read found
 
   pub rule : (known : Known) (command : Command) (k : WriteKind) (block : ℕ) (bytes : List ℕ) (guard : ℕ) (done fault : Part End) (missed : ℕ → Part End) →
-      p.place ≡ In known command (WriteThen k block bytes guard done fault missed) → AsksWrite (setting_of w a) p k block bytes guard
+      p.place ≡ In known command (WriteThen k block bytes guard done fault missed) → WriteAsked (setting_of w a) p k block bytes guard
   rule known command k block bytes guard done fault missed here =
-      asks-write (setting_of w a) (w.seats a).log (given-within w reached a below) (boots-run w reached a below) known command k block bytes guard done fault missed here
+      write-asked (setting_of w a) (w.seats a).log (given-within w reached a below) (boots-run w reached a below) known command k block bytes guard done fault missed here
 
   -- a map that was just read
-  map-found : (k : WriteKind) (block : ℕ) (bytes : List ℕ) (guard : ℕ) (asks : AsksWrite (setting_of w a) p k block bytes guard) (extent : ℕ) (read : List ℕ) → block ≡ map_at g extent → HasRead asks.of block read → p.found ≡ Some (map_at g extent, read)
+  map-found : (k : WriteKind) (block : ℕ) (bytes : List ℕ) (guard : ℕ) (asks : WriteAsked (setting_of w a) p k block bytes guard) (extent : ℕ) (read : List ℕ) → block ≡ map_at g extent → HasRead asks.of block read → p.found ≡ Some (map_at g extent, read)
   map-found k block bytes guard asks extent read at has = asks.found ∙ (ap last_found has.1 ∙ ap (λ (b : ℕ). Some (b, read)) at)
 
   -- the blocks that a take brings are free
-  pub take-free : (block : ℕ) (bytes : List ℕ) (guard : ℕ) → AsksWrite (setting_of w a) p kind.Take block bytes guard → (c : ℕ) → is_in c (hand_from g p.found kind.Take block bytes p.hand) ≡ true →
+  pub take-free : (block : ℕ) (bytes : List ℕ) (guard : ℕ) → WriteAsked (setting_of w a) p kind.Take block bytes guard → (c : ℕ) → is_in c (hand_from g p.found kind.Take block bytes p.hand) ≡ true →
       HoldsInTime p.holds w.surface.time (extent_lease g (extent_of g c)) → IsFree g d c
   take-free block bytes guard asks c is holds = by_rule asks.may
     where
@@ -207,7 +207,7 @@ module _ (names : ℕ → ℕ → Type 0) (w : World) (reached : Reached w) (tre
               above-own (suc i) own clear = omega arith
 
   -- the blocks that a give clears are reached by no path
-  pub give-clears : (block : ℕ) (bytes : List ℕ) (guard : ℕ) → AsksWrite (setting_of w a) p kind.Give block bytes guard → ((extent : ℕ) → block ≡ map_at g extent → HoldsInTime p.holds w.surface.time (extent_lease g extent)) → Clears g d block bytes
+  pub give-clears : (block : ℕ) (bytes : List ℕ) (guard : ℕ) → WriteAsked (setting_of w a) p kind.Give block bytes guard → ((extent : ℕ) → block ≡ map_at g extent → HoldsInTime p.holds w.surface.time (extent_lease g extent)) → Clears g d block bytes
   give-clears block bytes guard asks holds c pool here set clear = by_rule asks.may
     where
       by_rule : MayWrite (setting_of w a) asks.of kind.Give block bytes guard → Unreachable (trees_of g d) c

@@ -25,18 +25,18 @@ use Rattle.law_lease.proofs.Open.{IsOpen, lands-open, open-alone, open-found, gr
 use Rattle.law_lease.proofs.Rests.{home-in}
 use Rattle.law_space.proofs.Landings.{TurnsBlock, landing-turns, gives-clear}
 use Rattle.law_space.proofs.MapWrites.{on-map}
-use Rattle.law_tree.specs.Trees.{trees_of, InPool}
+use Rattle.plx_rules.specs.Trees.{trees_of, InPool}
 use Rattle.law_tree.proofs.ByKind.{OnFresh, OnNode, OnLeaf, OnRecord, TreePlaced, TreeWaits, Clears, placed-aside, waits-aside}
-use Rattle.law_tree.proofs.Moved.{free, owned, Moved, same, Writes, fixed, moved-shared, moved-rooted, moved-off}
+use Rattle.law_tree.proofs.Moved.{free, owned, Moved, same, WritesTree, fixed, moved-shared, moved-rooted, moved-off}
 use Rattle.law_tree.proofs.OwnLands.{fresh-moves, leaf-moves, leaf-after, link-lands, fresh-after, record-lands}
-use Rattle.law_tree.proofs.Roots.{IsQuiet, pool-only, pool-within, quiet-paths}
+use Rattle.law_tree.proofs.Roots.{IsTreeless, pool-only, pool-extent-within, quiet-paths}
 use Rattle.law_tree.proofs.Treed.{Treed, FreshSeat, TreesPlaced, TreesWait, due}
 
 -- a block that has no pool block, record or log in it
-quiet-at : (g : Geometry) → IsGeometry g → (block : ℕ) → ((b : ℕ) → InPool g b → b ≢ block) → ((i : ℕ) → i < g.images → record_at g i ≢ block) → ((i : ℕ) → i < g.images → log_at g i ≢ block) → IsQuiet g block
+quiet-at : (g : Geometry) → IsGeometry g → (block : ℕ) → ((b : ℕ) → InPool g b → b ≢ block) → ((i : ℕ) → i < g.images → record_at g i ≢ block) → ((i : ℕ) → i < g.images → log_at g i ≢ block) → IsTreeless g block
 quiet-at g geometry block pool records logs = record { pool = pool; records = records; logs = logs }
 
-quiet-lease : (g : Geometry) → IsGeometry g → (lease block : ℕ) → lease < lease_count g → block ≡ lease_at lease → IsQuiet g block
+quiet-lease : (g : Geometry) → IsGeometry g → (lease block : ℕ) → lease < lease_count g → block ≡ lease_at lease → IsTreeless g block
 quiet-lease g geometry lease block within at = record {
   pool = λ b pool is. pool-lease lease within b pool (is ∙ at);
   records = λ i less is. lease-record g lease i within (sym (is ∙ at));
@@ -46,21 +46,21 @@ quiet-lease g geometry lease block within at = record {
     pool-lease : (l : ℕ) → l < lease_count g → (b : ℕ) → InPool g b → b ≡ lease_at l → ⊥
     pool-lease l below b pool is = let h = pool.is.here in omega (arith, below, is, h)
 
-quiet-map : (g : Geometry) → IsGeometry g → (extent block : ℕ) → extent < g.extents → block ≡ map_at g extent → IsQuiet g block
+quiet-map : (g : Geometry) → IsGeometry g → (extent block : ℕ) → extent < g.extents → block ≡ map_at g extent → IsTreeless g block
 quiet-map g geometry extent block within at = record {
   pool = λ b pool is. pool-only g geometry b pool (Map (record { 0 = extent })) within (sym (is ∙ at));
   records = λ i less is. record-map g i extent less (is ∙ at);
   logs = λ i less is. log-map g i extent less (is ∙ at);
 }
 
-quiet-data : (g : Geometry) → IsGeometry g → (image slot block : ℕ) → image < g.images → slot < g.slots → block ≡ data_at g image slot → IsQuiet g block
+quiet-data : (g : Geometry) → IsGeometry g → (image slot block : ℕ) → image < g.images → slot < g.slots → block ≡ data_at g image slot → IsTreeless g block
 quiet-data g geometry image slot block within less at = record {
   pool = λ b pool is. pool-only g geometry b pool (JData (record { 0 = image }) slot) (within, less) (sym (is ∙ at));
   records = λ i below is. record-data g i image slot below (is ∙ at);
   logs = λ i below is. log-data g i image slot below (is ∙ at);
 }
 
-quiet-descriptor : (g : Geometry) → IsGeometry g → (image slot block : ℕ) → image < g.images → slot < g.slots → block ≡ descriptor_at g image slot → IsQuiet g block
+quiet-descriptor : (g : Geometry) → IsGeometry g → (image slot block : ℕ) → image < g.images → slot < g.slots → block ≡ descriptor_at g image slot → IsTreeless g block
 quiet-descriptor g geometry image slot block within less at = record {
   pool = λ b pool is. pool-only g geometry b pool (JDesc (record { 0 = image }) slot) (within, less) (sym (is ∙ at));
   records = λ i below is. record-descriptor g i image slot below (is ∙ at);
@@ -69,11 +69,11 @@ quiet-descriptor g geometry image slot block within less at = record {
 
 -- what the landing of a sector of a write does
 -- `under` are the leases on which it rests, where it may still change something: then it is open under each of them
-pub record Lands (Opens : ℕ → Type 0) (names : ℕ → Type 0) (g : Geometry) (d e : Device) (rests : List ℕ) (k : WriteKind) (block : ℕ) (bytes : List ℕ) (landed : List Bool) : Type 0 where
+pub record TreeLanding (Opens : ℕ → Type 0) (names : ℕ → Type 0) (g : Geometry) (d e : Device) (rests : List ℕ) (k : WriteKind) (block : ℕ) (bytes : List ℕ) (landed : List Bool) : Type 0 where
   pub under : List ℕ
   pub opens : (lease : ℕ) → is_in lease under ≡ true → Opens lease
   pub moved : Moved g d e under names
-  pub writes : Writes g d under block
+  pub writes : WritesTree g d under block
   pub placed : (home : ℕ) → home_of rests ≡ Some home → TreePlaced k g d home block bytes → TreePlaced k g e home block bytes
   pub waits : TreeWaits k g e rests names block bytes landed
 
@@ -110,10 +110,10 @@ module _ (names : ℕ → ℕ → Type 0) (w : World) (reached : Reached w) (tre
   Opens lease = IsOpen g w.rests w.appliances w.surface.time w.surface.writes w.seats lease number write
 
   abbrev pub LandsAs : WriteKind → Type 0
-  LandsAs k = Lands Opens (names number) g d after own k write.block write.bytes (slice_set write.landed sector true)
+  LandsAs k = TreeLanding Opens (names number) g d after own k write.block write.bytes (slice_set write.landed sector true)
 
   -- blocks whose bits are still to be cleared stay unreachable
-  clears-after : (write.kind ≡ kind.Give) ⊎ (write.kind ≡ kind.Sweep) → IsQuiet g write.block → Clears g d write.block write.bytes → Clears g after write.block write.bytes
+  clears-after : (write.kind ≡ kind.Give) ⊎ (write.kind ≡ kind.Sweep) → IsTreeless g write.block → Clears g d write.block write.bytes → Clears g after write.block write.bytes
   clears-after of-kind quiet waits b pool here set clear = elim (landing-turns w reached number sector write may b) [
     | inl stays ↦ (let off = waits b pool here (sym stays ∙ set) clear in
         λ q ds m le at. off q ds m le (sym (quiet-paths g d write.block (with_landed_sector sector write.bytes (d write.block)) treed.rooted quiet q ds le) ∙ at))
@@ -130,7 +130,7 @@ module _ (names : ℕ → ℕ → Type 0) (w : World) (reached : Reached w) (tre
       waits-at : (x : WriteKind) → write.kind ≡ x → Unlanded x write.landed → TreeWaits x g d own (names number) write.block write.bytes write.landed
       waits-at x is' missing = subst (λ (y : WriteKind). TreeWaits y g d own (names number) write.block write.bytes write.landed) is' (what-waits (subst (λ (y : WriteKind). Unlanded y write.landed) (sym is') missing))
 
-      quietly : (x : WriteKind) → IsQuiet g write.block → ((home : ℕ) → TreePlaced x g d home write.block write.bytes → TreePlaced x g after home write.block write.bytes) →
+      quietly : (x : WriteKind) → IsTreeless g write.block → ((home : ℕ) → TreePlaced x g d home write.block write.bytes → TreePlaced x g after home write.block write.bytes) →
           TreeWaits x g after own (names number) write.block write.bytes (slice_set write.landed sector true) → LandsAs x
       quietly x quiet placed waits = record {
         under = [];
@@ -297,7 +297,7 @@ module _ (names : ℕ → ℕ → Type 0) (w : World) (reached : Reached w) (tre
           pool = free.pool;
           off = moved-off g d after lands.under (names number) lands.moved c
               (λ n. spared b c below
-              (grips-only w leased (extent_lease g (extent_of g c)) (extent-below g (extent_of g c) (pool-within g c free.pool)) b below was.0 was.1 was.2 number write (lands.opens (extent_lease g (extent_of g c)) n.under)) is n.named)
+              (grips-only w leased (extent_lease g (extent_of g c)) (extent-below g (extent_of g c) (pool-extent-within g c free.pool)) b below was.0 was.1 was.2 number write (lands.opens (extent_lease g (extent_of g c)) n.under)) is n.named)
               free.off;
         }
 

@@ -15,7 +15,7 @@ use Rattle.plx_rules.specs.Rests.{extent_of, home_of}
 use Rattle.plx_rules.specs.World.{World, Seat, setting_at}
 use Rattle.law_lease.proofs.Frame.{AllStand}
 use Rattle.law_lease.proofs.Open.{GripsLease, IsOpen}
-use Rattle.law_tree.specs.Trees.{trees_of, InPool, IsRooted}
+use Rattle.plx_rules.specs.Trees.{trees_of, InPool, IsRooted}
 use Rattle.law_tree.proofs.ByKind.{TreePlaced, TreeWaits}
 
 -- what is in hand while a write is waited for: of a take its blocks too

@@ -1,8 +1,8 @@
 -- What an appliance keeps of space: the leases of extents that are held, and the blocks in hand.
-use Rattle.std.specs.Prelude.{◌≡◌, ℕ, List, [], ◌∷◌, ◌<◌}
+use Rattle.std.specs.Prelude.{◌≡◌, ℕ, List}
 use Rattle.plx_geom.specs.Geometry.{Geometry}
 use Rattle.plx_rules.specs.Holds.{Hold, Nothing}
-use Rattle.plx_rules.specs.Rests.{extent_of}
+pub use Rattle.plx_rules.specs.Rests.{AreWithin}
 pub use Rattle.plx_alloc.specs.Tables.{held_hand}
 use Rattle.plx_alloc.specs.Tables.{hand_numbers, extent_leases}
 use Rattle.plx_appliance.specs.declared.holdings.Holdings.{Holdings}
@@ -18,11 +18,6 @@ extents_in h = extent_leases h.space
 -- the blocks in hand, in the order in which they were taken
 abbrev pub hand_in : Holdings → List ℕ
 hand_in h = hand_numbers h.space
-
--- each of these blocks lies in an extent of the geometry
-abbrev pub AreWithin : Geometry → List ℕ → Type 0
-AreWithin g [] = Unit {0}
-AreWithin g (block ∷ blocks) = (extent_of g block < g.extents) × AreWithin g blocks
 
 -- the blocks in hand lie in extents of the geometry whose leases are held
 pub record IsHand (g : Geometry) (extents : ℕ → Hold) (hand : List ℕ) : Type 0 where

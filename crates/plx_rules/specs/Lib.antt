@@ -25,4 +25,5 @@ pub mod World
 pub mod Headline
 pub mod Sequences
 pub mod Stored
-pub mod Putting
+pub mod Trees
+pub mod Reachable

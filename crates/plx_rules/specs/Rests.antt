@@ -1,5 +1,5 @@
 -- On which leases a write rests: a list that is set as it is issued.
-use Rattle.std.specs.Prelude.{◌≡◌, ◌-◌, ◌/◌, ℕ, List, [], ◌∷◌, true, Option, Some, None}
+use Rattle.std.specs.Prelude.{◌≡◌, ◌<◌, ◌-◌, ◌/◌, ℕ, List, [], ◌∷◌, true, Option, Some, None}
 use Rattle.plx_base.specs.declared.write_kind.WriteKind.{WriteKind}
 use Rattle.plx_base.specs.declared.write_kind.WriteKind.TheVariants as kind
 use Rattle.plx_commands.specs.Replies.{is_in}
@@ -44,6 +44,11 @@ rests_on g command holds kind.JCommit block bytes = image_lease (image_of_journa
 abbrev pub extents_of : Geometry → (blocks : List ℕ) → List ℕ
 extents_of g [] = []
 extents_of g (block ∷ blocks) = extent_lease g (extent_of g block) ∷ extents_of g blocks
+
+-- blocks lie in extents that there are
+abbrev pub AreWithin : Geometry → (blocks : List ℕ) → Type 0
+AreWithin g [] = Unit {0}
+AreWithin g (block ∷ blocks) = (extent_of g block < g.extents) × AreWithin g blocks
 
 -- the issued write with this number stands under a lease: it rests on it
 abbrev pub IsUnder : (rests : ℕ → List ℕ) → (number lease : ℕ) → Type 0

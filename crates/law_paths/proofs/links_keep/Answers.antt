@@ -1,5 +1,5 @@
-use Rattle.law_paths.proofs.Kept.{links_keep}
+use Rattle.law_paths.proofs.Kept.{links-keep}
 use Rattle.law_paths.proofs.links_keep.Goals as goal
 
 pub returns : goal.returns
-returns c = links_keep
+returns c = links-keep
