@@ -35,7 +35,7 @@ pub record KeptLimits (kept : ImageRecord) : Type 0 where
 
 pub kept-limits : (kept : ImageRecord) → IsImage kept → KeptLimits kept
 kept-limits (Free generation) is = record { generation = is; size = omega arith; made = λ e. absurd (let P : ⊥ = cc in P); some = λ e. absurd (let P : ⊥ = cc in P) }
-kept-limits (Live generation size taken root applied label) is =
+kept-limits (Live live) is =
     record { generation = is.generation_high; size = is.size_high; made = λ e. is.generation_low; some = λ e. is.size_low }
 
 -- a write on a block that holds no part of the record and the journal's descriptors and data

@@ -70,8 +70,7 @@ first-rests (Some session) reading (Waited claim until) = tt
 pub length-labelled : (kept : ImageRecord) → length (label_of kept) ≤ 32 → length (image_bytes kept) ≡ 4096
 unfolding image_bytes
 length-labelled (image_is.Free generation) short = length-spelled image_magic (image_fields (image_is.Free generation)) [] (omega arith)
-length-labelled (image_is.Live generation size taken root applied label) short =
-    length-spelled image_magic (image_fields (image_is.Live generation size taken root applied label)) label (omega (arith, short))
+length-labelled (image_is.Live live) short = length-spelled image_magic (image_fields (image_is.Live live)) live.label (omega (arith, short))
 
 module _ (g : Geometry) (boot : ℕ) (command : Command) where
   -- one part and then another

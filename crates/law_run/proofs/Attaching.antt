@@ -23,7 +23,7 @@ use Rattle.plx_rules.specs.Parts.{followed_by}
 use Rattle.plx_rules.specs.Records.{is_live, is_plain, size_of, applied_of, plain_record, attached_record}
 use Rattle.plx_rules.specs.Session.{Session, Known, with_session, with_write_by_number, first_gap, session_report}
 use Rattle.plx_rules.specs.Settings.{Setting}
-use Rattle.plx_rules.specs.Stored.{Given, record_in, record_on, Stores}
+use Rattle.plx_rules.specs.Stored.{Given, record_in, record_on, Stores, IsCounted}
 use Rattle.law_run.specs.CommandLogs.{Exchange, Finished, IsIn}
 use Rattle.law_run.specs.Holdings.{hold_by_log, is_lease_read, claims_in, claims_begun}
 use Rattle.plx_rules.specs.Holds.{Held}
@@ -32,6 +32,7 @@ use Rattle.law_run.specs.Outside.{IsOutside, no_record, not_plain, no_descriptor
 use Rattle.law_run.specs.Replies.{ReadRestsOn, of_record, of_log, of_descriptor, of_data, in_image}
 use Rattle.law_run.specs.Sessions.{attached_by, is_attached}
 use Rattle.law_run.proofs.Asking.{IsFine, replied-fine, asks-confirm}
+use Rattle.law_run.proofs.Counted.{write-counted}
 use Rattle.law_run.proofs.Facts.{stored_by_session, plain-parts, stores-session}
 use Rattle.law_run.proofs.Grown.{with-block-same, with-other, fits-empty}
 use Rattle.law_run.proofs.Holding.{first-more, claims-more, Spared, spared-more, Course, Going, going-more}
@@ -185,8 +186,8 @@ module _ (s : Setting) (before : List Finished) (known next : Known) (slot : Slo
           image = stored_by_session session;
           stores = subst (λ (g : Given). Stores s.geometry g slot.0 (stored_by_session session)) (sym here)
               (stores-session s.geometry (told_now done) slot.0 session fits);
-          whole = (plain-parts session.image fits.plain).0;
-          told = refl;
+          whole = refl;
+          told = ap (λ n. record (session_report session) { taken = n }) (plain-parts session.image fits.plain).0;
           inside = λ block bytes there. subst (λ (g : Given). ¬ IsOutside s.geometry g slot.0 block.0 bytes) (sym here)
               (not-outside s.geometry (told_now done) slot.0 session block.0 bytes fits
               (inside-of s.geometry slot.0 session.image (ask.Read block) (answer.Bytes bytes) (clock reading ∷ done) (tt, inside) there));
@@ -228,18 +229,27 @@ module _ (s : Setting) (before : List Finished) (known next : Known) (slot : Slo
         (past_gap kept (journal_slot g.slots gap.write.number) (descriptor_of kept gap.write) gap.missing (ap (descriptor_at g slot.0) (sym at)) l.found (l.counts gap.write gap.has)
         (record {
           above = gap.above;
-          absent = λ other d counts same'. (
-              let o = l.only other d counts in
+          absent = λ vblock block' counted. (
+              let o = l.only counted.slot counted.descriptor counted.counts in
               let n = ap (λ (e : Descriptor). e.number) o.2 in
+              let same' = counted.numbered in
               let low = gap.least o.0 o.1 (omega arith) in
               let high = gap.below in
               omega arith);
-          there = λ n above under. (let w = gap.there n above under in (journal_slot g.slots w.0.number, descriptor_of kept w.0, l.counts w.0 w.1, w.2));
+          there = λ n above under. (
+              let w = gap.there n above under in
+              let its = data_at g slot.0 (journal_slot g.slots w.0.number) in (
+                w.0.vblock,
+                its,
+                subst (λ m. IsCounted g (told_now done) slot.0 kept m w.0.vblock its) w.2
+                    (write-counted g (told_now done) slot.0 kept (journal_slot g.slots w.0.number) (descriptor_of kept w.0) (l.counts w.0 w.1)),
+              ));
         })
         (let b = gap.below in let i = gap.is in omega arith)
-        (λ other e counts more. (
-        let o = l.only other e counts in
+        (λ number' vblock its counted more. (
+        let o = l.only counted.slot counted.descriptor counted.counts in
         let n = ap (λ (d : Descriptor). d.number) o.2 in
+        let same' = counted.numbered in
         let least = gap.least o.0 o.1 (omega arith) in
         let i = gap.is in
         omega arith)))

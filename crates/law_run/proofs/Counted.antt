@@ -4,10 +4,10 @@ use Rattle.std.specs.Prelude.{if◌then◌else◌, ◌==◌, ◌&&◌, nat_lt}
 use Rattle.plx_gate.specs.Descriptors.{read_descriptor, descriptor_bytes}
 use Rattle.plx_gate.specs.declared.descriptor.Descriptor.{Descriptor}
 use Rattle.plx_gate.specs.declared.image.ImageRecord.{ImageRecord}
-use Rattle.plx_geom.specs.Geometry.{Geometry, descriptor_at}
+use Rattle.plx_geom.specs.Geometry.{Geometry, descriptor_at, data_at}
 use Rattle.plx_rules.specs.Journal.{journal_slot, is_unapplied, is_placed, counted_descriptor, counted_of}
 use Rattle.plx_rules.specs.Records.{is_live, generation_of, applied_of}
-use Rattle.plx_rules.specs.Stored.{Given, counted_in, IsCounted}
+use Rattle.plx_rules.specs.Stored.{Given, counted_in, CountsIn, IsCounted}
 use Rattle.plx_base.proofs.Tests.{eqb-true, nat_lt-true, nat_lt-tells, and-parts, eqb-is}
 
 -- a descriptor that counts in a slot: the image is live, the generation is its own, the number is above the last one applied, and it stands in the slot of its number
@@ -40,8 +40,20 @@ counted-bytes : (kept : ImageRecord) (slots slot : ℕ) (bytes : Option (List �
 counted-bytes kept slots slot None d h = absurd (let P : ⊥ = cc in P)
 counted-bytes kept slots slot (Some read) d h = let both = counted-tells kept slots slot (read_descriptor read) d h in (read, refl, both.0, both.1)
 
-pub counts-tells : (g : Geometry) (given : Given) (image : ℕ) (kept : ImageRecord) (slot : ℕ) (d : Descriptor) → IsCounted g given image kept slot d → TellsFirst kept g.slots slot d
+pub counts-tells : (g : Geometry) (given : Given) (image : ℕ) (kept : ImageRecord) (slot : ℕ) (d : Descriptor) → CountsIn g given image kept slot d → TellsFirst kept g.slots slot d
 counts-tells g given image kept slot d counts = (counted-bytes kept g.slots slot (given (descriptor_at g image slot)) d counts.found).3
+
+-- the write of a descriptor that counts
+pub write-counted : (g : Geometry) (given : Given) (image : ℕ) (kept : ImageRecord) (slot : ℕ) (d : Descriptor) → CountsIn g given image kept slot d →
+    IsCounted g given image kept d.number d.vblock (data_at g image slot)
+write-counted g given image kept slot d counts = record { slot = slot; descriptor = d; counts = counts; numbered = refl; names = refl; stands = refl }
+
+-- the data of a write that counts stands in the slot of its number
+pub data-placed : (g : Geometry) (given : Given) (image : ℕ) (kept : ImageRecord) (number vblock block : ℕ) → IsCounted g given image kept number vblock block →
+    block ≡ data_at g image (journal_slot g.slots number)
+data-placed g given image kept number vblock block counted =
+    let place = (counts-tells g given image kept counted.slot counted.descriptor counted.counts).place in
+    counted.stands ∙ ap (data_at g image) (sym place ∙ ap (journal_slot g.slots) counted.numbered)
 
 -- a block that isn't given counts nothing
 pub no-count : (kept : ImageRecord) (slots slot : ℕ) (d : Descriptor) (bytes : Option (List ℕ)) → bytes ≡ None → counted_in kept slots slot bytes ≡ Some d → ⊥

@@ -1,5 +1,5 @@
 -- What a session that fits the known bytes tells of the image that they store.
-use Rattle.std.proofs.Common.{◌≡◌, ◌≢◌, ℕ, ◌+◌, ◌≤◌, ◌<◌, List, length, refl, ap, sym, ◌∙◌, true, Option, Some, None, arith, inl, inr}
+use Rattle.std.proofs.Common.{◌≡◌, ◌≢◌, ℕ, ◌+◌, ◌≤◌, ◌<◌, List, [], length, refl, ap, sym, subst, ◌∙◌, true, Option, Some, None, arith, inl, inr}
 use Rattle.std.specs.Prelude.{slice_get, ◌==◌}
 use Rattle.std.proofs.lemmas.Option.{slice_get_within}
 use Rattle.plx_base.specs.Blocks.{zeros}
@@ -12,14 +12,14 @@ use Rattle.plx_rules.specs.Journaled.{Journaled}
 use Rattle.plx_rules.specs.Journal.{journal_slot, descriptor_of}
 use Rattle.plx_rules.specs.Records.{is_live, generation_of, size_of, taken_of, root_of, applied_of, is_plain}
 use Rattle.plx_rules.specs.Session.{Session, write_count, latest, content}
-use Rattle.plx_rules.specs.Stored.{Given, Holds, standing_in, leads_to, digits_of, StoredImage, record_in, record_on, IsCounted, IsWriteCount, IsNewest, IsContent, journalled, unwritten, Stores}
-use Rattle.law_run.proofs.Counted.{counts-tells}
+use Rattle.plx_rules.specs.Stored.{Given, Holds, standing_in, leads_to, digits_of, StoredImage, record_in, record_on, CountsIn, IsCounted, IsWriteCount, IsNewest, IsContent, journalled, unwritten, Stores}
+use Rattle.law_run.proofs.Counted.{data-placed, write-counted}
 use Rattle.law_lease.proofs.Latest.{last-of, IsLast, IsLatest, latest-is}
 use Rattle.law_run.proofs.Right.{FitsSession}
 use Rattle.law_run.proofs.Slots.{slot-apart}
 use Rattle.plx_base.proofs.Tests.{and-parts, eqb-is}
 
--- the image of a session
+-- the image of a session, which has no snapshots
 abbrev pub stored_by_session : Session → StoredImage
 stored_by_session session = record {
   live = is_live session.image;
@@ -28,7 +28,7 @@ stored_by_session session = record {
   label = label_of session.image;
   writes = write_count session;
   content = λ vblock. Holds (content session vblock);
-  taken = taken_of session.image;
+  frozen = [];
 }
 
 -- an image without snapshots and tree
@@ -51,35 +51,43 @@ module _ (g : Geometry) (given : Given) (image : ℕ) (session : Session) (fits 
   limits = let r = record-spelled g given image session.image fits.found in (image-only r.0 session.image r.2).0
 
   -- the number of what counts
-  pub counts-number : (slot : ℕ) (d : Descriptor) → IsCounted g given image session.image slot d →
+  pub counts-number : (slot : ℕ) (d : Descriptor) → CountsIn g given image session.image slot d →
       (k : ℕ) × (write : Journaled) × (slice_get session.writes k ≡ Some write) × (d ≡ descriptor_of session.image write) × (d.number ≡ applied_of session.image + (k + 1)) × (k < length session.writes)
   counts-number slot d counts =
       let found = fits.only slot d counts in
       (found.0, found.1, found.2, found.3, ap (λ (e : Descriptor). e.number) found.3 ∙ fits.numbers found.0 found.1 found.2, slice_get_within session.writes found.0 found.1 found.2)
 
+  -- a write of the session counts
+  pub fits-counted : (k : ℕ) (write : Journaled) → slice_get session.writes k ≡ Some write →
+      IsCounted g given image session.image write.number write.vblock (data_at g image (journal_slot g.slots write.number))
+  fits-counted k write found =
+      write-counted g given image session.image (journal_slot g.slots write.number) (descriptor_of session.image write) (fits.counts k write found)
+
   pub write-count : IsWriteCount g given image session.image (write_count session)
   write-count = record {
-    greatest = λ slot d counts. (let tells = counts-number slot d counts in omega (arith, tells.4, tells.5));
+    greatest = λ number vblock block counted. (
+        let tells = counts-number counted.slot counted.descriptor counted.counts in let same = counted.numbered in omega (arith, tells.4, tells.5));
     least = omega arith;
     reached = elim (last-of session.writes) [
       | inl none ↦ inl (omega (arith, none))
       | inr last ↦ inr (
-        journal_slot g.slots last.1.number,
-        descriptor_of session.image last.1,
-        fits.counts last.0 last.1 last.2,
-        fits.numbers last.0 last.1 last.2 ∙ ap (λ n. applied_of session.image + n) last.3,
+        last.1.vblock,
+        data_at g image (journal_slot g.slots last.1.number),
+        subst (λ n. IsCounted g given image session.image n last.1.vblock (data_at g image (journal_slot g.slots last.1.number)))
+            (fits.numbers last.0 last.1 last.2 ∙ ap (λ n. applied_of session.image + n) last.3) (fits-counted last.0 last.1 last.2),
       )
     ];
   }
 
-  newest-write : (vblock k : ℕ) (write : Journaled) → IsLast session.writes vblock k write → IsNewest g given image session.image vblock (journal_slot g.slots write.number) (descriptor_of session.image write)
+  newest-write : (vblock k : ℕ) (write : Journaled) → IsLast session.writes vblock k write →
+      IsNewest g given image session.image vblock write.number (data_at g image (journal_slot g.slots write.number))
   newest-write vblock k write is = record {
-    counts = fits.counts k write is.found;
-    names = is.names;
-    newest = λ j e counts names. (
-        let tells = counts-number j e counts in
-        let order : tells.0 ≤ k = is.last tells.0 tells.1 tells.2 (sym (ap (λ (d : Descriptor). d.vblock) tells.3) ∙ names) in
+    counts = subst (λ v. IsCounted g given image session.image write.number v (data_at g image (journal_slot g.slots write.number))) is.names (fits-counted k write is.found);
+    newest = λ other its counted. (
+        let tells = counts-number counted.slot counted.descriptor counted.counts in
+        let order : tells.0 ≤ k = is.last tells.0 tells.1 tells.2 (sym (ap (λ (d : Descriptor). d.vblock) tells.3) ∙ counted.names) in
         let mine = fits.numbers k write is.found in
+        let same = counted.numbered in
         omega (arith, tells.4)
         );
   }
@@ -90,10 +98,11 @@ module _ (g : Geometry) (given : Given) (image : ℕ) (session : Session) (fits 
   -- what the writes leave in a virtual block is its content
   content-is : (vblock : ℕ) (bytes : List ℕ) → IsLatest zeros vblock session.writes bytes → IsContent g given image session.image vblock (Holds bytes)
   content-is vblock bytes (inl newest) =
-      journalled (journal_slot g.slots newest.1.number) (descriptor_of session.image newest.1) (newest-write vblock newest.0 newest.1 newest.2)
+      journalled newest.1.number (data_at g image (journal_slot g.slots newest.1.number)) (newest-write vblock newest.0 newest.1 newest.2)
       (ap Holds newest.3 ∙ sym (ap (standing_in (data_at g image (journal_slot g.slots newest.1.number))) (fits.blocks newest.0 newest.1 newest.2.found)))
   content-is vblock bytes (inr none) =
-      unwritten (λ j e counts names. (let found = fits.only j e counts in none.0 found.0 found.1 found.2 (sym (ap (λ (d : Descriptor). d.vblock) found.3) ∙ names)))
+      unwritten (λ number block counted. (
+      let found = fits.only counted.slot counted.descriptor counted.counts in none.0 found.0 found.1 found.2 (sym (ap (λ (d : Descriptor). d.vblock) found.3) ∙ counted.names)))
       (ap Holds none.1 ∙ sym (hole vblock))
 
   pub content-held : (vblock : ℕ) → IsContent g given image session.image vblock (Holds (content session vblock))
@@ -109,7 +118,7 @@ module _ (g : Geometry) (given : Given) (image : ℕ) (session : Session) (fits 
     label = refl;
     writes = write-count;
     content = content-held;
-    taken = refl;
+    frozen = record { count = sym (plain-parts session.image fits.plain).0; each = λ index snapshot found. absurd (let P : ⊥ = cc in P) };
   }
 
   -- the slot of the next write is none of a write that is there
@@ -122,18 +131,19 @@ module _ (g : Geometry) (given : Given) (image : ℕ) (session : Session) (fits 
       slot-apart g.slots write.number (write_count session + 1) (omega (arith, number)) (omega arith) (omega (arith, number, within, room)) (omega (arith, number, within, room)) same in
       omega (arith, number, within, one)
 
-  -- while there is room the next write's slot holds none that counts
-  pub next-free : length session.writes < g.slots → (d : Descriptor) → ¬ IsCounted g given image session.image (journal_slot g.slots (write_count session + 1)) d
-  next-free room d counts =
-      let found = fits.only (journal_slot g.slots (write_count session + 1)) d counts in
-      let place = (counts-tells g given image session.image (journal_slot g.slots (write_count session + 1)) d counts).place in
-      place-apart found.0 found.1 found.2 room (ap (λ (e : Descriptor). journal_slot g.slots e.number) (sym found.3) ∙ place)
+  -- while there is room the next write's block for its data holds that of none that counts
+  pub next-free : length session.writes < g.slots → (number vblock : ℕ) → ¬ IsCounted g given image session.image number vblock (data_at g image (journal_slot g.slots (write_count session + 1)))
+  next-free room number vblock counted =
+      let at = data-placed g given image session.image number vblock (data_at g image (journal_slot g.slots (write_count session + 1))) counted in
+      let place : journal_slot g.slots number ≡ journal_slot g.slots (write_count session + 1) = omega (arith, at) in
+      let found = fits.only counted.slot counted.descriptor counted.counts in
+      place-apart found.0 found.1 found.2 room (ap (λ (e : Descriptor). journal_slot g.slots e.number) (sym found.3) ∙ (ap (journal_slot g.slots) counted.numbered ∙ place))
 
 -- given bytes have one number of writes
 pub count-below : (g : Geometry) (given : Given) (image : ℕ) (kept : ImageRecord) (c e : ℕ) → IsWriteCount g given image kept c → IsWriteCount g given image kept e → c ≤ e
 count-below g given image kept c e one other = elim one.reached [
   | inl applied ↦ (let least = other.least in omega arith)
-  | inr counted ↦ (let most = other.greatest counted.0 counted.1 counted.2 in let is = counted.3 in omega arith)
+  | inr counted ↦ other.greatest c counted.0 counted.1 counted.2
 ]
 
 pub count-one : (g : Geometry) (given : Given) (image : ℕ) (kept : ImageRecord) (c e : ℕ) → IsWriteCount g given image kept c → IsWriteCount g given image kept e → c ≡ e

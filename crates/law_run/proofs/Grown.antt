@@ -14,7 +14,7 @@ use Rattle.plx_rules.specs.Journaled.{Journaled}
 use Rattle.plx_rules.specs.Journal.{journal_slot, descriptor_of}
 use Rattle.plx_rules.specs.Records.{is_live, is_plain}
 use Rattle.plx_rules.specs.Session.{Session, write_count, with_write}
-use Rattle.plx_rules.specs.Stored.{Given, record_in, record_on, counted_in, IsCounted}
+use Rattle.plx_rules.specs.Stored.{Given, record_in, record_on, counted_in, CountsIn}
 use Rattle.law_run.specs.AllowedAsks.{last_known}
 use Rattle.law_run.specs.KnownBytes.{given_with}
 use Rattle.law_run.proofs.Counted.{counts-spelled, no-count}
@@ -33,7 +33,7 @@ with-other given block bytes b other = rw (eqb-false b block other) refl
 
 -- what counts goes by the descriptor's block alone
 pub counts-same : (g : Geometry) (given more : Given) (image : ℕ) (kept : ImageRecord) (slot : ℕ) (d : Descriptor) → more (descriptor_at g image slot) ≡ given (descriptor_at g image slot) →
-    IsCounted g given image kept slot d → IsCounted g more image kept slot d
+    CountsIn g given image kept slot d → CountsIn g more image kept slot d
 counts-same g given more image kept slot d same counts = record { within = counts.within; found = ap (counted_in kept g.slots slot) same ∙ counts.found }
 
 -- a session goes by its image's record and journal blocks alone
@@ -124,7 +124,7 @@ module _ (g : Geometry) (given : Given) (image : ℕ) (session : Session) (write
   beside s = with-other given (descriptor_at g image (journal_slot g.slots write.number)) (descriptor_bytes (descriptor_of session.image write)) (data_at g image s)
       (data-descriptor g image image s (journal_slot g.slots write.number))
 
-  new-counts : IsCounted g Grown image session.image (journal_slot g.slots write.number) (descriptor_of session.image write)
+  new-counts : CountsIn g Grown image session.image (journal_slot g.slots write.number) (descriptor_of session.image write)
   new-counts = record { within = slot-below g.slots write.number some; found = ap (counted_in session.image g.slots (journal_slot g.slots write.number)) at_here ∙ spelled }
 
   pub fits-more : FitsSession g (given_with given (descriptor_at g image (journal_slot g.slots write.number)) (descriptor_bytes (descriptor_of session.image write))) image (with_write session write)
@@ -141,7 +141,7 @@ module _ (g : Geometry) (given : Given) (image : ℕ) (session : Session) (write
     counts = λ k w found. elim (push-cases session.writes write w k found) [
       | inl old ↦ counts-same g given Grown image session.image (journal_slot g.slots w.number) (descriptor_of session.image w)
           (elsewhere (journal_slot g.slots w.number) (apart k w old)) (fits.counts k w old)
-      | inr new ↦ subst (λ (x : Journaled). IsCounted g Grown image session.image (journal_slot g.slots x.number) (descriptor_of session.image x)) new.1 new-counts
+      | inr new ↦ subst (λ (x : Journaled). CountsIn g Grown image session.image (journal_slot g.slots x.number) (descriptor_of session.image x)) new.1 new-counts
     ];
     blocks = λ k w found. elim (push-cases session.writes write w k found) [
       | inl old ↦ beside (journal_slot g.slots w.number) ∙ fits.blocks k w old

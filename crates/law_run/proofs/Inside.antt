@@ -12,14 +12,14 @@ use Rattle.plx_gate.specs.declared.descriptor.Descriptor.{Descriptor}
 use Rattle.plx_gate.specs.declared.image.ImageRecord.{ImageRecord}
 use Rattle.plx_geom.specs.Geometry.{Geometry, lease_count, lease_at, record_at, descriptor_at, data_at}
 use Rattle.plx_geom.proofs.Places.{lease-record, lease-descriptor, lease-data, record-descriptor, record-data, data-descriptor}
-use Rattle.plx_rules.specs.Journal.{journal_slot, is_unapplied, is_placed, descriptor_of}
+use Rattle.plx_rules.specs.Journal.{journal_slot, is_unapplied, is_placed}
 use Rattle.plx_rules.specs.Records.{is_plain, size_of, applied_of}
 use Rattle.plx_rules.specs.Session.{Session}
-use Rattle.plx_rules.specs.Stored.{Given, IsCounted}
+use Rattle.plx_rules.specs.Stored.{Given, CountsIn, IsCounted}
 use Rattle.law_lease.proofs.Lists.{get-there}
 use Rattle.law_run.specs.CommandLogs.{Exchange, IsIn}
 use Rattle.law_run.specs.Outside.{IsMissingNumber, IsOutside, no_lease, no_record, not_plain, no_descriptor, misplaced, past_size, past_gap}
-use Rattle.law_run.proofs.Facts.{counts-number}
+use Rattle.law_run.proofs.Facts.{counts-number, fits-counted}
 use Rattle.law_run.proofs.Grown.{descriptor-one}
 use Rattle.law_run.proofs.Meets.{exchange}
 use Rattle.law_run.proofs.Right.{FitsSession}
@@ -84,7 +84,7 @@ inside-data g image kept slot bytes within = record {
 -- ---- no gap
 
 -- a session that fits has no missing number below one of its own
-no-gap : (g : Geometry) (given : Given) (image : ℕ) (session : Session) → FitsSession g given image session → (slot : ℕ) (d : Descriptor) (missing : ℕ) → IsCounted g given image session.image slot d → IsMissingNumber g given image session.image missing →
+no-gap : (g : Geometry) (given : Given) (image : ℕ) (session : Session) → FitsSession g given image session → (slot : ℕ) (d : Descriptor) (missing : ℕ) → CountsIn g given image session.image slot d → IsMissingNumber g given image session.image missing →
     missing < d.number → ⊥
 no-gap g given image session fits slot d missing counts gone below =
     let n = counts-number g given image session fits slot d counts in
@@ -92,8 +92,10 @@ no-gap g given image session fits slot d missing counts gone below =
     let k : ℕ = missing - applied_of session.image - 1 in
     let within : missing - applied_of session.image - 1 < length session.writes = omega (arith, n.4, n.5) in
     let w = get-there session.writes (missing - applied_of session.image - 1) within in
-    gone.absent (journal_slot g.slots w.0.number) (descriptor_of session.image w.0) (fits.counts (missing - applied_of session.image - 1) w.0 w.1)
-    (fits.numbers (missing - applied_of session.image - 1) w.0 w.1 ∙ (omega (arith, above)))
+    let its = data_at g image (journal_slot g.slots w.0.number) in
+    gone.absent w.0.vblock its
+    (subst (λ n. IsCounted g given image session.image n w.0.vblock its) (fits.numbers (missing - applied_of session.image - 1) w.0 w.1 ∙ (omega (arith, above)))
+    (fits-counted g given image session fits (missing - applied_of session.image - 1) w.0 w.1))
 
 -- bytes within the format aren't outside it
 pub not-outside : (g : Geometry) (given : Given) (image : ℕ) (session : Session) (block : ℕ) (bytes : List ℕ) → FitsSession g given image session → IsInside g image session.image block bytes →
@@ -118,5 +120,5 @@ not-outside g given image session block bytes fits inside (past_size kept slot d
 not-outside g given image session block bytes fits inside (past_gap kept slot d missing same found counts gone below least) =
     let e : Some session.image ≡ Some kept = sym fits.found ∙ found in
     let k : kept ≡ session.image = cc in
-    no-gap g given image session fits slot d missing (subst (λ (r : ImageRecord). IsCounted g given image r slot d) k counts)
+    no-gap g given image session fits slot d missing (subst (λ (r : ImageRecord). CountsIn g given image r slot d) k counts)
     (subst (λ (r : ImageRecord). IsMissingNumber g given image r missing) k gone) below

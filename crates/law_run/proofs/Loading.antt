@@ -13,7 +13,7 @@ use Rattle.plx_rules.specs.Journaled.{Journaled}
 use Rattle.plx_rules.specs.Journal.{journal_slot, is_unapplied, is_placed, counted_descriptor, counted_of, Finding, Outside, Unused, Counts, finding_of, descriptor_of}
 use Rattle.plx_rules.specs.Records.{is_plain, size_of, applied_of}
 use Rattle.plx_rules.specs.Session.{with_write_by_number, first_gap}
-use Rattle.plx_rules.specs.Stored.{Given, record_in, record_on, counted_in, IsCounted}
+use Rattle.plx_rules.specs.Stored.{Given, record_in, record_on, counted_in, CountsIn}
 use Rattle.law_run.specs.AllowedAsks.{last_known}
 use Rattle.law_run.specs.CommandLogs.{Exchange, IsIn}
 use Rattle.law_run.specs.KnownBytes.{given_with}
@@ -78,10 +78,10 @@ pub record Loading (g : Geometry) (given : Given) (image : ℕ) (kept : ImageRec
   pub found : record_on g given image ≡ Some kept
   pub room : length writes ≤ place
   pub ascending : Ascending (applied_of kept) writes
-  pub counts : (write : Journaled) → HasWrite writes write → IsCounted g given image kept (journal_slot g.slots write.number) (descriptor_of kept write)
+  pub counts : (write : Journaled) → HasWrite writes write → CountsIn g given image kept (journal_slot g.slots write.number) (descriptor_of kept write)
   pub below : (write : Journaled) → HasWrite writes write → journal_slot g.slots write.number < place
   pub blocks : (write : Journaled) → HasWrite writes write → given (data_at g image (journal_slot g.slots write.number)) ≡ Some write.block
-  pub only : (slot : ℕ) (d : Descriptor) → IsCounted g given image kept slot d → (write : Journaled) × HasWrite writes write × (d ≡ descriptor_of kept write)
+  pub only : (slot : ℕ) (d : Descriptor) → CountsIn g given image kept slot d → (write : Journaled) × HasWrite writes write × (d ≡ descriptor_of kept write)
   pub later : (slot : ℕ) → place ≤ slot → given (descriptor_at g image slot) ≡ None
   pub whole : (slot : ℕ) → slot < place → drop 512 (last_known (given (descriptor_at g image slot))) ≡ drop 512 zeros
   pub was_read : (slot : ℕ) → slot < place → (bytes : List ℕ) × IsIn (read_of (descriptor_at g image slot) bytes) done
@@ -128,12 +128,12 @@ module _ (g : Geometry) (given : Given) (image : ℕ) (kept : ImageRecord) (plac
   old-record = ap record_in (with-other given (descriptor_at g image place) bytes (record_at g image) (record-descriptor g image image place image_within)) ∙ l.found
 
   old-counts : (write : Journaled) → HasWrite writes write →
-      IsCounted g (given_with given (descriptor_at g image place) bytes) image kept (journal_slot g.slots write.number) (descriptor_of kept write)
+      CountsIn g (given_with given (descriptor_at g image place) bytes) image kept (journal_slot g.slots write.number) (descriptor_of kept write)
   old-counts write has =
       counts-same g given (given_with given (descriptor_at g image place) bytes) image kept (journal_slot g.slots write.number) (descriptor_of kept write)
       (elsewhere (journal_slot g.slots write.number) (λ e. (let b = l.below write has in omega arith))) (l.counts write has)
 
-  old-only : (slot : ℕ) (d : Descriptor) → slot ≢ place → IsCounted g (given_with given (descriptor_at g image place) bytes) image kept slot d →
+  old-only : (slot : ℕ) (d : Descriptor) → slot ≢ place → CountsIn g (given_with given (descriptor_at g image place) bytes) image kept slot d →
       (write : Journaled) × HasWrite writes write × (d ≡ descriptor_of kept write)
   old-only slot d other counts =
       l.only slot d (counts-same g (given_with given (descriptor_at g image place) bytes) given image kept slot d (sym (elsewhere slot other)) counts)
@@ -201,17 +201,17 @@ module _ (g : Geometry) (given : Given) (image : ℕ) (kept : ImageRecord) (plac
     beside : (slot : ℕ) → Both (descriptor_at g image slot) ≡ given_with given (descriptor_at g image place) bytes (descriptor_at g image slot)
     beside slot = with-other (given_with given (descriptor_at g image place) bytes) (data_at g image place) block (descriptor_at g image slot) (λ e. data-descriptor g image image place slot (sym e))
 
-    new-counts : IsCounted g Both image kept place d
+    new-counts : CountsIn g Both image kept place d
     new-counts = record {
       within = within;
       found = ap (counted_in kept g.slots place) (beside place ∙ with-block-same given (descriptor_at g image place) bytes) ∙ found;
     }
 
-    new-fits : IsCounted g Both image kept (journal_slot g.slots d.number) (descriptor_of kept (record { number = d.number; vblock = d.vblock; block = block }))
-    new-fits = subst (λ (e : Descriptor). IsCounted g Both image kept (journal_slot g.slots d.number) e) spells
-        (subst (λ n. IsCounted g Both image kept n d) (sym tells.place) new-counts)
+    new-fits : CountsIn g Both image kept (journal_slot g.slots d.number) (descriptor_of kept (record { number = d.number; vblock = d.vblock; block = block }))
+    new-fits = subst (λ (e : Descriptor). CountsIn g Both image kept (journal_slot g.slots d.number) e) spells
+        (subst (λ n. CountsIn g Both image kept n d) (sym tells.place) new-counts)
 
-    both-counts : (write : Journaled) → HasWrite writes write → IsCounted g Both image kept (journal_slot g.slots write.number) (descriptor_of kept write)
+    both-counts : (write : Journaled) → HasWrite writes write → CountsIn g Both image kept (journal_slot g.slots write.number) (descriptor_of kept write)
     both-counts write has =
         counts-same g (given_with given (descriptor_at g image place) bytes) Both image kept (journal_slot g.slots write.number) (descriptor_of kept write) (beside (journal_slot g.slots write.number)) (old-counts write has)
 
@@ -225,7 +225,7 @@ module _ (g : Geometry) (given : Given) (image : ℕ) (kept : ImageRecord) (plac
       ascending = ascending-inserted (applied_of kept) (record { number = d.number; vblock = d.vblock; block = block }) writes tells.above
           (λ write has e. (let b = l.below write has in let p = tells.place in let same = ap (journal_slot g.slots) e in omega arith)) l.ascending;
       counts = λ write has. elim (has-inserted (record { number = d.number; vblock = d.vblock; block = block }) writes write has) [
-        | inl is ↦ subst (λ (w : Journaled). IsCounted g Both image kept (journal_slot g.slots w.number) (descriptor_of kept w)) (sym is) new-fits
+        | inl is ↦ subst (λ (w : Journaled). CountsIn g Both image kept (journal_slot g.slots w.number) (descriptor_of kept w)) (sym is) new-fits
         | inr old ↦ both-counts write old
       ];
       below = λ write has. elim (has-inserted (record { number = d.number; vblock = d.vblock; block = block }) writes write has) [

@@ -153,7 +153,7 @@ create-clear slots slot size label session n free sized fresh = record {
 
 free-is : (kept : ImageRecord) → is_live kept ≡ false → kept ≡ image_is.Free (generation_of kept)
 free-is (image_is.Free generation) dead = refl
-free-is (image_is.Live generation size taken root applied label) dead = cc
+free-is (image_is.Live live) dead = cc
 
 size-parts : (size : ℕ) → is_size size ≡ true → (0 < size) × (size ≤ greatest_size)
 size-parts size is = let both = and-parts (nat_lt 0 size) (nat_le size greatest_size) is in (nat_lt-tells 0 size both.0, nat_le-tells size greatest_size both.1)
@@ -251,7 +251,7 @@ delete-clear slots slot session n live = record {
 -- a record's generation is within its limits
 generation-below : (kept : ImageRecord) → IsImage kept → generation_of kept < 2 ^ 32
 generation-below (image_is.Free generation) is = is
-generation-below (image_is.Live generation size taken root applied label) is = is.generation_high
+generation-below (image_is.Live live) is = is.generation_high
 
 right-delete : (s : Setting) (before : List Finished) (known : Known) (slot : SlotNo) (reading : ℕ) (rests : Rests s before known) (session : Session) (claim : Claim) (until : ℕ) →
     Ready s before known (Delete slot) slot reading (on-delete slot) rests session claim until →

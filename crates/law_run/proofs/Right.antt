@@ -18,7 +18,7 @@ use Rattle.plx_rules.specs.Journal.{journal_slot, descriptor_of}
 use Rattle.plx_rules.specs.Records.{is_plain, applied_of}
 use Rattle.plx_rules.specs.Session.{Session, Known}
 use Rattle.plx_rules.specs.Settings.{Setting}
-use Rattle.plx_rules.specs.Stored.{Given, record_on, IsCounted}
+use Rattle.plx_rules.specs.Stored.{Given, record_on, CountsIn}
 use Rattle.law_run.specs.AllowedAsks.{last_known, MayAsk}
 use Rattle.law_run.specs.CommandLogs.{Exchange, Finished, CommandLog}
 use Rattle.law_run.specs.Holdings.{holds_after, claims_begun}
@@ -42,10 +42,10 @@ pub record FitsSession (g : Geometry) (given : Given) (image : ℕ) (session : S
   pub room : length session.writes ≤ g.slots
   pub numbers : (k : ℕ) (write : Journaled) → slice_get session.writes k ≡ Some write → write.number ≡ applied_of session.image + (k + 1)
   pub counts : (k : ℕ) (write : Journaled) → slice_get session.writes k ≡ Some write →
-      IsCounted g given image session.image (journal_slot g.slots write.number) (descriptor_of session.image write)
+      CountsIn g given image session.image (journal_slot g.slots write.number) (descriptor_of session.image write)
   pub blocks : (k : ℕ) (write : Journaled) → slice_get session.writes k ≡ Some write →
       given (data_at g image (journal_slot g.slots write.number)) ≡ Some write.block
-  pub only : (slot : ℕ) (d : Descriptor) → IsCounted g given image session.image slot d →
+  pub only : (slot : ℕ) (d : Descriptor) → CountsIn g given image session.image slot d →
       (k : ℕ) × (write : Journaled) × (slice_get session.writes k ≡ Some write) × (d ≡ descriptor_of session.image write)
   pub whole : (slot : ℕ) → slot < g.slots → drop 512 (last_known (given (descriptor_at g image slot))) ≡ drop 512 zeros
 

@@ -84,7 +84,7 @@ stores-written g given image session write stores = record {
   label = stores.label;
   writes = subst (λ n. IsWriteCount g given image stores.kept n) (simp length-append (omega arith)) stores.writes;
   content = λ v. subst (λ (c : Content). IsContent g given image stores.kept v c) (ap Holds (latest-push zeros v session.writes write) ∙ held (v == write.vblock) (latest zeros v session.writes)) (stores.content v);
-  taken = stores.taken;
+  frozen = stores.frozen;
 }
   where
     held : (test : Bool) (old : List ℕ) → Holds (if test then write.block else old) ≡ (if test then Holds write.block else Holds old)
@@ -94,7 +94,7 @@ stores-written g given image session write stores = record {
 -- a live image's generation and size are within their limits
 live-parts : (kept : ImageRecord) → IsImage kept → is_live kept ≡ true → (1 ≤ generation_of kept) × (generation_of kept < 2 ^ 32) × (size_of kept ≤ 2 ^ 27)
 live-parts (image_is.Free generation) is live = absurd (let P : ⊥ = cc in P)
-live-parts (image_is.Live generation size taken root applied label) is live = (is.generation_low, is.generation_high, is.size_high)
+live-parts (image_is.Live kept) is live = (is.generation_low, is.generation_high, is.size_high)
 
 module _ (s : Setting) (some : 1 ≤ s.geometry.slots) (before : List Finished) (known : Known) (slot : SlotNo) (vblock : ℕ) (payload : Payload) (reading : ℕ) (rests : Rests s before known)
     (long : length (bytes_of payload) ≡ 4096)
@@ -117,8 +117,9 @@ module _ (s : Setting) (some : 1 ≤ s.geometry.slots) (before : List Finished) 
     count = write_count session;
     counts = subst (λ (g : Given). IsWriteCount s.geometry g slot.0 session.image (write_count session)) (sym same) (write-count s.geometry given slot.0 session fits);
     next = refl;
-    free = λ d. subst (λ (g : Given). ¬ IsCounted s.geometry g slot.0 session.image (journal_slot s.geometry.slots (write_count session + 1)) d) (sym same)
-        (next-free s.geometry given slot.0 session fits room d);
+    free = λ other v. subst
+        (λ (g : Given). ¬ IsCounted s.geometry g slot.0 session.image other v (data_at s.geometry slot.0 (journal_slot s.geometry.slots (write_count session + 1)))) (sym same)
+        (next-free s.geometry given slot.0 session fits room other v);
   }
 
   right-journal : is_live session.image ≡ true → vblock < size_of session.image → write_count session < last_write → length session.writes < s.geometry.slots →

@@ -44,7 +44,7 @@ HasSampled log lease sample bytes older =
     log.exchanges ≡ (record { ask = ask.Read (record { 0 = lease_at lease }); bytes = []; answer = answer.Bytes bytes })
     ∷ (record { ask = ask.Clock; bytes = []; answer = answer.Reading sample }) ∷ older
 
--- the write after the last one of an attached image, whose journal slot holds no write that counts
+-- the write after the last one of an attached image; none that counts has its data in the same block
 pub record IsNext (s : Setting) (log : CommandLog) (image number : ℕ) : Type 0 where
   pub attached : is_attached log.before image ≡ true
   pub kept : ImageRecord
@@ -53,7 +53,9 @@ pub record IsNext (s : Setting) (log : CommandLog) (image number : ℕ) : Type 0
   pub count : ℕ
   pub counts : IsWriteCount s.geometry (known_in s.geometry log image) image kept count
   pub next : number ≡ count + 1
-  pub free : (d : Descriptor) → ¬ IsCounted s.geometry (known_in s.geometry log image) image kept (journal_slot s.geometry.slots number) d
+  pub free : (other vblock : ℕ) →
+      ¬ IsCounted s.geometry (known_in s.geometry log image) image kept other vblock
+      (data_at s.geometry image (journal_slot s.geometry.slots number))
 
 -- the bytes that are known of a block, or zeros where none are
 abbrev pub last_known : Option (List ℕ) → List ℕ

@@ -1,8 +1,8 @@
 -- What commands make of the image that given bytes store, and what is told of it.
-use Rattle.std.specs.Prelude.{◌+◌, ℕ, List, [], true, false, if◌then◌else◌, ◌==◌}
+use Rattle.std.specs.Prelude.{◌+◌, ℕ, List, [], ◌∷◌, length, true, false, if◌then◌else◌, ◌==◌}
 use Rattle.plx_base.specs.Blocks.{zeros}
 use Rattle.plx_commands.specs.declared.reply.Report.{Report}
-use Rattle.plx_rules.specs.Stored.{Holds, StoredImage}
+use Rattle.plx_rules.specs.Stored.{Holds, StoredFrozen, Dropped, Kept, StoredImage}
 
 -- the image once one of its blocks is written
 abbrev pub written_on : StoredImage → (vblock : ℕ) → List ℕ → StoredImage
@@ -18,7 +18,7 @@ deleted_on image = record {
   label = [];
   writes = 0;
   content = λ vblock. Holds zeros;
-  taken = 0;
+  frozen = [];
 }
 
 -- the image that is made in a free slot
@@ -30,17 +30,23 @@ created_on image size label = record {
   label = label;
   writes = 0;
   content = λ vblock. Holds zeros;
-  taken = 0;
+  frozen = [];
 }
 
--- what is reported of an image, none of whose snapshots was dropped
+-- how many of its snapshots are dropped
+abbrev pub count_dropped_on : List StoredFrozen → ℕ
+count_dropped_on [] = 0
+count_dropped_on (Dropped ∷ others) = count_dropped_on others + 1
+count_dropped_on (Kept content ∷ others) = count_dropped_on others
+
+-- what is reported of an image
 abbrev pub report_on : StoredImage → Report
 report_on image = record {
   live = image.live;
   generation = image.generation;
   size = image.size;
   writes = image.writes;
-  taken = image.taken;
-  dropped = 0;
+  taken = length image.frozen;
+  dropped = count_dropped_on image.frozen;
   label = image.label;
 }

@@ -11,7 +11,7 @@ pub record IsSameImage (i k : StoredImage) : Type 0 where
   pub label : i.label ≡ k.label
   pub writes : i.writes ≡ k.writes
   pub content : (vblock : ℕ) → i.content vblock ≡ k.content vblock
-  pub taken : i.taken ≡ k.taken
+  pub frozen : i.frozen ≡ k.frozen
 
 -- bytes that store two images in a slot store one
 abbrev pub StoresOneImage : Type 0

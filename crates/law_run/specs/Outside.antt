@@ -8,13 +8,15 @@ use Rattle.plx_gate.specs.declared.image.ImageRecord.{ImageRecord}
 use Rattle.plx_geom.specs.Geometry.{Geometry, lease_count, lease_at, record_at, descriptor_at}
 use Rattle.plx_rules.specs.Journal.{journal_slot, is_unapplied}
 use Rattle.plx_rules.specs.Records.{is_plain, size_of, applied_of}
-use Rattle.plx_rules.specs.Stored.{Given, record_on, IsCounted}
+use Rattle.plx_rules.specs.Stored.{Given, record_on, CountsIn, IsCounted}
 
--- a write is missing: of those from the last one applied on, the least number that no descriptor counted has
-pub record IsMissingNumber (g : Geometry) (given : Given) (image : ℕ) (kept : ImageRecord) (missing : ℕ) : Type 0 where
+-- a write is missing: the least number above the last one applied with which no write counts
+pub record IsMissingNumber (g : Geometry) (given : Given) (image : ℕ) (kept : ImageRecord)
+    (missing : ℕ) : Type 0 where
   pub above : applied_of kept < missing
-  pub absent : (slot : ℕ) (d : Descriptor) → IsCounted g given image kept slot d → d.number ≢ missing
-  pub there : (number : ℕ) → applied_of kept < number → number < missing → (slot : ℕ) × (d : Descriptor) × IsCounted g given image kept slot d × (d.number ≡ number)
+  pub absent : (vblock block : ℕ) → ¬ IsCounted g given image kept missing vblock block
+  pub there : (number : ℕ) → applied_of kept < number → number < missing →
+      (vblock : ℕ) × (block : ℕ) × IsCounted g given image kept number vblock block
 
 -- bytes that were read at a block are outside the format: they spell no lease; no record; a record that counts snapshots or has a tree,
 -- which commands don't read yet; no descriptor; one of the image that stands in another slot than its number's, or names a block past the size;
@@ -29,5 +31,7 @@ pub data IsOutside (g : Geometry) (given : Given) (image : ℕ) (block : ℕ) (b
   past_size : (kept : ImageRecord) (slot : ℕ) (d : Descriptor) → slot < g.slots → block ≡ descriptor_at g image slot → record_on g given image ≡ Some kept →
       read_descriptor bytes ≡ Some (Some d) → is_unapplied kept d ≡ true → size_of kept ≤ d.vblock → IsOutside g given image block bytes
   past_gap : (kept : ImageRecord) (slot : ℕ) (d : Descriptor) (missing : ℕ) → block ≡ descriptor_at g image slot → record_on g given image ≡ Some kept →
-      IsCounted g given image kept slot d → IsMissingNumber g given image kept missing → missing < d.number →
-      ((other : ℕ) (e : Descriptor) → IsCounted g given image kept other e → missing < e.number → d.number ≤ e.number) → IsOutside g given image block bytes
+      CountsIn g given image kept slot d → IsMissingNumber g given image kept missing →
+      missing < d.number →
+      ((number vblock its : ℕ) → IsCounted g given image kept number vblock its →
+      missing < number → d.number ≤ number) → IsOutside g given image block bytes

@@ -122,7 +122,7 @@ pub record ShowsImage (s : Setting) (log : CommandLog) (report : Report) : Type 
   pub confirmed : IsConfirmed s log slot.0
   pub image : StoredImage
   pub stores : Stores s.geometry (known_in s.geometry log slot.0) slot.0 image
-  pub whole : image.taken ≡ 0
+  pub whole : image.frozen ≡ []
   pub told : report ≡ report_on image
   pub inside : (block : BlockNo) (bytes : List ℕ) → WasAnswered log (ask.Read block) [] (answer.Bytes bytes) →
       ¬ IsOutside s.geometry (known_in s.geometry log slot.0) slot.0 block.0 bytes

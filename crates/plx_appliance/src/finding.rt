@@ -61,6 +61,6 @@ pub fn is_plain(image: &ImageRecord) -> bool
 {
     match image {
         ImageRecord::Free { .. } => true,
-        ImageRecord::Live { taken, root, .. } => *taken == 0 && root.value() == 0,
+        ImageRecord::Live(live) => live.taken == 0 && live.root.value() == 0,
     }
 }

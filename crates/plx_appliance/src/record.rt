@@ -10,7 +10,7 @@ use crate::spell::spell_image;
 use plx_base::{Block, Label, Ptr, WriteKind};
 use plx_commands::Reply;
 use plx_disk::{Answer, Ask};
-use plx_gate::ImageRecord;
+use plx_gate::{ImageRecord, LiveRecord};
 use std::mem;
 
 /// How often an image can be made in one slot.
@@ -88,14 +88,14 @@ impl Record {
             });
         }
         let _bytes = label.as_slice();
-        let made = ImageRecord::Live {
+        let made = ImageRecord::Live(LiveRecord {
             generation: generation + 1,
             size,
             taken: 0,
             root: Ptr::hole(),
             applied: 0,
             label,
-        };
+        });
         Ok(Record::begin(image, made, Done::Created, spelled))
     }
 

@@ -50,7 +50,7 @@ impl Session {
     {
         match &self.image {
             ImageRecord::Free { .. } => false,
-            ImageRecord::Live { .. } => true,
+            ImageRecord::Live(_) => true,
         }
     }
 
@@ -61,7 +61,7 @@ impl Session {
     {
         match &self.image {
             ImageRecord::Free { generation } => *generation,
-            ImageRecord::Live { generation, .. } => *generation,
+            ImageRecord::Live(live) => live.generation,
         }
     }
 
@@ -72,7 +72,7 @@ impl Session {
     {
         match &self.image {
             ImageRecord::Free { .. } => 0,
-            ImageRecord::Live { size, .. } => *size,
+            ImageRecord::Live(live) => live.size,
         }
     }
 
@@ -82,7 +82,7 @@ impl Session {
     {
         match &self.image {
             ImageRecord::Free { .. } => 0,
-            ImageRecord::Live { taken, .. } => *taken,
+            ImageRecord::Live(live) => live.taken,
         }
     }
 
@@ -93,7 +93,7 @@ impl Session {
     {
         match &self.image {
             ImageRecord::Free { .. } => 0,
-            ImageRecord::Live { applied, .. } => *applied,
+            ImageRecord::Live(live) => live.applied,
         }
     }
 
@@ -174,6 +174,6 @@ fn label(image: &ImageRecord) -> Label
 {
     match image {
         ImageRecord::Free { .. } => Label::empty(),
-        ImageRecord::Live { label, .. } => label.copy(),
+        ImageRecord::Live(live) => live.label.copy(),
     }
 }

@@ -2,7 +2,7 @@
 use Rattle.std.proofs.Common.{◌≡◌, ◌≢◌, ℕ, inl, inr, ◌^◌, ◌<◌, ◌≤◌, List, [], ◌∷◌, length, take, drop, refl, ap, sym, ◌∙◌, subst, arith, true, false, Some, None}
 use Rattle.std.proofs.lemmas.Bool.Decides.{nat_tests, eqb_tells}
 use Rattle.std.proofs.lemmas.List.{length-drop, length-take}
-use Rattle.std.specs.Prelude.{◌&&◌}
+use Rattle.std.specs.Prelude.{◌&&◌, ◌==◌, if◌then◌else◌}
 use Rattle.plx_base.specs.Fields.{number_at}
 use Rattle.plx_base.specs.Labels.{IsLabel, is_label}
 use Rattle.plx_base.specs.Pointers.{IsPointer, is_pointer}
@@ -12,9 +12,15 @@ use Rattle.plx_base.proofs.Labels.{is_label-true, true-is_label}
 use Rattle.plx_base.proofs.Pointers.{IsPointer-lt, is_pointer-true, true-is_pointer}
 use Rattle.plx_base.proofs.Spelling.{AreFields, length-spelled, only-spelled, read-exact, read-past, read-some, read-unspelled, spelled-fields, spelled-last}
 use Rattle.plx_base.proofs.Tests.{all_three, and-left, and-right, not-true}
-use Rattle.plx_gate.specs.Images.{IsImage, are_within, found_image, found_label, image_bytes, image_fields, image_magic, record_of_fields, is_image, label_of, read_image}
+use Rattle.plx_gate.specs.Images.{IsImage, are_within, found_image, found_label, found_live, image_bytes, image_fields, image_magic, is_image, label_of, read_image}
 use Rattle.plx_gate.specs.declared.image.ImageRecord.{ImageRecord}
 use Rattle.plx_gate.specs.declared.image.ImageRecord.TheVariants.{Free, Live}
+
+-- the image record of these numbers and this label
+abbrev record_of_fields : (state generation size taken root applied : ℕ) → List ℕ → ImageRecord
+record_of_fields state generation size taken root applied label =
+    if state == 0 then Free generation
+    else Live (record { generation = generation; size = size; taken = taken; root = root; applied = applied; label = label })
 
 -- the image record of its fields and its label
 abbrev of_fields : List Field → List ℕ → ImageRecord
@@ -27,18 +33,14 @@ abbrev len_in : List Field → ℕ
 len_in (state ∷ generation ∷ size ∷ taken ∷ root ∷ applied ∷ label_len ∷ unnamed ∷ rest) = field_number label_len
 len_in rest = 0
 
--- the live image whose numbers and label stand at the places of the fields
-abbrev pub live_at : List ℕ → ImageRecord
-live_at bytes = Live (number_at 4 12 bytes) (number_at 4 16 bytes) (number_at 4 20 bytes) (number_at 8 24 bytes) (number_at 8 32 bytes) (found_label bytes)
-
 -- each field is a number of its width
 small-fields : (r : ImageRecord) → IsImage r → AreFields (image_fields r)
 small-fields (Free generation) h = (omega arith, (omega (arith, h), (omega arith, (omega arith, (omega arith, (omega arith, (omega arith, (omega arith, tt))))))))
-small-fields (Live generation size taken root applied label) h =
+small-fields (Live live) h =
     let a = h.generation_high in
     let b = h.size_high in
     let c = h.taken_high in
-    let d = IsPointer-lt root h.root_pointer in
+    let d = IsPointer-lt live.root h.root_pointer in
     let e = h.applied_high in
     let f = h.label_is.short in
     (omega arith, (omega (arith, a), (omega (arith, b), (omega (arith, c), (omega (arith, d), (omega (arith, e), (omega (arith, f), (omega arith, tt))))))))
@@ -49,13 +51,13 @@ unfolding image_bytes
 image-found (Free generation) h =
     let bytes = image_bytes (Free generation) in
     ap (λ fields. of_fields fields (found_label bytes)) (spelled-fields image_magic (image_fields (Free generation)) [] (small-fields (Free generation) h))
-image-found (Live generation size taken root applied label) h =
-    let r = Live generation size taken root applied label in
+image-found (Live live) h =
+    let r = Live live in
     let bytes = image_bytes r in
-    let fields = spelled-fields image_magic (image_fields r) label (small-fields r h) in
-    let long : number_at 4 40 bytes ≡ length label = ap len_in fields in
-    let named : found_label bytes ≡ label = ap (λ n. take n (drop 48 bytes)) long ∙ spelled-last image_magic (image_fields r) label 48 refl in
-    ap (λ fs. of_fields fs (found_label bytes)) fields ∙ ap (λ xs. Live generation size taken root applied xs) named
+    let fields = spelled-fields image_magic (image_fields r) live.label (small-fields r h) in
+    let long : number_at 4 40 bytes ≡ length live.label = ap len_in fields in
+    let named : found_label bytes ≡ live.label = ap (λ n. take n (drop 48 bytes)) long ∙ spelled-last image_magic (image_fields r) live.label 48 refl in
+    ap (λ fs. of_fields fs (found_label bytes)) fields ∙ ap (λ xs. Live (record live { label = xs })) named
 
 -- the test of the limits tells
 
@@ -70,37 +72,37 @@ true-are_within generation size taken applied h =
 
 pub is_image-true : (r : ImageRecord) → IsImage r → is_image r ≡ true
 is_image-true (Free generation) h = grind (arith, nat_tests)
-is_image-true (Live generation size taken root applied label) h =
-    all_three (are_within generation size taken applied) (is_pointer root) (is_label label)
-    (are_within-true generation size taken applied h.generation_low h.generation_high h.size_low h.size_high h.taken_high h.applied_high)
-    (is_pointer-true root h.root_pointer) (is_label-true label h.label_is)
+is_image-true (Live live) h =
+    all_three (are_within live.generation live.size live.taken live.applied) (is_pointer live.root) (is_label live.label)
+    (are_within-true live.generation live.size live.taken live.applied h.generation_low h.generation_high h.size_low h.size_high h.taken_high h.applied_high)
+    (is_pointer-true live.root h.root_pointer) (is_label-true live.label h.label_is)
 
 pub true-is_image : (r : ImageRecord) → is_image r ≡ true → IsImage r
 true-is_image (Free generation) h = grind (arith, nat_tests)
-true-is_image (Live generation size taken root applied label) h =
-    let a = true-are_within generation size taken applied (and-left (are_within generation size taken applied) (is_pointer root && is_label label) h) in
-    let b = and-right (are_within generation size taken applied) (is_pointer root && is_label label) h in
+true-is_image (Live live) h =
+    let within = are_within live.generation live.size live.taken live.applied in
+    let a = true-are_within live.generation live.size live.taken live.applied (and-left within (is_pointer live.root && is_label live.label) h) in
+    let b = and-right within (is_pointer live.root && is_label live.label) h in
     record {
       generation_low = a.0;
       generation_high = a.1;
       size_low = a.2;
       size_high = a.3;
       taken_high = a.4;
-      root_pointer = true-is_pointer root (and-left (is_pointer root) (is_label label) b);
+      root_pointer = true-is_pointer live.root (and-left (is_pointer live.root) (is_label live.label) b);
       applied_high = a.5;
-      label_is = true-is_label label (and-right (is_pointer root) (is_label label) b);
+      label_is = true-is_label live.label (and-right (is_pointer live.root) (is_label live.label) b);
     }
 
 -- what is past its limits doesn't pass the test
 
-live-is : (state generation size taken root applied : ℕ) (label : List ℕ) → state ≢ 0 →
-    record_of_fields state generation size taken root applied label ≡ Live generation size taken root applied label
-live-is state generation size taken root applied label h = elim (eqb_tells state 0) [ inl x ↦ absurd (h x.1) | inr x ↦ rw x.0 refl ]
+live-is : (state : ℕ) (free live : ImageRecord) → state ≢ 0 → (if state == 0 then free else live) ≡ live
+live-is state free live h = elim (eqb_tells state 0) [ inl x ↦ absurd (h x.1) | inr x ↦ rw x.0 refl ]
 
-pub past-limits : (bytes : List ℕ) → number_at 4 8 bytes ≢ 0 → ¬ (IsImage (live_at bytes)) → is_image (found_image bytes) ≡ false
+pub past-limits : (bytes : List ℕ) → number_at 4 8 bytes ≢ 0 → ¬ (IsImage (Live (found_live bytes))) → is_image (found_image bytes) ≡ false
 past-limits bytes live past =
-    let is = live-is (number_at 4 8 bytes) (number_at 4 12 bytes) (number_at 4 16 bytes) (number_at 4 20 bytes) (number_at 8 24 bytes) (number_at 8 32 bytes) (found_label bytes) live in
-    ap is_image is ∙ not-true (is_image (live_at bytes)) (λ h. past (true-is_image (live_at bytes) h))
+    ap is_image (live-is (number_at 4 8 bytes) (Free (number_at 4 12 bytes)) (Live (found_live bytes)) live)
+    ∙ not-true (is_image (Live (found_live bytes))) (λ h. past (true-is_image (Live (found_live bytes)) h))
 
 -- reading is exact: an image record within the limits where it is spelled by the bytes, nothing where none is
 pub image-reading : (bytes : List ℕ) → IsReading IsImage image_bytes bytes (read_image bytes)
@@ -124,12 +126,12 @@ image-only bytes r e = subst (IsReading IsImage image_bytes bytes) e (image-read
 -- the bytes of an image's fields
 pub width-image : (r : ImageRecord) → fields_width (image_fields r) ≡ 40
 width-image (Free generation) = refl
-width-image (Live generation size taken root applied label) = refl
+width-image (Live live) = refl
 
 -- a label is short
 pub label-short : (r : ImageRecord) → IsImage r → length (label_of r) ≤ 32
 label-short (Free generation) h = omega arith
-label-short (Live generation size taken root applied label) h = h.label_is.short
+label-short (Live live) h = h.label_is.short
 
 -- an image record fills a block
 pub length-image : (r : ImageRecord) → IsImage r → length (image_bytes r) ≡ 4096
@@ -165,7 +167,7 @@ image-other bytes r found other = sym (read-unspelled is_image image_bytes (foun
 pub past-live : (bytes : List ℕ) (g s t a : ℕ) → number_at 4 8 bytes ≢ 0 → g ≡ number_at 4 12 bytes → s ≡ number_at 4 16 bytes → t ≡ number_at 4 20 bytes → a ≡ number_at 8 32 bytes →
     are_within g s t a ≡ false → is_image (found_image bytes) ≡ false
 past-live bytes g s t a live hg hs ht ha past =
-    past-limits bytes live (λ is. let h = is_image-true (live_at bytes) is in
+    past-limits bytes live (λ is. let h = is_image-true (Live (found_live bytes)) is in
     let one = and-left (are_within (number_at 4 12 bytes) (number_at 4 16 bytes) (number_at 4 20 bytes) (number_at 8 32 bytes)) (is_pointer (number_at 8 24 bytes) && is_label (found_label bytes)) h in
     let other : are_within (number_at 4 12 bytes) (number_at 4 16 bytes) (number_at 4 20 bytes) (number_at 8 32 bytes) ≡ false = rw (← hg, ← hs, ← ht, ← ha) past in
     let bad : true ≡ false = sym one ∙ other in cc)

@@ -8,6 +8,7 @@ use Rattle.plx_base.specs.declared.stored.Field.{Field}
 use Rattle.plx_base.specs.declared.stored.Field.TheVariants.{U32, U64}
 use Rattle.plx_gate.specs.declared.image.ImageRecord.{ImageRecord}
 use Rattle.plx_gate.specs.declared.image.ImageRecord.TheVariants.{Free, Live}
+use Rattle.plx_gate.specs.declared.image.LiveRecord.{LiveRecord}
 
 -- the eight bytes that begin an image record: PLXIMAG1
 abbrev pub image_magic : List ℕ
@@ -30,32 +31,32 @@ fields_of state generation size taken root applied label_len =
 -- a free slot has state 0, its generation and zeros; a live one has state 1 and all its fields
 abbrev pub image_fields : ImageRecord → List Field
 image_fields (Free generation) = fields_of 0 generation 0 0 0 0 0
-image_fields (Live generation size taken root applied label) = fields_of 1 generation size taken root applied (length label)
+image_fields (Live live) = fields_of 1 live.generation live.size live.taken live.root live.applied (length live.label)
 
 -- the bytes of a label
 abbrev pub label_of : ImageRecord → List ℕ
 label_of (Free generation) = []
-label_of (Live generation size taken root applied label) = label
+label_of (Live live) = live.label
 
 -- the block that spells an image record
 unfoldable pub image_bytes : ImageRecord → List ℕ
 image_bytes image = block_of_fields image_magic (image_fields image) (label_of image)
 
 -- the limits of a live image
-pub record IsLive (generation size taken root applied : ℕ) (label : List ℕ) : Type 0 where
-  pub generation_low : 1 ≤ generation
-  pub generation_high : generation < 2 ^ 32
-  pub size_low : 1 ≤ size
-  pub size_high : size ≤ 2 ^ 27
-  pub taken_high : taken ≤ 128
-  pub root_pointer : IsPointer root
-  pub applied_high : applied < 2 ^ 48
-  pub label_is : IsLabel label
+pub record IsLive (live : LiveRecord) : Type 0 where
+  pub generation_low : 1 ≤ live.generation
+  pub generation_high : live.generation < 2 ^ 32
+  pub size_low : 1 ≤ live.size
+  pub size_high : live.size ≤ 2 ^ 27
+  pub taken_high : live.taken ≤ 128
+  pub root_pointer : IsPointer live.root
+  pub applied_high : live.applied < 2 ^ 48
+  pub label_is : IsLabel live.label
 
 -- the limits of an image record
 abbrev pub IsImage : ImageRecord → Type 0
 IsImage (Free generation) = generation < 2 ^ 32
-IsImage (Live generation size taken root applied label) = IsLive generation size taken root applied label
+IsImage (Live live) = IsLive live
 
 -- the limits of a live image's generation, size, snapshots and last write applied, tested
 abbrev pub are_within : (generation size taken applied : ℕ) → Bool
@@ -65,21 +66,26 @@ are_within generation size taken applied =
 -- the limits of an image record, tested
 abbrev pub is_image : ImageRecord → Bool
 is_image (Free generation) = nat_lt generation (2 ^ 32)
-is_image (Live generation size taken root applied label) = are_within generation size taken applied && (is_pointer root && is_label label)
-
--- the image record of these numbers and this label
-abbrev pub record_of_fields : (state generation size taken root applied : ℕ) → List ℕ → ImageRecord
-record_of_fields state generation size taken root applied label = if state == 0 then Free generation else Live generation size taken root applied label
+is_image (Live live) = are_within live.generation live.size live.taken live.applied && (is_pointer live.root && is_label live.label)
 
 -- the label that stands at its place
 abbrev pub found_label : List ℕ → List ℕ
 found_label bytes = take (number_at 4 40 bytes) (drop 48 bytes)
 
--- the image record whose numbers and label stand at the places of the fields
+-- the live record whose numbers and label stand at the places of the fields
+abbrev pub found_live : List ℕ → LiveRecord
+found_live bytes = record {
+  generation = number_at 4 12 bytes;
+  size = number_at 4 16 bytes;
+  taken = number_at 4 20 bytes;
+  root = number_at 8 24 bytes;
+  applied = number_at 8 32 bytes;
+  label = found_label bytes;
+}
+
+-- the image record that stands at the places of the fields: a free one where the state is 0
 abbrev pub found_image : List ℕ → ImageRecord
-found_image bytes =
-    record_of_fields (number_at 4 8 bytes) (number_at 4 12 bytes) (number_at 4 16 bytes) (number_at 4 20 bytes) (number_at 8 24 bytes) (number_at 8 32 bytes)
-    (found_label bytes)
+found_image bytes = if number_at 4 8 bytes == 0 then Free (number_at 4 12 bytes) else Live (found_live bytes)
 
 -- what a block says: an image record within the limits, or nothing
 unfoldable pub read_image : List ℕ → Option ImageRecord

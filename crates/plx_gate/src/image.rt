@@ -27,6 +27,23 @@ const LABEL_LEN: u32 = 32;
 /// Where the label begins.
 const LABEL_START: usize = 48;
 
+/// What the record of an image says.
+#[derive(Drop)]
+pub struct LiveRecord {
+    /// The image's number among those that the slot had, from 1 on.
+    pub generation: u32,
+    /// The image's blocks, from 1 to 2^27.
+    pub size: u32,
+    /// How many snapshots were taken, at most 128.
+    pub taken: u32,
+    /// The root of its tree.
+    pub root: Ptr,
+    /// The number of the last write that its tree has, below 2^48.
+    pub applied: u64,
+    /// What it is called.
+    pub label: Label,
+}
+
 /// What the record of an image slot says.
 #[derive(Drop)]
 pub enum ImageRecord {
@@ -36,20 +53,7 @@ pub enum ImageRecord {
         generation: u32,
     },
     /// There is an image.
-    Live {
-        /// The image's number among those that the slot had, from 1 on.
-        generation: u32,
-        /// The image's blocks, from 1 to 2^27.
-        size: u32,
-        /// How many snapshots were taken, at most 128.
-        taken: u32,
-        /// The root of its tree.
-        root: Ptr,
-        /// The number of the last write that its tree has, below 2^48.
-        applied: u64,
-        /// What it is called.
-        label: Label,
-    },
+    Live(LiveRecord),
 }
 
 /// What an image record's block of 4,096 bytes says, or `None` where the bytes are outside the
@@ -98,14 +102,14 @@ fn found(bytes: &[u8]) -> Option<ImageRecord>
     }
     let root = Ptr::read(get_u64(bytes, 24))?;
     let label = label_in(bytes)?;
-    Some(ImageRecord::Live {
+    Some(ImageRecord::Live(LiveRecord {
         generation,
         size,
         taken,
         root,
         applied,
         label,
-    })
+    }))
 }
 
 // Whether the numbers of a live image are within their limits.
@@ -139,7 +143,7 @@ fn label(image: &ImageRecord) -> &[u8]
 {
     match image {
         ImageRecord::Free { .. } => &[],
-        ImageRecord::Live { label, .. } => label.as_slice(),
+        ImageRecord::Live(live) => live.label.as_slice(),
     }
 }
 
@@ -149,22 +153,15 @@ fn fields(image: &ImageRecord) -> [Field; 8]
 {
     match image {
         ImageRecord::Free { generation } => fields_of(0, *generation, 0, 0, 0, 0, 0),
-        ImageRecord::Live {
-            generation,
-            size,
-            taken,
-            root,
-            applied,
-            label,
-        } => {
-            let label_len = label.as_slice().len() as u32;
+        ImageRecord::Live(live) => {
+            let label_len = live.label.as_slice().len() as u32;
             fields_of(
                 1,
-                *generation,
-                *size,
-                *taken,
-                root.value(),
-                *applied,
+                live.generation,
+                live.size,
+                live.taken,
+                live.root.value(),
+                live.applied,
                 label_len,
             )
         }

@@ -8,5 +8,5 @@ mod lease;
 
 pub use descriptor::{Descriptor, read_descriptor, write_descriptor};
 pub use entry::{LogEntry, read_entry, write_entry};
-pub use image::{ImageRecord, read_image, write_image};
+pub use image::{ImageRecord, LiveRecord, read_image, write_image};
 pub use lease::{read_lease, write_lease};

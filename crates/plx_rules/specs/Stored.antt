@@ -1,15 +1,17 @@
 -- The image that given bytes store.
-use Rattle.std.specs.Prelude.{◌≡◌, ◌≢◌, ◌≤◌, ◌<◌, ◌*◌, ◌/◌, ◌%◌, ◌^◌, ◌⊎◌, ℕ, List, [], ◌∷◌, length, Bool, if◌then◌else◌, ◌==◌, Option, Some, None}
+use Rattle.std.specs.Prelude.{◌≡◌, ◌≤◌, ◌<◌, ◌*◌, ◌/◌, ◌%◌, ◌^◌, ◌⊎◌, ℕ, List, [], ◌∷◌, length, Bool, true, false, if◌then◌else◌, ◌==◌, Option, Some, None, slice_get}
 use Rattle.plx_base.specs.Blocks.{zeros}
 use Rattle.plx_base.specs.Fields.{number_at}
 use Rattle.plx_base.specs.Pointers.{without_mark}
 use Rattle.plx_base.specs.Sectors.{Device}
-use Rattle.plx_commands.specs.Images.{Image}
+use Rattle.plx_commands.specs.Images.{Image, Frozen}
 use Rattle.plx_commands.specs.Model.{Slot}
+use Rattle.plx_gate.specs.Entries.{read_entry}
 use Rattle.plx_gate.specs.Images.{label_of, read_image}
 use Rattle.plx_gate.specs.declared.descriptor.Descriptor.{Descriptor}
+use Rattle.plx_gate.specs.declared.entry.LogEntry.{LogEntry}
 use Rattle.plx_gate.specs.declared.image.ImageRecord.{ImageRecord}
-use Rattle.plx_geom.specs.Geometry.{Geometry, record_at, descriptor_at, data_at}
+use Rattle.plx_geom.specs.Geometry.{Geometry, record_at, log_at, descriptor_at, data_at}
 use Rattle.plx_rules.specs.Journal.{counted_descriptor}
 use Rattle.plx_rules.specs.Records.{is_live, generation_of, size_of, taken_of, root_of, applied_of}
 
@@ -26,7 +28,13 @@ pub data Content : Type 0 where
   Holds : List ℕ → Content
   Below : (block : ℕ) → (digits : List ℕ) → Content
 
--- an image as far as bytes are given, with the number of its snapshots
+-- what a snapshot holds, as far as bytes are given: it is dropped, or kept with what each
+-- virtual block held
+pub data StoredFrozen : Type 0 where
+  Dropped : StoredFrozen
+  Kept : (content : ℕ → Content) → StoredFrozen
+
+-- an image as far as bytes are given
 pub record StoredImage : Type 0 where
   pub live : Bool
   pub generation : ℕ
@@ -34,7 +42,7 @@ pub record StoredImage : Type 0 where
   pub label : List ℕ
   pub writes : ℕ
   pub content : ℕ → Content
-  pub taken : ℕ
+  pub frozen : List StoredFrozen
 
 -- what a block says that is given
 abbrev pub record_in : Option (List ℕ) → Option ImageRecord
@@ -45,27 +53,51 @@ record_in (Some bytes) = read_image bytes
 abbrev pub record_on : Geometry → Given → (image : ℕ) → Option ImageRecord
 record_on g given image = record_in (given (record_at g image))
 
+-- what a log's block that is given says at an entry's place
+abbrev pub entry_in : (index : ℕ) → Option (List ℕ) → Option LogEntry
+entry_in index None = None
+entry_in index (Some bytes) = read_entry index bytes
+
+-- the entry of an image's log
+abbrev pub entry_on : Geometry → Given → (image index : ℕ) → Option LogEntry
+entry_on g given image index = entry_in index (given (log_at g image))
+
 -- the descriptor that counts, of the bytes of a journal slot; one that isn't given doesn't count
 abbrev pub counted_in : ImageRecord → (slots slot : ℕ) → Option (List ℕ) → Option Descriptor
 counted_in kept slots slot None = None
 counted_in kept slots slot (Some bytes) = counted_descriptor kept slots slot bytes
 
--- a journal slot of an image counts, with this descriptor
-pub record IsCounted (g : Geometry) (given : Given) (image : ℕ) (kept : ImageRecord) (slot : ℕ) (d : Descriptor) : Type 0 where
+-- a descriptor counts in this journal slot of an image
+pub record CountsIn (g : Geometry) (given : Given) (image : ℕ) (kept : ImageRecord)
+    (slot : ℕ) (d : Descriptor) : Type 0 where
   pub within : slot < g.slots
   pub found : counted_in kept g.slots slot (given (descriptor_at g image slot)) ≡ Some d
 
--- the number of writes: the greatest number counted, or the last one applied
-pub record IsWriteCount (g : Geometry) (given : Given) (image : ℕ) (kept : ImageRecord) (count : ℕ) : Type 0 where
-  pub greatest : (slot : ℕ) (d : Descriptor) → IsCounted g given image kept slot d → d.number ≤ count
-  pub least : applied_of kept ≤ count
-  pub reached : (count ≡ applied_of kept) ⊎ ((slot : ℕ) × (d : Descriptor) × IsCounted g given image kept slot d × (d.number ≡ count))
+-- a write counts, with its number, its virtual block and the block of its data:
+-- a descriptor that counts says so
+pub record IsCounted (g : Geometry) (given : Given) (image : ℕ) (kept : ImageRecord)
+    (number vblock block : ℕ) : Type 0 where
+  pub slot : ℕ
+  pub descriptor : Descriptor
+  pub counts : CountsIn g given image kept slot descriptor
+  pub numbered : descriptor.number ≡ number
+  pub names : descriptor.vblock ≡ vblock
+  pub stands : block ≡ data_at g image slot
 
--- a counted descriptor names this virtual block, and none with a greater number does
-pub record IsNewest (g : Geometry) (given : Given) (image : ℕ) (kept : ImageRecord) (vblock slot : ℕ) (d : Descriptor) : Type 0 where
-  pub counts : IsCounted g given image kept slot d
-  pub names : d.vblock ≡ vblock
-  pub newest : (other : ℕ) (e : Descriptor) → IsCounted g given image kept other e → e.vblock ≡ vblock → e.number ≤ d.number
+-- the number of writes: the greatest number that counts, or the last one applied
+pub record IsWriteCount (g : Geometry) (given : Given) (image : ℕ) (kept : ImageRecord)
+    (count : ℕ) : Type 0 where
+  pub greatest : (number vblock block : ℕ) →
+      IsCounted g given image kept number vblock block → number ≤ count
+  pub least : applied_of kept ≤ count
+  pub reached : (count ≡ applied_of kept)
+      ⊎ ((vblock : ℕ) × (block : ℕ) × IsCounted g given image kept count vblock block)
+
+-- a write of this virtual block counts, and none of the same block with a greater number does
+pub record IsNewest (g : Geometry) (given : Given) (image : ℕ) (kept : ImageRecord)
+    (vblock number block : ℕ) : Type 0 where
+  pub counts : IsCounted g given image kept number vblock block
+  pub newest : (other its : ℕ) → IsCounted g given image kept other vblock its → other ≤ number
 
 -- what stands in a block
 abbrev pub standing_in : (block : ℕ) → Option (List ℕ) → Content
@@ -88,12 +120,32 @@ leads_to given pointer (digit ∷ digits) =
     if without_mark pointer == 0 then Holds zeros
     else through (without_mark pointer) digit digits (given (without_mark pointer)) (λ next. leads_to given next digits)
 
--- the content of a virtual block: the data of the newest counted descriptor that names it, else what the record's root leads to
-pub data IsContent (g : Geometry) (given : Given) (image : ℕ) (kept : ImageRecord) (vblock : ℕ) : Content → Type 0 where
-  journalled : {content : Content} (slot : ℕ) (d : Descriptor) → IsNewest g given image kept vblock slot d →
-      content ≡ standing_in (data_at g image slot) (given (data_at g image slot)) → IsContent g given image kept vblock content
-  unwritten : {content : Content} → ((slot : ℕ) (d : Descriptor) → IsCounted g given image kept slot d → d.vblock ≢ vblock) →
-      content ≡ leads_to given (root_of kept) (digits_of vblock) → IsContent g given image kept vblock content
+-- the content of a virtual block: the data of the newest write of it that counts,
+-- else what the record's root leads to
+pub data IsContent (g : Geometry) (given : Given) (image : ℕ) (kept : ImageRecord)
+    (vblock : ℕ) : Content → Type 0 where
+  journalled : {content : Content} (number block : ℕ) →
+      IsNewest g given image kept vblock number block →
+      content ≡ standing_in block (given block) → IsContent g given image kept vblock content
+  unwritten : {content : Content} →
+      ((number block : ℕ) → ¬ IsCounted g given image kept number vblock block) →
+      content ≡ leads_to given (root_of kept) (digits_of vblock) →
+      IsContent g given image kept vblock content
+
+-- the snapshot that an entry stores: dropped by its flag, else kept with the content to which
+-- its root leads
+abbrev pub frozen_by : Given → LogEntry → StoredFrozen
+frozen_by given entry =
+    if entry.dropped then Dropped else Kept (λ vblock. leads_to given entry.root (digits_of vblock))
+
+-- the snapshots of an image: one for each entry of its log that its record counts, in order;
+-- where such an entry isn't given, or isn't in the format, there are none that are the image's
+pub record AreFrozen (g : Geometry) (given : Given) (image : ℕ) (kept : ImageRecord)
+    (frozen : List StoredFrozen) : Type 0 where
+  pub count : length frozen ≡ taken_of kept
+  pub each : (index : ℕ) (snapshot : StoredFrozen) → slice_get frozen index ≡ Some snapshot →
+      (entry : LogEntry) × (entry_on g given image index ≡ Some entry)
+      × (snapshot ≡ frozen_by given entry)
 
 -- these bytes store this image in a slot
 pub record Stores (g : Geometry) (given : Given) (image : ℕ) (i : StoredImage) : Type 0 where
@@ -105,9 +157,22 @@ pub record Stores (g : Geometry) (given : Given) (image : ℕ) (i : StoredImage)
   pub label : i.label ≡ label_of kept
   pub writes : IsWriteCount g given image kept i.writes
   pub content : (vblock : ℕ) → IsContent g given image kept vblock (i.content vblock)
-  pub taken : i.taken ≡ taken_of kept
+  pub frozen : AreFrozen g given image kept i.frozen
 
--- a stored image agrees with a model's. What its snapshots hold comes in with their logs; until then there are none
+-- a stored snapshot agrees with a model's: both are dropped, or both are kept and hold the same
+abbrev pub AgreesFrozen : StoredFrozen → Frozen → Type 0
+AgreesFrozen Dropped snapshot = snapshot.dropped ≡ true
+AgreesFrozen (Kept content) snapshot =
+    (snapshot.dropped ≡ false) × ((vblock : ℕ) → content vblock ≡ Holds (snapshot.content vblock))
+
+-- stored snapshots agree with a model's: there are as many, and each agrees with its own
+pub record AgreeFrozen (stored : List StoredFrozen) (frozen : List Frozen) : Type 0 where
+  pub count : length stored ≡ length frozen
+  pub each : (index : ℕ) (one : StoredFrozen) (other : Frozen) →
+      slice_get stored index ≡ Some one → slice_get frozen index ≡ Some other →
+      AgreesFrozen one other
+
+-- a stored image agrees with a model's
 pub record Agrees (stored : StoredImage) (i : Image) : Type 0 where
   pub live : stored.live ≡ i.live
   pub generation : stored.generation ≡ i.generation
@@ -115,7 +180,7 @@ pub record Agrees (stored : StoredImage) (i : Image) : Type 0 where
   pub label : stored.label ≡ i.label
   pub writes : stored.writes ≡ i.writes
   pub content : (vblock : ℕ) → stored.content vblock ≡ Holds (i.content vblock)
-  pub taken : stored.taken ≡ length i.frozen
+  pub frozen : AgreeFrozen stored.frozen i.frozen
 
 -- the device stores an image that agrees with the model's, without its change or with it
 abbrev pub StoresEither : Geometry → Device → (image : ℕ) → Slot → Type 0

@@ -5,8 +5,8 @@ ghost use Rattle.plx_gate.specs.Images.{IsImage};
 use crate::checks::{check, check_at};
 use plx_base::{BlockNo, Boot, Claim, Label, LeaseRecord, Ptr};
 use plx_gate::{
-    Descriptor, ImageRecord, LogEntry, read_descriptor, read_entry, read_image, read_lease,
-    write_descriptor, write_entry, write_image, write_lease,
+    Descriptor, ImageRecord, LiveRecord, LogEntry, read_descriptor, read_entry, read_image,
+    read_lease, write_descriptor, write_entry, write_image, write_lease,
 };
 
 const LEASE: LeaseRecord = LeaseRecord::Claimed {
@@ -67,14 +67,14 @@ fn written(record: Record) -> [u8; 4096] {
 fn image() -> ImageRecord
     ensures { IsImage result }
 {
-    ImageRecord::Live {
+    ImageRecord::Live(LiveRecord {
         generation: 1,
         size: 8,
         taken: 0,
         root: Ptr::writable(BlockNo(14)),
         applied: 1,
         label: Label::new(b"a").unwrap_or(Label::empty()),
-    }
+    })
 }
 
 fn entry() -> LogEntry
@@ -96,13 +96,13 @@ fn is_read(record: Record, bytes: &[u8; 4096]) -> bool {
         Record::FreeImage => matches!(read_image(bytes), Some(ImageRecord::Free { generation: 5 })),
         Record::Image => matches!(
             read_image(bytes),
-            Some(ImageRecord::Live {
+            Some(ImageRecord::Live(LiveRecord {
                 generation: 1,
                 size: 8,
                 taken: 0,
                 applied: 1,
                 ..
-            })
+            }))
         ),
         Record::Entry => read_entry(bytes, 127) == Some(entry()),
         Record::Descriptor => read_descriptor(bytes) == Some(Some(DESCRIPTOR)),
