@@ -8,6 +8,7 @@ use Rattle.plx_base.specs.declared.write_kind.WriteKind.{WriteKind}
 use Rattle.plx_commands.specs.declared.command.Command.{Command}
 use Rattle.plx_commands.specs.declared.reply.Reply.{Reply}
 use Rattle.plx_commands.specs.declared.reply.Reply.TheVariants as reply
+use Rattle.plx_disk.specs.declared.ask.Ask.{Ask}
 use Rattle.plx_disk.specs.declared.ask.Ask.TheVariants as ask
 use Rattle.plx_disk.specs.declared.ask.Answer.TheVariants as answer
 use Rattle.plx_geom.specs.Geometry.{Geometry, lease_count, lease_number, image_lease}
@@ -19,7 +20,7 @@ use Rattle.plx_rules.specs.InUse.{lease_name}
 use Rattle.plx_rules.specs.Owners.{Needs}
 use Rattle.plx_rules.specs.Session.{Known, nothing_known}
 use Rattle.plx_rules.specs.Settings.{Setting}
-use Rattle.law_run.specs.AllowedAsks.{WentOn, MayWrite}
+use Rattle.law_run.specs.Causes.{MayFollow}
 use Rattle.law_run.specs.CommandLogs.{Exchange, Finished, first_reading}
 use Rattle.law_run.specs.Holdings as holdings
 use Rattle.law_run.specs.Holdings.{hold_by_log, IsUntil, claims_in, claims_begun}
@@ -27,7 +28,7 @@ use Rattle.law_run.specs.Refusals.{IsNamedFirst}
 use Rattle.law_run.specs.Replies.{IsConfirmed, IsInUse, going, unread, of_clock, WasLost, RestsOn, of_need, Comes, IsReplied, worked}
 use Rattle.law_run.specs.Replies as replies
 use Rattle.law_run.proofs.Holding.{Course, Going, going-clock}
-use Rattle.law_run.proofs.Meets.{exchange}
+use Rattle.law_run.proofs.Meets.{exchange, Meets}
 use Rattle.law_run.proofs.OnImage.{NamesOne, names-own, names-only, lease-name, by-time}
 use Rattle.law_run.proofs.Passed.{Passed, passed-all}
 use Rattle.law_run.proofs.Rests.{rests-lost, written-none, rests-failed}
@@ -83,16 +84,16 @@ missed-shows s before known command reading fine done lease until k block bytes 
       rests-lost s before command (x ∷ done) (lease_name s.geometry lease) until last known.claims (written-none s.geometry (lease_name s.geometry lease) until last x done refl) claims,
     )
 
--- a write, which rests on a lease
-pub asks-write : (s : Setting) (before : List Finished) (known : Known) (command : Command) (reading : ℕ) → IsFine s before command reading →
+-- a write, which rests on a lease, where that is allowed
+pub asks-write : (May : List Exchange → Ask → List ℕ → Type 0) (s : Setting) (before : List Finished) (known : Known) (command : Command) (reading : ℕ) → IsFine s before command reading →
     (done : List Exchange) (lease until : ℕ) (k : WriteKind) (block : ℕ) (bytes : List ℕ) (then_done : Part End) (n : ℕ) →
     first_reading done ≡ Some reading → known.claims ≡ claims_in s.geometry done + claims_begun s.geometry before →
     ((x : Exchange) → x.ask ≡ ask.Write k (record { 0 = block }) until → claims_in s.geometry (x ∷ done) ≡ claims_in s.geometry done) →
-    lease < lease_count s.geometry → Needs s.geometry k block lease → WentOn done → MayWrite s (log_on before command done) k block bytes until →
-    Right s before command (exchange (ask.Write k (record { 0 = block }) until) bytes answer.Done ∷ done) then_done n →
-    Right s before command done (write_then s known (record { lease = lease; until = until }) k block bytes then_done) (suc n)
-asks-write s before known command reading fine done lease until k block bytes then_done n first claims more within needs went may right = (
-  (went, may),
+    lease < lease_count s.geometry → Needs s.geometry k block lease → May done (ask.Write k (record { 0 = block }) until) bytes →
+    Meets May (Shows s before command) (exchange (ask.Write k (record { 0 = block }) until) bytes answer.Done ∷ done) then_done n →
+    Meets May (Shows s before command) done (write_then s known (record { lease = lease; until = until }) k block bytes then_done) (suc n)
+asks-write May s before known command reading fine done lease until k block bytes then_done n first claims more within needs may right = (
+  may,
   right,
   unwritten-shows s before known command reading fine done until k block bytes first
       (let m = more (exchange (ask.Write k (record { 0 = block }) until) bytes answer.Fault) refl in omega arith),
@@ -132,12 +133,12 @@ module _ (s : Setting) (before : List Finished) (known : Known) (command : Comma
           absurd (let P : ⊥ = cc in P)
 
   -- a reply after one more reading
-  pub asks-confirm : (done : List Exchange) (r : Reply) (next : Known) (n : ℕ) → Going s before done slot.0 c →
+  pub asks-confirm : (done : List Exchange) (r : Reply) (next : Known) (n : ℕ) → Going s before done slot.0 c → MayFollow s (log_on before command done) ask.Clock →
       ((reading : ℕ) → reading < c.until → Going s before (clock reading ∷ done) slot.0 c → IsConfirmed s (log_on before command (clock reading ∷ done)) slot.0 →
       Comes s (log_on before command (clock reading ∷ done)) r × Rests s (finish command (clock reading ∷ done) r ∷ before) next) →
       Right s before command done (ends_in_time s known (image_use slot.0 c.until) r next) (suc n)
-  asks-confirm done r next n going' right = (
-    (going'.went, tt),
+  asks-confirm done r next n going' on right = (
+    ((going'.went, tt), on),
     λ reading small. by-time (λ part. Right s before command (clock reading ∷ done) part n) s known slot.0 c.until reading (ends r next)
         (λ past. lost-late done reading n going' past)
         (λ below.

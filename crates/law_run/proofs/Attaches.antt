@@ -5,6 +5,7 @@ use Rattle.plx_base.specs.declared.numbers.SlotNo.{SlotNo}
 use Rattle.plx_commands.specs.Limits.{last_claim}
 use Rattle.plx_commands.specs.declared.command.Command.TheVariants.{Attach}
 use Rattle.plx_commands.specs.declared.reply.Reply.TheVariants as reply
+use Rattle.plx_disk.specs.declared.ask.Ask.TheVariants as ask
 use Rattle.plx_geom.specs.Geometry.{image_lease, lease_at}
 use Rattle.plx_rules.specs.Part.{Part}
 use Rattle.plx_rules.specs.Attaching.{claim_image, attach_held, attach_part}
@@ -15,14 +16,15 @@ use Rattle.plx_rules.specs.Holds.{Hold, Nothing, Seen, Wrote, Waited, Held}
 use Rattle.plx_rules.specs.Session.{Session, Known}
 use Rattle.plx_rules.specs.Settings.{Setting}
 use Rattle.law_run.specs.CommandLogs.{Finished}
-use Rattle.law_run.specs.Holdings.{at_first, holds_after, hold_by_log, IsNotHeld}
+use Rattle.law_run.specs.Holdings.{at_first, holds_after, hold_by_log, IsUntil, IsNotHeld}
 use Rattle.law_run.specs.Refusals.{already_attached, no_slot, claims}
 use Rattle.law_run.specs.Replies.{refused}
-use Rattle.law_run.specs.Sessions.{is_attached}
-use Rattle.law_run.proofs.Asking.{IsFine}
+use Rattle.law_run.specs.Sessions.{names, is_attached}
+use Rattle.law_run.proofs.Asking.{IsFine, one-until}
+use Rattle.law_run.proofs.Following.{first-follows}
 use Rattle.law_run.proofs.Attaching.{twice, twice-is, attach-one, unattached-by, right-load}
-use Rattle.law_run.proofs.Holding.{first-hold, hold-after-first, spared-first, Course, going-first}
-use Rattle.law_run.proofs.OnImage.{names-own, names-other}
+use Rattle.law_run.proofs.Holding.{first-hold, hold-after-first, unattached-early, spared-first, Course, going-first}
+use Rattle.law_run.proofs.OnImage.{names-own, names-other, names-only}
 use Rattle.law_run.proofs.Passed.{passed-at-most}
 use Rattle.law_run.proofs.Rests.{rests-by, own-still}
 use Rattle.law_run.proofs.Right.{clock, FitsAt, Rests, log_on, Right}
@@ -68,11 +70,18 @@ module _ (s : Setting) (boot_small : s.boot < 2 ^ 128) (before : List Finished) 
       let same : reading ≡ needed.0 = cc in
       clash _ (ap is_held
       (subst (λ r. at_first (is_attached before slot.0) r (holds_after s.geometry before (lease_at (image_lease slot.0))) ≡ Held claim until) same
-      (sym (first-hold s before reading slot.0 within) ∙ is))) needed.2)) in (
+      (sym (first-hold s before reading slot.0 within) ∙ is))) needed.2)) in
+      let soon : reading < until = unattached-early reading (holds_after s.geometry before (lease_at (image_lease slot.0))) claim until
+      (ap (λ test. at_first test reading (holds_after s.geometry before (lease_at (image_lease slot.0)))) (sym missing) ∙ (sym (first-hold s before reading slot.0 within) ∙ is)) in
+      let early : (image until' : ℕ) → names (Attach slot) image ≡ true → IsUntil until' (hold_by_log s before (clock reading ∷ []) (image_lease image)) → reading < until' =
+      λ image until' named used. (
+      let same = names-only (Attach slot) slot.0 (attach-one slot) image named in
+      let u = one-until claim until until' _ is (subst (λ i. IsUntil until' (hold_by_log s before (clock reading ∷ []) (image_lease i))) same used) in
+      omega (arith, u, soon)) in (
         suc (suc (twice s.geometry.slots)),
         (let t = twice-is s.geometry.slots in omega arith),
         right-load s before known known slot c within missing fine (let k = rests.claims in omega arith) (λ image. refl) rests (clock reading ∷ [])
-            (going-first s before slot.0 claim until reading is) (λ place. refl) (λ kept. (tt, tt)),
+            (going-first s before slot.0 claim until reading is) (first-follows s before (Attach slot) reading fine early ask.Clock) (λ place. refl) (λ kept. (tt, tt)),
       )
   by-hold Nothing is within missing = by-claims Nothing is refl within missing
   by-hold (Seen sample) is within missing = by-claims (Seen sample) is refl within missing

@@ -1,18 +1,19 @@
 -- Attaches, from the held lease on.
-use Rattle.std.proofs.Common.{◌≡◌, ℕ, zero, suc, ◌+◌, ◌<◌, List, [], ◌∷◌, Bool, true, false, Option, Some, None, refl, ap, sym, subst, ◌∙◌, arith, inl, inr, ◌⊎◌}
+use Rattle.std.proofs.Common.{◌≡◌, ◌≢◌, ℕ, zero, suc, ◌+◌, ◌<◌, List, [], ◌∷◌, Bool, true, false, Option, Some, None, refl, ap, sym, subst, ◌∙◌, arith, inl, inr, ◌⊎◌}
 use Rattle.std.specs.Prelude.{if◌then◌else◌, nat_lt}
 use Rattle.plx_base.specs.declared.numbers.SlotNo.{SlotNo}
 use Rattle.plx_commands.specs.declared.command.Command.TheVariants.{Attach}
 use Rattle.plx_commands.specs.declared.reply.Reply.{Reply}
 use Rattle.plx_commands.specs.declared.reply.Reply.TheVariants as reply
+use Rattle.plx_disk.specs.declared.ask.Ask.{Ask}
 use Rattle.plx_disk.specs.declared.ask.Ask.TheVariants as ask
 use Rattle.plx_disk.specs.declared.ask.Answer.TheVariants as answer
 use Rattle.plx_gate.specs.Descriptors.{read_descriptor}
 use Rattle.plx_gate.specs.Images.{read_image}
 use Rattle.plx_gate.specs.declared.descriptor.Descriptor.{Descriptor}
 use Rattle.plx_gate.specs.declared.image.ImageRecord.{ImageRecord}
-use Rattle.plx_geom.specs.Geometry.{Geometry, lease_count, image_lease, record_at, descriptor_at, data_at}
-use Rattle.plx_geom.proofs.Places.{record-record, record-log, record-descriptor, record-data, log-descriptor, descriptor-descriptor, data-descriptor}
+use Rattle.plx_geom.specs.Geometry.{Geometry, lease_count, image_lease, record_at, descriptor_at, data_at, map_at}
+use Rattle.plx_geom.proofs.Places.{record-record, record-log, record-descriptor, record-data, record-map, log-descriptor, descriptor-descriptor, data-descriptor, map-descriptor, map-data}
 use Rattle.plx_rules.specs.Part.{Part}
 use Rattle.plx_rules.specs.Journaled.{Journaled}
 use Rattle.plx_rules.specs.Attaching.{image_use, attach_ends, after_load, load_journal, after_record, load_image}
@@ -24,6 +25,7 @@ use Rattle.plx_rules.specs.Records.{is_live, is_plain, size_of, applied_of, plai
 use Rattle.plx_rules.specs.Session.{Session, Known, with_session, with_write_by_number, first_gap, session_report}
 use Rattle.plx_rules.specs.Settings.{Setting}
 use Rattle.plx_rules.specs.Stored.{Given, record_in, record_on, Stores, IsCounted}
+use Rattle.law_run.specs.Causes.{record_alone, MayFollow}
 use Rattle.law_run.specs.CommandLogs.{Exchange, Finished, IsIn}
 use Rattle.law_run.specs.Holdings.{hold_by_log, is_lease_read, claims_in, claims_begun}
 use Rattle.plx_rules.specs.Holds.{Held}
@@ -36,11 +38,12 @@ use Rattle.law_run.proofs.Counted.{write-counted}
 use Rattle.law_run.proofs.Facts.{stored_by_session, plain-parts, stores-session}
 use Rattle.law_run.proofs.Grown.{with-block-same, with-other, fits-empty}
 use Rattle.law_run.proofs.Holding.{first-more, claims-more, Spared, spared-more, Course, Going, going-more}
-use Rattle.law_run.proofs.Inside.{AllInside, inside-of, inside-record, not-outside}
+use Rattle.law_run.proofs.Following.{read-inside, past-unbusy}
+use Rattle.law_run.proofs.Inside.{IsInside, AllInside, inside-of, inside-record, inside-descriptor, not-outside, alone-inside}
 use Rattle.law_run.proofs.Inserted.{gap-is}
 use Rattle.law_run.proofs.Loading.{Says, says, Loading, loads-first, loads-none, loads-write, loaded-fits, whole-spelled}
 use Rattle.law_run.proofs.Meets.{exchange, meets-more}
-use Rattle.law_run.proofs.OnImage.{NamesOne, names-own, names-other}
+use Rattle.law_run.proofs.OnImage.{NamesOne, names-own, names-other, names-only}
 use Rattle.law_run.proofs.Rests.{KeepsHolds, rests-by}
 use Rattle.law_run.proofs.Right.{read_of, clock, FitsSession, FitsAt, Rests, finish, log_on, May, Shows, Right}
 use Rattle.plx_base.proofs.Tests.{nat_le-true, nat_le-false, lt-cases, clash, eqb-isn't}
@@ -129,13 +132,36 @@ module _ (s : Setting) (before : List Finished) (known next : Known) (slot : Slo
   going-bytes done block bytes past going =
       going-more s before done (read_of block bytes) slot.0 c tt (λ other apart. tt) (no-claim s.geometry block past) tt going
 
+  -- after bytes that were read past the leases, and that are within the format as far as the record tells, any ask may follow
+  reads-follow : (done : List Exchange) (block : ℕ) (bytes : List ℕ) (kept : ImageRecord) → lease_count s.geometry < block → ((extent : ℕ) → block ≢ map_at s.geometry extent) →
+      IsInside s.geometry slot.0 kept block bytes → is_plain kept ≡ true → record_on s.geometry (told_now (read_of block bytes ∷ done)) slot.0 ≡ Some kept →
+      (a : Ask) → MayFollow s (log_on before (Attach slot) (read_of block bytes ∷ done)) a
+  reads-follow done block bytes kept past no_map inside plain found a = (
+    λ outside. absurd (read-inside s (log_on before (Attach slot) done') block bytes refl (λ lease less same. absurd (omega (arith, past, less, same))) (λ extent below same. absurd (no_map extent same))
+        (λ image named bad. (
+        let same = names-only (Attach slot) slot.0 (attach-one slot) image named in
+        let here : IsOutside s.geometry (record_alone s.geometry (known_in s.geometry (log_on before (Attach slot) done') slot.0) slot.0) slot.0 block bytes =
+        subst (λ i. IsOutside s.geometry (record_alone s.geometry (known_in s.geometry (log_on before (Attach slot) done') i) i) i block bytes) same bad in
+        alone-inside s.geometry (told_now done') slot.0 kept block bytes within found plain inside
+        (subst (λ (g : Given). IsOutside s.geometry (record_alone s.geometry g slot.0) slot.0 block bytes) (known-now done') here))) outside),
+    past-unbusy s (log_on before (Attach slot) done') slot within refl block bytes refl past,
+  )
+    where
+      done' : List Exchange
+      done' = read_of block bytes ∷ done
+
+  -- and after any bytes the clock
+  clock-follows : (done : List Exchange) (block : ℕ) (bytes : List ℕ) → lease_count s.geometry < block → MayFollow s (log_on before (Attach slot) (read_of block bytes ∷ done)) ask.Clock
+  clock-follows done block bytes past = (λ outside. refl, past-unbusy s (log_on before (Attach slot) (read_of block bytes ∷ done)) slot within refl block bytes refl past)
+
   -- a read past the leases, which may fail
   pub asks-read : (done : List Exchange) (block : ℕ) (rest : List ℕ → Part End) (n : ℕ) → lease_count s.geometry < block → Going s before done slot.0 c →
+      MayFollow s (log_on before (Attach slot) done) (ask.Read (record { 0 = block })) →
       ((bytes : List ℕ) → Going s before (read_of block bytes ∷ done) slot.0 c →
       Right s before (Attach slot) (read_of block bytes ∷ done) (rest bytes) n) →
       Right s before (Attach slot) done (read_then block next rest) (suc n)
-  asks-read done block rest n past going right = (
-    (going.went, tt),
+  asks-read done block rest n past going on right = (
+    ((going.went, tt), on),
     λ bytes long. right bytes (going-bytes done block bytes past going),
     (
         let x = exchange (ask.Read (record { 0 = block })) [] answer.Fault in (
@@ -148,12 +174,12 @@ module _ (s : Setting) (before : List Finished) (known next : Known) (slot : Slo
   )
 
   -- bytes outside the format, of a block whose reads rest on the lease of the image alone
-  right-damaged : (done : List Exchange) (block : ℕ) (bytes : List ℕ) → Going s before done slot.0 c →
+  right-damaged : (done : List Exchange) (block : ℕ) (bytes : List ℕ) → Going s before done slot.0 c → MayFollow s (log_on before (Attach slot) done) ask.Clock →
       IsIn (read_of block bytes) done → IsOutside s.geometry (told_now done) slot.0 block bytes →
       ((other : ℕ) → other < s.geometry.images → ReadRestsOn s.geometry block other → other ≡ slot.0) → (n : ℕ) →
       Right s before (Attach slot) done (damaged_part s next (image_use slot.0 c.until) block) (suc n)
-  right-damaged done block bytes going read outside own n =
-      asks-confirm s before next (Attach slot) slot c (attach-one slot) within fine claims done (reply.Damaged (record { 0 = block })) next n going
+  right-damaged done block bytes going on read outside own n =
+      asks-confirm s before next (Attach slot) slot c (attach-one slot) within fine claims done (reply.Damaged (record { 0 = block })) next n going on
       (λ reading early after confirmed. (
         in_image (record {
           image = slot.0;
@@ -171,12 +197,12 @@ module _ (s : Setting) (before : List Finished) (known next : Known) (slot : Slo
       ))
 
   -- the attach ends with a session
-  right-ends : (done : List Exchange) (session : Session) → Going s before done slot.0 c → AllInside s.geometry slot.0 session.image done → FitsSession s.geometry (told_now done) slot.0 session → (n : ℕ) →
+  right-ends : (done : List Exchange) (session : Session) → Going s before done slot.0 c → MayFollow s (log_on before (Attach slot) done) ask.Clock → AllInside s.geometry slot.0 session.image done → FitsSession s.geometry (told_now done) slot.0 session → (n : ℕ) →
       Right s before (Attach slot) done (attach_ends s next slot.0 c.until session) (suc n)
-  right-ends done session going inside fits n =
+  right-ends done session going on inside fits n =
       let r = reply.Attached (session_report session) in
       let more = with_session next slot.0 (Some session) in
-      asks-confirm s before next (Attach slot) slot c (attach-one slot) within fine claims done r more n going
+      asks-confirm s before next (Attach slot) slot c (attach-one slot) within fine claims done r more n going on
       (λ reading early after confirmed.
       let here = known-now (clock reading ∷ done) in (
         record {
@@ -213,19 +239,19 @@ module _ (s : Setting) (before : List Finished) (known next : Known) (slot : Slo
     after = after_load s next slot.0 c.until kept
 
     -- all slots were read
-    all-read : (done : List Exchange) (writes : List Journaled) → Going s before done slot.0 c →
+    all-read : (done : List Exchange) (writes : List Journaled) → Going s before done slot.0 c → MayFollow s (log_on before (Attach slot) done) ask.Clock →
         Loading s.geometry (told_now done) slot.0 kept s.geometry.slots writes done → (gap : Option ℕ) → first_gap (applied_of kept) writes ≡ gap →
         Right s before (Attach slot) done (after_load s next slot.0 c.until kept (gap_found s.geometry slot.0 writes gap)) 1
-    all-read done writes going l None follows =
-        right-ends done (record { image = kept; writes = writes }) going l.inside
+    all-read done writes going on l None follows =
+        right-ends done (record { image = kept; writes = writes }) going on l.inside
         (loaded-fits s.geometry (told_now done) slot.0 kept writes done within plain l follows) 0
-    all-read done writes going l (Some number) follows =
+    all-read done writes going on l (Some number) follows =
         let g = s.geometry in
         let gap = gap-is (applied_of kept) writes number l.ascending follows in
         let at = ap (journal_slot g.slots) gap.is in
         let below : journal_slot g.slots number < g.slots = (let b = l.below gap.write gap.has in omega arith) in
         let read = l.was_read (journal_slot g.slots number) below in
-        right-damaged done (descriptor_at g slot.0 (journal_slot g.slots number)) read.0 going read.1
+        right-damaged done (descriptor_at g slot.0 (journal_slot g.slots number)) read.0 going on read.1
         (past_gap kept (journal_slot g.slots gap.write.number) (descriptor_of kept gap.write) gap.missing (ap (descriptor_at g slot.0) (sym at)) l.found (l.counts gap.write gap.has)
         (record {
           above = gap.above;
@@ -273,22 +299,24 @@ module _ (s : Setting) (before : List Finished) (known next : Known) (slot : Slo
     Loads left place writes done =
         Right s before (Attach slot) done (followed_by (load_part s.geometry slot.0 kept left place writes) (after_load s next slot.0 c.until kept)) (suc (twice left))
 
-    loads : (left place : ℕ) (done : List Exchange) (writes : List Journaled) → left + place ≡ s.geometry.slots → Going s before done slot.0 c → IsLoading place writes done →
-        Loads left place writes done
-    loads zero place done writes all going l =
+    loads : (left place : ℕ) (done : List Exchange) (writes : List Journaled) → left + place ≡ s.geometry.slots → Going s before done slot.0 c →
+        ((a : Ask) → MayFollow s (log_on before (Attach slot) done) a) → IsLoading place writes done → Loads left place writes done
+    loads zero place done writes all going on l =
         let e : place ≡ s.geometry.slots = omega arith in
-        all-read done writes going (subst (λ p. Loading s.geometry (told_now done) slot.0 kept p writes done) e l) (first_gap (applied_of kept) writes) refl
-    loads (suc left) place done writes all going l =
+        all-read done writes going (on ask.Clock) (subst (λ p. Loading s.geometry (told_now done) slot.0 kept p writes done) e l) (first_gap (applied_of kept) writes) refl
+    loads (suc left) place done writes all going on l =
         let g = s.geometry in
         let block = descriptor_at g slot.0 place in
         let room : place < g.slots = omega arith in
         let given = told_now done in
-        asks-read done block _ (suc (suc (twice left))) (omega arith) going
+        asks-read done block _ (suc (suc (twice left))) (omega arith) going (on (ask.Read (record { 0 = block })))
         (λ bytes going1.
         let done1 = after_descriptor place bytes done in
         by-finding bytes going1 (finding kept g.slots place bytes) (says kept g.slots place (read_descriptor bytes))
-        (λ none. loads left (place + 1) done1 writes (omega arith) going1 none)
-        (λ d data' going2 counts. loads left (place + 1) (after_data place data' done1) (with_read d data' writes) (omega arith) going2 counts))
+        (λ none. loads left (place + 1) done1 writes (omega arith) going1
+        (reads-follow done block bytes kept (omega arith) (λ extent same. map-descriptor g extent slot.0 place within room (sym same)) none.inside.0 plain none.found) none)
+        (λ d data' going2 counts. loads left (place + 1) (after_data place data' done1) (with_read d data' writes) (omega arith) going2
+        (reads-follow done1 (data_at g slot.0 place) data' kept (omega arith) (λ extent same. map-data g extent slot.0 place within room (sym same)) counts.inside.0 plain counts.found) counts))
       where
         by-finding : (bytes : List ℕ) → Going s before (after_descriptor place bytes done) slot.0 c → (f : Finding) → Says kept s.geometry.slots place (read_descriptor bytes) f →
             (IsLoading (place + 1) writes (after_descriptor place bytes done) → Loads left (place + 1) writes (after_descriptor place bytes done)) →
@@ -307,7 +335,7 @@ module _ (s : Setting) (before : List Finished) (known next : Known) (slot : Slo
             let given1 = given_with (told_now done) (descriptor_at g slot.0 place) bytes in
             let found : record_on g given1 slot.0 ≡ Some kept =
             ap record_in (with-other (told_now done) (descriptor_at g slot.0 place) bytes (record_at g slot.0) (record-descriptor g slot.0 slot.0 place within)) ∙ l.found in
-            right-damaged done1 (descriptor_at g slot.0 place) bytes going1 (inl refl)
+            right-damaged done1 (descriptor_at g slot.0 place) bytes going1 (clock-follows done (descriptor_at g slot.0 place) bytes (omega arith)) (inl refl)
             (outside-found g given1 slot.0 kept place bytes room found says') (own-descriptor place room) (suc (twice left))
         by-finding bytes going1 Unused says' none counts =
             let g = s.geometry in
@@ -321,7 +349,11 @@ module _ (s : Setting) (before : List Finished) (known next : Known) (slot : Slo
             let done1 = read_of (descriptor_at g slot.0 place) bytes ∷ done in
             let whole = whole-spelled bytes (Some d) says'.1 in
             let sound = says'.2 in
+            let found : record_on g (given_with (told_now done) (descriptor_at g slot.0 place) bytes) slot.0 ≡ Some kept =
+            ap record_in (with-other (told_now done) (descriptor_at g slot.0 place) bytes (record_at g slot.0) (record-descriptor g slot.0 slot.0 place within)) ∙ l.found in
             asks-read done1 (data_at g slot.0 place) _ (suc (twice left)) (omega arith) going1
+            (reads-follow done (descriptor_at g slot.0 place) bytes kept (omega arith) (λ extent same. map-descriptor g extent slot.0 place within (omega arith) (sym same))
+            (inside-descriptor g slot.0 kept place bytes within sound) plain found (ask.Read (record { 0 = data_at g slot.0 place })))
             (λ data' going2. counts d data' going2
             (loads-write g (told_now done) slot.0 kept place writes done l within (omega arith) bytes whole sound d says'.0 data'))
 
@@ -334,12 +366,12 @@ module _ (s : Setting) (before : List Finished) (known next : Known) (slot : Slo
   own-record other less (of_data t lt is) = absurd (record-data s.geometry slot.0 other t within is)
 
   -- the record is read, and then the journal of a live image
-  pub right-load : (done : List Exchange) → Going s before done slot.0 c →
+  pub right-load : (done : List Exchange) → Going s before done slot.0 c → MayFollow s (log_on before (Attach slot) done) (ask.Read (record { 0 = record_at s.geometry slot.0 })) →
       ((place : ℕ) → told_now done (descriptor_at s.geometry slot.0 place) ≡ None) →
       ((kept : ImageRecord) → AllInside s.geometry slot.0 kept done) → Right s before (Attach slot) done (load_image s next slot.0 c.until) (suc (suc (twice s.geometry.slots)))
-  right-load done going unknown inside =
+  right-load done going on unknown inside =
       let g = s.geometry in
-      asks-read done (record_at g slot.0) _ (suc (twice g.slots)) (omega arith) going
+      asks-read done (record_at g slot.0) _ (suc (twice g.slots)) (omega arith) going on
       (λ bytes going1. by-record bytes going1 (attached_record bytes) refl)
     where
       record-now : (bytes : List ℕ) (kept : ImageRecord) → read_image bytes ≡ Some kept →
@@ -352,24 +384,30 @@ module _ (s : Setting) (before : List Finished) (known next : Known) (slot : Slo
           with-other (told_now done) (record_at s.geometry slot.0) bytes (descriptor_at s.geometry slot.0 place)
           (λ e. record-descriptor s.geometry slot.0 slot.0 place within (sym e)) ∙ unknown place
 
+      record-follows : (bytes : List ℕ) (kept : ImageRecord) → is_plain kept ≡ true → read_image bytes ≡ Some kept →
+          (a : Ask) → MayFollow s (log_on before (Attach slot) (read_of (record_at s.geometry slot.0) bytes ∷ done)) a
+      record-follows bytes kept plain found =
+          reads-follow done (record_at s.geometry slot.0) bytes kept (omega arith) (λ extent same. record-map s.geometry slot.0 extent within same)
+          (inside-record s.geometry slot.0 kept bytes within found) plain (record-now bytes kept found)
+
       by-live : (bytes : List ℕ) (kept : ImageRecord) → is_plain kept ≡ true → Going s before (read_of (record_at s.geometry slot.0) bytes ∷ done) slot.0 c →
           read_image bytes ≡ Some kept → (live : Bool) → is_live kept ≡ live →
           Right s before (Attach slot) (read_of (record_at s.geometry slot.0) bytes ∷ done) (load_journal s next slot.0 c.until kept live) (suc (twice s.geometry.slots))
       by-live bytes kept plain going1 found true is =
           let g = s.geometry in
-          loads kept plain g.slots 0 (read_of (record_at g slot.0) bytes ∷ done) [] (omega arith) going1
+          loads kept plain g.slots 0 (read_of (record_at g slot.0) bytes ∷ done) [] (omega arith) going1 (record-follows bytes kept plain found)
           (loads-first g (given_with (told_now done) (record_at g slot.0) bytes) slot.0 kept
           (read_of (record_at g slot.0) bytes ∷ done) (record-now bytes kept found) (journal-unknown bytes) (inside-record g slot.0 kept bytes within found, inside kept))
       by-live bytes kept plain going1 found false is =
           let g = s.geometry in
-          right-ends (read_of (record_at g slot.0) bytes ∷ done) (record { image = kept; writes = [] }) going1 (inside-record g slot.0 kept bytes within found, inside kept)
+          right-ends (read_of (record_at g slot.0) bytes ∷ done) (record { image = kept; writes = [] }) going1 (record-follows bytes kept plain found ask.Clock) (inside-record g slot.0 kept bytes within found, inside kept)
           (fits-empty g (given_with (told_now done) (record_at g slot.0) bytes) slot.0 kept within (record-now bytes kept found) plain (journal-unknown bytes)) (twice g.slots)
 
       by-record : (bytes : List ℕ) → Going s before (read_of (record_at s.geometry slot.0) bytes ∷ done) slot.0 c →
           (found : Option ImageRecord) → attached_record bytes ≡ found →
           Right s before (Attach slot) (read_of (record_at s.geometry slot.0) bytes ∷ done) (after_record s next slot.0 c.until found) (suc (twice s.geometry.slots))
       by-record bytes going1 None is =
-          right-damaged (read_of (record_at s.geometry slot.0) bytes ∷ done) (record_at s.geometry slot.0) bytes going1 (inl refl)
+          right-damaged (read_of (record_at s.geometry slot.0) bytes ∷ done) (record_at s.geometry slot.0) bytes going1 (clock-follows done (record_at s.geometry slot.0) bytes (omega arith)) (inl refl)
           (elim (bad-record bytes (read_image bytes) refl is) [
             | inl none ↦ no_record refl none
             | inr bad ↦ not_plain bad.0 refl bad.1 bad.2

@@ -80,7 +80,7 @@ of-told g lease done x extent below of = go x.ask x.answer of
     go a y of' = absurd of'
 
 -- the block of a claim
-abbrev claimed_by : Ask → ℕ
+abbrev pub claimed_by : Ask → ℕ
 claimed_by (ask.Write kind.Claim block guard) = block.0
 claimed_by a = 0
 

@@ -14,12 +14,14 @@ use Rattle.plx_commands.specs.Limits.{last_claim}
 use Rattle.plx_commands.specs.declared.command.Command.TheVariants.{Attach}
 use Rattle.plx_commands.specs.declared.reply.Reply.{Reply}
 use Rattle.plx_commands.specs.declared.reply.Reply.TheVariants as reply
+use Rattle.plx_disk.specs.declared.ask.Ask.{Ask}
+use Rattle.plx_disk.specs.declared.ask.Ask.TheVariants as ask
 use Rattle.plx_disk.specs.declared.ask.Answer.{Answer}
 use Rattle.plx_disk.specs.declared.ask.Answer.TheVariants as answer
 use Rattle.plx_gate.specs.Leases.{lease_bytes, read_lease}
 use Rattle.plx_gate.proofs.Leases.{lease-only}
-use Rattle.plx_geom.specs.Geometry.{Geometry, lease_count, image_lease, lease_at, descriptor_at}
-use Rattle.plx_geom.proofs.Places.{image-below, lease-record, lease-log, lease-descriptor, lease-data}
+use Rattle.plx_geom.specs.Geometry.{Geometry, lease_count, image_lease, extent_lease, lease_at, record_at, descriptor_at}
+use Rattle.plx_geom.proofs.Places.{image-below, image-extent, lease-lease, lease-record, lease-log, lease-descriptor, lease-data, lease-map}
 use Rattle.plx_rules.specs.Part.{Part, Ends}
 use Rattle.plx_rules.specs.Attaching.{load_image, after_claim, claim_image}
 use Rattle.plx_rules.specs.Claims.{ClaimEnd, ClaimReadFault, ClaimDamaged, claim_of, own_record, own_use, claim_in_time, reread_by, reread_part, written_part, if_expired, seen_part}
@@ -31,7 +33,8 @@ use Rattle.plx_rules.specs.Session.{Known, with_claim, nothing_known}
 use Rattle.plx_rules.specs.Settings.{Setting}
 use Rattle.plx_rules.specs.Times.{window, wait, term, is_expired}
 use Rattle.law_run.specs.AllowedAsks.{WentOn, claim_of_lease}
-use Rattle.law_run.specs.CommandLogs.{Exchange, Finished, first_reading}
+use Rattle.law_run.specs.Causes.{HasReadOutside, HasReached, of_image_lease, of_extent_lease, IsRefused, MayFollow}
+use Rattle.law_run.specs.CommandLogs.{Exchange, Finished, IsIn, first_reading}
 use Rattle.law_run.specs.Holdings as holdings
 use Rattle.law_run.specs.Holdings.{at_first, holds_after, hold_by_log, IsUntil, is_clock, claims_in, claims_begun, IsNotHeld}
 use Rattle.law_run.specs.KnownBytes.{nothing_given, given_with, given_after_command}
@@ -40,19 +43,25 @@ use Rattle.law_run.specs.Refusals.{IsNamedFirst, NeedsClaim, NamesBlock, of_read
 use Rattle.law_run.specs.Busy.{unexpired, taken}
 use Rattle.law_run.specs.Replies.{IsInUse, going, unread, of_clock, of_wait, of_claim, ReadRestsOn, of_record, of_log, of_descriptor, of_data, of_image, in_image}
 use Rattle.law_run.specs.Replies as replies
-use Rattle.law_run.specs.Sessions.{attached_by, is_attached}
+use Rattle.law_run.specs.Sessions.{names, attached_by, is_attached}
+use Rattle.law_run.specs.Space as space
+use Rattle.law_run.specs.Space.{rested}
 use Rattle.law_run.proofs.Asking.{IsFine, replied-fine}
 use Rattle.law_run.proofs.Attaching.{twice, attach-one, unattached-by, right-load}
 use Rattle.law_run.proofs.Detaching.{lease-apart}
 use Rattle.law_run.proofs.Grown.{with-other}
 use Rattle.law_run.proofs.Holding.{first-hold, first-more, claims-more, LeavesOthers, Spared, spared-first, spared-more, Course}
-use Rattle.law_run.proofs.Inside.{inside-lease}
+use Rattle.law_run.proofs.Beside.{claimed_by, after_clock, sight-unbusy, reread-unbusy}
+use Rattle.law_run.proofs.Following.{first-follows, read-nothing, read-inside, none-unbusy}
+use Rattle.law_run.proofs.Inside.{inside-lease, lease-inside}
 use Rattle.law_run.proofs.OnImage.{names-own, names-only, lease-name}
-use Rattle.law_run.proofs.Passed.{Passed}
+use Rattle.law_run.proofs.OnExtent.{claims_at}
+use Rattle.law_run.proofs.Passed.{Passed, passed-all}
 use Rattle.law_run.proofs.Rests.{KeepsHolds, rests-lost, rests-failed}
 use Rattle.law_run.proofs.Right.{clock, Rests, finish, log_on, Right}
 use Rattle.law_run.proofs.Runs.{HasFirst}
 use Rattle.law_run.proofs.Spelled.{lease-rest}
+use Rattle.law_run.proofs.Taking.{claim_done}
 use Rattle.plx_base.proofs.Tests.{clash}
 use Rattle.law_run.proofs.ClaimRules.{bytes-other}
 use Rattle.law_run.proofs.ClaimSteps.{read_of_lease, claim_write, claim_wait, after_sight, after_claiming, after_waiting, after_rereading, counts-sight, counts-claiming, counts-waiting, counts-rereading, own-back, held-sight, held-claiming, held-waiting, held-late, held-rereading}
@@ -106,6 +115,11 @@ written-until : (claim : Claim) (until other : ℕ) (hold : Hold) → hold ≡ W
 written-until claim until other hold is (holdings.wrote c e) = let f : Wrote claim until ≡ Wrote c other = sym is ∙ e in cc
 written-until claim until other hold is (holdings.waited c e) = absurd (let P : ⊥ = cc in P)
 written-until claim until other hold is (holdings.held c e) = absurd (let P : ⊥ = cc in P)
+
+pub waited-until : (claim : Claim) (until other : ℕ) (hold : Hold) → hold ≡ Waited claim until → IsUntil other hold → until ≡ other
+waited-until claim until other hold is (holdings.wrote c e) = absurd (let P : ⊥ = cc in P)
+waited-until claim until other hold is (holdings.waited c e) = let f : Waited claim until ≡ Waited c other = sym is ∙ e in cc
+waited-until claim until other hold is (holdings.held c e) = absurd (let P : ⊥ = cc in P)
 
 -- at the first reading a lease is held, or nothing of it
 unheld-at-first : (attached : Bool) (reading : ℕ) (hold : Hold) → IsNotHeld (at_first attached reading hold) → at_first attached reading hold ≡ Nothing
@@ -242,6 +256,73 @@ module _ (s : Setting) (boot_small : s.boot < 2 ^ 128) (before : List Finished) 
       ≡ hold_after_reread (bytes_eq again (lease_bytes (own_record (claim_of s.boot known.claims sample)))) (Held (claim_of s.boot known.claims sample) (sample + term))
   held5 sample bytes reading' again small past early = held-rereading s boot_small before d0 tt (image_lease slot.0) known.claims few-claims sample small bytes reading' again past early
 
+  -- ---- what may follow on its exchanges
+
+  nothing1 : (sample : ℕ) → hold_by_log s before (d1 sample) (image_lease slot.0) ≡ Nothing
+  nothing1 sample = ap (hold_after_reading sample) nothing-held
+
+  -- the lease of an image that is named
+  own-hold : (done : List Exchange) (image until : ℕ) → names (Attach slot) image ≡ true → IsUntil until (hold_by_log s before done (image_lease image)) →
+      IsUntil until (hold_by_log s before done (image_lease slot.0))
+  own-hold done image until named is = subst (λ i. IsUntil until (hold_by_log s before done (image_lease i))) (names-only (Attach slot) slot.0 (attach-one slot) image named) is
+
+  no-fact : (done : List Exchange) → first_reading done ≡ Some reading → ¬ IsRefused s (log_on before (Attach slot) done)
+  no-fact done first refused = passed-all s (log_on before (Attach slot) done) (fine done first) refused.0 refused.1 refused.2
+
+  follows0 : (a : Ask) → MayFollow s (log_on before (Attach slot) d0) a
+  follows0 a = first-follows s before (Attach slot) reading fine (λ image until named is. absurd (nothing-used until _ nothing-held (own-hold d0 image until named is))) a
+
+  -- no extent's lease is claimed
+  no-extents : (sample e : ℕ) (claim : Claim) → ¬ IsIn (claim_done (extent_lease s.geometry e) claim) (d1 sample)
+  no-extents sample e claim (inl same) = let c : true ≡ false = ap (λ (y : Exchange). claims_at y.ask) same in let P : ⊥ = cc in P
+  no-extents sample e claim (inr (inl same)) = let c : true ≡ false = ap (λ (y : Exchange). claims_at y.ask) same in let P : ⊥ = cc in P
+  no-extents sample e claim (inr (inr none)) = none
+
+  own-claim : (sample : ℕ) (bytes : List ℕ) (reading' e : ℕ) (claim : Claim) → ¬ IsIn (claim_done (extent_lease s.geometry e) claim) (d4 sample bytes reading')
+  own-claim sample bytes reading' e claim (inl same) = let c : true ≡ false = ap (λ (y : Exchange). claims_at y.ask) same in let P : ⊥ = cc in P
+  own-claim sample bytes reading' e claim (inr (inl same)) =
+      image-extent s.geometry slot.0 e within (sym (lease-lease (extent_lease s.geometry e) (image_lease slot.0) (ap (λ (y : Exchange). claimed_by y.ask) same)))
+  own-claim sample bytes reading' e claim (inr (inr (inl same))) = let c : true ≡ false = ap (λ (y : Exchange). claims_at y.ask) same in let P : ⊥ = cc in P
+  own-claim sample bytes reading' e claim (inr (inr (inr there))) = no-extents sample e claim there
+
+  follows1 : (sample : ℕ) (a : Ask) → MayFollow s (log_on before (Attach slot) (d1 sample)) a
+  follows1 sample a = (reached, read-nothing s (log_on before (Attach slot) d0) refl, no-fact (d1 sample) refl)
+    where
+      reached : ¬ HasReached s (log_on before (Attach slot) (d1 sample)) sample
+      reached (of_image_lease image until (going named is) past) = nothing-used until _ (nothing1 sample) (own-hold (d1 sample) image until named is)
+      reached (of_image_lease image until (unread c bytes r older named at_end waited none gone) past) = clash true refl (ap after_clock at_end)
+      reached (of_extent_lease e until (space.going c below was is) past) = no-extents sample e c was
+      reached (of_extent_lease e until (space.unread c bytes r older below at_end waited none) past) = clash true refl (ap after_clock at_end)
+      reached (of_extent_lease e until (rested c bytes r older below at_end none held) past) = clash true refl (ap after_clock at_end)
+
+  -- bytes of the lease that spell one
+  inside : (done : List Exchange) (bytes : List ℕ) → read_lease bytes ≢ None → ¬ HasReadOutside s (log_on before (Attach slot) (read_lease_of (answer.Bytes bytes) ∷ done))
+  inside done bytes some =
+      read-inside s (log_on before (Attach slot) (read_lease_of (answer.Bytes bytes) ∷ done)) (lease_at (image_lease slot.0)) bytes refl (λ l less same. some)
+      (λ e below same. absurd (lease-map s.geometry (image_lease slot.0) e lease-within same))
+      (λ image named bad. lease-inside s.geometry _ image (image_lease slot.0) bytes lease-within some bad)
+
+  follows2 : (sample : ℕ) (bytes : List ℕ) (seen : LeaseRecord) → read_lease bytes ≡ Some seen → is_expired seen sample ≡ true → (a : Ask) → MayFollow s (log_on before (Attach slot) (d2 sample bytes)) a
+  follows2 sample bytes seen sees is a = (
+    λ outside. absurd (inside (d1 sample) bytes (λ e. (let P : ⊥ = cc in P)) outside),
+    λ busy. sight-unbusy s (log_on before (Attach slot) []) (d1 sample) (image_lease slot.0) sample bytes seen sees is (nothing1 sample) refl (image_lease busy.slot.0) busy.seen busy.busy,
+  )
+
+  follows4 : (sample : ℕ) (bytes : List ℕ) (reading' : ℕ) → sample < 2 ^ 48 → sample + wait ≤ reading' → reading' < sample + term → (a : Ask) →
+      MayFollow s (log_on before (Attach slot) (d4 sample bytes reading')) a
+  follows4 sample bytes reading' small past early a = (reached, read-nothing s (log_on before (Attach slot) (d3 sample bytes)) refl, no-fact (d4 sample bytes reading') refl)
+    where
+      reached : ¬ HasReached s (log_on before (Attach slot) (d4 sample bytes reading')) reading'
+      reached (of_image_lease image until (going named is) late) =
+          let u = waited-until (claim_of s.boot known.claims sample) (sample + term) until _ (waited4 sample bytes reading' small past early) (own-hold (d4 sample bytes reading') image until named is) in
+          omega (arith, u, early, late)
+      reached (of_image_lease image until (unread c bytes' r older named at_end waited none gone) late) = let e : false ≡ true = ap ends_by_clock at_end in clash true refl (sym e)
+      reached (of_extent_lease e until (space.going c below was is) late) = own-claim sample bytes reading' e c was
+      reached (of_extent_lease e until (space.unread c bytes' r older below at_end waited none) late) = let e' : false ≡ true = ap ends_by_clock at_end in clash true refl (sym e')
+      reached (of_extent_lease e until (rested c bytes' r older below at_end none held) late) = let e' : false ≡ true = ap ends_by_clock at_end in clash true refl (sym e')
+
+  -- ---- its ends
+
   -- a reply that leaves no session
   unheld : (done : List Exchange) (r : Reply) → ((other : ℕ) (b : Bool) → attached_by r (Attach slot) other b ≡ b) → KeepsHolds r → Spared s before done slot.0 → claims_in s.geometry done ≡ 1 →
       Rests s (finish (Attach slot) done r ∷ before) (with_claim known)
@@ -280,12 +361,14 @@ module _ (s : Setting) (boot_small : s.boot < 2 ^ 128) (before : List Finished) 
       )
 
   -- the lease is held by this boot's claim
-  goes-held : (sample : ℕ) (bytes : List ℕ) (reading' : ℕ) (again : List ℕ) → read_lease bytes ≢ None → read_lease again ≢ None → hold_by_log s before (d5 sample bytes reading' again) (image_lease slot.0) ≡ Held (claim_of s.boot known.claims sample) (sample + term) →
+  goes-held : (sample : ℕ) (bytes : List ℕ) (reading' : ℕ) (again : List ℕ) → read_lease bytes ≢ None → read_lease again ≢ None →
+      MayFollow s (log_on before (Attach slot) (d5 sample bytes reading' again)) (ask.Read (record { 0 = record_at s.geometry slot.0 })) →
+      hold_by_log s before (d5 sample bytes reading' again) (image_lease slot.0) ≡ Held (claim_of s.boot known.claims sample) (sample + term) →
       Right s before (Attach slot) (d5 sample bytes reading' again) (load_image s (with_claim known) slot.0 (sample + term)) (suc (suc (twice s.geometry.slots)))
-  goes-held sample bytes reading' again some some' held =
+  goes-held sample bytes reading' again some some' on held =
       let c : Course = record { reading = reading; claim = claim_of s.boot known.claims sample; until = sample + term; begun = 1 } in
       right-load s before known (with_claim known) slot c within missing fine (let k = rests.claims in omega arith) (λ image. refl) rests (d5 sample bytes reading' again)
-      (record { has = tt; first = refl; held = held; spared = spared5 sample bytes reading' (answer.Bytes again); begun = begun5 sample bytes reading' (answer.Bytes again); went = went5 sample bytes reading' again })
+      (record { has = tt; first = refl; held = held; spared = spared5 sample bytes reading' (answer.Bytes again); begun = begun5 sample bytes reading' (answer.Bytes again); went = went5 sample bytes reading' again }) on
       (λ place. unknown place)
       (λ kept. (inside-lease s.geometry slot.0 kept (image_lease slot.0) again lease-within some', (tt, (tt, (inside-lease s.geometry slot.0 kept (image_lease slot.0) bytes lease-within some, (tt, (tt, tt)))))))
     where
@@ -324,7 +407,11 @@ module _ (s : Setting) (boot_small : s.boot < 2 ^ 128) (before : List Finished) 
       let own' = claim_of s.boot known.claims sample in
       let same : again ≡ lease_bytes (own_record own') = (bytes_eq-Decides again (lease_bytes (own_record own'))).0 is in
       let spelled : read_lease again ≡ Some (own_record own') = ap read_lease same ∙ own-back s boot_small before d0 tt (image_lease slot.0) known.claims few-claims sample small again in
-      goes-held sample bytes reading' again some (λ e. (let P : ⊥ = cc in P)) (held5 sample bytes reading' again small past early
+      goes-held sample bytes reading' again some (λ e. (let P : ⊥ = cc in P)) (
+        λ outside. absurd (inside (d4 sample bytes reading') again (λ e. (let P : ⊥ = cc in P)) outside),
+        λ busy. reread-unbusy s (log_on before (Attach slot) []) (d4 sample bytes reading') (image_lease slot.0) again own' (sample + term) spelled (waited4 sample bytes reading' small past early) refl
+            (image_lease busy.slot.0) busy.seen busy.busy,
+      ) (held5 sample bytes reading' again small past early
       ∙ ap (λ t. hold_after_reread t (Held (claim_of s.boot known.claims sample) (sample + term))) is)
   after-reread sample bytes reading' again small some past early false is (Some seen) sees =
       let own' = claim_of s.boot known.claims sample in
@@ -337,7 +424,7 @@ module _ (s : Setting) (boot_small : s.boot < 2 ^ 128) (before : List Finished) 
         unheld done (reply.Busy (lease.Image slot) seen) (λ other b. refl) (λ h. refl) (spared5 sample bytes reading' (answer.Bytes again)) (begun5 sample bytes reading' (answer.Bytes again)),
       )
   after-reread sample bytes reading' again small some past early false is None sees = (
-    (went5 sample bytes reading' again, tt),
+    ((went5 sample bytes reading' again, tt), (λ outside. refl, none-unbusy s (log_on before (Attach slot) (d5 sample bytes reading' again)) (lease_at (image_lease slot.0)) again refl sees)),
     λ last small'.
         let own' = claim_of s.boot known.claims sample in
         let until = sample + term in
@@ -391,7 +478,7 @@ module _ (s : Setting) (boot_small : s.boot < 2 ^ 128) (before : List Finished) 
         rests-lost s before (Attach slot) done (lease.Image slot) until reading' (known.claims + 1) refl (one-more done (begun4 sample bytes reading')),
       ))
       (λ early. (
-        (went4 sample bytes reading', tt),
+        ((went4 sample bytes reading', tt), follows4 sample bytes reading' small past early ask.Clock),
         λ again long. after-reread sample bytes reading' again small some past early (bytes_eq again (lease_bytes (own_record own'))) refl (read_lease again) refl,
         read-fails done (suc (suc (twice s.geometry.slots))) refl (spared5 sample bytes reading' answer.Fault) (begun5 sample bytes reading' answer.Fault),
       ))
@@ -414,7 +501,7 @@ module _ (s : Setting) (boot_small : s.boot < 2 ^ 128) (before : List Finished) 
       (followed_by (seen_part [] (image_lease slot.0) (claim_of s.boot known.claims sample) found) (after_claim s (with_claim known) slot.0))
       (suc (suc (suc (suc (suc (twice s.geometry.slots))))))
   after-seen sample bytes small None sees = (
-    (went2 sample bytes, tt),
+    ((went2 sample bytes, tt), (λ outside. refl, none-unbusy s (log_on before (Attach slot) (d2 sample bytes)) (lease_at (image_lease slot.0)) bytes refl sees)),
     λ last small'. no-lease (d1 sample) bytes last (suc (suc (suc (suc (twice s.geometry.slots))))) refl sees (spared2 sample (answer.Bytes bytes))
         (claims-more s.geometry (d2 sample bytes) (clock last) tt refl ∙ begun2 sample (answer.Bytes bytes)),
   )
@@ -436,12 +523,15 @@ module _ (s : Setting) (boot_small : s.boot < 2 ^ 128) (before : List Finished) 
           let block = lease_at (image_lease slot.0) in
           let n = suc (suc (suc (suc (twice s.geometry.slots)))) in (
             (
-              went2 sample bytes,
-              claim_of_lease (image_lease slot.0) own' seen bytes d0 lease-within refl (ap is_held (seen2 sample small bytes seen sees is)) refl sees is refl (let c = rests.claims in omega arith) refl
-                  (lease-rest (own_record own') ∙ sym (ap (drop 512) (lease-only bytes seen sees).1 ∙ lease-rest seen)) refl,
+              (
+                went2 sample bytes,
+                claim_of_lease (image_lease slot.0) own' seen bytes d0 lease-within refl (ap is_held (seen2 sample small bytes seen sees is)) refl sees is refl (let c = rests.claims in omega arith) refl
+                    (lease-rest (own_record own') ∙ sym (ap (drop 512) (lease-only bytes seen sees).1 ∙ lease-rest seen)) refl,
+              ),
+              follows2 sample bytes seen sees is _,
             ),
             (
-              (went3 sample bytes, record { lease = image_lease slot.0; claim = own'; until = sample + term; wrote = held3 sample bytes small; after = refl }),
+              ((went3 sample bytes, record { lease = image_lease slot.0; claim = own'; until = sample + term; wrote = held3 sample bytes small; after = refl }), tt),
               λ reading' past small'. after-wait sample bytes reading' small (λ e. (let P : ⊥ = cc in P)) past,
             ),
             (
@@ -461,9 +551,9 @@ module _ (s : Setting) (boot_small : s.boot < 2 ^ 128) (before : List Finished) 
   -- the lease is claimed, and the image is loaded
   pub right-claim : Right s before (Attach slot) (clock reading ∷ []) (claim_image true s known slot.0) (suc (suc (suc (suc (suc (suc (suc (twice s.geometry.slots))))))))
   right-claim = (
-    ((tt, tt), tt),
+    (((tt, tt), tt), follows0 ask.Clock),
     λ sample small. (
-      (went1 sample, tt),
+      ((went1 sample, tt), follows1 sample ask.Clock),
       λ bytes long. after-seen sample bytes small (read_lease bytes) refl,
       read-fails (d1 sample) (suc (suc (suc (suc (suc (twice s.geometry.slots)))))) refl (spared2 sample answer.Fault) (begun2 sample answer.Fault),
     ),

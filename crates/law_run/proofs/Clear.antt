@@ -1,5 +1,5 @@
 -- Commands of one image that has a session: which refusals' facts hold, and what stays.
-use Rattle.std.proofs.Common.{◌≡◌, ℕ, ◌≤◌, ◌<◌, List, ◌∷◌, length, Bool, true, false, Some, refl, ap, sym, subst, ◌∙◌, arith}
+use Rattle.std.proofs.Common.{◌≡◌, ℕ, ◌≤◌, ◌<◌, List, [], ◌∷◌, length, Bool, true, false, Some, refl, ap, sym, subst, ◌∙◌, arith}
 use Rattle.std.specs.Prelude.{◌||◌, ◌==◌}
 use Rattle.plx_base.specs.declared.label.Label.{Label}
 use Rattle.plx_base.specs.declared.lease.Claim.{Claim}
@@ -10,7 +10,9 @@ use Rattle.plx_commands.specs.Limits.{last_generation, last_write}
 use Rattle.plx_commands.specs.declared.command.Command.{Command}
 use Rattle.plx_commands.specs.declared.command.Command.TheVariants.{Create, Write}
 use Rattle.plx_commands.specs.declared.reply.Reply.{Reply}
+use Rattle.plx_disk.specs.declared.ask.Ask.{Ask}
 use Rattle.plx_gate.specs.declared.image.ImageRecord.{ImageRecord}
+use Rattle.plx_geom.specs.Geometry.{image_lease}
 use Rattle.plx_rules.specs.Part.{Part}
 use Rattle.plx_rules.specs.Commands.{unless}
 use Rattle.plx_rules.specs.Ends.{End, ends}
@@ -18,16 +20,20 @@ use Rattle.plx_rules.specs.Records.{is_live, generation_of, size_of, applied_of}
 use Rattle.plx_rules.specs.Session.{Session, Known, write_count}
 use Rattle.plx_rules.specs.Settings.{Setting}
 use Rattle.plx_rules.specs.Stored.{Given, record_on, IsWriteCount}
+use Rattle.law_run.specs.Causes.{MayFollow}
 use Rattle.law_run.specs.CommandLogs.{Exchange, Finished, first_reading}
+use Rattle.law_run.specs.Holdings.{hold_by_log, IsUntil}
 use Rattle.law_run.specs.KnownBytes.{given_after, known_from, record_known}
 use Rattle.law_run.specs.Refusals.{NamesBlock, of_read, of_write, NeedsImage, of_delete, of_block}
 use Rattle.law_run.specs.Sessions.{names, attached_by}
 use Rattle.law_run.proofs.Facts.{count-one, write-count}
+use Rattle.law_run.proofs.Asking.{IsFine, one-until}
+use Rattle.law_run.proofs.Following.{first-follows}
 use Rattle.law_run.proofs.Holding.{Course, Going}
 use Rattle.law_run.proofs.OnImage.{OnImage, names-other, names-only, needs-attached, in-time, Ready}
 use Rattle.law_run.proofs.Passed.{Passed}
 use Rattle.law_run.proofs.Rests.{KeepsHolds, known-attached, rests-by, own-still}
-use Rattle.law_run.proofs.Right.{Rests, finish, log_on}
+use Rattle.law_run.proofs.Right.{clock, Rests, finish, log_on}
 use Rattle.plx_base.proofs.Tests.{eqb-true}
 
 -- the rest by a test that refuses
@@ -124,3 +130,14 @@ module _ (s : Setting) (before : List Finished) (known : Known) (command : Comma
       rests-by s before command done r known known slot.0 (names-other command slot.0 on.named) (λ other apart. refl) (λ other b apart. none other b) keeps going.spared
       (own-still s before command done r slot.0 (known.sessions slot.0) (λ b. none slot.0 b) keeps (rests.sessions slot.0) (λ attached. still) (λ attached. (c.claim, c.until, going.held)))
       (let a = rests.claims in let b = going.begun in omega arith) rests
+
+  -- any ask may follow on its first reading
+  pub ready-follows : IsFine s before command reading → (a : Ask) → MayFollow s (log_on before command (clock reading ∷ [])) a
+  ready-follows fine a = first-follows s before command reading fine early a
+    where
+      early : (image until' : ℕ) → names command image ≡ true → IsUntil until' (hold_by_log s before (clock reading ∷ []) (image_lease image)) → reading < until'
+      early image until' named is =
+          let same = names-only command slot.0 on.named image named in
+          let u = one-until claim until until' _ ready.now (subst (λ n. IsUntil until' (hold_by_log s before (clock reading ∷ []) (image_lease n))) same is) in
+          let below = ready.below in
+          omega (arith, u, below)

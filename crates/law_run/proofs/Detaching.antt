@@ -19,12 +19,12 @@ use Rattle.law_run.specs.AllowedAsks.{release_of_lease}
 use Rattle.law_run.specs.CommandLogs.{Finished}
 use Rattle.law_run.specs.Refusals.{NamesBlock, of_read, of_write, NeedsImage, of_delete, of_block}
 use Rattle.law_run.proofs.Asking.{IsFine, replied-fine, asks-write}
-use Rattle.law_run.proofs.Clear.{Clear, clear}
+use Rattle.law_run.proofs.Clear.{Clear, clear, ready-follows}
 use Rattle.law_run.proofs.Holding.{spared-first, spared-more}
 use Rattle.law_run.proofs.Meets.{exchange}
 use Rattle.law_run.proofs.OnImage.{OnImage, names-own, names-other, on-image, Ready}
 use Rattle.law_run.proofs.Rests.{rests-by}
-use Rattle.law_run.proofs.Right.{clock, FitsAt, Rests, finish, Right}
+use Rattle.law_run.proofs.Right.{clock, FitsAt, Rests, finish, May, Right}
 use Rattle.law_run.proofs.Runs.{start, hand_start}
 use Rattle.plx_commands.proofs.Places.{at-other, at-same}
 
@@ -65,9 +65,9 @@ right-detach s before known slot reading rests session claim until ready =
     let fine : IsFine s before command reading = λ done first. clear s before known command slot reading on rests session claim until ready done 11 first (detach-clear s.geometry.slots slot session 11) in
     let x = exchange (ask.Write kind.Release (record { 0 = lease_at lease }) until) (lease_bytes lease_is.Free) answer.Done in
     let next = with_session known slot.0 None in
-    asks-write s before known command reading fine (clock reading ∷ []) lease until kind.Release (lease_at lease) (lease_bytes lease_is.Free) (ends reply.Detached next) 0
-    refl (let a = rests.claims in omega arith) (λ y is. rw is refl) within refl (tt, tt)
-    (release_of_lease lease claim within refl ready.now refl) (
+    asks-write (May s before command) s before known command reading fine (clock reading ∷ []) lease until kind.Release (lease_at lease) (lease_bytes lease_is.Free) (ends reply.Detached next) 0
+    refl (let a = rests.claims in omega arith) (λ y is. rw is refl) within refl
+    (((tt, tt), release_of_lease lease claim within refl ready.now refl), ready-follows s before known command slot reading on rests session claim until ready fine ask.Clock) (
       replied-fine s before command reading fine (x ∷ clock reading ∷ []) refl reply.Detached (record { slot = slot; command = refl; guard = until; released = (clock reading ∷ [], refl) }),
       rests-by s before command (x ∷ clock reading ∷ []) reply.Detached known next slot.0 (names-other command slot.0 on.named)
           (λ other apart. at-other known.sessions slot.0 other None apart) (λ other b apart. rw (names-other command slot.0 on.named other apart) refl) (λ h. refl)

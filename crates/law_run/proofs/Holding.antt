@@ -1,6 +1,7 @@
 -- What is held along the exchanges of a command.
 use Rattle.std.proofs.Common.{◌≡◌, ◌≢◌, ℕ, ◌+◌, ◌-◌, ◌<◌, List, [], ◌∷◌, Bool, true, false, Option, Some, refl, ap, sym, ◌∙◌, arith, inl, inr}
-use Rattle.std.proofs.lemmas.Bool.Decides.{eqb_tells}
+use Rattle.std.specs.Prelude.{if◌then◌else◌}
+use Rattle.std.proofs.lemmas.Bool.Decides.{eqb_tells, leb_tells}
 use Rattle.plx_base.specs.declared.lease.Claim.{Claim}
 use Rattle.plx_base.specs.declared.write_kind.WriteKind.{WriteKind}
 use Rattle.plx_base.specs.declared.write_kind.WriteKind.TheVariants as kind
@@ -10,7 +11,7 @@ use Rattle.plx_disk.specs.declared.ask.Answer.{Answer}
 use Rattle.plx_disk.specs.declared.ask.Answer.TheVariants as answer
 use Rattle.plx_geom.specs.Geometry.{Geometry, image_lease, lease_at}
 use Rattle.plx_commands.specs.Places.{at}
-use Rattle.plx_rules.specs.Holds.{Hold, Held, after_answer, after_write, hold_after_read, hold_after_reading}
+use Rattle.plx_rules.specs.Holds.{Hold, Nothing, Seen, Wrote, Waited, Held, after_answer, after_write, hold_after_read, hold_after_reading}
 use Rattle.plx_rules.specs.Settings.{Setting}
 use Rattle.law_run.specs.AllowedAsks.{GoesOn, WentOn}
 use Rattle.law_run.specs.CommandLogs.{Exchange, Finished, first_reading}
@@ -86,6 +87,20 @@ pub hold-after-first : (s : Setting) (before : List Finished) (reading image : �
 hold-after-first s before reading image claim until within attached held =
     first-hold s before reading image within
     ∙ (ap (λ test. at_first test reading (holds_after s.geometry before (lease_at (image_lease image)))) attached ∙ ap (at_first true reading) held)
+
+-- a lease without a session that is held after the first reading ends later
+pub unattached-early : (reading : ℕ) (hold : Hold) (claim : Claim) (until : ℕ) → at_first false reading hold ≡ Held claim until → reading < until
+unattached-early reading Nothing claim until is = absurd (let P : ⊥ = cc in P)
+unattached-early reading (Seen sample) claim until is = absurd (let P : ⊥ = cc in P)
+unattached-early reading (Wrote c u) claim until is = absurd (let P : ⊥ = cc in P)
+unattached-early reading (Waited c u) claim until is = absurd (let P : ⊥ = cc in P)
+unattached-early reading (Held c u) claim until is = elim (leb_tells u reading) [
+  | inl past ↦ absurd (let e : Nothing ≡ Held claim until = sym (ap (λ test. if test then Nothing else Held c u) past.0) ∙ is in let P : ⊥ = cc in P)
+  | inr early ↦
+      let e : Held c u ≡ Held claim until = sym (ap (λ test. if test then Nothing else Held c u) early.0) ∙ is in
+      let same : u ≡ until = cc in
+      omega (arith, early.1, same)
+]
 
 -- ---- the leases of the other sessions
 

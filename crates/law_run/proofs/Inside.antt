@@ -1,6 +1,6 @@
 -- Bytes that an attach read and that are within the format.
-use Rattle.std.proofs.Common.{◌≡◌, ◌≢◌, ℕ, ◌-◌, ◌<◌, List, [], ◌∷◌, length, true, Option, Some, None, ap, sym, subst, ◌∙◌, arith, inl, inr}
-use Rattle.std.specs.Prelude.{nat_lt}
+use Rattle.std.proofs.Common.{◌≡◌, ◌≢◌, ℕ, ◌-◌, ◌<◌, List, [], ◌∷◌, length, true, false, Option, Some, None, refl, ap, sym, subst, ◌∙◌, arith, inl, inr}
+use Rattle.std.specs.Prelude.{nat_lt, if◌then◌else◌}
 use Rattle.plx_disk.specs.declared.ask.Ask.{Ask}
 use Rattle.plx_disk.specs.declared.ask.Ask.TheVariants as ask
 use Rattle.plx_disk.specs.declared.ask.Answer.{Answer}
@@ -15,15 +15,16 @@ use Rattle.plx_geom.proofs.Places.{lease-record, lease-descriptor, lease-data, r
 use Rattle.plx_rules.specs.Journal.{journal_slot, is_unapplied, is_placed}
 use Rattle.plx_rules.specs.Records.{is_plain, size_of, applied_of}
 use Rattle.plx_rules.specs.Session.{Session}
-use Rattle.plx_rules.specs.Stored.{Given, CountsIn, IsCounted}
+use Rattle.plx_rules.specs.Stored.{Given, record_on, counted_in, CountsIn, IsCounted}
 use Rattle.law_lease.proofs.Lists.{get-there}
+use Rattle.law_run.specs.Causes.{record_alone}
 use Rattle.law_run.specs.CommandLogs.{Exchange, IsIn}
 use Rattle.law_run.specs.Outside.{IsMissingNumber, IsOutside, no_lease, no_record, not_plain, no_descriptor, misplaced, past_size, past_gap}
 use Rattle.law_run.proofs.Facts.{counts-number, fits-counted}
 use Rattle.law_run.proofs.Grown.{descriptor-one}
 use Rattle.law_run.proofs.Meets.{exchange}
 use Rattle.law_run.proofs.Right.{FitsSession}
-use Rattle.plx_base.proofs.Tests.{nat_lt-tells, clash, eqb-is}
+use Rattle.plx_base.proofs.Tests.{nat_lt-tells, clash, eqb-is, eqb-true, eqb-false}
 
 -- what a slot's block says is within the format
 abbrev pub IsSound : ImageRecord → (slots slot : ℕ) → Option (Option Descriptor) → Type 0
@@ -122,3 +123,47 @@ not-outside g given image session block bytes fits inside (past_gap kept slot d 
     let k : kept ≡ session.image = cc in
     no-gap g given image session fits slot d missing (subst (λ (r : ImageRecord). CountsIn g given image r slot d) k counts)
     (subst (λ (r : ImageRecord). IsMissingNumber g given image r missing) k gone) below
+
+-- ---- as far as the record tells
+
+-- a lease within the format is no block of an image that could be outside
+pub lease-inside : (g : Geometry) (given : Given) (image lease : ℕ) (bytes : List ℕ) → lease < lease_count g → read_lease bytes ≢ None → ¬ IsOutside g given image (lease_at lease) bytes
+lease-inside g given image lease bytes within some (no_lease other less same none) = some none
+lease-inside g given image lease bytes within some (no_record same none) = lease-record g lease image within same
+lease-inside g given image lease bytes within some (not_plain kept same found bad) = lease-record g lease image within same
+lease-inside g given image lease bytes within some (no_descriptor slot less same none) = lease-descriptor g lease image slot within same
+lease-inside g given image lease bytes within some (misplaced kept slot d less same found is unapplied elsewhere) = lease-descriptor g lease image slot within same
+lease-inside g given image lease bytes within some (past_size kept slot d less same found is unapplied past) = lease-descriptor g lease image slot within same
+lease-inside g given image lease bytes within some (past_gap kept slot d missing same found counts gone below least) = lease-descriptor g lease image slot within same
+
+-- nor are bytes of an image whose record is known, where they are within the format
+pub alone-inside : (g : Geometry) (given : Given) (image : ℕ) (kept : ImageRecord) (block : ℕ) (bytes : List ℕ) → image < g.images → record_on g given image ≡ Some kept → is_plain kept ≡ true →
+    IsInside g image kept block bytes → ¬ IsOutside g (record_alone g given image) image block bytes
+alone-inside g given image kept block bytes within found plain inside outside = by-cause outside
+  where
+    alone : record_on g (record_alone g given image) image ≡ Some kept
+    alone = let e = eqb-true (record_at g image) (record_at g image) refl in rw e found
+
+    one : (other : ImageRecord) → record_on g (record_alone g given image) image ≡ Some other → other ≡ kept
+    one other is = let e : Some kept ≡ Some other = sym alone ∙ is in cc
+
+    by-cause : ¬ IsOutside g (record_alone g given image) image block bytes
+    by-cause (no_lease lease less same none) = inside.leases lease less same none
+    by-cause (no_record same none) = let e = inside.records same in let P : ⊥ = cc in P
+    by-cause (not_plain other same is bad) =
+        let e : Some kept ≡ Some other = sym (inside.records same) ∙ is in
+        let k : kept ≡ other = cc in clash (is_plain other) (ap is_plain (sym k) ∙ plain) bad
+    by-cause (no_descriptor slot less same none) = (inside.descriptors slot less same).0 none
+    by-cause (misplaced other slot d less same is says unapplied elsewhere) =
+        let k = one other is in
+        elsewhere (eqb-is (journal_slot g.slots d.number) slot ((inside.descriptors slot less same).1 d says (ap (λ (r : ImageRecord). is_unapplied r d) (sym k) ∙ unapplied)).0)
+    by-cause (past_size other slot d less same is says unapplied past) =
+        let k = one other is in
+        let below = nat_lt-tells d.vblock (size_of kept) ((inside.descriptors slot less same).1 d says (ap (λ (r : ImageRecord). is_unapplied r d) (sym k) ∙ unapplied)).1 in
+        let size = ap size_of k in
+        omega arith
+    by-cause (past_gap other slot d missing same is counts gone below least) =
+        let e = eqb-false (descriptor_at g image slot) (record_at g image) (λ at. record-descriptor g image image slot within (sym at)) in
+        let f : counted_in other g.slots slot (if false then given (descriptor_at g image slot) else None) ≡ Some d =
+        subst (λ test. counted_in other g.slots slot (if test then given (descriptor_at g image slot) else None) ≡ Some d) e counts.found in
+        let P : ⊥ = cc in P

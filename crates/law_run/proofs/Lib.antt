@@ -29,6 +29,8 @@ pub mod Attaching
 pub mod Claiming
 pub mod Hands
 pub mod OnExtent
+pub mod Following
+pub mod RetireFollows
 pub mod FreeBlocks
 pub mod OnHand
 pub mod OneGive
@@ -36,6 +38,7 @@ pub mod GivingUp
 pub mod OnHandEnds
 pub mod Retiring
 pub mod Beside
+pub mod TakeFollows
 pub mod Taking
 pub mod TakeClaims
 pub mod TakeRules

@@ -8,6 +8,7 @@ use Rattle.plx_base.specs.declared.numbers.SlotNo.{SlotNo}
 use Rattle.plx_base.proofs.Canonical.{bytes_of-payload_of}
 use Rattle.plx_commands.specs.declared.command.Command.TheVariants.{Read}
 use Rattle.plx_commands.specs.declared.reply.Reply.TheVariants as reply
+use Rattle.plx_disk.specs.declared.ask.Ask.TheVariants as ask
 use Rattle.plx_rules.specs.Commands.{read_part, command_part}
 use Rattle.plx_rules.specs.Records.{is_live, size_of}
 use Rattle.plx_rules.specs.Session.{Session, Known, content}
@@ -18,7 +19,7 @@ use Rattle.law_run.specs.KnownBytes.{given_after, known_in}
 use Rattle.law_run.specs.Refusals.{NamesBlock, of_read, of_write, of_block, no_image, out_of_range}
 use Rattle.law_run.specs.Replies.{refused}
 use Rattle.law_run.proofs.Asking.{asks-confirm}
-use Rattle.law_run.proofs.Clear.{by-unless, Clear, known-here, clear, still-at}
+use Rattle.law_run.proofs.Clear.{by-unless, Clear, known-here, clear, still-at, ready-follows}
 use Rattle.law_run.proofs.Facts.{content-held}
 use Rattle.law_run.proofs.Holding.{Course, going-first}
 use Rattle.law_run.proofs.OnImage.{OnImage, names-own, still, on-image, Ready}
@@ -77,6 +78,7 @@ module _ (s : Setting) (before : List Finished) (known : Known) (slot : SlotNo) 
       let fine = place 11 (λ lt. not-false (is_live session.image) live) (λ lt. nat_le-past (size_of session.image) vblock below) in
       asks-confirm s before known command slot c on.named ready.fits.within (λ done first. fine done first) (let a = rests.claims in omega arith)
       (clock reading ∷ []) (reply.Data (payload_of (content session vblock))) known 0 (going-first s before slot.0 claim until reading ready.now)
+      (ready-follows s before known command slot reading on rests session claim until ready (λ done first. fine done first) ask.Clock)
       (λ reading' early going confirmed.
       let done = clock reading' ∷ clock reading ∷ [] in
       let same : known_in s.geometry (log_on before command done) slot.0 ≡ given_after s.geometry before slot.0 = rw (names-own command slot.0 on.named, ready.attached) refl in (

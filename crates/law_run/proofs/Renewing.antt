@@ -10,6 +10,7 @@ use Rattle.plx_base.specs.declared.numbers.SlotNo.{SlotNo}
 use Rattle.plx_base.specs.declared.write_kind.WriteKind.TheVariants as kind
 use Rattle.plx_commands.specs.declared.command.Command.TheVariants.{Renew}
 use Rattle.plx_commands.specs.declared.reply.Reply.TheVariants as reply
+use Rattle.plx_disk.specs.declared.ask.Ask.{Ask}
 use Rattle.plx_disk.specs.declared.ask.Ask.TheVariants as ask
 use Rattle.plx_disk.specs.declared.ask.Answer.TheVariants as answer
 use Rattle.plx_gate.specs.Leases.{lease_bytes, read_lease, IsClaimed}
@@ -24,6 +25,7 @@ use Rattle.plx_rules.specs.Settings.{Setting}
 use Rattle.plx_rules.specs.Times.{term}
 use Rattle.law_run.specs.AllowedAsks.{WentOn, renewal_of_lease}
 use Rattle.law_run.specs.Bounds.{one_held, count_held}
+use Rattle.law_run.specs.Causes.{MayFollow}
 use Rattle.law_run.specs.CommandLogs.{Exchange, Finished, IsIn, first_reading}
 use Rattle.law_run.specs.Holdings.{at_first, holds_along, holds_after, hold_by_log, claims_in}
 use Rattle.law_run.specs.Refusals.{IsExpired, IsNamedFirst, NamesBlock, of_read, of_write, NeedsImage, of_delete, of_block, expired}
@@ -31,6 +33,7 @@ use Rattle.law_run.specs.Replies.{refused}
 use Rattle.law_run.specs.Sessions.{is_attached}
 use Rattle.plx_rules.proofs.Holds.{later-below, later-least}
 use Rattle.law_run.proofs.Asking.{IsFine, replied-fine, asks-write}
+use Rattle.law_run.proofs.Following.{first-follows}
 use Rattle.law_run.proofs.Holding.{hold-after-first, first-more, claims-more}
 use Rattle.law_run.proofs.Limits.{Limited, is-limited}
 use Rattle.law_run.proofs.Meets.{exchange}
@@ -38,7 +41,7 @@ use Rattle.law_run.proofs.OnImage.{passed-sessions, lease-name}
 use Rattle.law_run.proofs.Passed.{Passed, passed-at-most}
 use Rattle.law_run.proofs.Reached.{IsUse, NotAfter, IsFirstDue, TellsFirstDue, first-tells, OfSession, of-session, session-use}
 use Rattle.law_run.proofs.Rests.{rests-by, rests-lost}
-use Rattle.law_run.proofs.Right.{clock, IsHeld, FitsAt, Rests, finish, log_on, Right}
+use Rattle.law_run.proofs.Right.{clock, IsHeld, FitsAt, Rests, finish, log_on, May, Right}
 use Rattle.law_run.proofs.Runs.{HasFirst, along-more, start, hand_start}
 use Rattle.plx_base.proofs.Tests.{clash}
 use Rattle.plx_commands.proofs.Places.{at-other, at-same}
@@ -123,6 +126,7 @@ record Renewing (s : Setting) (before : List Finished) (done : List Exchange) (r
   first : first_reading done ≡ Some reading
   begun : claims_in s.geometry done ≡ 0
   went : WentOn done
+  follows : (a : Ask) → MayFollow s (log_on before Renew done) a
   later : (l : ℕ) → lease ≤ l → hold_by_log s before done l ≡ start s before reading (lease_at l)
   renewed : (l : ℕ) (claim : Claim) (until : ℕ) → l < lease → hold_by_log s before done l ≡ Held claim until →
       (guard : ℕ) × IsIn (exchange (ask.Write kind.Renew (record { 0 = lease_at l }) guard) (lease_bytes (lease_is.Claimed claim until)) answer.Done) done
@@ -191,6 +195,7 @@ module _ (s : Setting) (before : List Finished) (known : Known) (reading : ℕ) 
         first = first-more done x reading r.first;
         begun = claims-more s.geometry done x r.has refl ∙ r.begun;
         went = (tt, r.went);
+        follows = λ a. tt;
         later = λ l le. apart l (λ e. (let P : ⊥ = omega arith in P)) ∙ r.later l (omega arith);
         renewed = λ l claim' until' lt h. elim (eqb_tells l lease) [
           | inl same ↦
@@ -217,6 +222,7 @@ module _ (s : Setting) (before : List Finished) (known : Known) (reading : ℕ) 
     first = r.first;
     begun = r.begun;
     went = r.went;
+    follows = r.follows;
     later = λ l le. r.later l (omega arith);
     renewed = λ l claim until lt h. elim (eqb_tells l lease) [
       | inl same ↦ absurd (none claim until (subst (λ n. hold_by_log s before done n ≡ Held claim until) same.1 h))
@@ -236,10 +242,10 @@ module _ (s : Setting) (before : List Finished) (known : Known) (reading : ℕ) 
           Right s before Renew done (renewal s known reading lease hold (renew_part s known (start s before reading) reading left (lease + 1)))
           (asks_of_hold hold (renewals (start s before reading) left (lease + 1)))
       by-hold (Held claim until) held rest =
-          asks-write s before known Renew reading fine done lease until kind.Renew (lease_at lease) (lease_bytes (lease_is.Claimed claim (later_of until (reading + term))))
+          asks-write (May s before Renew) s before known Renew reading fine done lease until kind.Renew (lease_at lease) (lease_bytes (lease_is.Claimed claim (later_of until (reading + term))))
           (renew_part s known (start s before reading) reading left (lease + 1)) (renewals (start s before reading) left (lease + 1)) r.first
-          (let c = rests.claims in let b = r.begun in omega arith) (λ y e. claims-more s.geometry done y r.has (rw e refl)) (omega arith) refl r.went
-          (renewal_of_lease lease claim reading (omega arith) refl held r.first refl)
+          (let c = rests.claims in let b = r.begun in omega arith) (λ y e. claims-more s.geometry done y r.has (rw e refl)) (omega arith) refl
+          ((r.went, renewal_of_lease lease claim reading (omega arith) refl held r.first refl), r.follows _)
           (rest _ (one-renewal done lease claim until (omega arith) r held))
       by-hold Nothing held rest = rest done (none-held done lease r (λ claim until h. (let P : ⊥ = cc in P)))
       by-hold (Seen sample) held rest = rest done (none-held done lease r (λ claim until h. (let P : ⊥ = cc in P)))
@@ -313,6 +319,7 @@ module _ (s : Setting) (before : List Finished) (known : Known) (reading : ℕ) 
         first = refl;
         begun = refl;
         went = (tt, tt);
+        follows = first-follows s before Renew reading (fine-early tells) (λ image until named is. (let P : ⊥ = cc in absurd P));
         later = λ l le. refl;
         renewed = λ l claim until lt h. absurd (omega arith);
         kept = λ l h. h;

@@ -3,12 +3,14 @@ use Rattle.std.proofs.Common.{◌≡◌, ℕ, suc, ◌+◌, ◌*◌, ◌≤◌, 
 use Rattle.std.specs.Prelude.{if◌then◌else◌, nat_le}
 use Rattle.plx_base.specs.declared.lease.LeaseName.{LeaseName}
 use Rattle.plx_base.specs.declared.lease.LeaseRecord.{LeaseRecord}
+use Rattle.plx_base.specs.declared.numbers.SlotNo.{SlotNo}
 use Rattle.plx_commands.specs.declared.command.Command.{Command}
-use Rattle.plx_commands.specs.declared.command.Command.TheVariants.{Reserve}
+use Rattle.plx_commands.specs.declared.command.Command.TheVariants.{Attach, Reserve}
 use Rattle.plx_commands.specs.declared.reply.Reply.{Reply}
 use Rattle.plx_commands.specs.declared.reply.Reply.TheVariants as reply
 use Rattle.plx_disk.specs.declared.ask.Ask.{Ask}
 use Rattle.plx_disk.specs.declared.ask.Answer.{Answer}
+use Rattle.plx_disk.specs.declared.ask.Answer.TheVariants as answer
 use Rattle.plx_geom.proofs.Places.{image-below, image-extent}
 use Rattle.plx_geom.specs.Geometry.{IsGeometry, image_lease, extent_lease, lease_at, map_at}
 use Rattle.plx_rules.specs.Commands.{command_part}
@@ -22,6 +24,8 @@ use Rattle.plx_rules.specs.Space.{Taking}
 use Rattle.plx_rules.specs.Stored.{Given}
 use Rattle.law_lease.proofs.LawfulCommands.{IsRest}
 use Rattle.law_run.specs.Busy.{NoneBusy, FirstBusy}
+use Rattle.law_run.specs.Causes as causes
+use Rattle.law_run.specs.Causes.{HasReadOutside, HasReached, of_image_lease, of_extent_lease, IsRefused, MayGoOnAfter, MayFollow}
 use Rattle.law_run.specs.CommandLogs.{Exchange, Finished, CommandLog, IsIn, LastAnsweredIn, older_than, first_reading}
 use Rattle.law_run.specs.Holdings.{at_first, holds_after}
 use Rattle.law_run.specs.KnownBytes.{nothing_given, given_after_exchange, given_after_exchanges}
@@ -34,12 +38,16 @@ use Rattle.law_run.specs.Takes as takes
 use Rattle.law_run.specs.Takes.{MayBeginTake, HoldsOthers, RefusesTake, FailsTake, HasEnough, counted_by_log, take_bound}
 use Rattle.law_run.proofs.Asking.{replied-fine}
 use Rattle.law_run.proofs.Beside.{after_clock, unread-unbusy}
+use Rattle.law_run.proofs.Following.{first-follows, read-nothing, no-attach}
 use Rattle.law_run.proofs.Hands.{has-filter, kept-within}
 use Rattle.law_run.proofs.Holding.{Spared, spared-first, first-more}
 use Rattle.law_run.proofs.OnExtent.{claims_at, reserve-fine, rests-still}
+use Rattle.law_run.proofs.Passed.{passed-all}
 use Rattle.law_run.proofs.Rests.{KeepsHolds, rests-failed}
 use Rattle.law_run.proofs.Right.{clock, read_of, Rests, log_on, May, Shows, Right}
 use Rattle.law_run.proofs.Runs.{start, hand_start}
+use Rattle.law_run.proofs.TakeFollows as takes_follow
+use Rattle.law_run.proofs.TakeFollows.{ReadsOutside, FollowsAnswer, FollowsTake}
 use Rattle.law_run.proofs.TakeRules.{at-rest, take-meets}
 
 -- after the first reading a lease is held, or it isn't
@@ -265,6 +273,38 @@ module _ (s : Setting) (before : List Finished) (known : Known) (count reading :
     went = (tt, tt);
   }
 
+  -- ---- what it asks follows on what it has met
+
+  no-attaching : (own : List Exchange) (slot : SlotNo) → ¬ ((whole_log own).command ≡ Attach slot)
+  no-attaching own slot is = let P : ⊥ = cc in P
+
+  no-facts : (own : List Exchange) → ¬ IsRefused s (whole_log own)
+  no-facts own refused = passed-all s (whole_log own) (reserve-fine s before count reading (all own) (first-all s before (Reserve count) reading own)) refused.0 refused.1 refused.2
+
+  -- bytes outside the format are the take's
+  outside-own : (own : List Exchange) → HasReadOutside s (whole_log own) → ReadsOutside s own
+  outside-own [] outside = absurd (read-nothing s (whole_log []) refl outside)
+  outside-own (x ∷ older) (causes.of_lease lease bytes within last bad) = takes_follow.of_lease lease bytes within (older, λ i. newest_of (last.1 i) ∷ older) bad
+  outside-own (x ∷ older) (causes.of_map extent bytes below last bad) = takes_follow.of_map extent bytes below (older, λ i. newest_of (last.1 i) ∷ older) bad
+  outside-own (x ∷ older) (causes.of_image image block bytes named last bad) = let P : ⊥ = cc in absurd P
+
+  after-own : (x : Exchange) (older : List Exchange) (a : Ask) (y : Answer) → FollowsAnswer s (whole_log (x ∷ older)) (x ∷ older) a y → MayGoOnAfter s (whole_log (x ∷ older)) a y
+  after-own x older a (answer.Bytes bytes) follows = (λ outside. follows (outside-own (x ∷ older) outside), no-attach s (whole_log (x ∷ older)) (no-attaching (x ∷ older)))
+  after-own x older a answer.Done follows = tt
+  after-own x older a (answer.Reading last) follows = (reached, λ outside. follows.1 (outside-own older outside), no-facts (x ∷ older))
+    where
+      reached : ¬ HasReached s (whole_log (x ∷ older)) last
+      reached (of_image_lease image until (replies.going named is) past) = let P : ⊥ = cc in absurd P
+      reached (of_image_lease image until (replies.unread claim bytes r rest named at_end waited none gone) past) = let P : ⊥ = cc in absurd P
+      reached (of_extent_lease extent until used past) =
+          let soon = follows.0 extent until (use-own s before (Reserve count) reading (x ∷ older) extent until used) in omega (arith, soon, past)
+  after-own x older a (answer.Missed last) follows = absurd follows
+  after-own x older a answer.Fault follows = absurd follows
+
+  reserve-follows : (own : List Exchange) (a : Ask) → FollowsTake s first a own → MayFollow s (whole_log own) a
+  reserve-follows [] a follows = first-follows s before (Reserve count) reading (reserve-fine s before count reading) (λ image until named is. (let P : ⊥ = cc in absurd P)) a
+  reserve-follows (x ∷ older) a follows = after-own x older a x.answer follows
+
 pub reserve-begins : (s : Setting) → IsGeometry s.geometry → s.boot < 2 ^ 128 → (before : List Finished) (known : Known) (count reading : ℕ) → AllKept s before → Rests s before known →
     (left : ℕ) × (left ≤ 8 * s.geometry.extents)
     × Right s before (Reserve count) (clock reading ∷ []) (command_part s known (start s before reading) (hand_start s before reading) reading (Reserve count)) left
@@ -274,7 +314,7 @@ reserve-begins s geometry small before known count reading older rests = (
   take-meets s geometry small (first s before known count reading rests) (start s before reading) known count (record {
     May = May s before (Reserve count);
     Shows = Shows s before (Reserve count);
-    may = λ own a bytes allowed place. allowed;
+    may = λ own a bytes allowed place follows. (allowed, reserve-follows s before known count reading rests own a follows);
     fails = fails-reserve s before known count reading rests;
   }) (hand_start s before reading) (begins-reserve s before known count reading rests older) (λ t. ends reply.Reserved t.known) 0 (ends-reserve s before known count reading rests),
 )

@@ -32,24 +32,21 @@ use Rattle.law_run.specs.Sessions.{attached_by, is_attached}
 use Rattle.law_run.proofs.Asking.{replied-fine, asks-write, unwritten-shows, missed-shows}
 use Rattle.law_run.proofs.Hands.{HasBlock, none-has, held-is, hand-is-held, hand-in-extents}
 use Rattle.law_run.proofs.Holding.{Spared, spared-more, hold-after-first, first-more, claims-more}
-use Rattle.law_run.proofs.Meets.{exchange, meets-more}
+use Rattle.law_run.proofs.Meets.{exchange, Meets, meets-more}
 use Rattle.law_run.proofs.OnExtent.{claims_at, retire-fine, extent-name, map-no-lease, bad-map, rests-still}
 use Rattle.law_run.proofs.GivingUp.{Endings, retire_asks, retire-asks-are, retires}
 use Rattle.law_run.proofs.OnHand.{Along, GivenBack, PastExtent, Retiring, no-claim, passed-over, released, retires-none, same-leases}
 use Rattle.law_run.proofs.OnHandEnds.{lost-comes, map-damaged}
+use Rattle.law_run.proofs.Following.{meets-two}
 use Rattle.law_run.proofs.Rests.{KeepsHolds, rests-lost, unfound-none}
-use Rattle.law_run.proofs.Right.{clock, read_of, FitsAt, Rests, finish, log_on, May, Shows, Right}
+use Rattle.law_run.proofs.RetireFollows.{image_asks, retire-follows}
+use Rattle.law_run.proofs.Right.{clock, read_of, FitsAt, Rests, finish, log_on, MayByRules, MayByCauses, Shows, Right}
 use Rattle.law_run.proofs.Runs.{start, hand_start}
 use Rattle.plx_base.proofs.Tests.{clash}
 
 -- those of extents, and those of images before this one
 abbrev PastImage : Setting → (image lease : ℕ) → Type 0
 PastImage s image lease = (extent_lease s.geometry 0 ≤ lease) ⊎ ((1 ≤ lease) × (lease < image_lease image))
-
--- one answer for each image
-abbrev image_asks : (left n : ℕ) → ℕ
-image_asks zero n = n
-image_asks (suc left) n = suc (image_asks left n)
 
 image-asks-are : (left n : ℕ) → image_asks left n ≡ left + n
 image-asks-are zero n = omega arith
@@ -68,7 +65,7 @@ module _ (s : Setting) (geometry : IsGeometry s.geometry) (before : List Finishe
   Work P K own = Retiring s before from Spares P K own
 
   abbrev MeetsRetiring : (own : List Exchange) → Part End → ℕ → Type 0
-  MeetsRetiring own part n = Right s before Retire (own ++ from) part n
+  MeetsRetiring own part n = Meets (MayByRules s before Retire) (Shows s before Retire) (own ++ from) part n
 
   -- the blocks in hand are of extents of the geometry
   within : (b : ℕ) → HasBlock (hand_start s before reading) b → extent_of s.geometry b < s.geometry.extents
@@ -136,7 +133,7 @@ module _ (s : Setting) (geometry : IsGeometry s.geometry) (before : List Finishe
 
   -- what is met with so many answers left is met with one more
   more : (n : ℕ) (part : Part End) (own : List Exchange) → MeetsRetiring own part n → MeetsRetiring own part (suc n)
-  more n part own right = meets-more (May s before Retire) (Shows s before Retire) part (own ++ from) n right
+  more n part own right = meets-more (MayByRules s before Retire) (Shows s before Retire) part (own ++ from) n right
 
   -- ---- the leases of images, and the root's
 
@@ -159,9 +156,9 @@ module _ (s : Setting) (geometry : IsGeometry s.geometry) (before : List Finishe
 
       by-hold : (hold' : Hold) → hold_by_log s before (own ++ from) l ≡ hold' → MeetsRetiring own (retire_lease s known l None hold' rest) (suc n)
       by-hold (Held claim until) is =
-          asks-write s before known Retire reading (retire-fine s before reading) (own ++ from) l until kind.Release (lease_at l) (lease_bytes lease_is.Free) rest n (first own r.along)
-          (let c = rests.claims in let b = r.along.begun in omega arith) (λ y e. claims-more s.geometry (own ++ from) y r.along.has (rw e refl)) below refl r.along.went
-          (release_of_lease l claim below refl is refl)
+          asks-write (MayByRules s before Retire) s before known Retire reading (retire-fine s before reading) (own ++ from) l until kind.Release (lease_at l) (lease_bytes lease_is.Free) rest n (first own r.along)
+          (let c = rests.claims in let b = r.along.begun in omega arith) (λ y e. claims-more s.geometry (own ++ from) y r.along.has (rw e refl)) below refl
+          (r.along.went, release_of_lease l claim below refl is refl)
           (right _ (released s before from Spares within P Q K own l until r wider split here
           (λ image less spare e. free spare.0 (attached-below spare.0 spare.2) spare.2 (sym spare.1 ∙ e))))
       by-hold Nothing is = unheld (λ claim until h. (let P : ⊥ = cc in P))
@@ -226,9 +223,9 @@ module _ (s : Setting) (geometry : IsGeometry s.geometry) (before : List Finishe
     still (own ++ from) reply.Retired (λ other b. refl) (λ h. refl) (leases-spared own r.along) (let c = rests.claims in let b = r.along.begun in omega arith),
   )
 
-  right-retire : Right s before Retire from (retire_part s known (start s before reading) (hand_start s before reading)) (retire_asks s.geometry.extents (image_asks s.geometry.images 1))
-  right-retire =
-      retires s before from Spares within geometry.blocks_high Retire known (May s before Retire) (Shows s before Retire) (λ done a bytes may place. may) endings
+  allowed-retire : Meets (MayByRules s before Retire) (Shows s before Retire) from (retire_part s known (start s before reading) (hand_start s before reading)) (retire_asks s.geometry.extents (image_asks s.geometry.images 1))
+  allowed-retire =
+      retires s before from Spares within geometry.blocks_high Retire known (MayByRules s before Retire) (Shows s before Retire) (λ done a bytes may place. may) endings
       (start s before reading) (λ extent below. refl) (hand_start s before reading) refl (λ done a bytes extent may below place. may)
       s.geometry.extents 0 [] (image_asks s.geometry.images 1) _ (omega arith)
       (retires-none s before from Spares within tt (tt, tt) (PastExtent s 0) (GivenBack 0) (λ l below p. omega (arith, p.0, p.1)) (λ e k. omega (arith, k)))
@@ -260,5 +257,7 @@ pub retire-begins : (s : Setting) → IsGeometry s.geometry → (before : List F
 retire-begins s geometry before known reading older rests = (
   retire_asks s.geometry.extents (image_asks s.geometry.images 1),
   (let e = retire-asks-are s.geometry.extents (image_asks s.geometry.images 1) in let i = image-asks-are s.geometry.images 1 in omega arith),
-  right-retire s geometry before known reading rests older,
+  meets-two (MayByRules s before Retire) (MayByCauses s before Retire) (Shows s before Retire) (λ done end. Unit {0}) (retire_part s known (start s before reading) (hand_start s before reading))
+      (clock reading ∷ []) (retire_asks s.geometry.extents (image_asks s.geometry.images 1)) (retire_asks s.geometry.extents (image_asks s.geometry.images 1))
+      (allowed-retire s geometry before known reading rests older) (retire-follows s before known (start s before reading) (hand_start s before reading) reading),
 )

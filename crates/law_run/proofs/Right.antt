@@ -20,6 +20,7 @@ use Rattle.plx_rules.specs.Session.{Session, Known}
 use Rattle.plx_rules.specs.Settings.{Setting}
 use Rattle.plx_rules.specs.Stored.{Given, record_on, CountsIn}
 use Rattle.law_run.specs.AllowedAsks.{last_known, MayAsk}
+use Rattle.law_run.specs.Causes.{MayFollow}
 use Rattle.law_run.specs.CommandLogs.{Exchange, Finished, CommandLog}
 use Rattle.law_run.specs.Holdings.{holds_after, claims_begun}
 use Rattle.law_run.specs.KnownBytes.{given_after}
@@ -71,9 +72,18 @@ log_on before command done = record { before = before; command = command; exchan
 abbrev pub finish : Command → List Exchange → Reply → Finished
 finish command done reply = record { command = command; exchanges = done; reply = reply }
 
--- after these exchanges of a command, with so many answers left, each ask of its rest is allowed, each of its replies is right, and what it leaves known fits
+-- an ask of a command is allowed after these exchanges
+abbrev pub MayByRules : Setting → List Finished → Command → List Exchange → Ask → List ℕ → Type 0
+MayByRules s before command done a bytes = MayAsk s (log_on before command done) a bytes
+
+-- and it may follow on what they met
+abbrev pub MayByCauses : Setting → List Finished → Command → List Exchange → Ask → List ℕ → Type 0
+MayByCauses s before command done a bytes = MayFollow s (log_on before command done) a
+
+-- after these exchanges of a command, with so many answers left, each ask of its rest is allowed and follows on what was met, each of its replies is right,
+-- and what it leaves known fits
 abbrev pub May : Setting → List Finished → Command → List Exchange → Ask → List ℕ → Type 0
-May s before command done a bytes = MayAsk s (log_on before command done) a bytes
+May s before command done a bytes = MayByRules s before command done a bytes × MayByCauses s before command done a bytes
 
 abbrev pub Shows : Setting → List Finished → Command → List Exchange → End → Type 0
 Shows s before command done end = IsReplied s (log_on before command done) end.reply × Rests s (finish command done end.reply ∷ before) end.known

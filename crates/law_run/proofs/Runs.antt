@@ -18,6 +18,7 @@ use Rattle.plx_rules.specs.Session.{Session, Known}
 use Rattle.plx_rules.specs.Settings.{Setting}
 use Rattle.law_run.specs.AllowedAsks.{WentOn, MayAsk}
 use Rattle.law_run.specs.Bounds.{bound}
+use Rattle.law_run.specs.Causes.{MayGoOnWith, MayFollow, AllFollow}
 use Rattle.law_run.specs.CommandLogs.{Exchange, Finished, CommandLog, Commands, Between, Within, commands_after_start, commands_after_exchange, commands}
 use Rattle.law_run.specs.Holdings.{at_first, after_first_answer, holds_along, holds_after, last_found, hand_told, hand_along, hand_after, hand_by_log}
 use Rattle.law_run.specs.Positions.{known_at, IsByCommands, PositionsAgree}
@@ -100,6 +101,7 @@ told-more g attached before hand x (y ∷ older) has = refl
 pub record RunsWithRest (s : Setting) (log : CommandLog) (part : Part End) : Type 0 where
   pub older : AllKept s log.before
   pub allowed : AllAllowed s log.before log.command log.exchanges
+  pub at_once : AllFollow s log.before log.command log.exchanges
   pub left : ℕ
   pub right : Right s log.before log.command log.exchanges part left
   pub bounded : length log.exchanges + left ≤ bound s log.before log.command
@@ -130,21 +132,21 @@ AgreeAt s p commands = Agree s p.holds p.hand p.sample p.found p.place commands
 
 -- an answered ask is one more exchange
 along : (s : Setting) (log : CommandLog) (x : Exchange) (known : Known) (command : Command) (holds : ℕ → Hold) (hand : List ℕ) (filled : List (ℕ × List ℕ)) (part : Part End) (left : ℕ) → AllKept s log.before → Rests s log.before known →
-    AllAllowed s log.before log.command log.exchanges → MayAsk s log x.ask x.bytes → Right s log.before log.command (x ∷ log.exchanges) part left →
+    AllAllowed s log.before log.command log.exchanges → AllFollow s log.before log.command log.exchanges → MayAsk s log x.ask x.bytes × MayFollow s log x.ask → Right s log.before log.command (x ∷ log.exchanges) part left →
     length log.exchanges + suc left ≤ bound s log.before log.command →
     holds ≡ holds_along s.geometry (is_attached log.before) (holds_after s.geometry log.before) (x ∷ log.exchanges) →
     hand ≡ hand_told s.geometry (is_attached log.before) (holds_after s.geometry log.before) (hand_after s.geometry log.before) (x ∷ log.exchanges) →
     AgreeAt s (goes_to s.geometry known command holds hand filled (sample_of x.answer) (found_by x.ask x.answer) part) (commands_after_exchange x (reply_of part) (Within log))
-along s log x known command holds hand filled (Ends end) left older rests allowed may right bounded same told =
-    ((record { allowed = (may, allowed); replied = right.0; bounded = omega arith }, older), right.1, ap (holds_after_reply end.reply) same, λ i. hand_held s.geometry (holds_after_reply end.reply (same i)) (told i))
-along s log x known command holds hand filled (ReadThen block rest fault) left older rests allowed may right bounded same told =
-    (record { older = older; allowed = (may, allowed); left = left; right = right; bounded = omega arith }, same, refl, tt, rests, λ i. hand_held s.geometry (same i) (told i), refl)
-along s log x known command holds hand filled (WriteThen kind block bytes guard done fault missed) left older rests allowed may right bounded same told =
-    (record { older = older; allowed = (may, allowed); left = left; right = right; bounded = omega arith }, same, refl, tt, rests, λ i. hand_held s.geometry (same i) (told i), refl)
-along s log x known command holds hand filled (ClockThen rest) left older rests allowed may right bounded same told =
-    (record { older = older; allowed = (may, allowed); left = left; right = right; bounded = omega arith }, same, refl, tt, rests, λ i. hand_held s.geometry (same i) (told i), refl)
-along s log x known command holds hand filled (UntilThen from rest) left older rests allowed may right bounded same told =
-    (record { older = older; allowed = (may, allowed); left = left; right = right; bounded = omega arith }, same, refl, tt, rests, λ i. hand_held s.geometry (same i) (told i), refl)
+along s log x known command holds hand filled (Ends end) left older rests allowed at_once may right bounded same told =
+    ((record { allowed = (may.0, allowed); at_once = (may.1, at_once); replied = right.0; bounded = omega arith }, older), right.1, ap (holds_after_reply end.reply) same, λ i. hand_held s.geometry (holds_after_reply end.reply (same i)) (told i))
+along s log x known command holds hand filled (ReadThen block rest fault) left older rests allowed at_once may right bounded same told =
+    (record { older = older; allowed = (may.0, allowed); at_once = (may.1, at_once); left = left; right = right; bounded = omega arith }, same, refl, tt, rests, λ i. hand_held s.geometry (same i) (told i), refl)
+along s log x known command holds hand filled (WriteThen kind block bytes guard done fault missed) left older rests allowed at_once may right bounded same told =
+    (record { older = older; allowed = (may.0, allowed); at_once = (may.1, at_once); left = left; right = right; bounded = omega arith }, same, refl, tt, rests, λ i. hand_held s.geometry (same i) (told i), refl)
+along s log x known command holds hand filled (ClockThen rest) left older rests allowed at_once may right bounded same told =
+    (record { older = older; allowed = (may.0, allowed); at_once = (may.1, at_once); left = left; right = right; bounded = omega arith }, same, refl, tt, rests, λ i. hand_held s.geometry (same i) (told i), refl)
+along s log x known command holds hand filled (UntilThen from rest) left older rests allowed at_once may right bounded same told =
+    (record { older = older; allowed = (may.0, allowed); at_once = (may.1, at_once); left = left; right = right; bounded = omega arith }, same, refl, tt, rests, λ i. hand_held s.geometry (same i) (told i), refl)
 
 -- what follows the answer to the ask that stands
 follows : (s : Setting) (log : CommandLog) (known : Known) (command : Command) (holds : ℕ → Hold) (hand : List ℕ) (filled : List (ℕ × List ℕ)) (sample : Option ℕ) (found : Option (ℕ × List ℕ)) (part : Part End) (a : Ask) (x : Answer) →
@@ -154,7 +156,7 @@ follows : (s : Setting) (log : CommandLog) (known : Known) (command : Command) (
 follows s log known command holds hand filled sample found part a x agree stands fits =
     let r = agree.0 in
     let next = meets-next (May s log.before log.command) (Shows s log.before log.command) part log.exchanges a r.left r.right stands in
-    along s log (exchange a (bytes_out part) x) known command (after_answer sample a (bytes_out part) x holds) (hand_answered s.geometry found a (bytes_out part) x hand) (filled_answered a (bytes_out part) x filled) (answered part x) next.left r.older agree.4 r.allowed next.allowed
+    along s log (exchange a (bytes_out part) x) known command (after_answer sample a (bytes_out part) x holds) (hand_answered s.geometry found a (bytes_out part) x hand) (filled_answered a (bytes_out part) x filled) (answered part x) next.left r.older agree.4 r.allowed r.at_once next.allowed
     (next.follows x fits) (let within = r.bounded in let fewer = next.fewer in omega arith)
     (ap (λ h. after_answer sample a (bytes_out part) x h) agree.1
     ∙ (ap (λ o. after_answer o a (bytes_out part) x (held_in s log)) agree.2
@@ -186,7 +188,8 @@ right-at-first s right log known command holds hand reading b same in_hand small
     subst (λ (h : ℕ → Hold). first_at s log known command reading h hand) (sym here)
     (subst (λ (k : List ℕ). first_at s log known command reading (start s log.before reading) k) (sym in_hand)
     (along s log (clock reading) known command (start s log.before reading) (hand_after s.geometry log.before) [] part next.0 b.older b.rests
-    (subst Q (sym b.none_yet) tt) (subst (λ done. WentOn done × Unit {0}) (sym b.none_yet) (tt, tt)) moved (let n = next.1 in omega arith)
+    (subst Q (sym b.none_yet) tt) (subst (λ done. AllFollow s log.before log.command done) (sym b.none_yet) tt)
+    (subst (λ done. WentOn done × Unit {0}) (sym b.none_yet) (tt, tt), subst (λ done. MayGoOnWith s log ask.Clock done) (sym b.none_yet) tt) moved (let n = next.1 in omega arith)
     (ap (λ done. holds_along s.geometry (is_attached log.before) H (clock reading ∷ done)) (sym b.none_yet))
     (ap (λ done. hand_told s.geometry (is_attached log.before) H (hand_after s.geometry log.before) (clock reading ∷ done)) (sym b.none_yet))))
 
@@ -242,7 +245,9 @@ keeps-rules s holds hand sample found (Begins known command) (Within log) least 
     let b = agree.0 in record {
       older = b.older;
       allowed = subst (λ done. AllAllowed s log.before log.command done) (sym b.none_yet) tt;
+      at_once = subst (λ done. AllFollow s log.before log.command done) (sym b.none_yet) tt;
       stands = λ a stands. (let is : ask.Clock ≡ a = cc in subst (λ (c : Ask). MayAsk s log c []) is (subst (λ done. WentOn done × Unit {0}) (sym b.none_yet) (tt, tt)));
+      follows = λ a stands. subst (λ done. MayGoOnWith s log a done) (sym b.none_yet) tt;
       bounded = λ a stands. (let size : length log.exchanges ≡ 0 = ap (λ (d : List Exchange). length d) b.none_yet in let one = least log refl in omega arith);
     }
 keeps-rules s holds hand sample found (In known command part) (Between before) least agree = absurd agree
@@ -250,7 +255,9 @@ keeps-rules s holds hand sample found (In known command part) (Within log) least
     let r = agree.0 in record {
       older = r.older;
       allowed = r.allowed;
-      stands = λ a stands. (meets-next (May s log.before log.command) (Shows s log.before log.command) part log.exchanges a r.left r.right stands).allowed;
+      at_once = r.at_once;
+      stands = λ a stands. (meets-next (May s log.before log.command) (Shows s log.before log.command) part log.exchanges a r.left r.right stands).allowed.0;
+      follows = λ a stands. (meets-next (May s log.before log.command) (Shows s log.before log.command) part log.exchanges a r.left r.right stands).allowed.1;
       bounded = λ a stands. (
           let fewer = (meets-next (May s log.before log.command) (Shows s log.before log.command) part log.exchanges a r.left r.right stands).fewer in
           let within = r.bounded in omega arith);

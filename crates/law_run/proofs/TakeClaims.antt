@@ -51,6 +51,7 @@ use Rattle.law_run.proofs.Rests.{written-none, unfound-none}
 use Rattle.law_run.proofs.Right.{clock, read_of}
 use Rattle.law_run.proofs.Runs.{along-more}
 use Rattle.law_run.proofs.Spelled.{lease-rest}
+use Rattle.law_run.proofs.TakeFollows.{Calm, nothing-outside, map-in-format, map-goes-on, lease-goes-on}
 use Rattle.law_run.proofs.Taking.{WorkRules, claim_done, Claimed, BusyIs, HasTaken, some-blocks, busy-more, Keeping, refuses, write-missed, write-failed, claimed-use, lost-reading, MeetsTaking, more, right-here, extended}
 use Rattle.plx_base.proofs.Tests.{clash}
 use Rattle.law_run.proofs.Claiming.{nothing-used}
@@ -292,13 +293,13 @@ module _ (s : Setting) (geometry : IsGeometry s.geometry) (small : s.boot < 2 ^ 
       -- the claim ended Busy, and the take goes on past it
       goes-past : (x : Exchange) (older : List Exchange) (seen : LeaseRecord) → BesideSo (x ∷ older) → claims_in s.geometry (after_work first (x ∷ older)) ≡ 1 + claims_in s.geometry (after_work first d0) →
           hold_by_log s first.before (after_work first (x ∷ older)) own_lease ≡ Nothing → BusyIs s geometry first holds known count work t.busy older →
-          IsBusy s (log (x ∷ older)) own_lease seen → RightSo (x ∷ older) (rest (with_busy (with_claim_begun t) own_lease seen)) m
-      goes-past x older seen b begun none busy is =
+          IsBusy s (log (x ∷ older)) own_lease seen → Calm s first (x ∷ older) → RightSo (x ∷ older) (rest (with_busy (with_claim_begun t) own_lease seen)) m
+      goes-past x older seen b begun none busy is calm =
           goes (with_busy (with_claim_begun t) own_lease seen) (x ∷ older)
           (extended s geometry first holds known count work M M' (e + 1) (x ∷ older) (with_busy (with_claim_begun t) own_lease seen) e
           (after-claim (x ∷ older) t.claimed (first_busy t.busy own_lease seen) b begun (subst IsRest (sym none) tt) (busy-end t.busy x older seen busy is) (λ none'. absurd (busy-some t.busy own_lease seen none'))
           (λ one there. claimed-still (x ∷ older) one b (r.claimed one there)) (λ until claim is_in until_is. absurd (nothing-used until _ none until_is)) (λ one there. there))
-          split (λ few'. ((found, b.older (read_of (map_at s.geometry e) found) (inl refl)), λ none'. absurd (busy-some t.busy own_lease seen none'))))
+          split (λ few'. ((found, b.older (read_of (map_at s.geometry e) found) (inl refl)), λ none'. absurd (busy-some t.busy own_lease seen none')))) calm
 
       -- ---- the reread
 
@@ -397,16 +398,21 @@ module _ (s : Setting) (geometry : IsGeometry s.geometry) (small : s.boot < 2 ^ 
                 RightSo (d5 sample bytes last again) (followed_by (reread_by same (uses sample) (own sample) found') next) (suc (suc m))
             after-again again true is found' reads =
                 right-here s geometry first holds known count work M M' (e + 1) e (sample + term) m (own sample) rest (with_claimed (with_claim_begun t) (extent_use s.geometry e (sample + term)))
-                (d5 sample bytes last again) below new split needed (taken5 again is) (held5 again true is) goes
+                (d5 sample bytes last again) below new split needed (taken5 again is)
+                (lease-goes-on s first (d4 sample bytes last) own_lease again lease-within (λ none. (
+                let spells = ap read_lease ((bytes_eq-Decides again (lease_bytes (own_record (own sample)))).0 is)
+                ∙ own-back s small first.before (after_work first d0) r.has own_lease t.known.claims small-number sample early-sample again in
+                let q = sym spells ∙ none in let P : ⊥ = cc in P))) (held5 again true is) goes
             after-again again false is (Some other) reads =
                 let part = rest (with_busy (with_claim_begun t) own_lease other) in
                 let done = d5 sample bytes last again in
                 more s geometry first holds known count work (suc m) part done (more s geometry first holds known count work m part done
                 (goes-past (read_of_lease own_lease (answer.Bytes again)) (d4 sample bytes last) other (b5 sample bytes last again) (begun5 again) (held5 again false is) busy4
                 (taken (own sample) (sample + term) again (after_work first (d4 sample bytes last)) refl waited reads
-                (λ same. bytes-other again (lease_bytes (own_record (own sample))) is ((lease-only again other reads).1 ∙ ap lease_bytes same)))))
+                (λ same. bytes-other again (lease_bytes (own_record (own sample))) is ((lease-only again other reads).1 ∙ ap lease_bytes same)))
+                (lease-goes-on s first (d4 sample bytes last) own_lease again lease-within (λ none. (let q = sym reads ∙ none in let P : ⊥ = cc in P)))))
             after-again again false is None reads = (
-              work.may (d5 sample bytes last again) _ _ ((b5 sample bytes last again).went r.went, tt) tt,
+              work.may (d5 sample bytes last again) _ _ ((b5 sample bytes last again).went r.went, tt) tt (λ outside. refl),
               λ later small'. by-uses (λ part. RightSo (clock later ∷ d5 sample bytes last again) part (suc m)) next (uses sample) later (Ends ClaimDamaged)
                   (λ due reached. lost-counted (clock later ∷ d5 sample bytes last again) later (uses sample) due (suc m) (b6 again later) (begun6 again later) (of_clock (d5 sample bytes last again, refl))
                   (λ e'. unfound-none s.geometry (lease.Extent (record { 0 = e' })) due.until later (clock later) (after_work first (d5 sample bytes last again))
@@ -446,7 +452,10 @@ module _ (s : Setting) (geometry : IsGeometry s.geometry) (small : s.boot < 2 ^ 
               (λ due reached. lost-counted (d4 sample bytes last) last (uses sample) due (suc (suc (suc m))) (b4 sample bytes last) begun4 (of_wait (sample + wait) (d3 sample bytes, refl))
               (λ e'. written-none s.geometry (lease.Extent (record { 0 = e' })) due.until last (claim_wait sample last) (after_work first (d3 sample bytes)) refl) sound4 complete4 reached)
               (λ none. (
-                work.may (d4 sample bytes last) _ _ ((b4 sample bytes last).went r.went, tt) (e, below, inr refl),
+                work.may (d4 sample bytes last) _ _ ((b4 sample bytes last).went r.went, tt) (e, below, inr refl) (
+                  λ e' until used. (subst (TellsFirstDue (uses sample) last) none (first-tells (uses sample) last)) (extent_use s.geometry e' until) (complete4 e' until used),
+                  nothing-outside s (d3 sample bytes) refl,
+                ),
                 λ again long. after-again ((subst (TellsFirstDue (uses sample) last) none (first-tells (uses sample) last)) (own_use own_lease (own sample)) (inl refl)) again
                     (bytes_eq again (lease_bytes (own_record (own sample)))) refl (read_lease again) refl,
                 unreadable (d4 sample bytes last) (suc (suc m)) (b4 sample bytes last)
@@ -482,7 +491,7 @@ module _ (s : Setting) (geometry : IsGeometry s.geometry) (small : s.boot < 2 ^ 
       after-seen : (sample : ℕ) (bytes : List ℕ) → sample < 2 ^ 48 → (found' : Option LeaseRecord) → read_lease bytes ≡ found' →
           RightSo (d2 sample bytes) (followed_by (seen_part t.claimed own_lease (own sample) found') next) (suc (suc (suc (suc (suc m)))))
       after-seen sample bytes early None sees = (
-        work.may (d2 sample bytes) _ _ ((b2 sample bytes).went r.went, tt) tt,
+        work.may (d2 sample bytes) _ _ ((b2 sample bytes).went r.went, tt) tt (λ outside. refl),
         λ later small'.
             let done = clock later ∷ d2 sample bytes in
             let b = beside-next (d2 sample bytes) (clock later) tt (b2 sample bytes) in
@@ -505,7 +514,8 @@ module _ (s : Setting) (geometry : IsGeometry s.geometry) (small : s.boot < 2 ^ 
               up (suc (suc (suc (suc m)))) (up (suc (suc (suc m))) (up (suc (suc m)) (up (suc m) (up m
               (goes-past (read_of_lease own_lease (answer.Bytes bytes)) (d1 sample) seen (b2 sample bytes) (begun2 sample (answer.Bytes bytes))
               (shown2 sample bytes ∙ (ap (λ f. seen_by f sample) sees ∙ ap (λ b. if b then Seen sample else Nothing) is)) (busy1 sample)
-              (unexpired sample bytes (after_work first d0) refl sees is))))))
+              (unexpired sample bytes (after_work first d0) refl sees is)
+              (lease-goes-on s first (d1 sample) own_lease bytes lease-within (λ none. (let q = sym sees ∙ none in let P : ⊥ = cc in P))))))))
           by-expired true is =
               let block = lease_at own_lease in
               let n = suc (suc (suc (suc m))) in (
@@ -514,10 +524,10 @@ module _ (s : Setting) (geometry : IsGeometry s.geometry) (small : s.boot < 2 ^ 
                   claim_of_lease own_lease (own sample) seen bytes (after_work first d0) lease-within refl
                       (ap is_held (shown2 sample bytes ∙ (ap (λ f. seen_by f sample) sees ∙ ap (λ b. if b then Seen sample else Nothing) is)))
                       refl sees is refl r.claims refl (lease-rest (own_record (own sample)) ∙ sym (ap (drop 512) (lease-only bytes seen sees).1 ∙ lease-rest seen)) refl,
-                ) (e, below, inr refl),
+                ) (e, below, inr refl) (lease-goes-on s first (d1 sample) own_lease bytes lease-within (λ none. (let q = sym sees ∙ none in let P : ⊥ = cc in P)) _),
                 (
                   work.may (d3 sample bytes) _ _
-                      ((b3 sample bytes).went r.went, record { lease = own_lease; claim = own sample; until = sample + term; wrote = held3 sample early bytes seen sees is; after = refl }) tt,
+                      ((b3 sample bytes).went r.went, record { lease = own_lease; claim = own sample; until = sample + term; wrote = held3 sample early bytes seen sees is; after = refl }) tt tt,
                   λ last past small'. after-wait sample early bytes seen sees is last past,
                 ),
                 write-failed s geometry first holds known count work (d2 sample bytes) kind.Claim (record { 0 = block }) (sample + window) (lease_bytes (own_record (own sample))) (t.known.claims + 1) n
@@ -543,7 +553,7 @@ module _ (s : Setting) (geometry : IsGeometry s.geometry) (small : s.boot < 2 ^ 
       -- the lease is claimed
       pub right-claim : RightSo d0 (followed_by (claim_part s.boot t.claimed own_lease t.known.claims) next) (suc (suc (suc (suc (suc (suc (suc m)))))))
       right-claim = (
-        work.may d0 _ _ (r.went, tt) tt,
+        work.may d0 _ _ (r.went, tt) tt (map-goes-on s first d e found (λ none. (let q = sym is_map ∙ none in let P : ⊥ = cc in P)) _),
         λ sample early. by-uses (λ part. RightSo (d1 sample) part (suc (suc (suc (suc (suc (suc m))))))) next t.claimed sample _
             (λ due reached. lost-reading s geometry first holds known count work (d1 sample) sample (with_claim t.known) t.claimed due (suc (suc (suc (suc (suc (suc m)))))) (of_clock (d0, refl))
             (λ e'. (
@@ -554,7 +564,10 @@ module _ (s : Setting) (geometry : IsGeometry s.geometry) (small : s.boot < 2 ^ 
             omega (arith, one, b)))
             (λ one is. others-use (d1 sample) (b1 sample) one is) (complete1 sample) reached)
             (λ none. (
-              work.may (d1 sample) _ _ ((b1 sample).went r.went, tt) (e, below, inr refl),
+              work.may (d1 sample) _ _ ((b1 sample).went r.went, tt) (e, below, inr refl) (
+                λ e' until used. (subst (TellsFirstDue t.claimed sample) none (first-tells t.claimed sample)) (extent_use s.geometry e' until) (complete1 sample e' until used),
+                map-in-format s d e found (λ bad. (let q = sym is_map ∙ bad in let P : ⊥ = cc in P)),
+              ),
               λ bytes long. after-seen sample bytes early (read_lease bytes) refl,
               unreadable (d1 sample) (suc (suc (suc (suc (suc m))))) (b1 sample) (begun2 sample answer.Fault),
             )),

@@ -43,6 +43,7 @@ use Rattle.law_run.proofs.Reached.{IsUse}
 use Rattle.law_run.proofs.Right.{clock, read_of}
 use Rattle.law_run.proofs.Runs.{HasFirst}
 use Rattle.law_run.proofs.TakeClaims.{right-claim}
+use Rattle.law_run.proofs.TakeFollows.{Calm, map-goes-on}
 use Rattle.law_run.proofs.Taking.{WorkRules, BusyIs, HasTaken, with-maps, with-tried, map-taken, clock-taken, Keeping, known-by-log, refuses-taken, claimed-use, MeetsTaking, more, right-here, right-damaged, read-failed, extended}
 use Rattle.plx_base.proofs.Tests.{clash, lt-cases}
 
@@ -167,9 +168,9 @@ module _ (s : Setting) (geometry : IsGeometry s.geometry) (small : s.boot < 2 ^ 
   enough-maps : (M M' : ℕ → Type 0) (tried : ℕ) (done : List Exchange) (t : Taking) → TakenSo M tried done t → count ≤ length t.hand → TakenSo M' tried done t
   enough-maps M M' tried done t r enough = with-maps s geometry first holds known count work M M' tried done t r (λ few e m. absurd (omega (arith, few, enough)))
 
-  one-held : (e n : ℕ) (rest : Taking → Part End) → e < s.geometry.extents → GoesSo (HeldBefore (e + 1)) 0 rest n → (t : Taking) (done : List Exchange) → TakenSo (HeldBefore e) 0 done t → length t.hand < count →
+  one-held : (e n : ℕ) (rest : Taking → Part End) → e < s.geometry.extents → GoesSo (HeldBefore (e + 1)) 0 rest n → (t : Taking) (done : List Exchange) → TakenSo (HeldBefore e) 0 done t → Calm s first done → length t.hand < count →
       RightSo done (take_if_held s count e (first_hold e) rest t) (held_need (first_hold e) n)
-  one-held e n rest below goes t done r few = by-hold (first_hold e) refl
+  one-held e n rest below goes t done r calm few = by-hold (first_hold e) refl
     where
       split : (other : ℕ) → HeldBefore (e + 1) other → HeldBefore e other ⊎ (other ≡ e)
       split other m = elim (leb_tells (suc other) e) [ inl less ↦ inl (less.1, m.1) | inr least ↦ inr (omega (arith, m.0, least.1)) ]
@@ -179,11 +180,11 @@ module _ (s : Setting) (geometry : IsGeometry s.geometry) (small : s.boot < 2 ^ 
           goes t done (with-maps s geometry first holds known count work (HeldBefore e) (HeldBefore (e + 1)) 0 done t r (λ few' other m. elim (split other m) [
             | inl old ↦ r.maps few' other old
             | inr same ↦ absurd (clash (is_held (first_hold e)) (subst (λ k. is_held (first_hold k) ≡ true) same m.1) none)
-          ]))
+          ])) calm
 
       by-hold : (hold : Hold) → first_hold e ≡ hold → RightSo done (take_if_held s count e hold rest t) (held_need hold n)
       by-hold (Held claim until) is =
-          right-here s geometry first holds known count work (HeldBefore e) (HeldBefore (e + 1)) 0 e until n claim rest t done below (λ m. omega (arith, m.0)) split few r
+          right-here s geometry first holds known count work (HeldBefore e) (HeldBefore (e + 1)) 0 e until n claim rest t done below (λ m. omega (arith, m.0)) split few r calm
           (r.later e (omega arith) below ∙ is) goes
       by-hold Nothing is = unheld (ap is_held is)
       by-hold (Seen sample) is = unheld (ap is_held is)
@@ -192,19 +193,19 @@ module _ (s : Setting) (geometry : IsGeometry s.geometry) (small : s.boot < 2 ^ 
 
   holds-pass : (left e m : ℕ) (rest : Taking → Part End) → left + e ≡ s.geometry.extents → GoesSo (HeldBefore s.geometry.extents) 0 rest m →
       GoesSo (HeldBefore e) 0 (take_held s count holds left e rest) (held_asks s.geometry holds left e m)
-  holds-pass zero e m rest all goes t done r = goes t done (subst (λ n. TakenSo (HeldBefore n) 0 done t) (let same : e ≡ s.geometry.extents = omega arith in same) r)
-  holds-pass (suc left) e m rest all goes t done r =
+  holds-pass zero e m rest all goes t done r calm = goes t done (subst (λ n. TakenSo (HeldBefore n) 0 done t) (let same : e ≡ s.geometry.extents = omega arith in same) r) calm
+  holds-pass (suc left) e m rest all goes t done r calm =
       let next = holds-pass left (e + 1) m rest (omega arith) goes in
       elim (leb_tells count (length t.hand)) [
-        | inl enough ↦ rw enough.0 (lift-held (first_hold e) _ _ done (next t done (enough-maps (HeldBefore e) (HeldBefore (e + 1)) 0 done t r enough.1)))
-        | inr few ↦ rw few.0 (one-held e (held_asks s.geometry holds left (e + 1) m) (take_held s count holds left (e + 1) rest) (omega arith) next t done r (omega (arith, few.1)))
+        | inl enough ↦ rw enough.0 (lift-held (first_hold e) _ _ done (next t done (enough-maps (HeldBefore e) (HeldBefore (e + 1)) 0 done t r enough.1) calm))
+        | inr few ↦ rw few.0 (one-held e (held_asks s.geometry holds left (e + 1) m) (take_held s count holds left (e + 1) rest) (omega arith) next t done r calm (omega (arith, few.1)))
       ]
 
   -- ---- the others
 
-  one-other : (e n : ℕ) (rest : Taking → Part End) → e < s.geometry.extents → GoesSo (PassedBefore (e + 1)) (e + 1) rest n → (t : Taking) (done : List Exchange) → TakenSo (PassedBefore e) e done t →
+  one-other : (e n : ℕ) (rest : Taking → Part End) → e < s.geometry.extents → GoesSo (PassedBefore (e + 1)) (e + 1) rest n → (t : Taking) (done : List Exchange) → TakenSo (PassedBefore e) e done t → Calm s first done →
       length t.hand < count → RightSo done (take_if_other s count e (first_hold e) rest t) (other_need (first_hold e) n)
-  one-other e n rest below goes t done r few = by-hold (first_hold e) refl
+  one-other e n rest below goes t done r calm few = by-hold (first_hold e) refl
     where
       place : ℕ
       place = map_at s.geometry e
@@ -249,7 +250,7 @@ module _ (s : Setting) (geometry : IsGeometry s.geometry) (small : s.boot < 2 ^ 
           (extended s geometry first holds known count work (PassedBefore e) (PassedBefore (e + 1)) e done1 t e r1 split (λ few'. (
             (bytes, inl refl),
             λ unbusy. (bytes, with-block-same (given_after_exchanges done nothing_given) place bytes, ap (free_from t.hand place) (sym (map-bits s.geometry.extent_blocks bytes bits is)) ∙ none),
-          )))))
+          )))) (map-goes-on s first done e bytes (λ none'. (let q = sym is ∙ none' in let P : ⊥ = cc in P))))
 
       by-map : (bytes : List ℕ) (found : Option (List Bool)) → read_map s.geometry.extent_blocks bytes ≡ found → first_hold e ≡ Nothing → ¬ PassedBefore e e →
           RightSo (read_of place bytes ∷ done) (other_found s count e found rest t) (suc (suc (suc (suc (suc (suc (suc n)))))))
@@ -272,9 +273,9 @@ module _ (s : Setting) (geometry : IsGeometry s.geometry) (small : s.boot < 2 ^ 
           (with-maps s geometry first holds known count work (PassedBefore e) (PassedBefore (e + 1)) e done t r (λ few' other m. elim (split other m) [
             | inl old ↦ r.maps few' other old
             | inr same ↦ r.maps few' other (inl (omega (arith, same, below), ap (λ k. is_held (first_hold k)) same ∙ ap is_held is))
-          ])))
+          ]))) calm
       by-hold Nothing is = (
-        work.may done _ _ (r.went, tt) (e, below, inl refl),
+        work.may done _ _ (r.went, tt) (e, below, inl refl) (calm _),
         λ bytes long. by-map bytes (read_map s.geometry.extent_blocks bytes) refl is (new is),
         read-failed s geometry first holds known count work (PassedBefore e) e done t e (suc (suc (suc (suc (suc (suc (suc n))))))) r,
       )
@@ -288,13 +289,13 @@ module _ (s : Setting) (geometry : IsGeometry s.geometry) (small : s.boot < 2 ^ 
 
   others-pass : (left e m : ℕ) (rest : Taking → Part End) → left + e ≡ s.geometry.extents → GoesSo (PassedBefore s.geometry.extents) s.geometry.extents rest m →
       GoesSo (PassedBefore e) e (take_others s count holds left e rest) (other_asks s.geometry holds left e m)
-  others-pass zero e m rest all goes t done r = goes t done (subst (λ n. TakenSo (PassedBefore n) n done t) (let same : e ≡ s.geometry.extents = omega arith in same) r)
-  others-pass (suc left) e m rest all goes t done r =
+  others-pass zero e m rest all goes t done r calm = goes t done (subst (λ n. TakenSo (PassedBefore n) n done t) (let same : e ≡ s.geometry.extents = omega arith in same) r) calm
+  others-pass (suc left) e m rest all goes t done r calm =
       let next = others-pass left (e + 1) m rest (omega arith) goes in
       elim (leb_tells count (length t.hand)) [
         | inl enough ↦ rw enough.0 (lift-other (first_hold e) _ _ done (next t done
-            (with-tried s geometry first holds known count work (PassedBefore (e + 1)) e (e + 1) done t (omega arith) (enough-maps (PassedBefore e) (PassedBefore (e + 1)) e done t r enough.1))))
-        | inr few ↦ rw few.0 (one-other e (other_asks s.geometry holds left (e + 1) m) (take_others s count holds left (e + 1) rest) (omega arith) next t done r (omega (arith, few.1)))
+            (with-tried s geometry first holds known count work (PassedBefore (e + 1)) e (e + 1) done t (omega arith) (enough-maps (PassedBefore e) (PassedBefore (e + 1)) e done t r enough.1)) calm))
+        | inr few ↦ rw few.0 (one-other e (other_asks s.geometry holds left (e + 1) m) (take_others s count holds left (e + 1) rest) (omega arith) next t done r calm (omega (arith, few.1)))
       ]
 
   -- ---- the end
@@ -304,7 +305,7 @@ module _ (s : Setting) (geometry : IsGeometry s.geometry) (small : s.boot < 2 ^ 
   Follows rest n = (t : Taking) (own : List Exchange) → HasEnough s first (with_work first own) own known count t → RightSo own (rest t) n
 
   right-end : (rest : Taking → Part End) (n : ℕ) → Follows rest n → GoesSo (PassedBefore s.geometry.extents) s.geometry.extents (taken_part s count rest) n
-  right-end rest n follows t done r = elim (leb_tells count (length t.hand)) [
+  right-end rest n follows t done r calm = elim (leb_tells count (length t.hand)) [
     | inl enough ↦ rw enough.0 (follows t done (record {
       told = record {
         knows = known-by-log s geometry first holds known count work done t.known r.sessions r.claims;
@@ -370,12 +371,12 @@ module _ (s : Setting) (geometry : IsGeometry s.geometry) (small : s.boot < 2 ^ 
     take-meets rest n follows =
         meets-within work.May work.Shows (take_part s holds count rest (first_taking known hand)) first.exchanges (needed n) (take_bound s.geometry + n) (within-bound n)
         (holds-pass s.geometry.extents 0 (other_asks s.geometry holds s.geometry.extents 0 n) _ (omega arith)
-        (λ t done r. others-pass s.geometry.extents 0 n _ (omega arith) (right-end rest n follows) t done
+        (λ t done r calm. others-pass s.geometry.extents 0 n _ (omega arith) (right-end rest n follows) t done
         (with-maps s geometry first holds known count work (HeldBefore s.geometry.extents) (PassedBefore 0) 0 done t r (λ few e m. elim m [
           | inl held ↦ r.maps few e held
           | inr less ↦ absurd (omega (arith, less))
-        ])))
-        (first_taking known hand) [] begins-taken)
+        ])) calm)
+        (first_taking known hand) [] begins-taken (λ a. tt))
 
 -- the leases as they are held by a log
 abbrev pub holds_by_log : Setting → CommandLog → ℕ → Hold
@@ -408,7 +409,7 @@ take-work-meets s is log holds count follows known hand begins =
     (take-meets s is.geometry is.boot log holds known count (record {
       May = λ done a bytes. MayAsk s (with_exchanges log done) a bytes × IsOfExtents s.geometry a;
       Shows = λ done end. ShowsTake s log known count follows (with_exchanges log done) end;
-      may = λ own a bytes allowed place. (allowed, place);
+      may = λ own a bytes allowed place calm. (allowed, place);
       fails = λ own end why. (own, refl, takes.failed why);
     }) hand begins (λ t. Ends (follows t)) 0 (λ t own enough. (own, refl, takes.taken t enough)))
 

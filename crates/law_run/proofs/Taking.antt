@@ -58,6 +58,7 @@ use Rattle.law_run.proofs.Reached.{IsUse, NotAfter, IsFirstDue, TellsFirstDue, f
 use Rattle.law_run.proofs.Rests.{written-none, unfound-none}
 use Rattle.law_run.proofs.Right.{clock, read_of}
 use Rattle.law_run.proofs.Runs.{HasFirst, along-more}
+use Rattle.law_run.proofs.TakeFollows.{FollowsTake, Calm, map-goes-on}
 use Rattle.plx_rules.proofs.Maps.{length-with_set}
 
 -- the claim of a lease that is done
@@ -79,7 +80,7 @@ FullAt s done hand extent =
 pub record WorkRules (s : Setting) (first : CommandLog) (known : Known) (count : ℕ) : Type 1 where
   pub May : List Exchange → Ask → List ℕ → Type 0
   pub Shows : List Exchange → End → Type 0
-  pub may : (own : List Exchange) (a : Ask) (bytes : List ℕ) → MayAsk s (with_work first own) a bytes → IsOfExtents s.geometry a → May (after_work first own) a bytes
+  pub may : (own : List Exchange) (a : Ask) (bytes : List ℕ) → MayAsk s (with_work first own) a bytes → IsOfExtents s.geometry a → FollowsTake s first a own → May (after_work first own) a bytes
   pub fails : (own : List Exchange) (end : End) → FailsTake s first (with_work first own) own known count end → Shows (after_work first own) end
 
 module _ (s : Setting) (geometry : IsGeometry s.geometry) (first : CommandLog) (holds : ℕ → Hold) (known : Known) (count : ℕ) (work : WorkRules s first known count) where
@@ -378,7 +379,7 @@ module _ (s : Setting) (geometry : IsGeometry s.geometry) (first : CommandLog) (
 
   -- a take goes on rightly from there
   abbrev pub MeetsTaking : (M : ℕ → Type 0) → (tried : ℕ) → (Taking → Part End) → (n : ℕ) → Type 0
-  MeetsTaking M tried rest n = (t : Taking) (done : List Exchange) → HasTaken M tried done t → Keeping done (rest t) n
+  MeetsTaking M tried rest n = (t : Taking) (done : List Exchange) → HasTaken M tried done t → Calm s first done → Keeping done (rest t) n
 
   pub more : (n : ℕ) (part : Part End) (done : List Exchange) → Keeping done part n → Keeping done part (suc n)
   more n part done right = meets-more work.May work.Shows part (after_work first done) n right
@@ -410,7 +411,7 @@ module _ (s : Setting) (geometry : IsGeometry s.geometry) (first : CommandLog) (
       ((one : InUse) → IsUse one t.claimed → IsUse one uses) →
       ((last : ℕ) (claim : Claim) (until : ℕ) → hold_by_log s first.before (after_work first (clock last ∷ read_of (map_at s.geometry e) bytes ∷ d)) (extent_lease s.geometry e) ≡ Held claim until → IsUse (extent_use s.geometry e until) uses) →
       Keeping (read_of (map_at s.geometry e) bytes ∷ d) (damaged_part s t.known uses (map_at s.geometry e)) (suc n)
-  right-damaged M tried d t e n bytes uses r none sound wider own = (work.may (read_of (map_at s.geometry e) bytes ∷ d) _ _ (r.went, tt) tt, λ last small. go last (first_reached uses last) refl)
+  right-damaged M tried d t e n bytes uses r none sound wider own = (work.may (read_of (map_at s.geometry e) bytes ∷ d) _ _ (r.went, tt) tt (λ outside. refl), λ last small. go last (first_reached uses last) refl)
     where
       done : List Exchange
       done = read_of (map_at s.geometry e) bytes ∷ d
@@ -450,16 +451,19 @@ module _ (s : Setting) (geometry : IsGeometry s.geometry) (first : CommandLog) (
 
   -- blocks are taken of an extent whose lease is held
   pub right-here : (M M' : ℕ → Type 0) (tried e until m : ℕ) (claim : Claim) (rest : Taking → Part End) (t : Taking) (done : List Exchange) → e < s.geometry.extents → ¬ M e →
-      ((other : ℕ) → M' other → M other ⊎ (other ≡ e)) → length t.hand < count → HasTaken M tried done t → hold_by_log s first.before (after_work first done) (extent_lease s.geometry e) ≡ Held claim until → MeetsTaking M' tried rest m →
+      ((other : ℕ) → M' other → M other ⊎ (other ≡ e)) → length t.hand < count → HasTaken M tried done t → Calm s first done → hold_by_log s first.before (after_work first done) (extent_lease s.geometry e) ≡ Held claim until → MeetsTaking M' tried rest m →
       Keeping done (take_here s count e until rest t) (suc (suc m))
-  right-here M M' tried e until m claim rest t done below new split few r held goes = (
-    work.may done _ _ (r.went, tt) (e, below, inl refl),
+  right-here M M' tried e until m claim rest t done below new split few r calm held goes = (
+    work.may done _ _ (r.went, tt) (e, below, inl refl) (calm _),
     λ bytes long. by-map bytes (read_map s.geometry.extent_blocks bytes) refl,
     read-failed M tried done t e (suc m) r,
   )
     where
       place : ℕ
       place = map_at s.geometry e
+
+      calm-map : (bytes : List ℕ) (bits : List Bool) → read_map s.geometry.extent_blocks bytes ≡ Some bits → Calm s first (read_of place bytes ∷ done)
+      calm-map bytes bits is = map-goes-on s first done e bytes (λ none. (let q = sym is ∙ none in let P : ⊥ = cc in P))
 
       now : (bytes : List ℕ) → hold_by_log s first.before (after_work first (read_of place bytes ∷ done)) (extent_lease s.geometry e) ≡ Held claim until
       now bytes = hold-stays s first.before (after_work first done) (read_of place bytes) (extent_lease s.geometry e) claim until r.has tt held
@@ -472,7 +476,7 @@ module _ (s : Setting) (geometry : IsGeometry s.geometry) (first : CommandLog) (
           (extended M M' tried (read_of place bytes ∷ done) t e r1 split (λ few'. (
             (bytes, inl refl),
             λ unbusy. (bytes, with-block-same (given_after_exchanges done nothing_given) place bytes, ap (free_from t.hand place) (sym (map-bits s.geometry.extent_blocks bytes bits is)) ∙ take-none (count - length t.hand) (free_from t.hand place bits) (omega (arith, few)) same),
-          ))))
+          ))) (calm-map bytes bits is))
       by-blocks bytes bits is (block ∷ blocks) same =
           let r1 = map-taken M tried done t e bytes new r in
           let done1 = read_of place bytes ∷ done in
@@ -485,12 +489,12 @@ module _ (s : Setting) (geometry : IsGeometry s.geometry) (first : CommandLog) (
               r1.went,
               take_of_blocks e claim bytes bits (block ∷ blocks) below refl (now bytes) (after_work first done, refl) is
                   (λ b has. subst (λ (h : List ℕ). HasBlock (free_from h place bits) b) (sym r1.hand) (were-free M tried done t e until claim bytes bits (block ∷ blocks) k below new r1 is same (now bytes) b has)) refl,
-            ) (e, below, inl refl),
+            ) (e, below, inl refl) (calm-map bytes bits is _),
             goes (with_taken t (block ∷ blocks)) (x ∷ done1)
                 (extended M M' tried (x ∷ done1) (with_taken t (block ∷ blocks)) e (take-taken M tried done t e until claim bytes bits (block ∷ blocks) k below new r1 is same (now bytes)) split (λ few'. (
                   (bytes, inr (inl refl)),
                   λ unbusy. take-full M tried done t e until claim bytes bits (block ∷ blocks) k below new r1 is same (now bytes) refl few',
-                ))),
+                ))) (λ a. tt),
             write-failed done1 kind.Take (record { 0 = place }) until out t.known.claims m (sum (exchange (ask.Write kind.Take (record { 0 = place }) until) out answer.Fault) refl),
             λ late past small. write-missed done1 kind.Take (record { 0 = place }) out e until late t.known.claims m (of_need (e, below, refl, refl))
                 (sum (exchange (ask.Write kind.Take (record { 0 = place }) until) out (answer.Missed late)) refl),

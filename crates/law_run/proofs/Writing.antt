@@ -37,7 +37,7 @@ use Rattle.law_run.specs.KnownBytes.{given_with, given_after, known_from, known_
 use Rattle.law_run.specs.Refusals.{NamesBlock, of_read, of_write, of_block, no_image, out_of_range, writes, full}
 use Rattle.law_run.specs.Replies.{refused}
 use Rattle.law_run.proofs.Asking.{IsFine, asks-write, asks-confirm}
-use Rattle.law_run.proofs.Clear.{by-unless, Clear, known-here, clear}
+use Rattle.law_run.proofs.Clear.{by-unless, Clear, known-here, clear, ready-follows}
 use Rattle.law_run.proofs.Facts.{stored_by_session, limits, stores-session, next-free, write-count}
 use Rattle.law_run.proofs.Grown.{with-block-same, fits-data, fits-more}
 use Rattle.law_run.proofs.Holding.{Course, going-first, going-more}
@@ -46,7 +46,7 @@ use Rattle.law_run.proofs.Meets.{exchange}
 use Rattle.law_run.proofs.OnImage.{OnImage, names-own, names-other, still, on-image, Ready}
 use Rattle.law_run.proofs.Passed.{Passed, passed-at-most}
 use Rattle.law_run.proofs.Rests.{rests-by}
-use Rattle.law_run.proofs.Right.{clock, FitsSession, FitsAt, Rests, finish, log_on, Right}
+use Rattle.law_run.proofs.Right.{clock, FitsSession, FitsAt, Rests, finish, log_on, May, Right}
 use Rattle.law_run.proofs.Runs.{start, hand_start}
 use Rattle.law_run.proofs.Slots.{slot-below}
 use Rattle.law_run.proofs.Unwritten.{unwritten-quiet}
@@ -166,14 +166,21 @@ module _ (s : Setting) (some : 1 ≤ s.geometry.slots) (before : List Finished) 
       let next = with_session known slot.0 (Some (with_write session write)) in
       let end_part = ends_in_time s known (image_use slot.0 until) (reply.Written (write_count session + 1)) next in
       let commit_part = write_then s known (record { lease = lease; until = until }) kind.JCommit commit (descriptor_bytes d) end_part in
-      asks-write s before known command reading fine done0 lease until kind.JData block bytes commit_part 2 refl (let a = rests.claims in omega arith) (λ y e. rw e refl) held_lease
-      (slot.0, at, ready.fits.within, slot_below, refl, refl) going0.went
-      (data_of_write slot vblock payload (write_count session + 1) refl (claim, going0.held) (is-next done0 given known0 ready.fits live room) refl refl long)
-      (asks-write s before known command reading fine done1 lease until kind.JCommit commit (descriptor_bytes d) end_part 1 refl (let a = rests.claims in omega arith) (λ y e. rw e refl) held_lease
-      (slot.0, at, ready.fits.within, slot_below, refl, refl) going1.went
-      (commit_of_write slot vblock payload d refl (claim, going1.held) (is-next done1 given1 known1 fits1 live room) refl refl refl refl (inl refl)
-      (descriptor-back d ∙ sym (ap (λ (h : Given). drop 512 (last_known (h commit))) known1 ∙ fits1.whole at slot_below)))
-      (asks-confirm s before known command slot c on.named ready.fits.within fine (let a = rests.claims in omega arith) done2 (reply.Written (write_count session + 1)) next 0 going2
+      asks-write (May s before command) s before known command reading fine done0 lease until kind.JData block bytes commit_part 2 refl (let a = rests.claims in omega arith) (λ y e. rw e refl) held_lease
+      (slot.0, at, ready.fits.within, slot_below, refl, refl) (
+        (going0.went, data_of_write slot vblock payload (write_count session + 1) refl (claim, going0.held) (is-next done0 given known0 ready.fits live room) refl refl long),
+        ready-follows s before known command slot reading on rests session claim until ready fine ask.Clock,
+      )
+      (asks-write (May s before command) s before known command reading fine done1 lease until kind.JCommit commit (descriptor_bytes d) end_part 1 refl (let a = rests.claims in omega arith) (λ y e. rw e refl) held_lease
+      (slot.0, at, ready.fits.within, slot_below, refl, refl) (
+        (
+          going1.went,
+          commit_of_write slot vblock payload d refl (claim, going1.held) (is-next done1 given1 known1 fits1 live room) refl refl refl refl (inl refl)
+              (descriptor-back d ∙ sym (ap (λ (h : Given). drop 512 (last_known (h commit))) known1 ∙ fits1.whole at slot_below)),
+        ),
+        tt,
+      )
+      (asks-confirm s before known command slot c on.named ready.fits.within fine (let a = rests.claims in omega arith) done2 (reply.Written (write_count session + 1)) next 0 going2 tt
       (λ reading' early going confirmed.
       let done3 = clock reading' ∷ done2 in
       let known3 : known_in g (log_on before command done3) slot.0 ≡ given2 = rw (names-own command slot.0 on.named, ready.attached) refl in

@@ -10,6 +10,7 @@ pub mod Refusals
 pub mod Busy
 pub mod Space
 pub mod Replies
+pub mod Causes
 pub mod Completeness
 pub mod OneImage
 pub mod Rules

@@ -7,6 +7,7 @@ use Rattle.plx_rules.specs.Boot.{Happening, position, asks, writes_out, IsRun}
 use Rattle.plx_rules.specs.Settings.{Setting}
 use Rattle.law_run.specs.AllowedAsks.{MayAsk}
 use Rattle.law_run.specs.Bounds.{bound}
+use Rattle.law_run.specs.Causes.{MayFollow, AllFollow}
 use Rattle.law_run.specs.CommandLogs.{Exchange, Finished, CommandLog, Commands, Between, Within, commands, log_of}
 use Rattle.law_run.specs.Replies.{IsReplied}
 
@@ -19,6 +20,7 @@ AllAllowed s before command (exchange ∷ older) =
 -- a command that has its reply kept the rules
 pub record IsKept (s : Setting) (finished : Finished) (before : List Finished) : Type 0 where
   pub allowed : AllAllowed s before finished.command finished.exchanges
+  pub at_once : AllFollow s before finished.command finished.exchanges
   pub replied : IsReplied s (log_of finished before) finished.reply
   pub bounded : length finished.exchanges ≤ bound s before finished.command
 
@@ -27,11 +29,14 @@ abbrev pub AllKept : Setting → List Finished → Type 0
 AllKept s [] = Unit {0}
 AllKept s (finished ∷ before) = IsKept s finished before × AllKept s before
 
--- a command that runs keeps them: so do the commands before it, and the ask that stands is allowed and within the bound
+-- a command that runs keeps them: so do the commands before it; the ask that stands is allowed
+-- and within the bound, and nothing that was met ends the command
 pub record IsKeptSoFar (s : Setting) (log : CommandLog) (standing : Option Ask) (bytes : List ℕ) : Type 0 where
   pub older : AllKept s log.before
   pub allowed : AllAllowed s log.before log.command log.exchanges
+  pub at_once : AllFollow s log.before log.command log.exchanges
   pub stands : (ask : Ask) → standing ≡ Some ask → MayAsk s log ask bytes
+  pub follows : (ask : Ask) → standing ≡ Some ask → MayFollow s log ask
   pub bounded : (ask : Ask) → standing ≡ Some ask → length log.exchanges < bound s log.before log.command
 
 -- a boot log keeps the rules
