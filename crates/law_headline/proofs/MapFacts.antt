@@ -1,6 +1,5 @@
 -- Blocks that spell maps: they are read back, spell maps where bits are set or cleared, and no other kind of write is written there.
-use Rattle.std.proofs.Common.{◌≡◌, ℕ, ◌≤◌, List, [], ◌∷◌, replicate, Bool, true, false, Some, refl, ap, sym, ◌∙◌}
-use Rattle.std.specs.Prelude.{slice_get, ◌||◌}
+use Rattle.std.proofs.Common.{◌≡◌, ℕ, ◌≤◌, List, ◌∷◌, replicate, Bool, false, Some, refl, sym, ◌∙◌}
 use Rattle.plx_base.proofs.Spelling.{read-some}
 use Rattle.plx_base.specs.declared.write_kind.WriteKind.{WriteKind}
 use Rattle.plx_base.specs.declared.write_kind.WriteKind.TheVariants as kind
@@ -13,7 +12,7 @@ use Rattle.plx_geom.specs.Geometry.{Geometry, map_at}
 use Rattle.plx_rules.specs.Formatted.{empty_map}
 use Rattle.plx_rules.specs.Space.{is_own_set, read_map, with_set, with_clear}
 use Rattle.law_lease.proofs.Leased.{IsPlaced}
-use Rattle.plx_rules.proofs.Maps.{length-with_clear, length-with_set, own-set}
+use Rattle.plx_rules.proofs.Maps.{own-set, set-is-map, clear-is-map}
 
 -- ---- a block that spells a map
 
@@ -29,22 +28,14 @@ map-empty blocks some most = holds-map blocks (empty_bits blocks) (1 ∷ replica
 
 -- ---- bits of a map are set, or cleared
 
-own-stays-set : (blocks : List ℕ) (block : ℕ) (bits : List Bool) → slice_get bits 0 ≡ Some true → slice_get (with_set blocks block bits) 0 ≡ Some true
-own-stays-set blocks block [] e = e
-own-stays-set blocks block (own ∷ bits) e = let is : own ≡ true = cc in ap (λ (b : Bool). Some (b || is_in block blocks)) is
-
-own-stays-clear : (blocks : List ℕ) (block : ℕ) (bits : List Bool) → is_in block blocks ≡ false → slice_get bits 0 ≡ Some true → slice_get (with_clear blocks block bits) 0 ≡ Some true
-own-stays-clear blocks block [] out e = e
-own-stays-clear blocks block (own ∷ bits) out e = let is : own ≡ true = cc in rw (is, out) refl
-
 pub set-spelled : (size : ℕ) (blocks : List ℕ) (block : ℕ) (bits : List Bool) → size ≤ 32768 → IsMap size bits → HoldsMap size (map_bytes (with_set blocks block bits))
 set-spelled size blocks block bits most is =
-    holds-map size (with_set blocks block bits) (map_bytes (with_set blocks block bits)) most (record { long = length-with_set blocks block bits ∙ is.long; own = own-stays-set blocks block bits is.own }) refl
+    holds-map size (with_set blocks block bits) (map_bytes (with_set blocks block bits)) most (set-is-map size blocks block bits is) refl
 
 -- none but the map's own
 pub clear-spelled : (size : ℕ) (blocks : List ℕ) (block : ℕ) (bits : List Bool) → size ≤ 32768 → is_in block blocks ≡ false → IsMap size bits → HoldsMap size (map_bytes (with_clear blocks block bits))
 clear-spelled size blocks block bits most out is =
-    holds-map size (with_clear blocks block bits) (map_bytes (with_clear blocks block bits)) most (record { long = length-with_clear blocks block bits ∙ is.long; own = own-stays-clear blocks block bits out is.own }) refl
+    holds-map size (with_clear blocks block bits) (map_bytes (with_clear blocks block bits)) most (clear-is-map size blocks block bits out is) refl
 
 -- ---- writes of maps
 

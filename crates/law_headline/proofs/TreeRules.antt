@@ -129,7 +129,7 @@ module _ (w : World) (reached : Reached w) (content : KeepsContent w) (treed : T
         record { pool = free.pool; lease = its; off = free.off }
       where
         by_rule : (asks : WriteAsked (setting_of w a) p kind.Fresh block bytes guard) → MayWrite (setting_of w a) asks.of kind.Fresh block bytes guard → is_in block p.hand ≡ true
-        by_rule asks (fresh_of_block claim held in_hand) = subst (λ (x : List ℕ). is_in block x ≡ true) (sym asks.hand) in_hand
+        by_rule asks (fresh_of_block claim held in_hand long) = subst (λ (x : List ℕ). is_in block x ≡ true) (sym asks.hand) in_hand
 
     abbrev Meets : WriteKind → Type 0
     Meets k = MeetsTree (no_names (length w.surface.writes)) g w.surface.time d p (rests_on g command p.holds k block bytes) k block bytes

@@ -22,7 +22,7 @@ use Rattle.law_run.specs.ClaimEnds.{AreInUse, beside, with_own, missed, reached,
 use Rattle.law_run.specs.CommandLogs.{Exchange, CommandLog, IsIn, with_exchanges}
 use Rattle.law_run.specs.Machines.{IsOfBlock}
 use Rattle.law_run.specs.Replies.{of_clock, of_wait}
-use Rattle.law_run.proofs.ClaimSteps.{read_of_lease, after_sight, after_claiming, after_waiting, after_rereading, held-sight, held-claiming, held-waiting, held-rereading}
+use Rattle.law_run.proofs.ClaimSteps.{read_of_lease, after_sight, after_claiming, after_waiting, after_rereading, held-sight, held-claiming, held-waiting, held-rereading, own-limits}
 use Rattle.law_run.proofs.Machines.{MeetsWork, meets-keeps}
 use Rattle.law_run.proofs.Right.{clock}
 use Rattle.law_run.proofs.Runs.{HasFirst}
@@ -87,7 +87,8 @@ module _ (s : Setting) (boot_small : s.boot < 2 ^ 128) (log : CommandLog) (other
             (
               (
                 (tt, (tt, may.went)),
-                claim_of_lease lease own seen bytes log.exchanges may.within refl (ap is_held held) refl sees is refl may.counted refl
+                claim_of_lease lease own seen bytes log.exchanges may.within refl (ap is_held held) refl sees is refl may.counted
+                    (own-limits s boot_small log.before log.exchanges has lease number may.few sample small bytes) refl
                     (lease-rest (own_record own) ∙ sym (ap (drop 512) (lease-only bytes seen sees).1 ∙ lease-rest seen)) refl,
               ),
               refl,

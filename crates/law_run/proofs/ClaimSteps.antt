@@ -77,7 +77,8 @@ counts-rereading g first boot lease number sample bytes reading x has within =
 
 module _ (s : Setting) (boot_small : s.boot < 2 ^ 128) (before : List Finished) (first : List Exchange) (has : HasFirst first) (lease number : ℕ) (few : number < 2 ^ 40)
     (sample : ℕ) (small : sample < 2 ^ 48) (bytes : List ℕ) where
-  own-limits : IsClaimed (claim_of s.boot number sample) (sample + term)
+  -- the claim is within its limits
+  pub own-limits : IsClaimed (claim_of s.boot number sample) (sample + term)
   own-limits = record { boot = boot_small; number = few; sample = small; low = omega arith; high = omega (arith, small) }
 
   -- the claim's own record is read back

@@ -64,7 +64,7 @@ use Rattle.law_run.proofs.Spelled.{lease-rest}
 use Rattle.law_run.proofs.Taking.{claim_done}
 use Rattle.plx_base.proofs.Tests.{clash}
 use Rattle.law_run.proofs.ClaimRules.{bytes-other}
-use Rattle.law_run.proofs.ClaimSteps.{read_of_lease, claim_write, claim_wait, after_sight, after_claiming, after_waiting, after_rereading, counts-sight, counts-claiming, counts-waiting, counts-rereading, own-back, held-sight, held-claiming, held-waiting, held-late, held-rereading}
+use Rattle.law_run.proofs.ClaimSteps.{read_of_lease, claim_write, claim_wait, after_sight, after_claiming, after_waiting, after_rereading, counts-sight, counts-claiming, counts-waiting, counts-rereading, own-limits, own-back, held-sight, held-claiming, held-waiting, held-late, held-rereading}
 
 -- ---- refusals of an attach
 
@@ -525,7 +525,8 @@ module _ (s : Setting) (boot_small : s.boot < 2 ^ 128) (before : List Finished) 
             (
               (
                 went2 sample bytes,
-                claim_of_lease (image_lease slot.0) own' seen bytes d0 lease-within refl (ap is_held (seen2 sample small bytes seen sees is)) refl sees is refl (let c = rests.claims in omega arith) refl
+                claim_of_lease (image_lease slot.0) own' seen bytes d0 lease-within refl (ap is_held (seen2 sample small bytes seen sees is)) refl sees is refl (let c = rests.claims in omega arith)
+                    (own-limits s boot_small before d0 tt (image_lease slot.0) known.claims few-claims sample small bytes) refl
                     (lease-rest (own_record own') ∙ sym (ap (drop 512) (lease-only bytes seen sees).1 ∙ lease-rest seen)) refl,
               ),
               follows2 sample bytes seen sees is _,

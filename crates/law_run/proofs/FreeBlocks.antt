@@ -1,10 +1,13 @@
 -- The free blocks of a map, and what a take makes of it.
-use Rattle.std.proofs.Common.{◌≡◌, ℕ, zero, suc, ◌+◌, ◌≤◌, ◌<◌, List, [], ◌∷◌, length, take, Bool, true, false, Some, None, refl, ap, sym, subst, ◌∙◌, arith, inl, inr, ◌⊎◌}
+use Rattle.std.proofs.Common.{◌≡◌, ℕ, zero, suc, ◌+◌, ◌≤◌, ◌<◌, List, [], ◌∷◌, length, take, Bool, true, false, Some, None, refl, ap, sym, subst, ◌∙◌, arith, inl, inr, ◌⊎◌, get_or, slice_get}
 use Rattle.std.specs.Prelude.{if◌then◌else◌, not, ◌&&◌, ◌||◌, ◌==◌}
 use Rattle.std.specs.Str.{bytes_eq}
+use Rattle.plx_base.proofs.Spelling.{read-only}
 use Rattle.plx_base.proofs.Tests.{eqb-false}
 use Rattle.plx_commands.specs.Replies.{is_in}
-use Rattle.plx_extent.specs.Maps.{bits_of, map_bytes}
+use Rattle.plx_extent.proofs.Maps.{length-bits_from}
+use Rattle.plx_extent.specs.Maps.{IsMap, bits_of, map_bytes}
+use Rattle.plx_rules.proofs.Maps.{set-own}
 use Rattle.plx_rules.specs.Hands.{set_since}
 use Rattle.plx_rules.specs.Space.{is_own_set, read_map, free_from, with_set}
 use Rattle.law_run.proofs.Hands.{HasBlock, has-head, has-tail, has-parts}
@@ -144,3 +147,38 @@ map-bits blocks bytes bits is = by-test (is_own_set (bits_of blocks bytes) && by
     by-test : (test : Bool) → (if test then Some (bits_of blocks bytes) else None) ≡ Some bits → bits ≡ bits_of blocks bytes
     by-test true is' = cc
     by-test false is' = absurd (let P : ⊥ = cc in P)
+
+-- and they are a map
+pub map-is : (blocks : ℕ) (bytes : List ℕ) (bits : List Bool) → read_map blocks bytes ≡ Some bits → IsMap blocks bits
+unfolding read_map
+map-is blocks bytes bits is =
+    let x = read-only is_own_set map_bytes (bits_of blocks bytes) bits bytes is in
+    record { long = ap (λ (b : List Bool). length b) (sym x.2) ∙ length-bits_from blocks 0 bytes; own = set-own bits x.0 }
+
+-- the bit of its own block is set
+pub own-read : (blocks : ℕ) (bytes : List ℕ) (bits : List Bool) → read_map blocks bytes ≡ Some bits → get_or (bits_of blocks bytes) 0 false ≡ true
+own-read blocks bytes bits is =
+    subst (λ (b : List Bool). get_or b 0 false ≡ true) (map-bits blocks bytes bits is) (first-is bits (map-is blocks bytes bits is).own)
+  where
+    first-is : (b : List Bool) → slice_get b 0 ≡ Some true → get_or b 0 false ≡ true
+    first-is [] e = absurd (let P : ⊥ = cc in P)
+    first-is (bit ∷ b) e = cc
+
+-- a block whose bit became set had it clear
+pub since-clear : (block from : ℕ) (old new : List Bool) → HasBlock (set_since from old new) block → (i : ℕ) × (block ≡ from + i) × (i < length old) × (get_or old i false ≡ false)
+since-clear block from [] new is = absurd (let P : ⊥ = cc in P)
+since-clear block from (was ∷ old) [] is = absurd (let P : ⊥ = cc in P)
+since-clear block from (was ∷ old) (now ∷ new) is = by-bits was now (since-clear block (from + 1) old new) is
+  where
+    later : ((i : ℕ) × (block ≡ from + 1 + i) × (i < length old) × (get_or old i false ≡ false)) → (x : Bool) → (i : ℕ) × (block ≡ from + i) × (i < length (x ∷ old)) × (get_or (x ∷ old) i false ≡ false)
+    later found x = (suc found.0, omega (arith, found.1), omega (arith, found.2), found.3)
+
+    by-bits : (a b : Bool) → (HasBlock (set_since (from + 1) old new) block → (i : ℕ) × (block ≡ from + 1 + i) × (i < length old) × (get_or old i false ≡ false)) →
+        HasBlock (if b && not a then from ∷ set_since (from + 1) old new else set_since (from + 1) old new) block → (i : ℕ) × (block ≡ from + i) × (i < length (a ∷ old)) × (get_or (a ∷ old) i false ≡ false)
+    by-bits false true rest is' = elim (has-parts block from (set_since (from + 1) old new) is') [
+      | inl first ↦ (0, omega (arith, first), omega arith, refl)
+      | inr more ↦ later (rest more) false
+    ]
+    by-bits true true rest is' = later (rest is') true
+    by-bits false false rest is' = later (rest is') false
+    by-bits true false rest is' = later (rest is') true

@@ -1,5 +1,5 @@
 -- All blocks in hand of an extent, and all extents, are given up, after any exchanges of a command.
-use Rattle.std.proofs.Common.{◌≡◌, ℕ, zero, suc, ◌+◌, ◌*◌, ◌≤◌, ◌<◌, List, [], ◌∷◌, ◌++◌, false, None, refl, ap, sym, subst, ◌∙◌, arith, inl, inr, ◌⊎◌}
+use Rattle.std.proofs.Common.{◌≡◌, ℕ, zero, suc, ◌+◌, ◌*◌, ◌≤◌, ◌<◌, List, [], ◌∷◌, ◌++◌, false, None, refl, ap, sym, subst, ◌∙◌, arith, inl, inr, ◌⊎◌, ◌≢◌}
 use Rattle.std.specs.Prelude.{◌==◌}
 use Rattle.std.proofs.lemmas.Bool.Decides.{leb_tells}
 use Rattle.plx_base.specs.declared.lease.Claim.{Claim}
@@ -70,6 +70,7 @@ module _ (s : Setting) (before : List Finished) (from : List Exchange) (spares :
   Work P K own = Retiring s before from spares P K own
 
   module _ (high : s.geometry.extent_blocks ≤ 32768) (command : Command) (known : Known) (May : List Exchange → Ask → List ℕ → Type 0) (Shows : List Exchange → End → Type 0)
+      (pool : (b : ℕ) → HasBlock (hand_by_log s before from) b → (extent : ℕ) → b ≢ map_at s.geometry extent)
       (allowed : (done : List Exchange) (a : Ask) (bytes : List ℕ) → MayAsk s (log_on before command done) a bytes → IsOfOneMap s.geometry a → May done a bytes)
       (endings : Endings s before from spares known Shows) where
     abbrev MeetsGivingUp : (own : List Exchange) → Part End → ℕ → Type 0
@@ -93,6 +94,7 @@ module _ (s : Setting) (before : List Finished) (from : List Exchange) (spares :
           held = held;
           fresh = λ b has. r.hand b (mine b has).0 (λ k. (let same = (mine b has).1 in omega (arith, k, same))) (λ p. left (subst (λ e. P (extent_lease s.geometry e)) (mine b has).1 p));
           own = λ b has. (mine b has).1;
+          pool = λ b has. pool b (mine b has).0 extent;
           has = r.along.has;
           went = r.along.went;
         })

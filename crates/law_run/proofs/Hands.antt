@@ -259,7 +259,7 @@ IsWithinExtents g hand = (b : ℕ) → HasBlock hand b → extent_of g b < g.ext
 
 take-within : (s : Setting) (log : CommandLog) (block : ℕ) (bytes : List ℕ) (guard : ℕ) (found : Option (ℕ × List ℕ)) (hand : List ℕ) → MayWrite s log kind.Take block bytes guard →
     IsWithinExtents s.geometry hand → IsWithinExtents s.geometry (hand_from s.geometry found kind.Take block bytes hand)
-take-within s log block bytes guard found hand (take_of_blocks extent claim read bits blocks below here held was spells free wrote) within b has =
+take-within s log block bytes guard found hand (take_of_blocks extent claim read bits blocks below here held was spells free limits wrote) within b has =
     elim (take-adds s.geometry found extent bytes hand b (subst (λ c. HasBlock (hand_from s.geometry found kind.Take c bytes hand) b) here has)) [
       | inl old ↦ within b old
       | inr new ↦ omega (arith, below, new)

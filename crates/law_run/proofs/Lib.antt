@@ -32,6 +32,7 @@ pub mod OnExtent
 pub mod Following
 pub mod RetireFollows
 pub mod FreeBlocks
+pub mod HandMaps
 pub mod OnHand
 pub mod OneGive
 pub mod GivingUp

@@ -208,7 +208,7 @@ right-create s before known slot size label reading rests labelled session claim
     } in
     right-record s before known command slot reading on rests session claim until ready refl
     (place 11 (λ lt. free) (λ lt. good) (λ lt. below)) made is refl reply.Created (λ other b. refl) (λ h. refl)
-    (record_of_create slot size label generation refl (claim, ready.now) refl (found1 ∙ ap Some (free-is session.image free)) refl
+    (record_of_create slot size label generation refl (claim, ready.now) refl (found1 ∙ ap Some (free-is session.image free)) is refl
     (first-sector s.geometry (known_in s.geometry log slot.0) slot.0 session.image made found1 (limits s.geometry (given_after s.geometry before slot.0) slot.0 session ready.fits) is))
     (λ reading' confirmed before' after. record {
       slot = slot;
@@ -279,7 +279,7 @@ right-delete s before known slot reading rests session claim until ready =
     let made_is : IsImage made = generation-below session.image is in
     right-record s before known command slot reading on rests session claim until ready refl
     (place 11 (λ lt. live)) made made_is refl reply.Deleted (λ other b. refl) (λ h. refl)
-    (record_of_delete slot session.image refl (claim, ready.now) refl found1 live refl
+    (record_of_delete slot session.image refl (claim, ready.now) refl found1 live made_is refl
     (first-sector s.geometry (known_in s.geometry log slot.0) slot.0 session.image made found1 is made_is))
     (λ reading' confirmed before' after. record {
       slot = slot;

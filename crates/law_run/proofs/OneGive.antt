@@ -1,14 +1,16 @@
 -- Blocks of one extent are given back, after any exchanges of a command.
-use Rattle.std.proofs.Common.{◌≡◌, ℕ, suc, ◌≤◌, ◌<◌, List, [], ◌∷◌, Bool, Option, Some, None, refl, ap, ◌∙◌, arith, inl, inr}
+use Rattle.std.proofs.Common.{◌≡◌, ℕ, suc, ◌≤◌, ◌<◌, List, [], ◌∷◌, Bool, Option, Some, None, refl, ap, ◌∙◌, arith, inl, inr, ◌≢◌}
 use Rattle.std.proofs.lemmas.Bool.Decides.{leb_tells}
 use Rattle.plx_base.specs.declared.lease.Claim.{Claim}
 use Rattle.plx_base.specs.declared.write_kind.WriteKind.TheVariants as kind
+use Rattle.plx_base.proofs.Tests.{not-true}
 use Rattle.plx_commands.specs.declared.command.Command.{Command}
 use Rattle.plx_commands.specs.declared.reply.Reply.TheVariants as reply
+use Rattle.plx_commands.specs.Replies.{is_in}
 use Rattle.plx_disk.specs.declared.ask.Ask.{Ask}
 use Rattle.plx_disk.specs.declared.ask.Ask.TheVariants as ask
 use Rattle.plx_disk.specs.declared.ask.Answer.TheVariants as answer
-use Rattle.plx_extent.specs.Maps.{map_bytes}
+use Rattle.plx_extent.specs.Maps.{map_bytes, IsMap}
 use Rattle.plx_geom.specs.Geometry.{extent_lease, map_at}
 use Rattle.plx_rules.specs.Ends.{End, read_then}
 use Rattle.plx_rules.specs.Hands.{is_held}
@@ -19,6 +21,7 @@ use Rattle.plx_rules.specs.Rests.{extent_of}
 use Rattle.plx_rules.specs.Session.{Known, nothing_known}
 use Rattle.plx_rules.specs.Settings.{Setting}
 use Rattle.plx_rules.specs.Space.{read_map, with_clear, give_found}
+use Rattle.plx_rules.proofs.Maps.{clear-is-map}
 use Rattle.law_run.specs.AllowedAsks.{WentOn, MayAsk, give_of_blocks}
 use Rattle.law_run.specs.CommandLogs.{Exchange, Finished}
 use Rattle.law_run.specs.Holdings.{hold_by_log, hand_by_log}
@@ -28,6 +31,7 @@ use Rattle.law_run.proofs.Holding.{hold-stays}
 use Rattle.law_run.proofs.Meets.{exchange, Meets}
 use Rattle.law_run.proofs.Right.{clock, read_of, log_on}
 use Rattle.law_run.proofs.Runs.{HasFirst}
+use Rattle.law_run.proofs.FreeBlocks.{map-is}
 
 -- the write of the map
 abbrev pub give_ask : Setting → (extent until : ℕ) → Ask
@@ -56,6 +60,7 @@ pub record CanGive (s : Setting) (before : List Finished) (done : List Exchange)
   pub held : hold_by_log s before done (extent_lease s.geometry extent) ≡ Held claim until
   pub fresh : (b : ℕ) → HasBlock blocks b → HasBlock (hand_by_log s before done) b
   pub own : (b : ℕ) → HasBlock blocks b → extent_of s.geometry b ≡ extent
+  pub pool : (b : ℕ) → HasBlock blocks b → b ≢ map_at s.geometry extent
   pub has : HasFirst done
   pub went : WentOn done
 
@@ -71,6 +76,12 @@ module _ (s : Setting) (before : List Finished) (command : Command) (known : Kno
   fresh-read read b among =
       hand-keeps s before (read_of (map_at s.geometry extent) read) done b can.has (can.fresh b among)
       (ap (λ e. is_held (hold_by_log s before (read_of (map_at s.geometry extent) read ∷ done) (extent_lease s.geometry e))) (can.own b among) ∙ ap is_held (held-read read))
+
+  -- the map without them is one
+  still-map : (read : List ℕ) (bits : List Bool) → read_map s.geometry.extent_blocks read ≡ Some bits → IsMap s.geometry.extent_blocks (with_clear blocks (map_at s.geometry extent) bits)
+  still-map read bits is =
+      clear-is-map s.geometry.extent_blocks blocks (map_at s.geometry extent) bits
+      (not-true (is_in (map_at s.geometry extent) blocks) (λ has. can.pool (map_at s.geometry extent) has refl)) (map-is s.geometry.extent_blocks read bits is)
 
   -- bytes that are no map end it after one more reading
   by-map : (rest : Part End) (n : ℕ) → ((read : List ℕ) (bits : List Bool) → read_map s.geometry.extent_blocks read ≡ Some bits →
@@ -89,7 +100,7 @@ module _ (s : Setting) (before : List Finished) (command : Command) (known : Kno
   by-map rest n next read (Some bits) is =
       let out = map_bytes (with_clear blocks (map_at s.geometry extent) bits) in (
         allowed (read_of (map_at s.geometry extent) read ∷ done) (give_ask s extent until) out
-            ((tt, can.went), give_of_blocks extent claim read bits blocks can.within refl (held-read read) (done, refl) is (fresh-read read) refl) refl,
+            ((tt, can.went), give_of_blocks extent claim read bits blocks can.within refl (held-read read) (done, refl) is (fresh-read read) (still-map read bits is) refl) refl,
         next read bits is,
         endings.unwritten read bits is,
         λ last past small. endings.missed read bits last is,

@@ -10,7 +10,7 @@ use Rattle.law_run.specs.CommandLogs.{Exchange, first_reading}
 use Rattle.law_run.specs.Renewals.{RenewalEnd, renewal_part, renewal_until, ShowsRenewal, IsRenewalAsk, IsRenewalEnd, RenewalsKeepRules}
 use Rattle.law_run.specs.Machines.{IsOfBlock}
 use Rattle.law_run.proofs.Machines.{meets-keeps}
-use Rattle.law_run.proofs.Renewing.{held-later}
+use Rattle.law_run.proofs.Renewing.{renewal-limits, held-later}
 use Rattle.law_run.proofs.Runs.{HasFirst}
 
 read-first : (done : List Exchange) (reading : ℕ) → first_reading done ≡ Some reading → HasFirst done
@@ -21,7 +21,7 @@ pub renewals-keep-rules : RenewalsKeepRules
 renewals-keep-rules s log lease claim until reading may =
     let bytes = lease_bytes (Claimed claim (renewal_until until reading)) in
     meets-keeps s log (IsOfBlock (lease_at lease)) (ShowsRenewal s lease claim until reading) (renewal_part lease claim until (renewal_until until reading)) 1 (
-      ((may.went, renewal_of_lease lease claim reading may.within refl may.held may.first refl), refl),
+      ((may.went, renewal_of_lease lease claim reading may.within refl may.held may.first (renewal-limits s log.before log.exchanges lease claim until reading may.timely may.held) refl), refl),
       ((bytes, (log.exchanges, refl)), held-later s log.before log.exchanges lease claim until reading may.timely may.held (read-first log.exchanges reading may.first)),
       (bytes, (log.exchanges, refl)),
       λ past late small. ((bytes, (log.exchanges, refl)), refl),

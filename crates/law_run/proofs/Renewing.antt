@@ -143,7 +143,7 @@ renewal_write lease claim until reading =
 module _ (s : Setting) (before : List Finished) (done : List Exchange) (lease : ℕ) (claim : Claim) (until reading : ℕ) (small : reading < 2 ^ 48)
     (held : hold_by_log s before done lease ≡ Held claim until) where
   -- it keeps the limits of leases
-  renewal-limits : IsClaimed claim (later_of until (reading + term))
+  pub renewal-limits : IsClaimed claim (later_of until (reading + term))
   renewal-limits =
       let old : IsClaimed claim until = subst Limited held (is-limited s before done lease) in record {
         boot = old.boot;
@@ -245,7 +245,7 @@ module _ (s : Setting) (before : List Finished) (known : Known) (reading : ℕ) 
           asks-write (May s before Renew) s before known Renew reading fine done lease until kind.Renew (lease_at lease) (lease_bytes (lease_is.Claimed claim (later_of until (reading + term))))
           (renew_part s known (start s before reading) reading left (lease + 1)) (renewals (start s before reading) left (lease + 1)) r.first
           (let c = rests.claims in let b = r.begun in omega arith) (λ y e. claims-more s.geometry done y r.has (rw e refl)) (omega arith) refl
-          ((r.went, renewal_of_lease lease claim reading (omega arith) refl held r.first refl), r.follows _)
+          ((r.went, renewal_of_lease lease claim reading (omega arith) refl held r.first (renewal-limits s before done lease claim until reading small held) refl), r.follows _)
           (rest _ (one-renewal done lease claim until (omega arith) r held))
       by-hold Nothing held rest = rest done (none-held done lease r (λ claim until h. (let P : ⊥ = cc in P)))
       by-hold (Seen sample) held rest = rest done (none-held done lease r (λ claim until h. (let P : ⊥ = cc in P)))

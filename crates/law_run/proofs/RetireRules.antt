@@ -54,6 +54,7 @@ module _ (s : Setting) (geometry : IsGeometry s.geometry) (log : CommandLog) (kn
       (retires s log.before log.exchanges NoneSpared inside geometry.blocks_high log.command known
       (λ done a bytes. MayAsk s (with_exchanges log done) a bytes × IsOfOneExtent s.geometry a)
       (λ done end. ShowsOnHand s known follows (AreGivenUp s log) (with_exchanges log done) end)
+      (λ b has. may.pool b (subst (λ (l : List ℕ). HasBlock l b) (sym may.fresh) has))
       (λ done a bytes may' place. (may', (place.0, place.1, inl place.2)))
       (ends-shown s geometry log NoneSpared known follows (AreGivenUp s log))
       holds may.held hand may.fresh

@@ -31,6 +31,7 @@ use Rattle.law_run.specs.Rules.{AllKept}
 use Rattle.law_run.specs.Sessions.{attached_by, is_attached}
 use Rattle.law_run.proofs.Asking.{replied-fine, asks-write, unwritten-shows, missed-shows}
 use Rattle.law_run.proofs.Hands.{HasBlock, none-has, held-is, hand-is-held, hand-in-extents}
+use Rattle.law_run.proofs.HandMaps.{hand-no-maps}
 use Rattle.law_run.proofs.Holding.{Spared, spared-more, hold-after-first, first-more, claims-more}
 use Rattle.law_run.proofs.Meets.{exchange, Meets, meets-more}
 use Rattle.law_run.proofs.OnExtent.{claims_at, retire-fine, extent-name, map-no-lease, bad-map, rests-still}
@@ -225,7 +226,7 @@ module _ (s : Setting) (geometry : IsGeometry s.geometry) (before : List Finishe
 
   allowed-retire : Meets (MayByRules s before Retire) (Shows s before Retire) from (retire_part s known (start s before reading) (hand_start s before reading)) (retire_asks s.geometry.extents (image_asks s.geometry.images 1))
   allowed-retire =
-      retires s before from Spares within geometry.blocks_high Retire known (MayByRules s before Retire) (Shows s before Retire) (λ done a bytes may place. may) endings
+      retires s before from Spares within geometry.blocks_high Retire known (MayByRules s before Retire) (Shows s before Retire) (hand-no-maps s before Retire from older ((tt, tt), tt)) (λ done a bytes may place. may) endings
       (start s before reading) (λ extent below. refl) (hand_start s before reading) refl (λ done a bytes extent may below place. may)
       s.geometry.extents 0 [] (image_asks s.geometry.images 1) _ (omega arith)
       (retires-none s before from Spares within tt (tt, tt) (PastExtent s 0) (GivenBack 0) (λ l below p. omega (arith, p.0, p.1)) (λ e k. omega (arith, k)))

@@ -43,7 +43,7 @@ use Rattle.law_run.specs.Takes.{HoldsOthers}
 use Rattle.law_run.proofs.Asking.{one-until}
 use Rattle.law_run.proofs.Beside.{IsOfClaim, after_work, Beside, beside-none, beside-more, bytes_found, unread-unbusy, sight-unbusy, reread-unbusy}
 use Rattle.law_run.proofs.ClaimRules.{bytes-other}
-use Rattle.law_run.proofs.ClaimSteps.{read_of_lease, claim_write, claim_wait, after_sight, after_claiming, after_waiting, after_rereading, counts-sight, counts-claiming, counts-waiting, counts-rereading, own-back, held-claiming, held-waiting, held-rereading}
+use Rattle.law_run.proofs.ClaimSteps.{read_of_lease, claim_write, claim_wait, after_sight, after_claiming, after_waiting, after_rereading, counts-sight, counts-claiming, counts-waiting, counts-rereading, own-limits, own-back, held-claiming, held-waiting, held-rereading}
 use Rattle.law_run.proofs.Holding.{claims-more}
 use Rattle.law_run.proofs.OnExtent.{block_second, no-map, map-is-found}
 use Rattle.law_run.proofs.Reached.{IsUse, TellsFirstDue, first-tells}
@@ -523,7 +523,8 @@ module _ (s : Setting) (geometry : IsGeometry s.geometry) (small : s.boot < 2 ^ 
                   (b2 sample bytes).went r.went,
                   claim_of_lease own_lease (own sample) seen bytes (after_work first d0) lease-within refl
                       (ap is_held (shown2 sample bytes ∙ (ap (λ f. seen_by f sample) sees ∙ ap (λ b. if b then Seen sample else Nothing) is)))
-                      refl sees is refl r.claims refl (lease-rest (own_record (own sample)) ∙ sym (ap (drop 512) (lease-only bytes seen sees).1 ∙ lease-rest seen)) refl,
+                      refl sees is refl r.claims (own-limits s small first.before (after_work first d0) r.has own_lease t.known.claims small-number sample early bytes) refl
+                      (lease-rest (own_record (own sample)) ∙ sym (ap (drop 512) (lease-only bytes seen sees).1 ∙ lease-rest seen)) refl,
                 ) (e, below, inr refl) (lease-goes-on s first (d1 sample) own_lease bytes lease-within (λ none. (let q = sym sees ∙ none in let P : ⊥ = cc in P)) _),
                 (
                   work.may (d3 sample bytes) _ _

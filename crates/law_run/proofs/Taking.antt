@@ -48,7 +48,7 @@ use Rattle.law_run.specs.Space.{IsExtentInUse, going, unread, rested}
 use Rattle.law_run.specs.Takes as takes
 use Rattle.law_run.specs.Takes.{IsClaimedHere, IsOfExtents, HoldsOthers, RefusesTake, FailsTake, counted_by_log}
 use Rattle.law_run.proofs.Beside.{after_work, unread-unbusy, map-unbusy}
-use Rattle.law_run.proofs.FreeBlocks.{has-take, take-all, take-none, free-within, free-none, free-fewer, set-taken, map-bits}
+use Rattle.law_run.proofs.FreeBlocks.{has-take, take-all, take-none, free-within, free-none, free-fewer, set-taken, map-bits, map-is}
 use Rattle.law_run.proofs.Grown.{with-block-same, with-other}
 use Rattle.law_run.proofs.Hands.{HasBlock, has-append, append-left, append-right, filter-all, extent-found, hand-more, hand-is-held}
 use Rattle.law_run.proofs.Holding.{hold-stays, claims-more}
@@ -59,7 +59,7 @@ use Rattle.law_run.proofs.Rests.{written-none, unfound-none}
 use Rattle.law_run.proofs.Right.{clock, read_of}
 use Rattle.law_run.proofs.Runs.{HasFirst, along-more}
 use Rattle.law_run.proofs.TakeFollows.{FollowsTake, Calm, map-goes-on}
-use Rattle.plx_rules.proofs.Maps.{length-with_set}
+use Rattle.plx_rules.proofs.Maps.{length-with_set, set-is-map}
 
 -- the claim of a lease that is done
 abbrev pub claim_done : (lease : ℕ) → Claim → Exchange
@@ -488,7 +488,8 @@ module _ (s : Setting) (geometry : IsGeometry s.geometry) (first : CommandLog) (
             work.may done1 _ _ (
               r1.went,
               take_of_blocks e claim bytes bits (block ∷ blocks) below refl (now bytes) (after_work first done, refl) is
-                  (λ b has. subst (λ (h : List ℕ). HasBlock (free_from h place bits) b) (sym r1.hand) (were-free M tried done t e until claim bytes bits (block ∷ blocks) k below new r1 is same (now bytes) b has)) refl,
+                  (λ b has. subst (λ (h : List ℕ). HasBlock (free_from h place bits) b) (sym r1.hand) (were-free M tried done t e until claim bytes bits (block ∷ blocks) k below new r1 is same (now bytes) b has))
+                  (set-is-map s.geometry.extent_blocks (block ∷ blocks) place bits (map-is s.geometry.extent_blocks bytes bits is)) refl,
             ) (e, below, inl refl) (calm-map bytes bits is _),
             goes (with_taken t (block ∷ blocks)) (x ∷ done1)
                 (extended M M' tried (x ∷ done1) (with_taken t (block ∷ blocks)) e (take-taken M tried done t e until claim bytes bits (block ∷ blocks) k below new r1 is same (now bytes)) split (λ few'. (

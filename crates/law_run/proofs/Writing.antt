@@ -175,7 +175,7 @@ module _ (s : Setting) (some : 1 ≤ s.geometry.slots) (before : List Finished) 
       (slot.0, at, ready.fits.within, slot_below, refl, refl) (
         (
           going1.went,
-          commit_of_write slot vblock payload d refl (claim, going1.held) (is-next done1 given1 known1 fits1 live room) refl refl refl refl (inl refl)
+          commit_of_write slot vblock payload d refl (claim, going1.held) (is-next done1 given1 known1 fits1 live room) refl limit refl refl refl (inl refl)
               (descriptor-back d ∙ sym (ap (λ (h : Given). drop 512 (last_known (h commit))) known1 ∙ fits1.whole at slot_below)),
         ),
         tt,

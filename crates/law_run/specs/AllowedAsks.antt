@@ -16,10 +16,10 @@ use Rattle.plx_disk.specs.declared.ask.Ask.{Ask}
 use Rattle.plx_disk.specs.declared.ask.Ask.TheVariants as ask
 use Rattle.plx_disk.specs.declared.ask.Answer.{Answer}
 use Rattle.plx_disk.specs.declared.ask.Answer.TheVariants as answer
-use Rattle.plx_extent.specs.Maps.{map_bytes}
-use Rattle.plx_gate.specs.Descriptors.{descriptor_bytes}
-use Rattle.plx_gate.specs.Images.{image_bytes}
-use Rattle.plx_gate.specs.Leases.{lease_bytes, read_lease}
+use Rattle.plx_extent.specs.Maps.{IsMap, map_bytes}
+use Rattle.plx_gate.specs.Descriptors.{IsDescriptor, descriptor_bytes}
+use Rattle.plx_gate.specs.Images.{IsImage, image_bytes}
+use Rattle.plx_gate.specs.Leases.{IsClaimed, lease_bytes, read_lease}
 use Rattle.plx_gate.specs.declared.descriptor.Descriptor.{Descriptor}
 use Rattle.plx_gate.specs.declared.image.ImageRecord.{ImageRecord}
 use Rattle.plx_gate.specs.declared.image.ImageRecord.TheVariants as image_is
@@ -70,17 +70,20 @@ IsFirstSector given block bytes = drop 512 bytes ≡ drop 512 (last_known (given
 abbrev pub HasRead : CommandLog → (block : ℕ) → List ℕ → Type 0
 HasRead log block read = LastAnswered log (ask.Read (record { 0 = block })) [] (answer.Bytes read)
 
--- a write may be asked for, by its kind, with its block, its bytes and its guard: a take sets clear bits of blocks that aren't in hand, and a give clears
--- those of blocks that are, in the map that was just read
+-- a write may be asked for, by its kind, with its block, its bytes, which spell a value within the
+-- limits of its format, and its guard: a take sets clear bits of blocks that aren't in hand, and a
+-- give clears those of blocks that are, in the map that was just read
 pub data MayWrite (s : Setting) (log : CommandLog) : WriteKind → (block : ℕ) → (bytes : List ℕ) → (guard : ℕ) → Type 0 where
   claim_of_lease : {block : ℕ} {bytes : List ℕ} {guard : ℕ} (lease : ℕ) (claim : Claim) (seen : LeaseRecord) (read : List ℕ) (older : List Exchange) →
       lease < lease_count s.geometry → block ≡ lease_at lease → IsNotHeld (hold_by_log s log.before log.exchanges lease) →
       HasSampled log lease claim.sample read older → read_lease read ≡ Some seen → is_expired seen claim.sample ≡ true →
       claim.boot.0 ≡ s.boot → claim.number ≡ claims_in s.geometry older + claims_begun s.geometry log.before →
+      IsClaimed claim (claim.sample + term) →
       bytes ≡ lease_bytes (lease_is.Claimed claim (claim.sample + term)) → drop 512 bytes ≡ drop 512 read → guard ≡ claim.sample + window →
       MayWrite s log kind.Claim block bytes guard
   renewal_of_lease : {block : ℕ} {bytes : List ℕ} {guard : ℕ} (lease : ℕ) (claim : Claim) (reading : ℕ) →
       lease < lease_count s.geometry → block ≡ lease_at lease → Holds s log lease claim guard → first_reading log.exchanges ≡ Some reading →
+      IsClaimed claim (later_of guard (reading + term)) →
       bytes ≡ lease_bytes (lease_is.Claimed claim (later_of guard (reading + term))) → MayWrite s log kind.Renew block bytes guard
   release_of_lease : {block : ℕ} {bytes : List ℕ} {guard : ℕ} (lease : ℕ) (claim : Claim) →
       lease < lease_count s.geometry → block ≡ lease_at lease → Holds s log lease claim guard →
@@ -88,11 +91,13 @@ pub data MayWrite (s : Setting) (log : CommandLog) : WriteKind → (block : ℕ)
   record_of_create : {block : ℕ} {bytes : List ℕ} {guard : ℕ} (slot : SlotNo) (size : ℕ) (label : Label) (generation : ℕ) →
       log.command ≡ Create slot size label → HoldsImage s log slot.0 guard → block ≡ record_at s.geometry slot.0 →
       record_on s.geometry (known_in s.geometry log slot.0) slot.0 ≡ Some (image_is.Free generation) →
+      IsImage (made_record (generation + 1) size label) →
       bytes ≡ image_bytes (made_record (generation + 1) size label) → IsFirstSector (known_in s.geometry log slot.0) block bytes →
       MayWrite s log kind.Record block bytes guard
   record_of_delete : {block : ℕ} {bytes : List ℕ} {guard : ℕ} (slot : SlotNo) (kept : ImageRecord) →
       log.command ≡ Delete slot → HoldsImage s log slot.0 guard → block ≡ record_at s.geometry slot.0 →
       record_on s.geometry (known_in s.geometry log slot.0) slot.0 ≡ Some kept → is_live kept ≡ true →
+      IsImage (image_is.Free (generation_of kept)) →
       bytes ≡ image_bytes (image_is.Free (generation_of kept)) → IsFirstSector (known_in s.geometry log slot.0) block bytes →
       MayWrite s log kind.Record block bytes guard
   data_of_write : {block : ℕ} {bytes : List ℕ} {guard : ℕ} (slot : SlotNo) (vblock : ℕ) (payload : Payload) (number : ℕ) →
@@ -101,7 +106,8 @@ pub data MayWrite (s : Setting) (log : CommandLog) : WriteKind → (block : ℕ)
       MayWrite s log kind.JData block bytes guard
   commit_of_write : {block : ℕ} {bytes : List ℕ} {guard : ℕ} (slot : SlotNo) (vblock : ℕ) (payload : Payload) (d : Descriptor) →
       log.command ≡ Write slot vblock payload → HoldsImage s log slot.0 guard → (next : IsNext s log slot.0 d.number) →
-      block ≡ descriptor_at s.geometry slot.0 (journal_slot s.geometry.slots d.number) → bytes ≡ descriptor_bytes d →
+      block ≡ descriptor_at s.geometry slot.0 (journal_slot s.geometry.slots d.number) →
+      IsDescriptor d → bytes ≡ descriptor_bytes d →
       d.vblock ≡ vblock → d.generation ≡ generation_of next.kept →
       WasAnswered log (ask.Write kind.JData (record { 0 = data_at s.geometry slot.0 (journal_slot s.geometry.slots d.number) }) guard) (bytes_of payload) answer.Done →
       IsFirstSector (known_in s.geometry log slot.0) block bytes → MayWrite s log kind.JCommit block bytes guard
@@ -109,13 +115,16 @@ pub data MayWrite (s : Setting) (log : CommandLog) : WriteKind → (block : ℕ)
       extent < s.geometry.extents → block ≡ map_at s.geometry extent → Holds s log (extent_lease s.geometry extent) claim guard → HasRead log block read →
       read_map s.geometry.extent_blocks read ≡ Some bits →
       ((b : ℕ) → is_in b blocks ≡ true → is_in b (free_from (hand_by_log s log.before log.exchanges) block bits) ≡ true) →
+      IsMap s.geometry.extent_blocks (with_set blocks block bits) →
       bytes ≡ map_bytes (with_set blocks block bits) → MayWrite s log kind.Take block bytes guard
   give_of_blocks : {block : ℕ} {bytes : List ℕ} {guard : ℕ} (extent : ℕ) (claim : Claim) (read : List ℕ) (bits : List Bool) (blocks : List ℕ) →
       extent < s.geometry.extents → block ≡ map_at s.geometry extent → Holds s log (extent_lease s.geometry extent) claim guard → HasRead log block read →
       read_map s.geometry.extent_blocks read ≡ Some bits → ((b : ℕ) → is_in b blocks ≡ true → is_in b (hand_by_log s log.before log.exchanges) ≡ true) →
+      IsMap s.geometry.extent_blocks (with_clear blocks block bits) →
       bytes ≡ map_bytes (with_clear blocks block bits) → MayWrite s log kind.Give block bytes guard
   fresh_of_block : {block : ℕ} {bytes : List ℕ} {guard : ℕ} (claim : Claim) → Holds s log (extent_lease s.geometry (extent_of s.geometry block)) claim guard →
-      is_in block (hand_by_log s log.before log.exchanges) ≡ true → MayWrite s log kind.Fresh block bytes guard
+      is_in block (hand_by_log s log.before log.exchanges) ≡ true → length bytes ≡ 4096 →
+      MayWrite s log kind.Fresh block bytes guard
 
 -- a wait may be asked for: from 601 ms after the sample of a claim that was written
 pub record MayWait (s : Setting) (log : CommandLog) (from : ℕ) : Type 0 where

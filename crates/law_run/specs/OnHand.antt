@@ -1,5 +1,5 @@
 -- Work on all blocks in hand and on the leases of all extents, within a command: when it may begin, and why it ends.
-use Rattle.std.specs.Prelude.{◌≡◌, ◌≤◌, ◌<◌, ◌⊎◌, ℕ, List, [], ◌∷◌, Bool, Some, None, true}
+use Rattle.std.specs.Prelude.{◌≡◌, ◌≢◌, ◌≤◌, ◌<◌, ◌⊎◌, ℕ, List, [], ◌∷◌, Bool, Some, None, true}
 use Rattle.plx_base.specs.declared.lease.Claim.{Claim}
 use Rattle.plx_base.specs.declared.lease.LeaseName.TheVariants as lease
 use Rattle.plx_base.specs.declared.numbers.BlockNo.{BlockNo}
@@ -37,13 +37,15 @@ IsOfOneExtent g ask = (extent : ℕ) × (extent < g.extents) × (IsOfBlock (map_
 
 -- ---- its beginning
 
--- it may begin: it goes by what is held of the extents' leases and by what is in hand, the blocks in hand lie in extents of the geometry, and the command
--- has had its first reading and goes on
+-- it may begin: it goes by what is held of the extents' leases and by what is in hand, the blocks
+-- in hand lie in extents of the geometry and are none of their maps, and the command has had its
+-- first reading and goes on
 pub record MayBeginOnHand (s : Setting) (log : CommandLog) (holds : ℕ → Hold) (hand : List ℕ) : Type 0 where
   pub held : (extent : ℕ) → extent < s.geometry.extents →
       holds (lease_at (extent_lease s.geometry extent)) ≡ hold_by_log s log.before log.exchanges (extent_lease s.geometry extent)
   pub fresh : hand ≡ hand_by_log s log.before log.exchanges
   pub inside : (block : ℕ) → is_in block hand ≡ true → extent_of s.geometry block < s.geometry.extents
+  pub pool : (block : ℕ) → is_in block hand ≡ true → (extent : ℕ) → block ≢ map_at s.geometry extent
   pub first : Exchange
   pub others : List Exchange
   pub begun : log.exchanges ≡ first ∷ others

@@ -1,16 +1,13 @@
 -- What writes of maps meet as they are issued: a take's blocks were clear, and a give's are in hand.
-use Rattle.std.proofs.Common.{◌≡◌, ℕ, zero, suc, ◌+◌, ◌-◌, ◌<◌, ◌≤◌, inl, inr, List, [], ◌∷◌, ◌++◌, length, Bool, true, false, Option, Some, None, refl, ap, sym, ◌∙◌, subst, arith, get_or}
-use Rattle.std.specs.Prelude.{◌==◌, ◌&&◌, ◌||◌, not, if◌then◌else◌}
-use Rattle.std.proofs.lemmas.Bool.Decides.{eqb_tells}
-use Rattle.std.specs.Str.{bytes_eq}
-use Rattle.plx_base.proofs.Spelling.{read-only}
+use Rattle.std.proofs.Common.{◌≡◌, ℕ, zero, suc, ◌+◌, ◌-◌, ◌<◌, ◌≤◌, inl, inr, List, [], ◌∷◌, ◌++◌, Bool, true, false, Option, Some, None, refl, ap, sym, ◌∙◌, subst, arith, get_or}
+use Rattle.std.specs.Prelude.{◌==◌, ◌&&◌, not, if◌then◌else◌}
 use Rattle.plx_base.specs.Sectors.{Device}
 use Rattle.plx_base.specs.declared.write_kind.WriteKind.{WriteKind}
 use Rattle.plx_base.specs.declared.write_kind.WriteKind.TheVariants as kind
 use Rattle.plx_commands.specs.Replies.{is_in}
 use Rattle.plx_commands.specs.declared.command.Command.{Command}
 use Rattle.plx_extent.proofs.Maps.{get_or-bits_of, length-bits_from, map_bytes-bit}
-use Rattle.plx_extent.specs.Maps.{bit_of, bits_of, map_bytes}
+use Rattle.plx_extent.specs.Maps.{bit_of, bits_of}
 use Rattle.plx_geom.specs.Geometry.{Geometry, extent_lease, lease_at, map_at}
 use Rattle.plx_geom.proofs.Places.{map-map}
 use Rattle.plx_radix.specs.Paths.{Unreachable}
@@ -22,7 +19,7 @@ use Rattle.plx_rules.specs.Part.{WriteThen, Part}
 use Rattle.plx_rules.specs.Rests.{extent_of}
 use Rattle.plx_rules.specs.Session.{Known}
 use Rattle.plx_rules.specs.Settings.{Setting}
-use Rattle.plx_rules.specs.Space.{is_own_set, read_map, with_clear}
+use Rattle.plx_rules.specs.Space.{with_clear}
 use Rattle.plx_rules.specs.World.{World, Reached, stands, setting_of}
 use Rattle.law_lease.proofs.LeaseSteps.{reached-leased}
 use Rattle.law_lease.proofs.Leased.{Leased, grip_at}
@@ -35,6 +32,7 @@ use Rattle.law_run.specs.CommandLogs.{CommandLog, Commands, Between, Within, com
 use Rattle.law_run.specs.Holdings.{hand_by_log, last_found}
 use Rattle.law_run.specs.Rules.{IsSetting}
 use Rattle.law_run.proofs.Begun.{begins-right}
+use Rattle.law_run.proofs.FreeBlocks.{since-clear, own-read}
 use Rattle.law_run.proofs.Right.{Right}
 use Rattle.law_run.proofs.Runs.{Agree, agrees}
 use Rattle.law_run.proofs.Worlds.{given-within}
@@ -66,35 +64,13 @@ write-asked s log setting run known command k block bytes guard done fault misse
     by_left : (of : CommandLog) (left : ℕ) → Right s of.before of.command of.exchanges (WriteThen k block bytes guard done fault missed) left →
         (position s log).hand ≡ hand_by_log s of.before of.exchanges → (position s log).found ≡ last_found of.exchanges → WriteAsked s (position s log) k block bytes guard
     by_left of zero right hand found = absurd right
-    by_left of (suc left) right hand found = record { of = of; may = right.0.1; hand = hand; found = found }
+    by_left of (suc left) right hand found = record { of = of; may = right.0.0.1; hand = hand; found = found }
 
     by_log : (so_far : Commands) → Agree s (position s log).holds (position s log).hand (position s log).sample (position s log).found (In known command (WriteThen k block bytes guard done fault missed)) so_far → WriteAsked s (position s log) k block bytes guard
     by_log (Between before) agree = absurd agree
     by_log (Within of) agree = by_left of agree.0.left agree.0.right agree.5 agree.6
 
 -- ---- lists of bits
-
--- a block whose bit became set had it clear
-since-clear : (block from : ℕ) (old new : List Bool) → is_in block (set_since from old new) ≡ true → (i : ℕ) × (block ≡ from + i) × (i < length old) × (get_or old i false ≡ false)
-since-clear block from [] new is = absurd (let P : ⊥ = cc in P)
-since-clear block from (was ∷ old) [] is = absurd (let P : ⊥ = cc in P)
-since-clear block from (was ∷ old) (now ∷ new) is = by_bits was now (since-clear block (from + 1) old new) is
-  where
-    later : ((i : ℕ) × (block ≡ from + 1 + i) × (i < length old) × (get_or old i false ≡ false)) → (x : Bool) → (i : ℕ) × (block ≡ from + i) × (i < length (x ∷ old)) × (get_or (x ∷ old) i false ≡ false)
-    later found x = (suc found.0, omega (arith, found.1), omega (arith, found.2), found.3)
-
-    by_bits : (a b : Bool) → (is_in block (set_since (from + 1) old new) ≡ true → (i : ℕ) × (block ≡ from + 1 + i) × (i < length old) × (get_or old i false ≡ false)) →
-        is_in block (if b && not a then from ∷ set_since (from + 1) old new else set_since (from + 1) old new) ≡ true → (i : ℕ) × (block ≡ from + i) × (i < length (a ∷ old)) × (get_or (a ∷ old) i false ≡ false)
-    by_bits false true rest is' = elim (in-append block (from ∷ []) (set_since (from + 1) old new) is') [
-      | inl first ↦ (0, one block from first, omega arith, refl)
-      | inr more ↦ later (rest more) false
-    ]
-      where
-        one : (a b : ℕ) → is_in a (b ∷ []) ≡ true → a ≡ b + 0
-        one a b e = elim (eqb_tells a b) [ inl same ↦ omega (arith, same.1) | inr other ↦ absurd (let f : false ≡ true = subst (λ (x : Bool). (x || false) ≡ true) other.0 e in let P : ⊥ = cc in P) ]
-    by_bits true true rest is' = later (rest is') true
-    by_bits false false rest is' = later (rest is') false
-    by_bits true false rest is' = later (rest is') true
 
 -- a bit that was cleared is that of one of the blocks
 clear-named : (blocks : List ℕ) (from : ℕ) (bits : List Bool) (i : ℕ) → get_or bits i false ≡ true → get_or (with_clear blocks from bits) i false ≡ false → is_in (from + i) blocks ≡ true
@@ -110,21 +86,6 @@ clear-named blocks from (bit ∷ bits) zero set clear =
 clear-named blocks from (bit ∷ bits) (suc i) set clear =
     let e : from + 1 + i ≡ from + suc i = omega arith in
     subst (λ (x : ℕ). is_in x blocks ≡ true) e (clear-named blocks (from + 1) bits i set clear)
-
--- the bit of a map's own block is set in what was read of it
-own-read : (blocks : ℕ) (bytes : List ℕ) (bits : List Bool) → read_map blocks bytes ≡ Some bits → get_or (bits_of blocks bytes) 0 false ≡ true
-unfolding read_map
-own-read blocks bytes bits is =
-    let x = read-only is_own_set map_bytes (bits_of blocks bytes) bits bytes is in
-    own-set (bits_of blocks bytes) (tested (is_own_set (bits_of blocks bytes)) is)
-  where
-    own-set : (xs : List Bool) → is_own_set xs ≡ true → get_or xs 0 false ≡ true
-    own-set [] e = e
-    own-set (own ∷ xs) e = e
-
-    tested : (t : Bool) → (if t && bytes_eq bytes (map_bytes (bits_of blocks bytes)) then Some (bits_of blocks bytes) else None) ≡ Some bits → t ≡ true
-    tested true e = refl
-    tested false e = absurd (let P : ⊥ = cc in P)
 
 -- ---- in a world
 
@@ -170,7 +131,7 @@ module _ (names : ℕ → ℕ → Type 0) (w : World) (reached : Reached w) (tre
   take-free block bytes guard asks c is holds = by_rule asks.may
     where
       by_rule : MayWrite (setting_of w a) asks.of kind.Take block bytes guard → IsFree g d c
-      by_rule (take_of_blocks extent claim read bits blocks within at_map held has spelled free written) =
+      by_rule (take_of_blocks extent claim read bits blocks within at_map held has spelled free limits written) =
           let found = map-found kind.Take block bytes guard asks extent read at_map has in
           let F : Option (ℕ × List ℕ) → Type 0 = λ f. is_in c (hand_from g f kind.Take block bytes p.hand) ≡ true in
           by_test (map_at g extent == block) (subst F found is)
@@ -211,7 +172,7 @@ module _ (names : ℕ → ℕ → Type 0) (w : World) (reached : Reached w) (tre
   give-clears block bytes guard asks holds c pool here set clear = by_rule asks.may
     where
       by_rule : MayWrite (setting_of w a) asks.of kind.Give block bytes guard → Unreachable (trees_of g d) c
-      by_rule (give_of_blocks extent claim read bits blocks within at_map held has spelled in_hand written) =
+      by_rule (give_of_blocks extent claim read bits blocks within at_map held has spelled in_hand limits written) =
           let geometry = leased.geometry in
           let high = geometry.blocks_high in
           let e : extent_of g c ≡ extent = same-extent in

@@ -1,8 +1,8 @@
 -- The giving back of all blocks in hand keeps the rules.
-use Rattle.std.proofs.Common.{◌≡◌, ℕ, zero, suc, ◌+◌, ◌*◌, ◌<◌, List, [], ◌++◌, false, Some, refl, ap, sym, subst, ◌∙◌, arith}
+use Rattle.std.proofs.Common.{◌≡◌, ℕ, zero, suc, ◌+◌, ◌*◌, ◌<◌, List, [], ◌++◌, false, Some, refl, ap, sym, subst, ◌∙◌, arith, ◌≢◌}
 use Rattle.plx_disk.specs.declared.ask.Ask.{Ask}
 use Rattle.plx_geom.proofs.Places.{extent-below}
-use Rattle.plx_geom.specs.Geometry.{IsGeometry, extent_lease, lease_at}
+use Rattle.plx_geom.specs.Geometry.{IsGeometry, extent_lease, lease_at, map_at}
 use Rattle.plx_rules.specs.Ends.{End}
 use Rattle.plx_rules.specs.Hands.{is_held}
 use Rattle.plx_rules.specs.Holds.{Hold, Nothing, Seen, Wrote, Waited, Held}
@@ -41,6 +41,9 @@ NoLease lease = ⊥
 module _ (s : Setting) (geometry : IsGeometry s.geometry) (log : CommandLog) (known : Known) (holds : ℕ → Hold) (hand : List ℕ) (follows : End) (may : MayBeginOnHand s log holds hand) where
   inside : (b : ℕ) → HasBlock (hand_by_log s log.before log.exchanges) b → extent_of s.geometry b < s.geometry.extents
   inside b has = may.inside b (subst (λ (l : List ℕ). HasBlock l b) (sym may.fresh) has)
+
+  in-pool : (b : ℕ) → HasBlock (hand_by_log s log.before log.exchanges) b → (extent : ℕ) → b ≢ map_at s.geometry extent
+  in-pool b has = may.pool b (subst (λ (l : List ℕ). HasBlock l b) (sym may.fresh) has)
 
   abbrev Work : (K : ℕ → Type 0) → List Exchange → Type 0
   Work K own = Retiring s log.before log.exchanges NoLease NoLease K own
@@ -89,13 +92,13 @@ module _ (s : Setting) (geometry : IsGeometry s.geometry) (log : CommandLog) (kn
           ((own' : List Exchange) → Work (GivenBack (extent + 1)) own' → MeetsGivingBack own' tail m) → MeetsGivingBack own tail (suc (suc m))
       unheld none next =
           let one = next own (given-more s log.before log.exchanges NoLease inside NoLease own extent r (none-unheld s log.before log.exchanges NoLease inside own extent r.along.has none)) in
-          let one-more = more s log.before log.exchanges NoLease inside geometry.blocks_high log.command known MayGive ShowsGiven may-give endings in
+          let one-more = more s log.before log.exchanges NoLease inside geometry.blocks_high log.command known MayGive ShowsGiven in-pool may-give endings in
           one-more (suc m) tail own (one-more m tail own one)
 
       by-hold : (hold : Hold) → hold_by_log s log.before (own ++ log.exchanges) (extent_lease s.geometry extent) ≡ hold →
           ((own' : List Exchange) → Work (GivenBack (extent + 1)) own' → MeetsGivingBack own' tail m) → MeetsGivingBack own (give_extent s known hand extent hold tail) (suc (suc m))
       by-hold (Held claim until) is next =
-          gives s log.before log.exchanges NoLease inside geometry.blocks_high log.command known MayGive ShowsGiven may-give endings NoLease own extent until m claim
+          gives s log.before log.exchanges NoLease inside geometry.blocks_high log.command known MayGive ShowsGiven in-pool may-give endings NoLease own extent until m claim
           (in_extent s.geometry extent hand) tail (omega arith) (λ p. p) r is (ap (in_extent s.geometry extent) (sym may.fresh)) (λ own' r' held'. next own' r')
       by-hold Nothing is next = unheld (ap is_held is) next
       by-hold (Seen sample) is next = unheld (ap is_held is) next

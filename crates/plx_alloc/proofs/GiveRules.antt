@@ -39,6 +39,7 @@ module _ (s : Setting) (log : CommandLog) (known : Known) (extent until : ℕ) (
     held = may.held;
     fresh = may.fresh;
     own = may.own;
+    pool = may.pool;
     has = begun-first log.exchanges may.others may.first may.begun;
     went = may.went;
   }

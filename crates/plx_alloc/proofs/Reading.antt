@@ -1,15 +1,11 @@
 -- The map that a block spells, as it is read.
-use Rattle.std.proofs.Common.{◌≡◌, ◌≤◌, ◌∙◌, ap, sym, refl, ℕ, List, [], ◌∷◌, Bool, true, false, Option, Some, None, slice_get}
+use Rattle.std.proofs.Common.{◌≡◌, ◌≤◌, ◌∙◌, ap, sym, refl, ℕ, List, Bool, true, false, Option, Some, None}
 use Rattle.plx_base.proofs.Spelling.{read-past, read-some, read-unspelled}
 use Rattle.plx_base.specs.Spelling.{IsReading}
 use Rattle.plx_extent.proofs.Maps.{has-map, length-bits_from}
 use Rattle.plx_extent.specs.Maps.{IsMap, bits_of, map_bytes}
 use Rattle.plx_rules.specs.Space.{is_own_set, read_map}
-use Rattle.plx_rules.proofs.Maps.{own-set}
-
-set-own : (bits : List Bool) → is_own_set bits ≡ true → slice_get bits 0 ≡ Some true
-set-own [] z = let P : ⊥ = cc in absurd P
-set-own (bit ∷ bits) e = ap Some e
+use Rattle.plx_rules.proofs.Maps.{own-set, set-own}
 
 pub map-own : (blocks : ℕ) (bits : List Bool) → IsMap blocks bits → is_own_set bits ≡ true
 map-own blocks bits h = own-set bits h.own

@@ -11,11 +11,12 @@ use Rattle.plx_rules.specs.InUse.{InUse, first_reached, unless_reached}
 use Rattle.plx_rules.specs.Part.{Part, Ends}
 use Rattle.plx_rules.specs.Settings.{Setting}
 use Rattle.plx_rules.specs.Space.{Taking, extent_use, free_from, read_map, set_part, take_found, with_set}
+use Rattle.plx_rules.proofs.Maps.{set-is-map}
 use Rattle.law_run.specs.AllowedAsks.{take_of_blocks}
 use Rattle.law_run.specs.CommandLogs.{Exchange, CommandLog}
 use Rattle.law_run.specs.Holdings.{hand_by_log, hold_by_log}
 use Rattle.law_run.proofs.ClaimRules.{begun-first}
-use Rattle.law_run.proofs.FreeBlocks.{has-take}
+use Rattle.law_run.proofs.FreeBlocks.{has-take, map-is}
 use Rattle.law_run.proofs.Hands.{HasBlock, hand-fewer, has-head, has-parts, has-tail}
 use Rattle.law_run.proofs.Holding.{hold-stays}
 use Rattle.law_run.specs.Machines.{IsOfBlock}
@@ -83,7 +84,7 @@ module _ (s : Setting) (log : CommandLog) (count extent until : ℕ) (t : Taking
       (
         (tt, may.went),
         take_of_blocks extent may.claim bytes bits (block ∷ blocks) may.within refl (held-read bytes) (log.exchanges, refl) is
-            (free-read bytes bits (block ∷ blocks) same) refl,
+            (free-read bytes bits (block ∷ blocks) same) (set-is-map s.geometry.extent_blocks (block ∷ blocks) place bits (map-is s.geometry.extent_blocks bytes bits is)) refl,
       ),
       refl,
     ),

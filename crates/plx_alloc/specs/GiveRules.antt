@@ -1,5 +1,5 @@
 -- The giving back of an extent's blocks, as work within a command: the rules that it keeps.
-use Rattle.std.specs.Prelude.{◌≡◌, ◌≤◌, ◌<◌, ℕ, List, [], ◌∷◌, Bool, None, true}
+use Rattle.std.specs.Prelude.{◌≡◌, ◌≤◌, ◌<◌, ℕ, List, [], ◌∷◌, Bool, None, true, ◌≢◌}
 use Rattle.plx_base.specs.declared.lease.Claim.{Claim}
 use Rattle.plx_base.specs.declared.write_kind.WriteKind.TheVariants as kind
 use Rattle.plx_commands.specs.Replies.{is_in}
@@ -27,13 +27,15 @@ abbrev pub give_work : Setting → Known → (extent until : ℕ) → (blocks : 
 give_work s known extent until blocks follows =
     read_then (map_at s.geometry extent) known (λ bytes. give_found s known extent until blocks (read_map s.geometry.extent_blocks bytes) (Ends follows))
 
--- it may begin: the extent's lease is held up to `until`, the blocks are in hand and lie in it, and the command has had its first reading and goes on
+-- it may begin: the extent's lease is held up to `until`, the blocks are in hand, lie in it and
+-- aren't its map, and the command has had its first reading and goes on
 pub record MayBeginGive (s : Setting) (log : CommandLog) (extent until : ℕ) (blocks : List ℕ) : Type 0 where
   pub within : extent < s.geometry.extents
   pub claim : Claim
   pub held : Holds s log (extent_lease s.geometry extent) claim until
   pub fresh : (block : ℕ) → is_in block blocks ≡ true → is_in block (hand_by_log s log.before log.exchanges) ≡ true
   pub own : (block : ℕ) → is_in block blocks ≡ true → extent_of s.geometry block ≡ extent
+  pub pool : (block : ℕ) → is_in block blocks ≡ true → block ≢ map_at s.geometry extent
   pub first : Exchange
   pub others : List Exchange
   pub begun : log.exchanges ≡ first ∷ others
