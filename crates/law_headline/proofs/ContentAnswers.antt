@@ -520,8 +520,8 @@ module _ (w : World) (content : KeepsContent w) (a : ℕ) (below : a < w.applian
                     (λ b ne under waits'. ne (one-waits w content.leased b a k under below waits' (waited ∙ ap Some at')))
                     o.0 o.1 o.3
 
-            may : MayIssue g s.boot p.holds (rests_on g command p.holds what block bytes) what block bytes guard
-            may = let P : Place → Type 0 = λ q. LawfulAt g s.boot p.holds p.sample q in (subst P here (content.leased.seated a below).lawful).0
+            may : MayIssue g s.boot p.holds (rests_on g command p.holds p.filled what block bytes) what block bytes guard
+            may = let P : Place → Type 0 = λ q. LawfulAt g s.boot p.holds p.filled p.sample q in (subst P here (content.leased.seated a below).lawful).0
 
             full : (with_landed_sectors (missing_of landed.0.landed) landed.0.bytes (device landed.0.block) ≡ landed.0.bytes) → device block ≡ bytes
             full fills =

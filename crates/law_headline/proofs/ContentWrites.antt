@@ -27,6 +27,7 @@ use Rattle.plx_rules.specs.Headline.{model_in}
 use Rattle.plx_rules.specs.Holds.{Hold}
 use Rattle.law_lease.proofs.Lists.{push-cases}
 use Rattle.plx_rules.specs.Pools.{HasMaps}
+use Rattle.plx_rules.specs.Homes.{Covers}
 use Rattle.plx_rules.specs.Rests.{IsUnder, home_of, rests_on}
 use Rattle.plx_commands.specs.Replies.{is_in}
 use Rattle.plx_rules.specs.Session.{Known}
@@ -34,7 +35,6 @@ use Rattle.plx_rules.specs.Settings.{boot_number}
 use Rattle.plx_rules.specs.World.{World, Seat, with_surface, after_issue}
 use Rattle.law_lease.proofs.LeaseSteps.{placed-may}
 use Rattle.law_lease.proofs.Frame.{Frame, IsNewlyOpen, SameUnder, frame-all, frame-others, stood-issued, grips-before, grips-free, grips-other, grips-own, land-frame, landed-or, open-issued}
-use Rattle.law_lease.proofs.Covers.{Covers}
 use Rattle.law_lease.proofs.Open.{GripsLease, IsOpen, open-found}
 use Rattle.law_lease.proofs.Leased.{MayIssue, LawfulAt, IsAskedAt, IsRight, Leased}
 use Rattle.law_headline.proofs.Content.{appliance_no, stands_at, IsJournalled, PlaceFits, OwnedAt, Grips, Minds, Whose, SeatFits, SpellMaps, SeatHand, SeatOwns, Placed, WaitsAreMet, KeepsContent}
@@ -161,10 +161,10 @@ module _ (w : World) (content : KeepsContent w) where
 
     -- on what it rests
     abbrev leases : List ℕ
-    leases = rests_on g command (p a).holds what block bytes
+    leases = rests_on g command (p a).holds (p a).filled what block bytes
 
     may : MayIssue g boot (p a).holds leases what block bytes guard
-    may = let P : Place → Type 0 = λ q. LawfulAt g boot (p a).holds (p a).sample q in (subst P here (content.leased.seated a below).lawful).0
+    may = let P : Place → Type 0 = λ q. LawfulAt g boot (p a).holds (p a).filled (p a).sample q in (subst P here (content.leased.seated a below).lawful).0
 
     -- of its block only its own bytes differ, its image is kept, and it is the appliance's in the model
     pub new-keeps : (i : ℕ) → i < g.images → IsOf g i block → is_in (image_lease i) leases ≡ true →

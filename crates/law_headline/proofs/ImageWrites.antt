@@ -1,5 +1,5 @@
 -- Writes of an image's record and journal: what a kind owes, in one lemma each, so that the invariant asks for no kind.
-use Rattle.std.proofs.Common.{◌≡◌, ℕ, ◌<◌, ◌⊎◌, inl, inr, List, [], ◌∷◌, Bool, true, Some, refl, ap, sym, subst, ◌∙◌, length}
+use Rattle.std.proofs.Common.{◌≡◌, ℕ, ◌<◌, ◌⊎◌, inl, inr, List, Bool, true, Some, refl, ap, sym, subst, ◌∙◌, length}
 use Rattle.std.proofs.lemmas.Bool.Decides.{eqb_tells}
 use Rattle.plx_base.specs.Sectors.{Device, put, with_landed_sectors}
 use Rattle.plx_base.specs.declared.write_kind.WriteKind.{WriteKind}
@@ -15,7 +15,8 @@ use Rattle.plx_rules.specs.Ends.{End}
 use Rattle.plx_rules.specs.Holds.{Hold}
 use Rattle.plx_rules.specs.Rests.{home_of}
 use Rattle.plx_rules.specs.Session.{Known}
-use Rattle.law_lease.proofs.Covers.{Covers, one-cover, lease-uncovered, pool-uncovered, home-covers, write-covered}
+use Rattle.plx_rules.specs.Homes.{Covers}
+use Rattle.law_lease.proofs.Covers.{one-cover, lease-uncovered, pool-uncovered, home-covers, write-covered}
 use Rattle.law_lease.proofs.Frame.{SameUnder}
 use Rattle.law_lease.proofs.Leased.{MayIssue, MayUse, IsPlaced}
 use Rattle.law_lease.proofs.Rests.{home-in}
@@ -30,8 +31,8 @@ use Rattle.plx_base.proofs.Tests.{same-some}
 -- ---- by kind
 
 -- a write whose home is an image's lease is of that image
-of-image : (g : Geometry) (i j block : ℕ) (rests : List ℕ) → home_of rests ≡ Some (image_lease i) → rests ≡ image_lease j ∷ [] → IsOf g j block → IsOf g i block
-of-image g i j block rests home all of = subst (λ (n : ℕ). IsOf g n block) (image-image j i (same-some (image_lease j) (image_lease i) (sym (ap home_of all) ∙ home))) of
+of-image : (g : Geometry) (i j block : ℕ) (rests : List ℕ) → home_of rests ≡ Some (image_lease i) → home_of rests ≡ Some (image_lease j) → IsOf g j block → IsOf g i block
+of-image g i j block rests home its of = subst (λ (n : ℕ). IsOf g n block) (image-image j i (same-some (image_lease j) (image_lease i) (sym its ∙ home))) of
 
 -- a write that its image's lease covers is one of its record or journal
 pub image-write : (g : Geometry) → IsGeometry g → (i block : ℕ) (bytes rests : List ℕ) → i < g.images → Covers g (image_lease i) block → home_of rests ≡ Some (image_lease i) →
@@ -45,9 +46,9 @@ image-write g geometry i block bytes rests within covers home kind.Sweep placed 
 image-write g geometry i block bytes rests within covers home kind.Fresh placed = absurd (image-extent g i placed.0 within (same-some (image_lease i) (extent_lease g placed.0) (sym home ∙ ap home_of placed.3)))
 image-write g geometry i block bytes rests within covers home kind.Link placed = absurd (pool-uncovered g geometry (image_lease i) placed.2.0 placed.2.1 block placed.2.2 covers)
 image-write g geometry i block bytes rests within covers home kind.Overwrite placed = absurd (pool-uncovered g geometry (image_lease i) placed.2.0 placed.2.1 block placed.2.2 covers)
-image-write g geometry i block bytes rests within covers home kind.Record placed = (of-image g i placed.0 block rests home placed.3 (inl placed.2), tt)
-image-write g geometry i block bytes rests within covers home kind.JData placed = (of-image g i placed.0 block rests home placed.5 (inr (placed.1, placed.3, inr placed.4)), tt)
-image-write g geometry i block bytes rests within covers home kind.JCommit placed = (of-image g i placed.0 block rests home placed.5 (inr (placed.1, placed.3, inl placed.4)), tt)
+image-write g geometry i block bytes rests within covers home kind.Record placed = (of-image g i placed.0 block rests home (ap home_of placed.3.2) (inl placed.2), tt)
+image-write g geometry i block bytes rests within covers home kind.JData placed = (of-image g i placed.0 block rests home (ap home_of placed.5) (inr (placed.1, placed.3, inr placed.4)), tt)
+image-write g geometry i block bytes rests within covers home kind.JCommit placed = (of-image g i placed.0 block rests home (ap home_of placed.5) (inr (placed.1, placed.3, inl placed.4)), tt)
 image-write g geometry i block bytes rests within covers home other placed = absurd placed
 
 -- it is of an image that its command names
@@ -92,7 +93,7 @@ placed-block g kind.Sweep block bytes rests home placed is = inr (λ device slot
 placed-block g kind.Fresh block bytes rests home placed is = inr (λ device slots. tt)
 placed-block g kind.Link block bytes rests home placed is = inr (λ device slots. tt)
 placed-block g kind.Overwrite block bytes rests home placed is = inr (λ device slots. tt)
-placed-block g kind.Record block bytes rests home placed is = inl (placed.0, placed.1, same-some home (image_lease placed.0) (sym is ∙ ap home_of placed.3), inl placed.2, tt)
+placed-block g kind.Record block bytes rests home placed is = inl (placed.0, placed.1, same-some home (image_lease placed.0) (sym is ∙ ap home_of placed.3.2), inl placed.2, tt)
 placed-block g kind.JData block bytes rests home placed is = inl (placed.0, placed.2, same-some home (image_lease placed.0) (sym is ∙ ap home_of placed.5), inr (placed.1, placed.3, inr placed.4), tt)
 placed-block g kind.JCommit block bytes rests home placed is = inl (placed.0, placed.2, same-some home (image_lease placed.0) (sym is ∙ ap home_of placed.5), inr (placed.1, placed.3, inl placed.4), tt)
 placed-block g other block bytes rests home placed is = absurd placed

@@ -34,7 +34,7 @@ use Rattle.law_lease.proofs.Frame.{grips-free}
 use Rattle.law_lease.proofs.LeaseSteps.{reached-leased}
 use Rattle.law_lease.proofs.Leased.{LawfulAt, Leased, MayIssue}
 use Rattle.law_lease.proofs.Open.{open-found}
-use Rattle.law_lease.proofs.Rests.{home-in, in-one}
+use Rattle.law_lease.proofs.Rests.{home-in}
 use Rattle.law_run.specs.AllowedAsks.{MayWrite, fresh_of_block}
 use Rattle.law_space.proofs.Kept.{CarefulAt}
 use Rattle.law_space.proofs.MapWrites.{on-map}
@@ -82,23 +82,23 @@ module _ (w : World) (reached : Reached w) (content : KeepsContent w) (treed : T
     abbrev StandsAt : WriteKind → Type 0
     StandsAt k = p.place ≡ In known command (WriteThen k block bytes guard done fault missed)
 
-    may-be : (k : WriteKind) → StandsAt k → MayIssue g boot p.holds (rests_on g command p.holds k block bytes) k block bytes guard
-    may-be k here = let L : Place → Type 0 = λ q. LawfulAt g boot p.holds p.sample q in (subst L here (leased.seated a below).lawful).0
+    may-be : (k : WriteKind) → StandsAt k → MayIssue g boot p.holds (rests_on g command p.holds p.filled k block bytes) k block bytes guard
+    may-be k here = let L : Place → Type 0 = λ q. LawfulAt g boot p.holds p.filled p.sample q in (subst L here (leased.seated a below).lawful).0
 
     long : (k : WriteKind) → StandsAt k → length bytes ≡ 4096
-    long k here = let L : Place → Type 0 = λ q. LawfulAt g boot p.holds p.sample q in (subst L here (leased.seated a below).lawful).4
+    long k here = let L : Place → Type 0 = λ q. LawfulAt g boot p.holds p.filled p.sample q in (subst L here (leased.seated a below).lawful).4
 
     -- a record that is written makes holes of its image's roots
-    record-meets : (here : StandsAt kind.Record) → (home : ℕ) → home_of (rests_on g command p.holds kind.Record block bytes) ≡ Some home → HoldsInTime p.holds w.surface.time home →
-        RecordWaits g d (rests_on g command p.holds kind.Record block bytes) (no_names (length w.surface.writes)) block bytes no_sectors
+    record-meets : (here : StandsAt kind.Record) → (home : ℕ) → home_of (rests_on g command p.holds p.filled kind.Record block bytes) ≡ Some home → HoldsInTime p.holds w.surface.time home →
+        RecordWaits g d (rests_on g command p.holds p.filled kind.Record block bytes) (no_names (length w.surface.writes)) block bytes no_sectors
     record-meets here home is holds =
-        let leases = rests_on g command p.holds kind.Record block bytes in
+        let leases = rests_on g command p.holds p.filled kind.Record block bytes in
         let may = may-be kind.Record here in
         let placed = may.placed in
         let i = placed.0 in
-        let its : home ≡ image_lease placed.0 = same-some home (image_lease placed.0) (sym is ∙ ap home_of placed.3) in
+        let its : home ≡ image_lease placed.0 = same-some home (image_lease placed.0) (sym is ∙ ap home_of placed.3.2) in
         let holds' = subst (λ (l : ℕ). HoldsInTime p.holds w.surface.time l) its holds in
-        let under : is_in (image_lease placed.0) leases ≡ true = subst (λ (l : List ℕ). is_in (image_lease placed.0) l ≡ true) (sym placed.3) (in-one (image_lease placed.0) (image_lease placed.0) refl) in
+        let under : is_in (image_lease placed.0) leases ≡ true = home-in (image_lease placed.0) leases (ap home_of placed.3.2) in
         let grips = grips-free w leased a below none leases kind.Record block bytes guard (image_lease placed.0) holds'.0 holds'.1 holds'.2 holds'.3 in
         let grips' = grips-free w content.leased a below none leases kind.Record block bytes guard (image_lease placed.0) holds'.0 holds'.1 holds'.2 holds'.3 in
         let keeps = new-keeps w content a below known command kind.Record block bytes guard done fault missed here none placed.0 placed.1 (inl placed.2) under (inr (holds'.0, holds'.1, grips')) in
@@ -121,7 +121,7 @@ module _ (w : World) (reached : Reached w) (content : KeepsContent w) (treed : T
     hand-free k here same c is holds = in-hand-free no_names w reached treed a below none c (same c (subst (λ (q : Place). is_in c (hand_while g q p.found p.hand) ≡ true) here is)) holds
 
     -- a fresh block is in hand
-    fresh-meets : (here : StandsAt kind.Fresh) → (home : ℕ) → home_of (rests_on g command p.holds kind.Fresh block bytes) ≡ Some home → HoldsInTime p.holds w.surface.time home → OnFresh g d home block
+    fresh-meets : (here : StandsAt kind.Fresh) → (home : ℕ) → home_of (rests_on g command p.holds p.filled kind.Fresh block bytes) ≡ Some home → HoldsInTime p.holds w.surface.time home → OnFresh g d home block
     fresh-meets here home is holds =
         let its : home ≡ extent_lease g (extent_of g block) = same-some home (extent_lease g (extent_of g block)) (sym is) in
         let asks = rule no_names w reached treed a below none known command kind.Fresh block bytes guard done fault missed here in
@@ -132,7 +132,7 @@ module _ (w : World) (reached : Reached w) (content : KeepsContent w) (treed : T
         by_rule asks (fresh_of_block claim held in_hand long) = subst (λ (x : List ℕ). is_in block x ≡ true) (sym asks.hand) in_hand
 
     abbrev Meets : WriteKind → Type 0
-    Meets k = MeetsTree (no_names (length w.surface.writes)) g w.surface.time d p (rests_on g command p.holds k block bytes) k block bytes
+    Meets k = MeetsTree (no_names (length w.surface.writes)) g w.surface.time d p (rests_on g command p.holds p.filled k block bytes) k block bytes
 
     pub meets : (k : WriteKind) → StandsAt k → Meets k
     meets kind.Take here = record {
@@ -144,15 +144,15 @@ module _ (w : World) (reached : Reached w) (content : KeepsContent w) (treed : T
     meets kind.Give here = record {
       placed = λ home is holds. tt;
       waits = λ all. give-clears no_names w reached treed a below none block bytes guard (rule no_names w reached treed a below none known command kind.Give block bytes guard done fault missed here)
-          (λ extent at. all (extent_lease g extent) (on-map g leased.geometry kind.Give block bytes (rests_on g command p.holds kind.Give block bytes) (may-be kind.Give here).placed extent at).1);
+          (λ extent at. all (extent_lease g extent) (on-map g leased.geometry kind.Give block bytes (rests_on g command p.holds p.filled kind.Give block bytes) (may-be kind.Give here).placed extent at).1);
       taken = hand-free kind.Give here (λ c is. is);
     }
     meets kind.Sweep here = absurd (let C : Place → Type 0 = λ q. CarefulAt p.found q in (subst C here ((reached-spaced reached).careful a below)).0)
     meets kind.Record here = record {
       placed = λ home is holds. (let r = record-meets here home is holds in subst (λ (h : ℕ). OnRecord g d h block bytes) (same-some r.home home (sym r.is_home ∙ is)) r.on);
       waits = λ all. (let may = may-be kind.Record here in
-          let leases = rests_on g command p.holds kind.Record block bytes in
-          let is : home_of leases ≡ Some (image_lease may.placed.0) = ap home_of may.placed.3 in
+          let leases = rests_on g command p.holds p.filled kind.Record block bytes in
+          let is : home_of leases ≡ Some (image_lease may.placed.0) = ap home_of may.placed.3.2 in
           record-meets here (image_lease may.placed.0) is (all (image_lease may.placed.0) (home-in (image_lease may.placed.0) leases is)));
       taken = hand-free kind.Record here (λ c is. is);
     }

@@ -1,5 +1,5 @@
--- Which lease a block lies under, and that a write's block lies under its home alone.
-use Rattle.std.proofs.Common.{◌≡◌, ℕ, ◌<◌, ◌⊎◌, inl, inr, List, Option, Some, None, refl, ap, sym, ◌∙◌, arith}
+-- A write's block lies under its home alone.
+use Rattle.std.proofs.Common.{◌≡◌, ℕ, ◌<◌, ◌⊎◌, inl, inr, List, Some, None, refl, ap, sym, ◌∙◌, arith}
 use Rattle.plx_base.specs.declared.write_kind.WriteKind.{WriteKind}
 use Rattle.plx_base.specs.declared.write_kind.WriteKind.TheVariants as kind
 use Rattle.plx_geom.proofs.Places.{place-place, lease-record, lease-log, lease-descriptor, lease-data, lease-map}
@@ -7,24 +7,9 @@ use Rattle.plx_geom.specs.Geometry.{Geometry, IsGeometry, IsPoolBlock, lease_cou
 use Rattle.plx_geom.specs.Places.{IsPlace, block_of}
 use Rattle.plx_geom.specs.declared.place.Place.{Place}
 use Rattle.plx_geom.specs.declared.place.Place.TheVariants.{Super, RootLease, ImageLease, ExtentLease, Record, Log, JDesc, JData, Map, Pool}
+use Rattle.plx_rules.specs.Homes.{Covers, lease_over}
 use Rattle.plx_rules.specs.Rests.{home_of}
 use Rattle.law_lease.proofs.Leased.{IsPlaced}
-
--- the lease under which a place lies: an image's record, log and journal under that image's, and a map under its extent's; nothing else lies under one by its place
-abbrev pub lease_over : Geometry → Place → Option ℕ
-lease_over g (Record image) = Some (image_lease image.0)
-lease_over g (Log image) = Some (image_lease image.0)
-lease_over g (JDesc image slot) = Some (image_lease image.0)
-lease_over g (JData image slot) = Some (image_lease image.0)
-lease_over g (Map extent) = Some (extent_lease g extent.0)
-lease_over g other = None
-
--- a block is covered by a lease
-pub record Covers (g : Geometry) (lease block : ℕ) : Type 0 where
-  pub place : Place
-  pub is : IsPlace g place
-  pub here : block_of g place ≡ block
-  pub under : lease_over g place ≡ Some lease
 
 -- no block is covered by two leases
 pub one-cover : (g : Geometry) → IsGeometry g → (lease other block : ℕ) → Covers g lease block → Covers g other block → lease ≡ other
@@ -68,7 +53,7 @@ home-covers g kind.Release block bytes rests placed = inl (placed.0, placed.1, p
 home-covers g kind.Take block bytes rests placed = inr (inl (extent_lease g placed.0, ap home_of placed.3, record { place = Map (record { 0 = placed.0 }); is = placed.1; here = sym placed.2; under = refl }))
 home-covers g kind.Give block bytes rests placed = inr (inl (extent_lease g placed.0, ap home_of placed.3, record { place = Map (record { 0 = placed.0 }); is = placed.1; here = sym placed.2; under = refl }))
 home-covers g kind.Sweep block bytes rests placed = inr (inl (extent_lease g placed.0, ap home_of placed.3, record { place = Map (record { 0 = placed.0 }); is = placed.1; here = sym placed.2; under = refl }))
-home-covers g kind.Record block bytes rests placed = inr (inl (image_lease placed.0, ap home_of placed.3, record { place = Record (record { 0 = placed.0 }); is = placed.1; here = sym placed.2; under = refl }))
+home-covers g kind.Record block bytes rests placed = inr (inl (image_lease placed.0, ap home_of placed.3.2, record { place = Record (record { 0 = placed.0 }); is = placed.1; here = sym placed.2; under = refl }))
 home-covers g kind.JData block bytes rests placed = inr (inl (image_lease placed.0, ap home_of placed.5, record { place = JData (record { 0 = placed.0 }) placed.1; is = (placed.2, placed.3); here = sym placed.4; under = refl }))
 home-covers g kind.JCommit block bytes rests placed = inr (inl (image_lease placed.0, ap home_of placed.5, record { place = JDesc (record { 0 = placed.0 }) placed.1; is = (placed.2, placed.3); here = sym placed.4; under = refl }))
 home-covers g kind.Fresh block bytes rests placed = inr (inr (placed.0, placed.1, placed.2))

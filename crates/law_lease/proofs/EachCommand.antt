@@ -1,5 +1,5 @@
 -- Each write that any command asks is allowed.
-use Rattle.std.proofs.Common.{ℕ, ◌^◌, ◌<◌, List, Some, refl, arith}
+use Rattle.std.proofs.Common.{ℕ, ◌^◌, ◌<◌, List, [], Some, refl, arith}
 use Rattle.std.specs.Prelude.{nat_lt}
 use Rattle.plx_base.specs.Payload.{bytes_of}
 use Rattle.plx_commands.specs.declared.command.Command.{Command}
@@ -14,7 +14,7 @@ use Rattle.law_lease.proofs.LawfulSpace.{right-reserve, right-retire}
 use Rattle.law_lease.proofs.Leased.{LawfulRest}
 
 pub lawful-command : (s : Setting) → IsGeometry s.geometry → s.boot < 2 ^ 128 → (known : Known) (holds : ℕ → Hold) (hand : List ℕ) (reading : ℕ) (command : Command) → reading < 2 ^ 48 → IsWellFormed command →
-    LawfulRest s.geometry s.boot command (after_first s.geometry known reading holds) (Some reading) (command_part s known (after_first s.geometry known reading holds) hand reading command)
+    LawfulRest s.geometry s.boot command (after_first s.geometry known reading holds) [] (Some reading) (command_part s known (after_first s.geometry known reading holds) hand reading command)
 lawful-command s geometry small known holds hand reading (Attach slot) early whole =
     right-attach s (Attach slot) known slot.0 (after_first s.geometry known reading holds) (Some reading) (known.sessions slot.0) (nat_lt slot.0 s.geometry.images) _ refl refl
     (first-rests (session_at s.geometry known (lease_at (image_lease slot.0))) reading (holds (lease_at (image_lease slot.0))))

@@ -21,7 +21,8 @@ use Rattle.plx_rules.specs.Owners.{pending_write, first_landed, is_set}
 use Rattle.plx_rules.specs.Rests.{AreWithin, IsUnder, extent_of, extents_of, home_of}
 use Rattle.plx_rules.specs.Settings.{boot_number}
 use Rattle.plx_rules.specs.World.{World, Seat, setting_at}
-use Rattle.law_lease.proofs.Covers.{Covers, lease-uncovered, pool-uncovered, home-covers, write-covered}
+use Rattle.plx_rules.specs.Homes.{Covers}
+use Rattle.law_lease.proofs.Covers.{lease-uncovered, pool-uncovered, home-covers, write-covered}
 use Rattle.law_lease.proofs.LeaseFrames.{grip-open, grip_while-open, grip_while-away}
 use Rattle.law_lease.proofs.LeaseLands.{MayBeAsked, unlanded-before, asked-may, grip-asked, first-set, pending-other, not-whole}
 use Rattle.law_lease.proofs.Leased.{IsPlaced, IsAskedAt, IsRight, Unlanded, grip_while, grip_at, Leased}
@@ -96,7 +97,7 @@ placed-within g lease kind.Sweep block bytes rests placed under =
 placed-within g lease kind.Fresh block bytes rests placed under = alone-within g lease (extent_lease g placed.0) rests (extent-below g placed.0 placed.2.extent_high) placed.3 under
 placed-within g lease kind.Link block bytes rests placed under = link-within g lease placed.0 placed.3.0 rests placed.1 placed.3.1 placed.3.2 under
 placed-within g lease kind.Overwrite block bytes rests placed under = alone-within g lease (image_lease placed.0) rests (image-below g placed.0 placed.1) placed.3 under
-placed-within g lease kind.Record block bytes rests placed under = alone-within g lease (image_lease placed.0) rests (image-below g placed.0 placed.1) placed.3 under
+placed-within g lease kind.Record block bytes rests placed under = link-within g lease placed.0 placed.3.0 rests placed.1 placed.3.1 placed.3.2 under
 placed-within g lease kind.JData block bytes rests placed under = alone-within g lease (image_lease placed.0) rests (image-below g placed.0 placed.2) placed.5 under
 placed-within g lease kind.JCommit block bytes rests placed under = alone-within g lease (image_lease placed.0) rests (image-below g placed.0 placed.2) placed.5 under
 placed-within g lease other block bytes rests placed under = absurd placed
@@ -252,7 +253,7 @@ module _ (w : World) (leased : Leased w) (number sector : ℕ) (write : Issued) 
         let Q : Issued → Type 0 = λ y. IsAskedAt (p b).place (boot_number b (w.seats b).boots) y in
         let asked' = subst Q same asked.2 in
         let lawful = (leased.seated b under).lawful in
-        let may' = asked-may g (boot_number b (w.seats b).boots) (p b).holds (p b).sample (p b).place write asked' lawful in
+        let may' = asked-may g (boot_number b (w.seats b).boots) (p b).holds (p b).filled (p b).sample (p b).place write asked' lawful in
         let hold = (p b).holds (lease_at lease) in
         let there : pending_write writes (w.seats b).pending ≡ Some write = ap (pending_write writes) is ∙ may.found in
         let there' : pending_write now (w.seats b).pending ≡ Some (with_sector write sector) =

@@ -1,5 +1,5 @@
 -- Each write that a command asks is allowed by what its boot holds.
-use Rattle.std.proofs.Common.{◌≡◌, ℕ, zero, suc, ◌+◌, ◌-◌, ◌^◌, ◌≤◌, ◌<◌, List, [], ◌∷◌, Bool, true, false, Option, Some, None, refl, ap, ◌∙◌, arith, length}
+use Rattle.std.proofs.Common.{◌≡◌, ℕ, zero, suc, ◌+◌, ◌-◌, ◌^◌, ◌≤◌, ◌<◌, List, [], ◌∷◌, Bool, true, false, Option, Some, None, refl, ap, sym, subst, ◌∙◌, arith, length}
 use Rattle.std.proofs.Math.Nat.{mod-lt}
 use Rattle.std.specs.Prelude.{if◌then◌else◌, nat_le, nat_lt, ◌==◌, not}
 use Rattle.std.specs.Str.{bytes_eq}
@@ -72,55 +72,72 @@ unfolding image_bytes
 length-labelled (image_is.Free generation) short = length-spelled image_magic (image_fields (image_is.Free generation)) [] (omega arith)
 length-labelled (image_is.Live live) short = length-spelled image_magic (image_fields (image_is.Live live)) live.label (omega (arith, short))
 
+-- nothing was filled at an end
+abbrev pub Unfilled : {E : Type 0} → (At : E → (ℕ → Hold) → Option ℕ → Type 0) → E → (ℕ → Hold) → List (ℕ × List ℕ) → Option ℕ → Type 0
+Unfilled At end held filled last = At end held last × (filled ≡ [])
+
 module _ (g : Geometry) (boot : ℕ) (command : Command) where
   -- one part and then another
-  pub lawful-followed : {E F : Type 0} (At : E → (ℕ → Hold) → Option ℕ → Type 0) (At' : F → (ℕ → Hold) → Option ℕ → Type 0) (part : Part E) (next : E → Part F) (holds : ℕ → Hold) (sample : Option ℕ) →
-      Lawful At g boot command holds sample part → ((end : E) (h : ℕ → Hold) (s : Option ℕ) → At end h s → Lawful At' g boot command h s (next end)) →
-      Lawful At' g boot command holds sample (followed_by part next)
-  lawful-followed At At' (Ends end) next holds sample lawful then' = then' end holds sample lawful
-  lawful-followed At At' (ReadThen block rest fault) next holds sample lawful then' = (
-    λ bytes. lawful-followed At At' (rest bytes) next _ _ (lawful.0 bytes) then',
-    lawful-followed At At' fault next _ _ lawful.1 then',
+  pub lawful-followed : {E F : Type 0} (At : E → (ℕ → Hold) → List (ℕ × List ℕ) → Option ℕ → Type 0) (At' : F → (ℕ → Hold) → List (ℕ × List ℕ) → Option ℕ → Type 0) (part : Part E) (next : E → Part F)
+      (holds : ℕ → Hold) (filled : List (ℕ × List ℕ)) (sample : Option ℕ) →
+      Lawful At g boot command holds filled sample part → ((end : E) (h : ℕ → Hold) (f : List (ℕ × List ℕ)) (s : Option ℕ) → At end h f s → Lawful At' g boot command h f s (next end)) →
+      Lawful At' g boot command holds filled sample (followed_by part next)
+  lawful-followed At At' (Ends end) next holds filled sample lawful then' = then' end holds filled sample lawful
+  lawful-followed At At' (ReadThen block rest fault) next holds filled sample lawful then' = (
+    λ bytes. lawful-followed At At' (rest bytes) next _ _ _ (lawful.0 bytes) then',
+    lawful-followed At At' fault next _ _ _ lawful.1 then',
   )
-  lawful-followed At At' (WriteThen kind block bytes guard done fault missed) next holds sample lawful then' = (
+  lawful-followed At At' (WriteThen kind block bytes guard done fault missed) next holds filled sample lawful then' = (
     lawful.0,
-    lawful-followed At At' done next _ _ lawful.1 then',
-    lawful-followed At At' fault next _ _ lawful.2 then',
-    λ reading. lawful-followed At At' (missed reading) next _ _ (lawful.3 reading) then',
+    lawful-followed At At' done next _ _ _ lawful.1 then',
+    lawful-followed At At' fault next _ _ _ lawful.2 then',
+    λ reading. lawful-followed At At' (missed reading) next _ _ _ (lawful.3 reading) then',
     lawful.4,
   )
-  lawful-followed At At' (ClockThen rest) next holds sample lawful then' = λ reading early. lawful-followed At At' (rest reading) next _ _ (lawful reading early) then'
-  lawful-followed At At' (UntilThen from rest) next holds sample lawful then' = λ reading past early. lawful-followed At At' (rest reading) next _ _ (lawful reading past early) then'
+  lawful-followed At At' (ClockThen rest) next holds filled sample lawful then' = λ reading early. lawful-followed At At' (rest reading) next _ _ _ (lawful reading early) then'
+  lawful-followed At At' (UntilThen from rest) next holds filled sample lawful then' = λ reading past early. lawful-followed At At' (rest reading) next _ _ _ (lawful reading past early) then'
+
+  -- where the first fills nothing
+  pub lawful-unfilled : {E F : Type 0} (At : E → (ℕ → Hold) → Option ℕ → Type 0) (At' : F → (ℕ → Hold) → List (ℕ × List ℕ) → Option ℕ → Type 0) (part : Part E) (next : E → Part F) (holds : ℕ → Hold) (sample : Option ℕ) →
+      Lawful (Unfilled At) g boot command holds [] sample part → ((end : E) (h : ℕ → Hold) (s : Option ℕ) → At end h s → Lawful At' g boot command h [] s (next end)) →
+      Lawful At' g boot command holds [] sample (followed_by part next)
+  lawful-unfilled At At' part next holds sample lawful then' =
+      lawful-followed (Unfilled At) At' part next holds [] sample lawful
+      (λ end h f s at. subst (λ (fresh : List (ℕ × List ℕ)). Lawful At' g boot command h fresh s (next end)) (sym at.1) (then' end h s at.0))
+
+  -- a part that fills nothing
+  abbrev FillsNone : {E : Type 0} → (ℕ → Hold) → Option ℕ → Part E → Type 0
+  FillsNone holds sample part = Lawful (Unfilled (λ end held last. Unit {0})) g boot command holds [] sample part
 
   -- ---- a claim
 
-  claim-in_time : (uses : List InUse) (reading : ℕ) (rest : Part ClaimEnd) (holds : ℕ → Hold) (sample : Option ℕ) → LawfulRest g boot command holds sample rest →
-      LawfulRest g boot command holds sample (claim_in_time uses reading rest)
+  claim-in_time : (uses : List InUse) (reading : ℕ) (rest : Part ClaimEnd) (holds : ℕ → Hold) (sample : Option ℕ) → FillsNone holds sample rest →
+      FillsNone holds sample (claim_in_time uses reading rest)
   claim-in_time uses reading rest holds sample lawful = by_found (first_reached uses reading)
     where
-      by_found : (found : Option InUse) → LawfulRest g boot command holds sample (unless_reached found (λ due. Ends (ClaimLost due reading)) rest)
+      by_found : (found : Option InUse) → FillsNone holds sample (unless_reached found (λ due. Ends (ClaimLost due reading)) rest)
       by_found None = lawful
-      by_found (Some due) = tt
+      by_found (Some due) = (tt, refl)
 
-  claim-damaged : (uses : List InUse) (holds : ℕ → Hold) (sample : Option ℕ) → LawfulRest g boot command holds sample (claim_damaged uses)
-  claim-damaged uses holds sample = λ reading early. claim-in_time uses reading (Ends ClaimDamaged) _ _ tt
+  claim-damaged : (uses : List InUse) (holds : ℕ → Hold) (sample : Option ℕ) → FillsNone holds sample (claim_damaged uses)
+  claim-damaged uses holds sample = λ reading early. claim-in_time uses reading (Ends ClaimDamaged) _ _ (tt, refl)
 
   claim-reread : (own : Bool) (uses : List InUse) (claim : Claim) (seen : Option LeaseRecord) (holds : ℕ → Hold) (sample : Option ℕ) →
-      LawfulRest g boot command holds sample (reread_by own uses claim seen)
-  claim-reread true uses claim seen holds sample = tt
+      FillsNone holds sample (reread_by own uses claim seen)
+  claim-reread true uses claim seen holds sample = (tt, refl)
   claim-reread false uses claim None holds sample = claim-damaged uses holds sample
-  claim-reread false uses claim (Some seen) holds sample = tt
+  claim-reread false uses claim (Some seen) holds sample = (tt, refl)
 
   claim-written : (others : List InUse) (lease number sample : ℕ) (holds : ℕ → Hold) (last : Option ℕ) → lease < lease_count g → number < 2 ^ 40 → sample < 2 ^ 48 →
-      holds (lease_at lease) ≡ Seen sample → LawfulRest g boot command holds last (written_part others lease (claim_of boot number sample))
+      holds (lease_at lease) ≡ Seen sample → FillsNone holds last (written_part others lease (claim_of boot number sample))
   claim-written others lease number sample holds last within few early is = (
     record { lease = lease; number = number; sample = sample; within = within; at_lease = refl; alone = refl; hold = is; spells = refl; few = few; early = early; guarded = refl },
     λ reading past below. claim-in_time uses reading (reread_part uses lease claim) _ _ (
       λ bytes. claim-reread (bytes_eq bytes (lease_bytes (own_record claim))) uses claim (read_lease bytes) _ _,
-      tt,
+      (tt, refl),
     ),
-    tt,
-    λ reading. tt,
+    (tt, refl),
+    λ reading. (tt, refl),
     length-lease (own_record claim),
   )
     where
@@ -131,49 +148,49 @@ module _ (g : Geometry) (boot : ℕ) (command : Command) where
       uses = own_use lease claim ∷ others
 
   claim-seen : (others : List InUse) (lease number sample : ℕ) (found : Option LeaseRecord) (holds : ℕ → Hold) → lease < lease_count g → number < 2 ^ 40 → sample < 2 ^ 48 →
-      holds (lease_at lease) ≡ seen_by found sample → LawfulRest g boot command holds None (seen_part others lease (claim_of boot number sample) found)
+      holds (lease_at lease) ≡ seen_by found sample → FillsNone holds None (seen_part others lease (claim_of boot number sample) found)
   claim-seen others lease number sample None holds within few early is = claim-damaged others holds None
   claim-seen others lease number sample (Some seen) holds within few early is = by_test (is_expired seen sample) is
     where
       by_test : (a : Bool) → holds (lease_at lease) ≡ (if a then Seen sample else Nothing) →
-          LawfulRest g boot command holds None (if_expired a seen (written_part others lease (claim_of boot number sample)))
-      by_test false is' = tt
+          FillsNone holds None (if_expired a seen (written_part others lease (claim_of boot number sample)))
+      by_test false is' = (tt, refl)
       by_test true is' = claim-written others lease number sample holds None within few early is'
 
   pub lawful-claim : (others : List InUse) (lease number : ℕ) (holds : ℕ → Hold) (last : Option ℕ) → lease < lease_count g → number < 2 ^ 40 → holds (lease_at lease) ≡ Nothing →
-      LawfulRest g boot command holds last (claim_part boot others lease number)
+      FillsNone holds last (claim_part boot others lease number)
   lawful-claim others lease number holds last within few is = λ sample early. claim-in_time others sample _ _ _ (
     λ bytes.
         let before : ℕ → Hold = λ block. hold_after_reading sample (holds block) in
         claim-seen others lease number sample (read_lease bytes) _ within few early
         (at-same before (lease_at lease) (hold_after_read (Some sample) bytes (before (lease_at lease))) ∙ ap (λ (h : Hold). hold_after_read (Some sample) bytes (hold_after_reading sample h)) is),
-    tt,
+    (tt, refl),
   )
 
   -- ---- the reading of a journal
 
   pub lawful-load : (image : ℕ) (kept : ImageRecord) (left slot : ℕ) (writes : List Journaled) (holds : ℕ → Hold) (sample : Option ℕ) →
-      LawfulRest g boot command holds sample (load_part g image kept left slot writes)
-  lawful-load image kept zero slot writes holds sample = tt
+      FillsNone holds sample (load_part g image kept left slot writes)
+  lawful-load image kept zero slot writes holds sample = (tt, refl)
   lawful-load image kept (suc left) slot writes holds sample = (
     λ bytes. by_found (finding kept g.slots slot bytes) _ _ (λ h s w. lawful-load image kept left (slot + 1) w h s),
-    tt,
+    (tt, refl),
   )
     where
-      by_found : (found : Finding) (h : ℕ → Hold) (s : Option ℕ) → ((h' : ℕ → Hold) (s' : Option ℕ) (w : List Journaled) → LawfulRest g boot command h' s' (load_part g image kept left (slot + 1) w)) →
-          LawfulRest g boot command h s (load_found (descriptor_at g image slot) found (load_part g image kept left (slot + 1) writes)
+      by_found : (found : Finding) (h : ℕ → Hold) (s : Option ℕ) → ((h' : ℕ → Hold) (s' : Option ℕ) (w : List Journaled) → FillsNone h' s' (load_part g image kept left (slot + 1) w)) →
+          FillsNone h s (load_found (descriptor_at g image slot) found (load_part g image kept left (slot + 1) writes)
           (λ number vblock. ReadThen (data_at g image slot) (λ data'. load_part g image kept left (slot + 1) (with_write_by_number (record { number = number; vblock = vblock; block = data' }) writes)) (Ends (LoadReadFault (data_at g image slot)))))
-      by_found Outside h s rest = tt
+      by_found Outside h s rest = (tt, refl)
       by_found Unused h s rest = rest h s writes
-      by_found (Counts d) h s rest = (λ data'. rest _ _ _, tt)
+      by_found (Counts d) h s rest = (λ data'. rest _ _ _, (tt, refl))
 
 module _ (s : Setting) (command : Command) where
   abbrev g : Geometry
   g = s.geometry
 
-  -- the rest of a command
+  -- the rest of a command, where nothing was filled
   abbrev Right : (ℕ → Hold) → Option ℕ → Part End → Type 0
-  Right holds sample part = LawfulRest s.geometry s.boot command holds sample part
+  Right holds sample part = LawfulRest s.geometry s.boot command holds [] sample part
 
   -- ---- tests and last readings
 
@@ -202,7 +219,7 @@ module _ (s : Setting) (command : Command) where
 
   right-journal : (known : Known) (image until : ℕ) (kept : ImageRecord) (live : Bool) (holds : ℕ → Hold) (sample : Option ℕ) → Right holds sample (load_journal s known image until kept live)
   right-journal known image until kept true holds sample =
-      lawful-followed s.geometry s.boot command (λ end held last. Unit {0}) (λ end held last. Unit {0}) (load_part s.geometry image kept s.geometry.slots 0 []) (after_load s known image until kept) holds sample
+      lawful-unfilled s.geometry s.boot command (λ end held last. Unit {0}) (λ end held fresh last. Unit {0}) (load_part s.geometry image kept s.geometry.slots 0 []) (after_load s known image until kept) holds sample
       (lawful-load s.geometry s.boot command image kept s.geometry.slots 0 [] holds sample)
       (λ end h l any. right-loaded known image until kept end h l)
   right-journal known image until kept false holds sample = right-ends known (image_use image until) _ _ holds sample
@@ -227,7 +244,7 @@ module _ (s : Setting) (command : Command) where
   right-claim false known image holds sample e within is = tt
   right-claim true known image holds sample e within is =
       let few = nat_lt-tells known.claims last_claim e in
-      lawful-followed s.geometry s.boot command (λ end held last. Unit {0}) (λ end held last. Unit {0}) (claim_part s.boot [] (image_lease image) known.claims) (after_claim s (with_claim known) image) holds sample
+      lawful-unfilled s.geometry s.boot command (λ end held last. Unit {0}) (λ end held fresh last. Unit {0}) (claim_part s.boot [] (image_lease image) known.claims) (after_claim s (with_claim known) image) holds sample
       (lawful-claim s.geometry s.boot command [] (image_lease image) known.claims holds sample (image-below s.geometry image within) (omega (arith, few)) is)
       (λ end h l any. right-claimed (with_claim known) image end h l)
 
@@ -275,7 +292,7 @@ module _ (s : Setting) (command : Command) where
     right-made : (made : ImageRecord) (done : Reply) → length (label_of made) ≤ 32 → Right holds sample (record_part s known image until made done)
     right-made made done short = (
       record {
-        placed = (image, within, refl, ap (λ (n : ℕ). image_lease n ∷ []) (record-found s.geometry image));
+        placed = (image, within, refl, ([], tt, ap (λ (n : ℕ). image_lease n ∷ []) (record-found s.geometry image)));
         grants = λ lease needs. granted lease (one-in lease _ needs ∙ ap image_lease (record-found s.geometry image));
       },
       right-ends known (image_use image until) done (with_session known image (Some (new_session made))) _ None,

@@ -28,7 +28,7 @@ use Rattle.plx_rules.specs.Settings.{Setting}
 use Rattle.plx_rules.specs.Space.{Taking, with_claim_begun, with_claimed, with_taken, with_busy, first_taking, extent_use, if_needed, set_part, take_found, take_here, take_if_held, take_held, after_extent_claim, claim_extent, claim_if_free, other_found, take_if_other, take_others, shortage_part, taken_part, reserve_part, release_then, in_extent, give_found, give_part, retire_extent, retire_extents, retire_lease, retire_images, retire_part, read_map, free_from, with_set, with_clear}
 use Rattle.plx_rules.specs.Times.{is_expired, term, wait}
 use Rattle.plx_base.proofs.Tests.{nat_lt-tells}
-use Rattle.law_lease.proofs.LawfulCommands.{IsRest, lawful-followed, right-ends}
+use Rattle.law_lease.proofs.LawfulCommands.{IsRest, Unfilled, lawful-unfilled, right-ends}
 use Rattle.law_lease.proofs.Leased.{IsGranted, Lawful, LawfulRest}
 use Rattle.law_lease.proofs.Rests.{one-in, lease-place-found, map-found}
 
@@ -60,9 +60,9 @@ ClaimLeaves lease before (ClaimBusy seen) after sample = OthersStay lease before
 ClaimLeaves lease before other after sample = Unit {0}
 
 module _ (g : Geometry) (boot : ℕ) (small : boot < 2 ^ 128) (command : Command) (lease : ℕ) (within : lease < lease_count g) (before : ℕ → Hold) where
-  -- a claim is right, and leaves that
+  -- a claim is right, fills nothing, and leaves that
   abbrev Leaves : (ℕ → Hold) → Option ℕ → Part ClaimEnd → Type 0
-  Leaves holds sample part = Lawful (ClaimLeaves lease before) g boot command holds sample part
+  Leaves holds sample part = Lawful (Unfilled (ClaimLeaves lease before)) g boot command holds [] sample part
 
   stays-timed : (reading : ℕ) (holds : ℕ → Hold) → OthersStay lease before holds → OthersStay lease before (λ block. hold_after_reading reading (holds block))
   stays-timed reading holds stay j ne rests = ap (λ (h : Hold). hold_after_reading reading h) (stay j ne rests) ∙ timed-rests reading (before (lease_at j)) rests
@@ -76,16 +76,16 @@ module _ (g : Geometry) (boot : ℕ) (small : boot < 2 ^ 128) (command : Command
     where
       by_found : (found : Option InUse) → first_reached uses reading ≡ found → Leaves holds sample (unless_reached found (λ due. Ends (ClaimLost due reading)) rest)
       by_found None is = right is
-      by_found (Some due) is = tt
+      by_found (Some due) is = (tt, refl)
 
   leaves-damaged : (uses : List InUse) (holds : ℕ → Hold) (sample : Option ℕ) → Leaves holds sample (claim_damaged uses)
-  leaves-damaged uses holds sample = λ reading early. leaves-in_time uses reading (Ends ClaimDamaged) _ _ (λ none. tt)
+  leaves-damaged uses holds sample = λ reading early. leaves-in_time uses reading (Ends ClaimDamaged) _ _ (λ none. (tt, refl))
 
   leaves-reread : (own : Bool) (uses : List InUse) (claim : Claim) (seen : Option LeaseRecord) (holds : ℕ → Hold) (sample : Option ℕ) → OthersStay lease before holds →
       holds (lease_at lease) ≡ hold_after_reread own (Held claim (end_of_term claim)) → Leaves holds sample (reread_by own uses claim seen)
-  leaves-reread true uses claim seen holds sample stay is = (is, stay)
+  leaves-reread true uses claim seen holds sample stay is = ((is, stay), refl)
   leaves-reread false uses claim None holds sample stay is = leaves-damaged uses holds sample
-  leaves-reread false uses claim (Some seen) holds sample stay is = stay
+  leaves-reread false uses claim (Some seen) holds sample stay is = (stay, refl)
 
   leaves-written : (others : List InUse) (number sample : ℕ) (holds : ℕ → Hold) (last : Option ℕ) → number < 2 ^ 40 → sample < 2 ^ 48 → OthersStay lease before holds →
       holds (lease_at lease) ≡ Seen sample → Leaves holds last (written_part others lease (claim_of boot number sample))
@@ -96,10 +96,10 @@ module _ (g : Geometry) (boot : ℕ) (small : boot < 2 ^ 128) (command : Command
           (stays-at (λ block. hold_after_reading reading (done block)) _ (stays-timed reading done (stays-at holds _ stay)))
           (at-same (λ block. hold_after_reading reading (done block)) (lease_at lease) _
           ∙ ap (λ (h : Hold). hold_after_read (Some reading) bytes h) (ap (λ (h : Hold). hold_after_reading reading h) held ∙ waited reading past (before-first-end (own_use lease claim) others reading none))),
-      tt,
+      (tt, refl),
     )),
-    tt,
-    λ reading. tt,
+    (tt, refl),
+    λ reading. (tt, refl),
     length-lease (own_record claim),
   )
     where
@@ -133,7 +133,7 @@ module _ (g : Geometry) (boot : ℕ) (small : boot < 2 ^ 128) (command : Command
   leaves-seen others number sample (Some seen) holds few early stay is = by_test (is_expired seen sample) is
     where
       by_test : (a : Bool) → holds (lease_at lease) ≡ (if a then Seen sample else Nothing) → Leaves holds None (if_expired a seen (written_part others lease (claim_of boot number sample)))
-      by_test false is' = stay
+      by_test false is' = (stay, refl)
       by_test true is' = leaves-written others number sample holds None few early stay is'
 
   pub leaves-claim : (others : List InUse) (number : ℕ) (holds : ℕ → Hold) (last : Option ℕ) → number < 2 ^ 40 → OthersStay lease before holds → holds (lease_at lease) ≡ Nothing →
@@ -143,14 +143,14 @@ module _ (g : Geometry) (boot : ℕ) (small : boot < 2 ^ 128) (command : Command
         let then' : ℕ → Hold = λ block. hold_after_reading sample (holds block) in
         leaves-seen others number sample (read_lease bytes) _ few early (stays-at then' _ (stays-timed sample holds stay))
         (at-same then' (lease_at lease) (hold_after_read (Some sample) bytes (then' (lease_at lease))) ∙ ap (λ (h : Hold). hold_after_read (Some sample) bytes (hold_after_reading sample h)) is),
-    tt,
+    (tt, refl),
   ))
 
 -- ---- a take
 
 module _ (s : Setting) (geometry : IsGeometry s.geometry) (small : s.boot < 2 ^ 128) (command : Command) where
   abbrev SpaceRight : (ℕ → Hold) → Option ℕ → Part End → Type 0
-  SpaceRight holds sample part = LawfulRest s.geometry s.boot command holds sample part
+  SpaceRight holds sample part = LawfulRest s.geometry s.boot command holds [] sample part
 
   -- the block of an extent's lease
   abbrev lease_block : ℕ → ℕ
@@ -255,7 +255,7 @@ module _ (s : Setting) (geometry : IsGeometry s.geometry) (small : s.boot < 2 ^ 
   right-claim_extent false count extent below first rest t holds sample e rests none same right = tt
   right-claim_extent true count extent below first rest t holds sample e rests none same right =
       let few = nat_lt-tells t.known.claims last_claim e in
-      lawful-followed s.geometry s.boot command (ClaimLeaves (extent_lease s.geometry extent) holds) (λ end held last. Unit {0}) (claim_part s.boot t.claimed (extent_lease s.geometry extent) t.known.claims)
+      lawful-unfilled s.geometry s.boot command (ClaimLeaves (extent_lease s.geometry extent) holds) (λ end held fresh last. Unit {0}) (claim_part s.boot t.claimed (extent_lease s.geometry extent) t.known.claims)
       (after_extent_claim s count extent rest (with_claim_begun t)) holds sample
       (leaves-claim s.geometry s.boot small command (extent_lease s.geometry extent) (extent-below s.geometry extent below) holds t.claimed t.known.claims holds sample (omega (arith, few)) (λ j ne r. refl) none)
       (λ end h l left. right-extent_claimed count extent below first holds rest (with_claim_begun t) end h l rests same left right)

@@ -212,7 +212,7 @@ module _ (g : Geometry) (rests : ℕ → List ℕ) (appliances time : ℕ) (devi
 
   -- a write is done
   module _ (below : a < appliances) (most : appliances ≤ 8) (boots : (seats a).boots < 2 ^ 32) (n : ℕ) (write : Issued) (waited : (seats a).pending ≡ Some n) (found : slice_get writes n ≡ Some write)
-      (all : write.landed ≡ all_sectors) (asked : IsAskedAt p.place boot write) (lawful : LawfulAt g boot p.holds p.sample p.place) where
+      (all : write.landed ≡ all_sectors) (asked : IsAskedAt p.place boot write) (lawful : LawfulAt g boot p.holds p.filled p.sample p.place) where
     abbrev hold : Hold
     hold = p.holds (lease_at lease)
 
@@ -281,4 +281,4 @@ module _ (g : Geometry) (rests : ℕ → List ℕ) (appliances time : ℕ) (devi
     done-of other leases may good = absurd may
 
     pub good-written : Good rests time writes lease on.standing boot None (after_write write.kind write.block write.bytes p.holds (lease_at lease))
-    good-written = (let may = asked-may g boot p.holds p.sample p.place write asked lawful in done-of write.kind may.0 may.1 good-landed)
+    good-written = (let may = asked-may g boot p.holds p.filled p.sample p.place write asked lawful in done-of write.kind may.0 may.1 good-landed)

@@ -57,16 +57,16 @@ first-set write flag e = ap is_set e
 abbrev pub MayBeAsked : Geometry → ℕ → (ℕ → Hold) → WriteKind → ℕ → List ℕ → ℕ → Type 0
 MayBeAsked g boot holds kind block bytes guard = (rests : List ℕ) × MayIssue g boot holds rests kind block bytes guard
 
-pub asked-may : (g : Geometry) (boot : ℕ) (holds : ℕ → Hold) (sample : Option ℕ) (place : Place) (write : Issued) → IsAskedAt place boot write →
-    LawfulAt g boot holds sample place → MayBeAsked g boot holds write.kind write.block write.bytes write.guard
-asked-may g boot holds sample (In known command (WriteThen kind block bytes guard done fault missed)) write asked lawful =
-    (rests_on g command holds kind block bytes, rw (asked.0, asked.1, asked.2, asked.3) lawful.0)
-asked-may g boot holds sample (Idle known) write asked lawful = absurd asked
-asked-may g boot holds sample (Begins known command) write asked lawful = absurd asked
-asked-may g boot holds sample (In known command (Ends end)) write asked lawful = absurd asked
-asked-may g boot holds sample (In known command (ReadThen block rest fault)) write asked lawful = absurd asked
-asked-may g boot holds sample (In known command (ClockThen rest)) write asked lawful = absurd asked
-asked-may g boot holds sample (In known command (UntilThen from rest)) write asked lawful = absurd asked
+pub asked-may : (g : Geometry) (boot : ℕ) (holds : ℕ → Hold) (filled : List (ℕ × List ℕ)) (sample : Option ℕ) (place : Place) (write : Issued) → IsAskedAt place boot write →
+    LawfulAt g boot holds filled sample place → MayBeAsked g boot holds write.kind write.block write.bytes write.guard
+asked-may g boot holds filled sample (In known command (WriteThen kind block bytes guard done fault missed)) write asked lawful =
+    (rests_on g command holds filled kind block bytes, rw (asked.0, asked.1, asked.2, asked.3) lawful.0)
+asked-may g boot holds filled sample (Idle known) write asked lawful = absurd asked
+asked-may g boot holds filled sample (Begins known command) write asked lawful = absurd asked
+asked-may g boot holds filled sample (In known command (Ends end)) write asked lawful = absurd asked
+asked-may g boot holds filled sample (In known command (ReadThen block rest fault)) write asked lawful = absurd asked
+asked-may g boot holds filled sample (In known command (ClockThen rest)) write asked lawful = absurd asked
+asked-may g boot holds filled sample (In known command (UntilThen from rest)) write asked lawful = absurd asked
 
 pub grip-asked : (place : Place) (boot : ℕ) (write : Issued) → IsAskedAt place boot write → (pending : Option Issued) (lease : ℕ) (hold : Hold) →
     grip_at place pending lease hold ≡ grip_while write.kind (lease == write.block) (first_landed pending) write.bytes hold
@@ -193,7 +193,7 @@ module _ (g : Geometry) (rests : ℕ → List ℕ) (appliances time : ℕ) (devi
             ∙ ap (λ (o : Option Issued). grip_while write.kind (lease_at lease == write.block) (first_landed o) write.bytes hold) there' in
             let P : Hold → Type 0 = λ h. Good rests time writes lease on.standing boot seat.pending h in
             let Q : Hold → Type 0 = λ h. Good rests time now lease changed boot seat.pending h in
-            subst Q (sym new) (mine is hold (asked-may g boot p.holds p.sample p.place write asked' (seated a below).lawful) refl (subst P old (on.each a below)))
+            subst Q (sym new) (mine is hold (asked-may g boot p.holds p.filled p.sample p.place write asked' (seated a below).lawful) refl (subst P old (on.each a below)))
         | inr ne ↦
             let P : Option Issued → Type 0 = λ o. Good rests time now lease changed boot seat.pending (grip_at p.place o (lease_at lease) hold) in
             subst P (sym (pending-other writes number (with_sector write sector) seat.pending ne))

@@ -30,7 +30,7 @@ use Rattle.plx_rules.specs.Claims.{claim_of}
 use Rattle.plx_rules.specs.Commands.{IsWellFormed}
 use Rattle.plx_rules.specs.Ends.{End}
 use Rattle.plx_rules.specs.Formatted.{IsFormatted}
-use Rattle.plx_rules.specs.Hands.{hand_held}
+use Rattle.plx_rules.specs.Hands.{filled_held, hand_held}
 use Rattle.plx_rules.specs.Holds.{Hold, no_holds, after_answer, after_write, after_first, session_at, hold_after_reading}
 use Rattle.plx_rules.specs.Rests.{rests_on}
 use Rattle.plx_rules.specs.Session.{Known}
@@ -86,13 +86,14 @@ not-waiting g time writes a seat place is here no-ask = by_pending seat.pending 
         absurd (no-ask (boot_number a seat.boots) asked.0
         (let P : Place → Type 0 = λ p. IsAskedAt p (boot_number a seat.boots) asked.0 in subst P here asked.2))
 
-lawful-placed : (g : Geometry) (boot : ℕ) (known : Known) (command : Command) (holds : ℕ → Hold) (sample : Option ℕ) (part : Part End) → LawfulRest g boot command holds sample part →
-    LawfulAt g boot (after_part part holds) sample (place_of known command part)
-lawful-placed g boot known command holds sample (Ends end) lawful = tt
-lawful-placed g boot known command holds sample (ReadThen block rest fault) lawful = lawful
-lawful-placed g boot known command holds sample (WriteThen k block bytes guard done fault missed) lawful = lawful
-lawful-placed g boot known command holds sample (ClockThen rest) lawful = lawful
-lawful-placed g boot known command holds sample (UntilThen from rest) lawful = lawful
+lawful-placed : (g : Geometry) (boot : ℕ) (known : Known) (command : Command) (holds : ℕ → Hold) (filled : List (ℕ × List ℕ)) (sample : Option ℕ) (part : Part End) →
+    LawfulRest g boot command holds (filled_held g holds filled) sample part →
+    LawfulAt g boot (after_part part holds) (filled_held g (after_part part holds) filled) sample (place_of known command part)
+lawful-placed g boot known command holds filled sample (Ends end) lawful = tt
+lawful-placed g boot known command holds filled sample (ReadThen block rest fault) lawful = lawful
+lawful-placed g boot known command holds filled sample (WriteThen k block bytes guard done fault missed) lawful = lawful
+lawful-placed g boot known command holds filled sample (ClockThen rest) lawful = lawful
+lawful-placed g boot known command holds filled sample (UntilThen from rest) lawful = lawful
 
 module _ (w : World) (leased : Leased w) (a : ℕ) (below : a < w.appliances) (trace : List Entry) (history : List Event) where
   abbrev g : Geometry
@@ -123,7 +124,7 @@ module _ (w : World) (leased : Leased w) (a : ℕ) (below : a < w.appliances) (t
   -- the log leads to a position that waits for no write
   log-leased : (log : List Happening) (q : Position) → position setting log ≡ q →
       ((lease : ℕ) (within : lease < lease_count g) → Good w.rests time writes lease (leased.on lease within).standing boot None (q.holds (lease_at lease))) →
-      LawfulAt g boot q.holds q.sample q.place → ((s : ℕ) → q.sample ≡ Some s → s ≤ time + 50) → Leased (with-log log)
+      LawfulAt g boot q.holds q.filled q.sample q.place → ((s : ℕ) → q.sample ≡ Some s → s ≤ time + 50) → Leased (with-log log)
   log-leased log q leads good lawful sampled = record {
     geometry = leased.geometry;
     few = leased.few;
@@ -133,7 +134,7 @@ module _ (w : World) (leased : Leased w) (a : ℕ) (below : a < w.appliances) (t
     seated = at-all (λ b s. b < w.appliances → IsLawfulSeat g time writes b s) w.seats a _
         (λ below'. record {
           boots = (leased.seated a below).boots;
-          lawful = (let P : Position → Type 0 = λ r. LawfulAt g boot r.holds r.sample r.place in subst P (sym leads) lawful);
+          lawful = (let P : Position → Type 0 = λ r. LawfulAt g boot r.holds r.filled r.sample r.place in subst P (sym leads) lawful);
           sampled = (let P : Position → Type 0 = λ r. (s : ℕ) → r.sample ≡ Some s → s ≤ time + 50 in subst P (sym leads) sampled);
           asked = λ n e. absurd (none-some n e);
         })
@@ -145,24 +146,24 @@ module _ (w : World) (leased : Leased w) (a : ℕ) (below : a < w.appliances) (t
   went-leased : (log : List Happening) (known : Known) (command : Command) (holds : ℕ → Hold) (hand : List ℕ) (filled : List (ℕ × List ℕ)) (sample : Option ℕ) (found : Option (ℕ × List ℕ)) (part : Part End) →
       position setting log ≡ goes_to g known command holds hand filled sample found part →
       ((lease : ℕ) (within : lease < lease_count g) → Good w.rests time writes lease (leased.on lease within).standing boot None (holds (lease_at lease))) →
-      LawfulRest g boot command holds sample part → ((s : ℕ) → sample ≡ Some s → s ≤ time + 50) → Leased (with-log log)
+      LawfulRest g boot command holds (filled_held g holds filled) sample part → ((s : ℕ) → sample ≡ Some s → s ≤ time + 50) → Leased (with-log log)
   went-leased log known command holds hand filled sample found part leads good lawful sampled =
       log-leased log (goes_to g known command holds hand filled sample found part) leads
       (λ lease within. good-part w.rests time writes lease (leased.on lease within).standing boot part holds (lease_at lease) (good lease within))
-      (lawful-placed g boot known command holds sample part lawful) sampled
+      (lawful-placed g boot known command holds filled sample part lawful) sampled
 
   abbrev p : Position
   p = position setting seat.log
 
-  lawful-at : (place : Place) → p.place ≡ place → LawfulAt g boot p.holds p.sample place
-  lawful-at place here = let P : Place → Type 0 = λ q. LawfulAt g boot p.holds p.sample q in subst P here (leased.seated a below).lawful
+  lawful-at : (place : Place) → p.place ≡ place → LawfulAt g boot p.holds p.filled p.sample place
+  lawful-at place here = let P : Place → Type 0 = λ q. LawfulAt g boot p.holds p.filled p.sample q in subst P here (leased.seated a below).lawful
 
   pub start-leased : (known : Known) (command : Command) → p.place ≡ Idle known → IsWellFormed command → Leased (with-log (Began command ∷ seat.log))
   start-leased known command here whole =
       let free = not-waiting g time writes a seat (Idle known) (leased.seated a below) here (λ b x no'. no') in
       log-leased (Began command ∷ seat.log) (record p { sample = None; found = None; place = place_after_begin command p.place }) refl
       (λ lease within. good-free g w.rests w.appliances time w.surface.device writes w.seats lease (leased.on lease within) a below free)
-      (let P : Place → Type 0 = λ q. LawfulAt g boot p.holds None (place_after_begin command q) in subst P (sym here) whole)
+      (let P : Place → Type 0 = λ q. LawfulAt g boot p.holds p.filled None (place_after_begin command q) in subst P (sym here) whole)
       (λ s e. absurd (none-some s e))
 
   -- a reading is below 2 ^ 48
@@ -333,8 +334,8 @@ keeps-leases (world.read_faults {w = w} {appliance = a} known command block rest
 keeps-leases (world.issues {w = w} {appliance = a} known command what block bytes guard done fault missed below here free) leased =
     let boot = boot_number a.0 (w.seats a.0).boots in
     let p = position (setting_at w.geometry a.0 (w.seats a.0).boots) (w.seats a.0).log in
-    let leases = rests_on w.geometry command p.holds what block bytes in
-    let P : Place → Type 0 = λ q. LawfulAt w.geometry boot p.holds p.sample q in
+    let leases = rests_on w.geometry command p.holds p.filled what block bytes in
+    let P : Place → Type 0 = λ q. LawfulAt w.geometry boot p.holds p.filled p.sample q in
     let may : MayIssue w.geometry boot p.holds leases what block bytes guard = (subst P here (leased.seated a.0 below).lawful).0 in
     let long : length bytes ≡ 4096 = (subst P here (leased.seated a.0 below).lawful).4 in
     let write = fresh_write boot what block bytes guard in

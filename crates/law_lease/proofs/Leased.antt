@@ -14,10 +14,11 @@ use Rattle.plx_rules.specs.Part.{Part, Ends, ReadThen, WriteThen, ClockThen, Unt
 use Rattle.plx_rules.specs.Boot.{Place, Idle, Begins, In, Position, position}
 use Rattle.plx_rules.specs.Claims.{claim_of}
 use Rattle.plx_rules.specs.Commands.{IsWellFormed}
-use Rattle.plx_rules.specs.Rests.{AreWithin, IsUnder, extent_of, extents_of, rests_on}
+use Rattle.plx_rules.specs.Rests.{AreWithin, IsUnder, extents_of, rests_on}
 use Rattle.plx_commands.specs.Replies.{is_in}
 use Rattle.plx_commands.specs.declared.command.Command.{Command}
 use Rattle.plx_geom.specs.Geometry.{Geometry, IsGeometry, IsPoolBlock, lease_count, root_lease, image_lease, extent_lease, map_at, record_at, lease_at, descriptor_at, data_at}
+use Rattle.plx_rules.specs.Hands.{filled_done, filled_held}
 use Rattle.plx_rules.specs.Holds.{Hold, Nothing, Seen, Wrote, Waited, Held, no_holds, after_answer, after_write, hold_after_renewal, hold_after_reading}
 use Rattle.plx_gate.specs.Leases.{lease_bytes, read_lease, IsLease, IsClaimed}
 use Rattle.plx_rules.specs.Owners.{first_landed, pending_write}
@@ -41,12 +42,13 @@ IsPlaced g kind.Link block bytes rests =
     (image : ℕ) × (image < g.images) × ((extent : ℕ) × (bit : ℕ) × IsPoolBlock g extent bit block) × ((named : List ℕ) × AreWithin g named × (rests ≡ image_lease image ∷ extents_of g named))
 IsPlaced g kind.Overwrite block bytes rests =
     (image : ℕ) × (image < g.images) × ((extent : ℕ) × (bit : ℕ) × IsPoolBlock g extent bit block) × (rests ≡ image_lease image ∷ [])
-IsPlaced g kind.Record block bytes rests = (image : ℕ) × (image < g.images) × (block ≡ record_at g image) × (rests ≡ image_lease image ∷ [])
+IsPlaced g kind.Record block bytes rests =
+    (image : ℕ) × (image < g.images) × (block ≡ record_at g image) × ((named : List ℕ) × AreWithin g named × (rests ≡ image_lease image ∷ extents_of g named))
 IsPlaced g kind.JData block bytes rests =
     (image : ℕ) × (slot : ℕ) × (image < g.images) × (slot < g.slots) × (block ≡ data_at g image slot) × (rests ≡ image_lease image ∷ [])
 IsPlaced g kind.JCommit block bytes rests =
     (image : ℕ) × (slot : ℕ) × (image < g.images) × (slot < g.slots) × (block ≡ descriptor_at g image slot) × (rests ≡ image_lease image ∷ [])
-IsPlaced g other block bytes rests = ⊥
+IsPlaced g kind.Log block bytes rests = ⊥
 
 -- ---- what a boot may ask, by what it holds
 
@@ -115,31 +117,39 @@ MayIssue g boot holds rests kind.Fresh block bytes guard = MayUse g holds rests 
 MayIssue g boot holds rests kind.Record block bytes guard = MayUse g holds rests kind.Record block bytes guard
 MayIssue g boot holds rests kind.JData block bytes guard = MayUse g holds rests kind.JData block bytes guard
 MayIssue g boot holds rests kind.JCommit block bytes guard = MayUse g holds rests kind.JCommit block bytes guard
-MayIssue g boot holds rests other block bytes guard = ⊥
+MayIssue g boot holds rests kind.Link block bytes guard = ⊥
+MayIssue g boot holds rests kind.Overwrite block bytes guard = ⊥
+MayIssue g boot holds rests kind.Log block bytes guard = ⊥
 
--- however a rest of a command is answered, each write that it asks is allowed and is a block; `At` holds at each end, of what is held there
-abbrev pub Lawful : {E : Type 0} → (At : E → (ℕ → Hold) → Option ℕ → Type 0) → Geometry → ℕ → Command → (ℕ → Hold) → Option ℕ → Part E → Type 0
-Lawful At g boot command holds sample (Ends end) = At end holds sample
-Lawful At g boot command holds sample (ReadThen block rest fault) =
-    ((bytes : List ℕ) → Lawful At g boot command (after_answer sample (ask.Read (record { 0 = block })) [] (answer.Bytes bytes) holds) None (rest bytes))
-    × Lawful At g boot command holds None fault
-Lawful At g boot command holds sample (WriteThen kind block bytes guard done fault missed) =
-    MayIssue g boot holds (rests_on g command holds kind block bytes) kind block bytes guard × Lawful At g boot command (after_write kind block bytes holds) None done × Lawful At g boot command no_holds None fault
-    × ((reading : ℕ) → Lawful At g boot command no_holds None (missed reading)) × (length bytes ≡ 4096)
-Lawful At g boot command holds sample (ClockThen rest) =
-    (reading : ℕ) → reading < 2 ^ 48 → Lawful At g boot command (λ block. hold_after_reading reading (holds block)) (Some reading) (rest reading)
-Lawful At g boot command holds sample (UntilThen from rest) =
-    (reading : ℕ) → from ≤ reading → reading < 2 ^ 48 → Lawful At g boot command (λ block. hold_after_reading reading (holds block)) (Some reading) (rest reading)
+-- however a rest of a command is answered, each write that it asks is allowed and is a block; `At` holds at each end, of what is held and was filled there
+abbrev pub Lawful : {E : Type 0} → (At : E → (ℕ → Hold) → List (ℕ × List ℕ) → Option ℕ → Type 0) → Geometry → ℕ → Command → (ℕ → Hold) →
+    (filled : List (ℕ × List ℕ)) → Option ℕ → Part E → Type 0
+Lawful At g boot command holds filled sample (Ends end) = At end holds filled sample
+Lawful At g boot command holds filled sample (ReadThen block rest fault) =
+    ((bytes : List ℕ) → Lawful At g boot command (after_answer sample (ask.Read (record { 0 = block })) [] (answer.Bytes bytes) holds)
+    (filled_held g (after_answer sample (ask.Read (record { 0 = block })) [] (answer.Bytes bytes) holds) filled) None (rest bytes))
+    × Lawful At g boot command holds (filled_held g holds filled) None fault
+Lawful At g boot command holds filled sample (WriteThen kind block bytes guard done fault missed) =
+    MayIssue g boot holds (rests_on g command holds filled kind block bytes) kind block bytes guard
+    × Lawful At g boot command (after_write kind block bytes holds) (filled_held g (after_write kind block bytes holds) (filled_done kind block bytes filled)) None done
+    × Lawful At g boot command no_holds (filled_held g no_holds filled) None fault
+    × ((reading : ℕ) → Lawful At g boot command no_holds (filled_held g no_holds filled) None (missed reading)) × (length bytes ≡ 4096)
+Lawful At g boot command holds filled sample (ClockThen rest) =
+    (reading : ℕ) → reading < 2 ^ 48 →
+    Lawful At g boot command (λ block. hold_after_reading reading (holds block)) (filled_held g (λ block. hold_after_reading reading (holds block)) filled) (Some reading) (rest reading)
+Lawful At g boot command holds filled sample (UntilThen from rest) =
+    (reading : ℕ) → from ≤ reading → reading < 2 ^ 48 →
+    Lawful At g boot command (λ block. hold_after_reading reading (holds block)) (filled_held g (λ block. hold_after_reading reading (holds block)) filled) (Some reading) (rest reading)
 
 -- the same, where nothing is asked of the ends
-abbrev pub LawfulRest : {E : Type 0} → Geometry → ℕ → Command → (ℕ → Hold) → Option ℕ → Part E → Type 0
-LawfulRest g boot command holds sample part = Lawful (λ end held last. Unit {0}) g boot command holds sample part
+abbrev pub LawfulRest : {E : Type 0} → Geometry → ℕ → Command → (ℕ → Hold) → (filled : List (ℕ × List ℕ)) → Option ℕ → Part E → Type 0
+LawfulRest g boot command holds filled sample part = Lawful (λ end held fresh last. Unit {0}) g boot command holds filled sample part
 
 -- the place of a boot
-abbrev pub LawfulAt : Geometry → ℕ → (ℕ → Hold) → Option ℕ → Place → Type 0
-LawfulAt g boot holds sample (Idle known) = Unit {0}
-LawfulAt g boot holds sample (Begins known command) = IsWellFormed command
-LawfulAt g boot holds sample (In known command part) = LawfulRest g boot command holds sample part
+abbrev pub LawfulAt : Geometry → ℕ → (ℕ → Hold) → (filled : List (ℕ × List ℕ)) → Option ℕ → Place → Type 0
+LawfulAt g boot holds filled sample (Idle known) = Unit {0}
+LawfulAt g boot holds filled sample (Begins known command) = IsWellFormed command
+LawfulAt g boot holds filled sample (In known command part) = LawfulRest g boot command holds filled sample part
 
 -- ---- the writes that may still change something under a lease
 
@@ -287,7 +297,7 @@ IsAskedAt other boot write = ⊥
 pub record IsLawfulSeat (g : Geometry) (time : ℕ) (writes : List Issued) (appliance : ℕ) (seat : Seat) : Type 0 where
   pub boots : seat.boots < 2 ^ 32
   pub lawful : LawfulAt g (boot_number appliance seat.boots) (position (setting_at g appliance seat.boots) seat.log).holds
-      (position (setting_at g appliance seat.boots) seat.log).sample (position (setting_at g appliance seat.boots) seat.log).place
+      (position (setting_at g appliance seat.boots) seat.log).filled (position (setting_at g appliance seat.boots) seat.log).sample (position (setting_at g appliance seat.boots) seat.log).place
   pub sampled : (sample : ℕ) → (position (setting_at g appliance seat.boots) seat.log).sample ≡ Some sample → sample ≤ time + 50
   pub asked : (number : ℕ) → seat.pending ≡ Some number →
       (write : Issued) × (slice_get writes number ≡ Some write) × IsAskedAt (position (setting_at g appliance seat.boots) seat.log).place (boot_number appliance seat.boots) write

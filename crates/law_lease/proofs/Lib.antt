@@ -1,4 +1,5 @@
 pub mod Covers
+pub mod Homes
 pub mod Latest
 pub mod Frame
 pub mod EachCommand

@@ -1,5 +1,5 @@
 -- At most one boot owns a lease, and what needed it changes nothing under another owner.
-use Rattle.std.proofs.Common.{◌≡◌, ℕ, zero, suc, ◌<◌, inl, inr, List, Bool, true, false, Option, refl, ap, sym, subst, ◌∙◌, arith}
+use Rattle.std.proofs.Common.{◌≡◌, ℕ, zero, suc, ◌<◌, List, Bool, true, false, Option, refl, ap, sym, subst, ◌∙◌, arith}
 use Rattle.std.specs.Prelude.{slice_get, ◌==◌}
 use Rattle.plx_base.specs.Sectors.{Device, put, with_landed_sector}
 use Rattle.plx_base.proofs.Devices.{put-again}
@@ -12,13 +12,11 @@ use Rattle.plx_disk.specs.Writes.{Issued}
 use Rattle.plx_rules.specs.Part.{Ends, ReadThen, WriteThen, ClockThen, UntilThen}
 use Rattle.plx_rules.specs.Boot.{Place, Idle, Begins, In}
 use Rattle.plx_rules.specs.Holds.{Hold, Held}
-use Rattle.plx_geom.specs.Geometry.{Geometry, IsGeometry, lease_count, root_lease, image_lease, extent_lease, lease_at}
-use Rattle.plx_geom.proofs.Places.{lease-lease, map-map, one-extent, record-record, data-data, descriptor-descriptor}
+use Rattle.plx_geom.specs.Geometry.{lease_count, lease_at}
 use Rattle.plx_gate.specs.Leases.{lease_bytes}
-use Rattle.plx_rules.specs.Owners.{Owns, IsTold, Needs, RestsAsNeeded, Exclusion, Guarding, held_while, hold_at_place, first_landed, pending_write}
+use Rattle.plx_rules.specs.Owners.{Owns, Exclusion, Guarding, held_while, hold_at_place, first_landed, pending_write}
 use Rattle.plx_rules.specs.World.{World, setting_of, stands}
-use Rattle.plx_commands.specs.Replies.{is_in}
-use Rattle.law_lease.proofs.Rests.{rests-alone, rests-home, in-either, either-in}
+use Rattle.law_lease.proofs.Rests.{rests-home}
 use Rattle.law_lease.proofs.LeaseSectors.{sector-past}
 use Rattle.law_lease.proofs.LeaseFrames.{one-claim}
 use Rattle.law_lease.proofs.LeaseIssues.{boots-apart}
@@ -120,56 +118,3 @@ guarding w reached number sector write lease b within needs may below owns apart
     by_kind other is s at =
         let U : WriteKind → Type 0 = λ k. Unlanded k write.landed in
         absurd (closed (subst U (sym is) (not-whole write.landed sector may.missing)))
-
--- a write that is where it may be rests on the leases that it needs, and on no others
-rests-needed : (g : Geometry) → IsGeometry g → (k : WriteKind) (block : ℕ) (bytes : List ℕ) (rests : List ℕ) → IsPlaced g k block bytes rests → IsTold k → (lease : ℕ) →
-    (Needs g k block lease → is_in lease rests ≡ true) × (is_in lease rests ≡ true → Needs g k block lease)
-rests-needed g geometry kind.Claim block bytes rests placed told lease = (λ n. absurd n, λ r. let e : false ≡ true = subst (λ (l : List ℕ). is_in lease l ≡ true) placed.4 r in let P : ⊥ = cc in absurd P)
-rests-needed g geometry kind.Renew block bytes rests placed told lease = (
-  λ n. rests-alone lease placed.0 rests placed.4 (lease-lease lease placed.0 (sym n ∙ placed.2)),
-  λ r. placed.2 ∙ ap lease_at (sym (rests-home lease placed.0 rests placed.4 r)),
-)
-rests-needed g geometry kind.Release block bytes rests placed told lease = (
-  λ n. rests-alone lease placed.0 rests placed.4 (lease-lease lease placed.0 (sym n ∙ placed.2)),
-  λ r. placed.2 ∙ ap lease_at (sym (rests-home lease placed.0 rests placed.4 r)),
-)
-rests-needed g geometry kind.Take block bytes rests placed told lease = (
-  λ n. rests-alone lease (extent_lease g placed.0) rests placed.3 (n.3 ∙ ap (extent_lease g) (map-map g n.0 placed.0 (let b = geometry.blocks_low in omega arith) (sym n.2 ∙ placed.2))),
-  λ r. (placed.0, placed.1, placed.2, rests-home lease (extent_lease g placed.0) rests placed.3 r),
-)
-rests-needed g geometry kind.Give block bytes rests placed told lease = (
-  λ n. rests-alone lease (extent_lease g placed.0) rests placed.3 (n.3 ∙ ap (extent_lease g) (map-map g n.0 placed.0 (let b = geometry.blocks_low in omega arith) (sym n.2 ∙ placed.2))),
-  λ r. (placed.0, placed.1, placed.2, rests-home lease (extent_lease g placed.0) rests placed.3 r),
-)
-rests-needed g geometry kind.Sweep block bytes rests placed told lease = (
-  λ n. subst (λ (l : List ℕ). is_in lease l ≡ true) (sym placed.3) (elim n.3 [
-    | inl its ↦ in-either lease (extent_lease g placed.0) root_lease (inl (its ∙ ap (extent_lease g) (map-map g n.0 placed.0 (let b = geometry.blocks_low in omega arith) (sym n.2 ∙ placed.2))))
-    | inr root ↦ in-either lease (extent_lease g placed.0) root_lease (inr root)
-  ]),
-  λ r. (placed.0, placed.1, placed.2, either-in lease (extent_lease g placed.0) root_lease (subst (λ (l : List ℕ). is_in lease l ≡ true) placed.3 r)),
-)
-rests-needed g geometry kind.Fresh block bytes rests placed told lease = (
-  λ n. rests-alone lease (extent_lease g placed.0) rests placed.3 (n.3 ∙ ap (extent_lease g) (one-extent g n.0 placed.0 n.1 placed.1 block n.2 placed.2)),
-  λ r. (placed.0, placed.1, placed.2, rests-home lease (extent_lease g placed.0) rests placed.3 r),
-)
-rests-needed g geometry kind.Record block bytes rests placed told lease = (
-  λ n. rests-alone lease (image_lease placed.0) rests placed.3 (n.3 ∙ ap image_lease (record-record g n.0 placed.0 (sym n.2 ∙ placed.2))),
-  λ r. (placed.0, placed.1, placed.2, rests-home lease (image_lease placed.0) rests placed.3 r),
-)
-rests-needed g geometry kind.JData block bytes rests placed told lease = (
-  λ n. rests-alone lease (image_lease placed.0) rests placed.5 (n.5 ∙ ap image_lease (data-data g n.0 placed.0 n.1 placed.1 n.3 placed.3 (sym n.4 ∙ placed.4))),
-  λ r. (placed.0, placed.1, placed.2, placed.3, placed.4, rests-home lease (image_lease placed.0) rests placed.5 r),
-)
-rests-needed g geometry kind.JCommit block bytes rests placed told lease = (
-  λ n. rests-alone lease (image_lease placed.0) rests placed.5 (n.5 ∙ ap image_lease (descriptor-descriptor g n.0 placed.0 n.1 placed.1 n.3 placed.3 (sym n.4 ∙ placed.4))),
-  λ r. (placed.0, placed.1, placed.2, placed.3, placed.4, rests-home lease (image_lease placed.0) rests placed.5 r),
-)
-rests-needed g geometry kind.Link block bytes rests placed told lease = absurd told
-rests-needed g geometry kind.Overwrite block bytes rests placed told lease = absurd told
-rests-needed g geometry other block bytes rests placed told lease = absurd placed
-
--- so does each issued write
-pub rests-as-needed : RestsAsNeeded
-rests-as-needed w reached number write found told lease =
-    let leased = reached-leased reached in
-    rests-needed w.geometry leased.geometry write.kind write.block write.bytes (w.rests number) (leased.right number write found).placed told lease

@@ -308,7 +308,7 @@ module _ (g : Geometry) (appliances : ℕ) (few : appliances ≤ 8) (lease : ℕ
       waiting = at st.seats a.0 (record (st.seats a.0) { pending = Some number })
 
       abbrev pub since : ℕ → List ℕ
-      since = at st.rests number (rests_on g command (stands w a.0).holds what block bytes)
+      since = at st.rests number (rests_on g command (stands w a.0).holds (stands w a.0).filled what block bytes)
 
       old-long : length (st.device block) ≡ 4096
       old-long = (reached-leased st.reached).long block

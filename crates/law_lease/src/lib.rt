@@ -6,7 +6,8 @@
 
 ghost use Rattle.law_lease.specs.FirstDevice.{HasFormatted};
 ghost use Rattle.law_lease.specs.TakenOver.{TakenOver};
-ghost use Rattle.plx_rules.specs.Owners.{Exclusion, Guarding, RestsAsNeeded};
+ghost use Rattle.plx_rules.specs.Homes.{RestsAsNeeded, WritesHaveHomes};
+ghost use Rattle.plx_rules.specs.Owners.{Exclusion, Guarding};
 ghost use Rattle.plx_rules.specs.Sequences.{PlayedIsReached, RunsGoOn};
 ghost use Rattle.plx_rules.specs.World.{BootsRun};
 
@@ -15,9 +16,15 @@ pub fn exclusion()
     ensures { Exclusion }
 {}
 
-/// On the leases that its kind needs for its block each issued write rests, and on no others.
+/// Each issued write rests on its home, which its kind and block tell, on what its kind needs beside
+/// that, and on nothing else; a claim rests on nothing.
 pub fn writes_rest_as_needed()
     ensures { RestsAsNeeded }
+{}
+
+/// Whatever its kind, each issued write but a claim has a home, under which its block lies.
+pub fn writes_have_homes()
+    ensures { WritesHaveHomes }
 {}
 
 /// No landing of a write that rests on a lease changes a byte while another boot owns that lease.

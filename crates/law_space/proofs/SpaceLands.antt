@@ -117,7 +117,7 @@ module _ (w : World) (leased : Leased w) (spaced : Spaced w) (number sector : �
             | inl before ↦ record { claim = claim; until = until; held = old ∙ before; live = live }
             | inr renewal ↦
                 let M : WriteKind → Type 0 = λ k. MayBeAsked g boot p.holds k write.block write.bytes write.guard in
-                let renew = (subst M renewal.1 (asked-may g boot p.holds p.sample p.place write asked' (leased.seated b below).lawful)).1 in
+                let renew = (subst M renewal.1 (asked-may g boot p.holds p.filled p.sample p.place write asked' (leased.seated b below).lawful)).1 in
                 let hold : p.holds lease ≡ Held renew.claim renew.until = ap p.holds (eqb-is lease write.block renewal.2 ∙ renew.at_lease) ∙ renew.hold in
                 let early = may.early in
                 let guarded = renew.guarded in

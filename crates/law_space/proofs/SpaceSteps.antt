@@ -309,13 +309,13 @@ issue-marking w leased spaced a below known command k block bytes guard done fau
       | inr fresh ↦
           let boot = boot_number a (w.seats a).boots in
           let p = position (setting_at w.geometry a (w.seats a).boots) (w.seats a).log in
-          let L : Place → Type 0 = λ q. LawfulAt w.geometry boot p.holds p.sample q in
+          let L : Place → Type 0 = λ q. LawfulAt w.geometry boot p.holds p.filled p.sample q in
           let C : Place → Type 0 = λ q. CarefulAt p.found q in
           let may = (subst L here (leased.seated a below).lawful).0 in
           let mark : MayMark k p.found block bytes = (subst C here (spaced.careful a below)).0 in
           let of_map' : IsOfMap k = subst (λ (y : Issued). IsOfMap y.kind) (sym fresh.1) of_map in
           let live' : w.surface.time ≤ guard + 50 = subst (λ (y : Issued). w.surface.time ≤ y.guard + 50) (sym fresh.1) live in
-          let m = map-granted w.geometry boot p.holds (rests_on w.geometry command p.holds k block bytes) k block bytes guard of_map' may in
+          let m = map-granted w.geometry boot p.holds (rests_on w.geometry command p.holds p.filled k block bytes) k block bytes guard of_map' may in
           let early = m.3.guarded in
           let kept = kept-free w leased spaced a below [] [] free m.0 m.1 m.3.claim m.3.until m.3.hold (omega (arith, live', early)) in
           subst (λ (y : Issued). IsMarking y (w.surface.device y.block)) fresh.1

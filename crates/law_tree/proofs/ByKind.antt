@@ -15,7 +15,7 @@ use Rattle.plx_radix.specs.Paths.{Hole, To, Trees, end, Unreachable, Shared}
 use Rattle.plx_rules.specs.Pools.{is_allocated}
 use Rattle.plx_rules.specs.Rests.{extent_of, home_of}
 use Rattle.law_paths.specs.Links.{Copies, CanLink}
-use Rattle.law_lease.proofs.Covers.{Covers}
+use Rattle.plx_rules.specs.Homes.{Covers}
 use Rattle.law_lease.proofs.Frame.{SameUnder}
 use Rattle.plx_rules.specs.Trees.{live_root, entry_root, lease_of_root, trees_of, InPool, IsRooted}
 use Rattle.law_tree.proofs.Moved.{IsNamedBlock, Moved, WritesTree, moved-other, moved-off, apart-path, apart-free}

@@ -148,7 +148,7 @@ module _ (names : ℕ → ℕ → Type 0) (w : World) (leased : Leased w) (treed
 pub record RulesOfTrees (names : ℕ → ℕ → Type 0) (w : World) : Type 0 where
   pub meets : (a : ℕ) (known : Known) (command : Command) (k : WriteKind) (block : ℕ) (bytes : List ℕ) (guard : ℕ) (done fault : Part End) (missed : ℕ → Part End) → a < w.appliances →
       (stands w a).place ≡ In known command (WriteThen k block bytes guard done fault missed) → (w.seats a).pending ≡ None →
-      MeetsTree (names (length w.surface.writes)) w.geometry w.surface.time w.surface.device (stands w a) (rests_on w.geometry command (stands w a).holds k block bytes) k block bytes
+      MeetsTree (names (length w.surface.writes)) w.geometry w.surface.time w.surface.device (stands w a) (rests_on w.geometry command (stands w a).holds (stands w a).filled k block bytes) k block bytes
   pub spared : (number b c : ℕ) → b < w.appliances → (w.seats b).pending ≡ Some number →
       is_in c (due w.geometry (w.seats b).pending (stands w b).place (stands w b).found (stands w b).hand) ≡ true → names number c → ⊥
 
@@ -179,11 +179,11 @@ keeps-trees names (world.issues {w = w} {appliance = a} known command what block
     p = stands w a.0
 
     leases : List ℕ
-    leases = rests_on w.geometry command (stands w a.0).holds what block bytes
+    leases = rests_on w.geometry command (stands w a.0).holds (stands w a.0).filled what block bytes
 
     grants : (lease : ℕ) → is_in lease leases ≡ true → IsGranted (stands w a.0).holds lease guard
     grants = granted w.geometry (boot_number a.0 (w.seats a.0).boots) (stands w a.0).holds leases what block bytes guard
-        (let L : Place → Type 0 = λ q. LawfulAt w.geometry (boot_number a.0 (w.seats a.0).boots) (stands w a.0).holds (stands w a.0).sample q in (subst L here (leased.seated a.0 below).lawful).0)
+        (let L : Place → Type 0 = λ q. LawfulAt w.geometry (boot_number a.0 (w.seats a.0).boots) (stands w a.0).holds (stands w a.0).filled (stands w a.0).sample q in (subst L here (leased.seated a.0 below).lawful).0)
 
     meets : MeetsTree (names (length w.surface.writes)) w.geometry w.surface.time w.surface.device (stands w a.0) leases what block bytes
     meets = rules.meets a.0 known command what block bytes guard done fault missed below here none

@@ -17,6 +17,7 @@ pub mod Session
 pub mod Settings
 pub mod Times
 pub mod Hands
+pub mod Homes
 pub mod Space
 pub mod Pools
 pub mod Formatted

@@ -90,14 +90,3 @@ Exclusion = (w : World) → Reached w → HasOneOwner w
 -- in every world that events lead to no late write changes what its lease's owner has
 abbrev pub Guarding : Type 0
 Guarding = (w : World) → Reached w → IsGuarded w
-
--- the block of a write tells its leases: of a link and of an overwrite it doesn't
-abbrev pub IsTold : WriteKind → Type 0
-IsTold kind.Link = ⊥
-IsTold kind.Overwrite = ⊥
-IsTold other = Unit {0}
-
--- each issued write rests on the leases that its kind needs for its block, and on no others
-abbrev pub RestsAsNeeded : Type 0
-RestsAsNeeded = (w : World) → Reached w → (number : ℕ) (write : Issued) → slice_get w.surface.writes number ≡ Some write → IsTold write.kind → (lease : ℕ) →
-    (Needs w.geometry write.kind write.block lease → IsUnder w.rests number lease) × (IsUnder w.rests number lease → Needs w.geometry write.kind write.block lease)

@@ -110,7 +110,7 @@ issued_write w appliance kind block bytes guard = fresh_write (setting_of w appl
 abbrev pub after_issue : World → ApplianceNo → Command → WriteKind → (block : ℕ) → List ℕ → (guard : ℕ) → World
 after_issue w appliance command kind block bytes guard = record w {
   surface = with_issued w.surface (issued_write w appliance kind block bytes guard);
-  rests = at w.rests (length w.surface.writes) (rests_on w.geometry command (stands w appliance.0).holds kind block bytes);
+  rests = at w.rests (length w.surface.writes) (rests_on w.geometry command (stands w appliance.0).holds (stands w appliance.0).filled kind block bytes);
   seats = at w.seats appliance.0 (record (w.seats appliance.0) { pending = Some (length w.surface.writes) });
   history = event.Issue appliance ∷ w.history;
 }

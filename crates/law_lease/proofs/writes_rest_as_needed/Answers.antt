@@ -1,4 +1,4 @@
-use Rattle.law_lease.proofs.Owners.{rests-as-needed}
+use Rattle.law_lease.proofs.Homes.{rests-as-needed}
 use Rattle.law_lease.proofs.writes_rest_as_needed.Goals as goal
 
 pub returns : goal.returns
