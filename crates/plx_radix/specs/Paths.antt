@@ -34,7 +34,7 @@ AllMarked w r [] = Carries (path w r [])
 AllMarked w r (d ∷ ds) = AllMarked w r ds × Carries (path w r (d ∷ ds))
 
 -- a block stands on a path: a root leads to it by these digits, three at most
-pub record StandsOn (w : Trees) (root : ℕ) (digits : List ℕ) (block : ℕ) : Type 0 where
+pub record StandsOnPath (w : Trees) (root : ℕ) (digits : List ℕ) (block : ℕ) : Type 0 where
   pub short : length digits ≤ 3
   pub mark : Bool
   pub there : path w root digits ≡ To block mark
@@ -43,7 +43,7 @@ pub record StandsOn (w : Trees) (root : ℕ) (digits : List ℕ) (block : ℕ) :
 pub record IsReachable (w : Trees) (block : ℕ) : Type 0 where
   pub root : ℕ
   pub digits : List ℕ
-  pub stands : StandsOn w root digits block
+  pub stands : StandsOnPath w root digits block
 
 -- ---- the same with the marks and-ed on the way down
 

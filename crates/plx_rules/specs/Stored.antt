@@ -54,13 +54,13 @@ abbrev pub record_on : Geometry → Given → (image : ℕ) → Option ImageReco
 record_on g given image = record_in (given (record_at g image))
 
 -- what a log's block that is given says at an entry's place
-abbrev pub entry_in : (index : ℕ) → Option (List ℕ) → Option LogEntry
-entry_in index None = None
-entry_in index (Some bytes) = read_entry index bytes
+abbrev pub log_entry_in : (index : ℕ) → Option (List ℕ) → Option LogEntry
+log_entry_in index None = None
+log_entry_in index (Some bytes) = read_entry index bytes
 
 -- the entry of an image's log
 abbrev pub entry_on : Geometry → Given → (image index : ℕ) → Option LogEntry
-entry_on g given image index = entry_in index (given (log_at g image))
+entry_on g given image index = log_entry_in index (given (log_at g image))
 
 -- the descriptor that counts, of the bytes of a journal slot; one that isn't given doesn't count
 abbrev pub counted_in : ImageRecord → (slots slot : ℕ) → Option (List ℕ) → Option Descriptor
