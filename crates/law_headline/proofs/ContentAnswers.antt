@@ -37,7 +37,7 @@ use Rattle.plx_rules.specs.Part.{Part, Ends, ReadThen, WriteThen, ClockThen, Unt
 use Rattle.plx_rules.specs.Boot.{Happening, Asked, Place, Begins, In, Position, position, place_of, after_part, goes_to, went_on, first_part}
 use Rattle.plx_rules.specs.Commands.{IsBuilt, IsWellFormed, attached_part, of_attached, detach_part, create_part, delete_part, read_part, write_part, command_part}
 use Rattle.plx_rules.specs.Ends.{End}
-use Rattle.plx_rules.specs.Hands.{hand_answered, hand_held}
+use Rattle.plx_rules.specs.Hands.{hand_answered, hand_held, hand_left, hand_unlinked}
 use Rattle.plx_rules.specs.Headline.{IsUndamaged, starts_and_crashes, events_told, model_in}
 use Rattle.plx_rules.specs.Holds.{Hold, Nothing, Seen, Wrote, Waited, Held, no_holds, after_write, after_first, session_at, hold_after_reading, hold_after_read, hold_after_reread, seen_for, seen_by, hold_after_renewal, hold_after_claim}
 use Rattle.plx_rules.specs.Owners.{first_landed, pending_write}
@@ -57,7 +57,7 @@ use Rattle.law_headline.proofs.Content.{appliance_no, stands_at, IsJournalled, P
 use Rattle.law_headline.proofs.ContentGoes.{content-went, dropping-false, NoSession, went_to}
 use Rattle.law_headline.proofs.FairCommands.{fair-command}
 use Rattle.law_headline.proofs.FairParts.{backs-first}
-use Rattle.law_headline.proofs.HandFacts.{NoMap, HandFits, no-map-filter, hand-done}
+use Rattle.law_headline.proofs.HandFacts.{NoMap, HandFits, no-map-filter, no-map-unlinked, hand-done}
 use Rattle.law_headline.proofs.Harmless.{Harmless, yields-stays}
 use Rattle.law_headline.proofs.Harmless as harmless
 use Rattle.law_headline.proofs.Held.{IsSpelled, attached_of, Regime, Without, With, ModelRuns, Looks, IsOf, IsOn, HeldPart, IsBacking, Backs, IsDrop, is_below, are_below, is_some_slot, just_at, Fair}
@@ -378,10 +378,10 @@ module _ (w : World) (content : KeepsContent w) (a : ℕ) (below : a < w.applian
           let fits = fits-at wplace here in
           let log = Asked (ask.Write what (record { 0 = block }) guard) bytes answer.Fault ∷ (w.seats a).log in
           let leads = ap (went_on s (ask.Write what (record { 0 = block }) guard) bytes answer.Fault p) here in
-          content-went w content a below (event.Fault (appliance_no a)) log known command no_holds None false content.told fits.0 fault p.hand _ None in-hand.hand tt
+          content-went w content a below (event.Fault (appliance_no a)) log known command no_holds None false content.told fits.0 fault (hand_unlinked what p.filled p.hand) _ None (no-map-unlinked g what p.filled p.hand in-hand.hand) tt
           leased leads fits.1.3
           (λ i within minds. elim minds [
-            | inl grips ↦ unheld grips.0 grips.1 (seat-holds log known command no_holds p.hand _ None None fault leads i grips.0 grips.1 grips.2)
+            | inl grips ↦ unheld grips.0 grips.1 (seat-holds log known command no_holds (hand_unlinked what p.filled p.hand) _ None None fault leads i grips.0 grips.1 grips.2)
             | inr owner ↦ ((λ names. inr (dropped (event.Fault (appliance_no a)) log no_holds fault fits.1.5 fits.1.3 i)), (owned-at wplace here i within (inr owner)).1)
           ])
           (inr fits.1.5)
@@ -393,10 +393,10 @@ module _ (w : World) (content : KeepsContent w) (a : ℕ) (below : a < w.applian
           let fits = fits-at wplace here in
           let log = Asked (ask.Write what (record { 0 = block }) guard) bytes (answer.Missed reading) ∷ (w.seats a).log in
           let leads = ap (went_on s (ask.Write what (record { 0 = block }) guard) bytes (answer.Missed reading) p) here in
-          content-went w content a below (event.Miss (appliance_no a) reading) log known command no_holds None false content.told fits.0 (missed reading) p.hand _ None in-hand.hand tt
+          content-went w content a below (event.Miss (appliance_no a) reading) log known command no_holds None false content.told fits.0 (missed reading) (hand_unlinked what p.filled p.hand) _ None (no-map-unlinked g what p.filled p.hand in-hand.hand) tt
           leased leads (fits.1.4 reading)
           (λ i within minds. elim minds [
-            | inl grips ↦ unheld grips.0 grips.1 (seat-holds log known command no_holds p.hand _ None None (missed reading) leads i grips.0 grips.1 grips.2)
+            | inl grips ↦ unheld grips.0 grips.1 (seat-holds log known command no_holds (hand_unlinked what p.filled p.hand) _ None None (missed reading) leads i grips.0 grips.1 grips.2)
             | inr owner ↦ ((λ names. inr (dropped (event.Miss (appliance_no a) reading) log no_holds (missed reading) (fits.1.6 reading) (fits.1.4 reading) i)), (owned-at wplace here i within (inr owner)).1)
           ])
           (inr (fits.1.6 reading))
@@ -475,11 +475,11 @@ module _ (w : World) (content : KeepsContent w) (a : ℕ) (below : a < w.applian
         done-content leased =
             let fits = fits-at wplace here in
             let h = after_write what block bytes p.holds in
-            let hand' = hand_answered g p.found (ask.Write what (record { 0 = block }) guard) bytes answer.Done p.hand in
+            let hand' = hand_left (ask.Write what (record { 0 = block }) guard) p.filled (hand_answered g p.found (ask.Write what (record { 0 = block }) guard) bytes answer.Done p.hand) in
             let log = Asked (ask.Write what (record { 0 = block }) guard) bytes answer.Done ∷ (w.seats a).log in
             let leads = ap (went_on s (ask.Write what (record { 0 = block }) guard) bytes answer.Done p) here in
             content-went w content a below (event.Done (appliance_no a)) log known command h None false content.told fits.0 done hand' _ None
-            (hand-done g content.leased.geometry what block bytes _ (placed-may g s.boot p.holds _ what block bytes guard may) p.found in-hand.found p.hand in-hand.hand) tt
+            (no-map-unlinked g what p.filled _ (hand-done g content.leased.geometry what block bytes _ (placed-may g s.boot p.holds _ what block bytes guard may) p.found in-hand.found p.hand in-hand.hand)) tt
             leased leads fits.1.2
             (λ i within minds.
             let mine = owned-at wplace here i within (minds-back i log (λ claim until grips. done-grips i claim until (seat-holds log known command h hand' _ None None done leads i claim until grips) grips.1) minds) in (

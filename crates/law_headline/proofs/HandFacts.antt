@@ -10,7 +10,8 @@ use Rattle.plx_extent.specs.Maps.{IsMap, HoldsMap, bits_of}
 use Rattle.plx_geom.proofs.Places.{product-high}
 use Rattle.plx_geom.specs.Geometry.{Geometry, IsGeometry, map_at}
 use Rattle.plx_rules.specs.Boot.{Position}
-use Rattle.plx_rules.specs.Hands.{set_since, hand_written, hand_from}
+use Rattle.plx_rules.specs.Hands.{set_since, hand_written, hand_from, hand_unlinked}
+use Rattle.plx_rules.specs.Rests.{filled_blocks}
 use Rattle.law_lease.proofs.Leased.{IsPlaced}
 
 -- none of these blocks is a map's
@@ -45,6 +46,12 @@ out-both b (block ∷ some) more e f = let out = or-parts (b == block) (is_in b 
 
 pub no-map-filter : (g : Geometry) (test : ℕ → Bool) (blocks : List ℕ) → NoMap g blocks → NoMap g (filter test blocks)
 no-map-filter g test blocks none extent below = out-filter test (map_at g extent) blocks (none extent below)
+
+-- a link takes blocks out alone
+pub no-map-unlinked : (g : Geometry) (k : WriteKind) (filled : List (ℕ × List ℕ)) (blocks : List ℕ) → NoMap g blocks → NoMap g (hand_unlinked k filled blocks)
+no-map-unlinked g kind.Link filled blocks none = no-map-filter g (λ b. not (is_in b (filled_blocks filled))) blocks none
+no-map-unlinked g kind.Record filled blocks none = no-map-filter g (λ b. not (is_in b (filled_blocks filled))) blocks none
+no-map-unlinked g other filled blocks none = none
 
 -- ---- bits that were set
 

@@ -38,22 +38,20 @@ use Rattle.law_lease.proofs.Rests.{home-in}
 use Rattle.law_run.specs.AllowedAsks.{MayWrite, fresh_of_block}
 use Rattle.law_space.proofs.Kept.{CarefulAt}
 use Rattle.law_space.proofs.MapWrites.{on-map}
+use Rattle.law_space.proofs.Lists.{unlinked-in}
 use Rattle.law_space.proofs.SpaceSteps.{reached-spaced}
 use Rattle.plx_rules.specs.Reachable.{trees_in, ReachableAllocated, OneLevel, OnePath}
 use Rattle.plx_rules.specs.Trees.{live_root, entry_root, root_on, trees_of}
 use Rattle.law_tree.proofs.ByKind.{OnFresh, OnRecord, clears, RecordWaits}
 use Rattle.law_tree.proofs.Roots.{root-hole}
 use Rattle.law_tree.proofs.SpaceMeets.{WriteAsked, in-hand-free, take-free, give-clears, rule}
-use Rattle.law_tree.proofs.TreeSteps.{HoldsInTime, MeetsTree, RulesOfTrees, keeps-trees}
+use Rattle.law_tree.proofs.Names.{keeps-named, named_in}
+use Rattle.law_tree.proofs.TreeSteps.{HoldsInTime, MeetsTree, RulesOfTrees, SparesHands}
 use Rattle.law_tree.proofs.Treed.{Treed, IsFree, hand_while}
 use Rattle.law_headline.proofs.Content.{KeepsContent}
 use Rattle.law_headline.proofs.ContentWrites.{new-keeps}
 use Rattle.law_headline.proofs.HeadlineProved.{reached-content}
 use Rattle.law_headline.proofs.StoredFacts.{plain-root, plain-taken}
-
--- no write links blocks yet
-abbrev pub no_names : ℕ → ℕ → Type 0
-no_names = λ number block. ⊥
 
 -- the record of an image without tree and snapshots makes holes of its roots
 hole-live : (kept : ImageRecord) → root_of kept ≡ 0 → live_root (Some kept) ≡ Hole
@@ -62,7 +60,7 @@ hole-live kept is = ap pointer_of is ∙ pointer-hole
 hole-entry : (kept : ImageRecord) (log : List ℕ) (k : ℕ) → taken_of kept ≡ 0 → entry_root (Some kept) log k ≡ Hole
 hole-entry kept log k is = let e : nat_lt k (taken_of kept) ≡ false = nat_lt-false k (taken_of kept) (omega (arith, is)) in rw e refl
 
-module _ (w : World) (reached : Reached w) (content : KeepsContent w) (treed : Treed no_names w) (a : ℕ) (below : a < w.appliances) (known : Known) (command : Command) where
+module _ (names : ℕ → ℕ → Type 0) (w : World) (reached : Reached w) (content : KeepsContent w) (treed : Treed names w) (a : ℕ) (below : a < w.appliances) (known : Known) (command : Command) where
   abbrev g : Geometry
   g = w.geometry
 
@@ -90,7 +88,7 @@ module _ (w : World) (reached : Reached w) (content : KeepsContent w) (treed : T
 
     -- a record that is written makes holes of its image's roots
     record-meets : (here : StandsAt kind.Record) → (home : ℕ) → home_of (rests_on g command p.holds p.filled kind.Record block bytes) ≡ Some home → HoldsInTime p.holds w.surface.time home →
-        RecordWaits g d (rests_on g command p.holds p.filled kind.Record block bytes) (no_names (length w.surface.writes)) block bytes no_sectors
+        RecordWaits g d (rests_on g command p.holds p.filled kind.Record block bytes) (names (length w.surface.writes)) block bytes no_sectors
     record-meets here home is holds =
         let leases = rests_on g command p.holds p.filled kind.Record block bytes in
         let may = may-be kind.Record here in
@@ -116,34 +114,34 @@ module _ (w : World) (reached : Reached w) (content : KeepsContent w) (treed : T
         }
 
     -- what is in hand is free
-    hand-free : (k : WriteKind) (here : StandsAt k) → ((c : ℕ) → is_in c (hand_while g (In known command (WriteThen k block bytes guard done fault missed)) p.found p.hand) ≡ true → is_in c p.hand ≡ true) →
-        (c : ℕ) → is_in c (hand_while g p.place p.found p.hand) ≡ true → HoldsInTime p.holds w.surface.time (extent_lease g (extent_of g c)) → IsFree g d c
-    hand-free k here same c is holds = in-hand-free no_names w reached treed a below none c (same c (subst (λ (q : Place). is_in c (hand_while g q p.found p.hand) ≡ true) here is)) holds
+    hand-free : (k : WriteKind) (here : StandsAt k) → ((c : ℕ) → is_in c (hand_while g (In known command (WriteThen k block bytes guard done fault missed)) p.found p.filled p.hand) ≡ true → is_in c p.hand ≡ true) →
+        (c : ℕ) → is_in c (hand_while g p.place p.found p.filled p.hand) ≡ true → HoldsInTime p.holds w.surface.time (extent_lease g (extent_of g c)) → IsFree g d c
+    hand-free k here same c is holds = in-hand-free names w reached treed a below none c (same c (subst (λ (q : Place). is_in c (hand_while g q p.found p.filled p.hand) ≡ true) here is)) holds
 
     -- a fresh block is in hand
     fresh-meets : (here : StandsAt kind.Fresh) → (home : ℕ) → home_of (rests_on g command p.holds p.filled kind.Fresh block bytes) ≡ Some home → HoldsInTime p.holds w.surface.time home → OnFresh g d home block
     fresh-meets here home is holds =
         let its : home ≡ extent_lease g (extent_of g block) = same-some home (extent_lease g (extent_of g block)) (sym is) in
-        let asks = rule no_names w reached treed a below none known command kind.Fresh block bytes guard done fault missed here in
-        let free = in-hand-free no_names w reached treed a below none block (by_rule asks asks.may) (subst (λ (l : ℕ). HoldsInTime p.holds w.surface.time l) its holds) in
+        let asks = rule names w reached treed a below none known command kind.Fresh block bytes guard done fault missed here in
+        let free = in-hand-free names w reached treed a below none block (by_rule asks asks.may) (subst (λ (l : ℕ). HoldsInTime p.holds w.surface.time l) its holds) in
         record { pool = free.pool; lease = its; off = free.off }
       where
         by_rule : (asks : WriteAsked (setting_of w a) p kind.Fresh block bytes guard) → MayWrite (setting_of w a) asks.of kind.Fresh block bytes guard → is_in block p.hand ≡ true
         by_rule asks (fresh_of_block claim held in_hand long) = subst (λ (x : List ℕ). is_in block x ≡ true) (sym asks.hand) in_hand
 
     abbrev Meets : WriteKind → Type 0
-    Meets k = MeetsTree (no_names (length w.surface.writes)) g w.surface.time d p (rests_on g command p.holds p.filled k block bytes) k block bytes
+    Meets k = MeetsTree (names (length w.surface.writes)) g w.surface.time d p (rests_on g command p.holds p.filled k block bytes) k block bytes
 
     pub meets : (k : WriteKind) → StandsAt k → Meets k
     meets kind.Take here = record {
       placed = λ home is holds. tt;
       waits = λ all. tt;
-      taken = λ c is holds. take-free no_names w reached treed a below none block bytes guard (rule no_names w reached treed a below none known command kind.Take block bytes guard done fault missed here) c
-          (subst (λ (q : Place). is_in c (hand_while g q p.found p.hand) ≡ true) here is) holds;
+      taken = λ c is holds. take-free names w reached treed a below none block bytes guard (rule names w reached treed a below none known command kind.Take block bytes guard done fault missed here) c
+          (subst (λ (q : Place). is_in c (hand_while g q p.found p.filled p.hand) ≡ true) here is) holds;
     }
     meets kind.Give here = record {
       placed = λ home is holds. tt;
-      waits = λ all. give-clears no_names w reached treed a below none block bytes guard (rule no_names w reached treed a below none known command kind.Give block bytes guard done fault missed here)
+      waits = λ all. give-clears names w reached treed a below none block bytes guard (rule names w reached treed a below none known command kind.Give block bytes guard done fault missed here)
           (λ extent at. all (extent_lease g extent) (on-map g leased.geometry kind.Give block bytes (rests_on g command p.holds p.filled kind.Give block bytes) (may-be kind.Give here).placed extent at).1);
       taken = hand-free kind.Give here (λ c is. is);
     }
@@ -154,7 +152,7 @@ module _ (w : World) (reached : Reached w) (content : KeepsContent w) (treed : T
           let leases = rests_on g command p.holds p.filled kind.Record block bytes in
           let is : home_of leases ≡ Some (image_lease may.placed.0) = ap home_of may.placed.3.2 in
           record-meets here (image_lease may.placed.0) is (all (image_lease may.placed.0) (home-in (image_lease may.placed.0) leases is)));
-      taken = hand-free kind.Record here (λ c is. is);
+      taken = hand-free kind.Record here (λ c is. unlinked-in kind.Record p.filled p.hand c is);
     }
     meets kind.Claim here = record { placed = λ home is holds. tt; waits = λ all. tt; taken = hand-free kind.Claim here (λ c is. is) }
     meets kind.Renew here = record { placed = λ home is holds. tt; waits = λ all. tt; taken = hand-free kind.Renew here (λ c is. is) }
@@ -170,10 +168,10 @@ module _ (w : World) (reached : Reached w) (content : KeepsContent w) (treed : T
     meets kind.Overwrite here = absurd (may-be kind.Overwrite here)
     meets kind.Log here = absurd (may-be kind.Log here)
 
-rules : (w : World) → Reached w → KeepsContent w → Treed no_names w → RulesOfTrees no_names w
-rules w reached content treed = record {
-  meets = λ a known command k block bytes guard done fault missed below here none. meets w reached content treed a below known command block bytes guard done fault missed none k here;
-  spared = λ number b c below waits is named. named;
+rules : (w : World) → Reached w → KeepsContent w → (names : ℕ → ℕ → Type 0) → Treed names w → SparesHands names w → RulesOfTrees names w
+rules w reached content names treed spares = record {
+  meets = λ a known command k block bytes guard done fault missed below here none. meets names w reached content treed a below known command block bytes guard done fault missed none k here;
+  spared = spares;
 }
 
 -- ---- the first world
@@ -188,7 +186,7 @@ first-end g device formatted q [] = first-root
         (λ i k within. ap (λ (x : List ℕ). entry_root (read_image x) (device (log_at g i)) k) (formatted.places (Record (record { 0 = i })) within) ∙ (ap (λ (r : Option ImageRecord). entry_root r (device (log_at g i)) k) (image-back (image_is.Free 0) (omega arith)) ∙ hole-entry (image_is.Free 0) (device (log_at g i)) k refl))
 first-end g device formatted q (x ∷ ds) = rw (first-end g device formatted q ds) refl
 
-first-treed : (g : Geometry) (appliances : ℕ) (device : Device) → IsFormatted g device → Treed no_names (world.first_world g appliances device)
+first-treed : (g : Geometry) (appliances : ℕ) (device : Device) → IsFormatted g device → Treed (named_in (world.first_world g appliances device)) (world.first_world g appliances device)
 first-treed g appliances device formatted = record {
   shared = record {
     single = λ r q ds es b m ld le at at'. absurd (let e = sym (first-end g device formatted r ds) ∙ at in let P : ⊥ = cc in P);
@@ -201,9 +199,9 @@ first-treed g appliances device formatted = record {
 }
 
 -- every world that events lead to has it
-pub reached-treed : {w : World} → Reached w → Treed no_names w
+pub reached-treed : {w : World} → Reached w → Treed (named_in w) w
 reached-treed (world.first {g = g} {appliances = appliances} {device = device} geometry some few formatted) = first-treed g appliances device formatted
-reached-treed (world.later {w = w} reached step) = keeps-trees no_names step reached (rules w reached (reached-content reached) (reached-treed reached)) (reached-treed reached)
+reached-treed (world.later {w = w} reached step) = keeps-named step reached (rules w reached (reached-content reached)) (reached-treed reached)
 
 -- ---- the laws
 

@@ -26,7 +26,7 @@ use Rattle.plx_disk.specs.declared.ask.Answer.TheVariants as answer
 use Rattle.plx_geom.specs.Geometry.{Geometry, block_count}
 use Rattle.plx_rules.specs.Part.{Part, Ends, ReadThen, WriteThen, ClockThen, UntilThen, answered}
 use Rattle.plx_rules.specs.Boot.{Happening, Began, Asked, Place, Idle, Begins, In, Position, position, place_after_begin, first_part, went_on, goes_to, after_part, place_of}
-use Rattle.plx_rules.specs.Hands.{filled_answered, found_by, hand_answered}
+use Rattle.plx_rules.specs.Hands.{filled_answered, found_by, hand_answered, hand_left}
 use Rattle.plx_rules.specs.Commands.{IsBuilt, IsWellFormed, command_part}
 use Rattle.plx_rules.specs.Ends.{End}
 use Rattle.plx_rules.specs.Holds.{Hold, hold_after_read, after_answer, after_write, holds_after_reply, after_first, first_hold, session_at, sample_of}
@@ -220,9 +220,9 @@ module _ (g : Geometry) (appliances : ℕ) (few : appliances ≤ 8) (lease : ℕ
         IsSpot lease (place_in a.0 (with_happening seat (Asked asked bytes ans))) (spot_next known command hold ans rest)
     spot-next known command part here asked bytes ans rest leads hold held seat is =
         let q : Position = place_in a.0 seat in
-        let e : place_in a.0 (with_happening seat (Asked asked bytes ans)) ≡ goes_to g known command (after_answer q.sample asked bytes ans q.holds) (hand_answered g q.found asked bytes ans q.hand) (filled_answered asked bytes ans q.filled) (sample_of ans) (found_by asked ans) rest =
+        let e : place_in a.0 (with_happening seat (Asked asked bytes ans)) ≡ goes_to g known command (after_answer q.sample asked bytes ans q.holds) (hand_left asked q.filled (hand_answered g q.found asked bytes ans q.hand)) (filled_answered asked bytes ans q.filled) (sample_of ans) (found_by asked ans) rest =
         ap (went_on (setting_at g a.0 seat.boots) asked bytes ans q) (is.place ∙ here)
-        ∙ ap (goes_to g known command (after_answer q.sample asked bytes ans q.holds) (hand_answered g q.found asked bytes ans q.hand) (filled_answered asked bytes ans q.filled) (sample_of ans) (found_by asked ans)) leads in
+        ∙ ap (goes_to g known command (after_answer q.sample asked bytes ans q.holds) (hand_left asked q.filled (hand_answered g q.found asked bytes ans q.hand)) (filled_answered asked bytes ans q.filled) (sample_of ans) (found_by asked ans)) leads in
         subst (λ (x : Position). IsSpot lease x (spot_next known command hold ans rest)) (sym e) (record {
           hold = next-holds lease q r is asked bytes ans rest ∙ held;
           sample = refl;

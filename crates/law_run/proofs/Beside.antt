@@ -12,7 +12,7 @@ use Rattle.plx_disk.specs.declared.ask.Answer.TheVariants as answer
 use Rattle.plx_gate.specs.Leases.{read_lease}
 use Rattle.plx_geom.proofs.Places.{lease-lease, lease-map}
 use Rattle.plx_geom.specs.Geometry.{Geometry, lease_count, extent_lease, lease_at, map_at}
-use Rattle.plx_rules.specs.Hands.{is_held, hand_answered, hand_held}
+use Rattle.plx_rules.specs.Hands.{is_held, hand_answered, hand_held, hand_left}
 use Rattle.plx_rules.specs.Holds.{Hold, Nothing, Seen, Wrote, Waited, Held, after_answer}
 use Rattle.plx_rules.specs.Rests.{extent_of}
 use Rattle.plx_rules.specs.Settings.{Setting}
@@ -23,7 +23,7 @@ use Rattle.law_lease.proofs.LawfulSpace.{timed-rests}
 use Rattle.law_run.specs.AllowedAsks.{GoesOn, WentOn}
 use Rattle.law_run.specs.Busy.{IsBusy, unexpired, taken}
 use Rattle.law_run.specs.CommandLogs.{Exchange, CommandLog, IsIn, older_than, with_exchanges}
-use Rattle.law_run.specs.Holdings.{holds_along, holds_after, last_found, hand_by_log, hold_by_log}
+use Rattle.law_run.specs.Holdings.{holds_along, holds_after, last_found, hand_by_log, filled_by_log, hold_by_log}
 use Rattle.law_run.specs.KnownBytes.{nothing_given, given_after_exchange, given_after_exchanges}
 use Rattle.law_run.specs.Machines.{with_work}
 use Rattle.law_run.specs.Sessions.{is_attached}
@@ -58,12 +58,13 @@ of-goes lease (ask.Read block) (answer.Bytes found) of = tt
 of-goes lease (ask.Write kind.Claim block guard) answer.Done of = tt
 of-goes lease a x of = absurd of
 
-of-quiet : (g : Geometry) (found : Option (ℕ × List ℕ)) (lease : ℕ) (a : Ask) (bytes : List ℕ) (x : Answer) (hand : List ℕ) → IsOfClaim lease a x → hand_answered g found a bytes x hand ≡ hand
-of-quiet g found lease ask.Clock bytes (answer.Reading reading) hand of = refl
-of-quiet g found lease (ask.Until from) bytes (answer.Reading reading) hand of = refl
-of-quiet g found lease (ask.Read block) bytes (answer.Bytes read) hand of = refl
-of-quiet g found lease (ask.Write kind.Claim block guard) bytes answer.Done hand of = told-quiet g found (ask.Write kind.Claim block guard) bytes answer.Done hand tt
-of-quiet g found lease a bytes x hand of = absurd of
+of-quiet : (g : Geometry) (found : Option (ℕ × List ℕ)) (filled : List (ℕ × List ℕ)) (lease : ℕ) (a : Ask) (bytes : List ℕ) (x : Answer) (hand : List ℕ) → IsOfClaim lease a x →
+    hand_left a filled (hand_answered g found a bytes x hand) ≡ hand
+of-quiet g found filled lease ask.Clock bytes (answer.Reading reading) hand of = refl
+of-quiet g found filled lease (ask.Until from) bytes (answer.Reading reading) hand of = refl
+of-quiet g found filled lease (ask.Read block) bytes (answer.Bytes read) hand of = refl
+of-quiet g found filled lease (ask.Write kind.Claim block guard) bytes answer.Done hand of = told-quiet g found (ask.Write kind.Claim block guard) bytes answer.Done hand tt
+of-quiet g found filled lease a bytes x hand of = absurd of
 
 of-told : (g : Geometry) (lease : ℕ) (done : List Exchange) (x : Exchange) (extent : ℕ) → lease < lease_count g → IsOfClaim lease x.ask x.answer →
     given_after_exchanges (x ∷ done) nothing_given (map_at g extent) ≡ given_after_exchanges done nothing_given (map_at g extent)
@@ -131,7 +132,7 @@ beside-more s first lease from done x has-from below unheld of b = record {
   went = λ went. (of-goes lease x.ask x.answer of, b.went went);
   others = others;
   hand = hand-more s first.before x (after_work first done) b.has
-      ∙ (ap (hand_held s.geometry H) (of-quiet s.geometry (last_found (after_work first done)) lease x.ask x.bytes x.answer (hand_by_log s first.before (after_work first done)) of)
+      ∙ (ap (hand_held s.geometry H) (of-quiet s.geometry (last_found (after_work first done)) (filled_by_log s first.before (after_work first done)) lease x.ask x.bytes x.answer (hand_by_log s first.before (after_work first done)) of)
       ∙ (filter-all (λ c. is_held (H (lease_at (extent_lease s.geometry (extent_of s.geometry c))))) (hand_by_log s first.before (after_work first done)) still ∙ b.hand));
   older = λ y is. inr (b.older y is);
   told = λ extent. of-told s.geometry lease done x extent below of ∙ b.told extent;

@@ -17,11 +17,11 @@ use Rattle.plx_rules.specs.Rests.{extent_of}
 use Rattle.plx_rules.specs.Settings.{Setting}
 use Rattle.law_run.specs.AllowedAsks.{MayWrite, MayAsk, take_of_blocks}
 use Rattle.law_run.specs.CommandLogs.{Exchange, Finished, CommandLog}
-use Rattle.law_run.specs.Holdings.{holds_along, holds_after, last_found, hand_told, hand_after, hand_by_log}
+use Rattle.law_run.specs.Holdings.{holds_along, holds_after, last_found, hand_told, hand_after, hand_by_log, filled_by_log}
 use Rattle.law_run.specs.Rules.{AllAllowed, AllKept}
 use Rattle.law_run.specs.Sessions.{is_attached}
 use Rattle.law_run.proofs.FreeBlocks.{since-clear, own-read}
-use Rattle.law_run.proofs.Hands.{HasBlock, has-append, has-filter, give-fewer, told-quiet}
+use Rattle.law_run.proofs.Hands.{HasBlock, has-append, has-filter, give-fewer, told-quiet, left-has}
 use Rattle.law_run.proofs.Right.{log_on}
 
 -- none of these blocks is a map
@@ -69,8 +69,9 @@ along-no-maps : (s : Setting) (before : List Finished) (command : Command) (done
 along-no-maps s before command [] allowed none = none
 along-no-maps s before command (x ∷ []) allowed none = none
 along-no-maps s before command (x ∷ last ∷ older) allowed none =
-    told-no-maps s (log_on before command (last ∷ older)) x.ask x.bytes x.answer (hand_by_log s before (last ∷ older)) allowed.0
+    λ b has. told-no-maps s (log_on before command (last ∷ older)) x.ask x.bytes x.answer (hand_by_log s before (last ∷ older)) allowed.0
     (held-no-maps s.geometry (holds_along s.geometry (is_attached before) (holds_after s.geometry before) (last ∷ older)) _ (along-no-maps s before command (last ∷ older) allowed.1 none))
+    b (left-has x.ask (filled_by_log s before (last ∷ older)) _ b has)
 
 -- after commands that kept the rules
 kept-no-maps : (s : Setting) (before : List Finished) → AllKept s before → AreNoMaps s.geometry (hand_after s.geometry before)

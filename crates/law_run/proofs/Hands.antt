@@ -15,13 +15,13 @@ use Rattle.plx_disk.specs.declared.ask.Answer.TheVariants as answer
 use Rattle.plx_extent.proofs.Maps.{length-bits_from}
 use Rattle.plx_extent.specs.Maps.{bits_of}
 use Rattle.plx_geom.specs.Geometry.{Geometry, extent_lease, lease_at, extents_start, map_at}
-use Rattle.plx_rules.specs.Hands.{is_held, set_since, blocks_without, hand_written, hand_from, hand_answered, hand_held}
+use Rattle.plx_rules.specs.Hands.{is_held, set_since, blocks_without, hand_written, hand_from, hand_answered, hand_held, hand_left, hand_unlinked}
 use Rattle.plx_rules.specs.Holds.{Hold, Nothing, Seen, Wrote, Waited, Held}
-use Rattle.plx_rules.specs.Rests.{extent_of}
+use Rattle.plx_rules.specs.Rests.{extent_of, filled_blocks}
 use Rattle.plx_rules.specs.Settings.{Setting}
 use Rattle.law_run.specs.AllowedAsks.{MayWrite, MayAsk, take_of_blocks}
 use Rattle.law_run.specs.CommandLogs.{Exchange, Finished, CommandLog}
-use Rattle.law_run.specs.Holdings.{holds_along, holds_after, last_found, hand_told, hand_after, hand_by_log, hold_by_log}
+use Rattle.law_run.specs.Holdings.{holds_along, holds_after, last_found, hand_told, hand_after, hand_by_log, filled_by_log, hold_by_log}
 use Rattle.law_run.specs.Rules.{AllAllowed, AllKept}
 use Rattle.law_run.specs.Sessions.{is_attached}
 use Rattle.law_run.proofs.Right.{log_on, IsHeld}
@@ -181,6 +181,36 @@ told-quiet g found (ask.Read block) bytes x hand quiet = refl
 told-quiet g found ask.Clock bytes x hand quiet = refl
 told-quiet g found (ask.Until from) bytes x hand quiet = refl
 
+-- an ask that links nothing
+abbrev pub LinksNone : Ask → Type 0
+LinksNone (ask.Write kind.Link block guard) = ⊥
+LinksNone (ask.Write kind.Record block guard) = ⊥
+LinksNone a = Unit {0}
+
+-- takes no block out of the hand
+pub left-same : (a : Ask) (filled : List (ℕ × List ℕ)) (hand : List ℕ) → LinksNone a → hand_left a filled hand ≡ hand
+left-same (ask.Write k block guard) filled hand none = by-kind k none
+  where
+    by-kind : (k' : WriteKind) → LinksNone (ask.Write k' block guard) → hand_unlinked k' filled hand ≡ hand
+    by-kind kind.Link none' = absurd none'
+    by-kind kind.Record none' = absurd none'
+    by-kind other none' = refl
+left-same (ask.Read block) filled hand none = refl
+left-same ask.Clock filled hand none = refl
+left-same (ask.Until from) filled hand none = refl
+
+-- and none brings any
+pub left-has : (a : Ask) (filled : List (ℕ × List ℕ)) (hand : List ℕ) (b : ℕ) → HasBlock (hand_left a filled hand) b → HasBlock hand b
+left-has (ask.Write k block guard) filled hand b has = by-kind k has
+  where
+    by-kind : (k' : WriteKind) → HasBlock (hand_unlinked k' filled hand) b → HasBlock hand b
+    by-kind kind.Link has' = (has-filter (λ c. not (is_in c (filled_blocks filled))) hand b has').0
+    by-kind kind.Record has' = (has-filter (λ c. not (is_in c (filled_blocks filled))) hand b has').0
+    by-kind other has' = has'
+left-has (ask.Read block) filled hand b has = has
+left-has ask.Clock filled hand b has = has
+left-has (ask.Until from) filled hand b has = has
+
 -- a give leaves the blocks of the other extents
 pub give-leaves : (g : Geometry) (found : Option (ℕ × List ℕ)) (extent : ℕ) (bytes : List ℕ) (hand : List ℕ) (b : ℕ) → extent_of g b ≢ extent → HasBlock hand b →
     HasBlock (hand_from g found kind.Give (map_at g extent) bytes hand) b
@@ -232,7 +262,7 @@ take-adds g (Some found) extent bytes hand b has = by-test (found.0 == map_at g 
 pub hand-more : (s : Setting) (before : List Finished) (x : Exchange) (done : List Exchange) → HasFirst done →
     hand_by_log s before (x ∷ done)
     ≡ hand_held s.geometry (holds_along s.geometry (is_attached before) (holds_after s.geometry before) (x ∷ done))
-    (hand_answered s.geometry (last_found done) x.ask x.bytes x.answer (hand_by_log s before done))
+    (hand_left x.ask (filled_by_log s before done) (hand_answered s.geometry (last_found done) x.ask x.bytes x.answer (hand_by_log s before done)))
 hand-more s before x done has =
     ap (hand_held s.geometry (holds_along s.geometry (is_attached before) (holds_after s.geometry before) (x ∷ done)))
     (told-more s.geometry (is_attached before) (holds_after s.geometry before) (hand_after s.geometry before) x done has)
@@ -281,8 +311,9 @@ along-within : (s : Setting) (before : List Finished) (command : Command) (done 
 along-within s before command [] allowed within = within
 along-within s before command (x ∷ []) allowed within = within
 along-within s before command (x ∷ last ∷ older) allowed within =
-    told-within s (log_on before command (last ∷ older)) (last_found (last ∷ older)) x.ask x.bytes x.answer (hand_by_log s before (last ∷ older)) allowed.0
-    (held-within s.geometry (holds_along s.geometry (is_attached before) (holds_after s.geometry before) (last ∷ older)) _ (along-within s before command (last ∷ older) allowed.1 within))
+    let rest = told-within s (log_on before command (last ∷ older)) (last_found (last ∷ older)) x.ask x.bytes x.answer (hand_by_log s before (last ∷ older)) allowed.0
+    (held-within s.geometry (holds_along s.geometry (is_attached before) (holds_after s.geometry before) (last ∷ older)) _ (along-within s before command (last ∷ older) allowed.1 within)) in
+    λ b has. rest b (left-has x.ask (filled_by_log s before (last ∷ older)) _ b has)
 
 -- after commands that kept the rules
 pub kept-within : (s : Setting) (before : List Finished) → AllKept s before → IsWithinExtents s.geometry (hand_after s.geometry before)
@@ -302,16 +333,17 @@ hand-in-extents s before command (x ∷ done) kept allowed =
 -- ---- one more exchange, by blocks
 
 pub hand-keeps : (s : Setting) (before : List Finished) (x : Exchange) (done : List Exchange) (b : ℕ) → HasFirst done →
-    HasBlock (hand_answered s.geometry (last_found done) x.ask x.bytes x.answer (hand_by_log s before done)) b →
+    HasBlock (hand_left x.ask (filled_by_log s before done) (hand_answered s.geometry (last_found done) x.ask x.bytes x.answer (hand_by_log s before done))) b →
     is_held (hold_by_log s before (x ∷ done) (extent_lease s.geometry (extent_of s.geometry b))) ≡ true → HasBlock (hand_by_log s before (x ∷ done)) b
 hand-keeps s before x done b has-first has held =
     subst (λ (l : List ℕ). HasBlock l b) (sym (hand-more s before x done has-first))
     (filter-has (λ c. is_held (hold_by_log s before (x ∷ done) (extent_lease s.geometry (extent_of s.geometry c))))
-    (hand_answered s.geometry (last_found done) x.ask x.bytes x.answer (hand_by_log s before done)) b has held)
+    (hand_left x.ask (filled_by_log s before done) (hand_answered s.geometry (last_found done) x.ask x.bytes x.answer (hand_by_log s before done))) b has held)
 
 pub hand-fewer : (s : Setting) (before : List Finished) (x : Exchange) (done : List Exchange) (b : ℕ) → HasFirst done → HasBlock (hand_by_log s before (x ∷ done)) b →
     HasBlock (hand_answered s.geometry (last_found done) x.ask x.bytes x.answer (hand_by_log s before done)) b
 hand-fewer s before x done b has-first has =
+    left-has x.ask (filled_by_log s before done) _ b
     (has-filter (λ c. is_held (hold_by_log s before (x ∷ done) (extent_lease s.geometry (extent_of s.geometry c))))
-    (hand_answered s.geometry (last_found done) x.ask x.bytes x.answer (hand_by_log s before done)) b
+    (hand_left x.ask (filled_by_log s before done) (hand_answered s.geometry (last_found done) x.ask x.bytes x.answer (hand_by_log s before done))) b
     (subst (λ (l : List ℕ). HasBlock l b) (hand-more s before x done has-first) has)).0

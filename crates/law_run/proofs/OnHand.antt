@@ -24,11 +24,11 @@ use Rattle.plx_rules.specs.Settings.{Setting}
 use Rattle.plx_rules.specs.Space.{read_map, with_clear, in_extent}
 use Rattle.law_run.specs.AllowedAsks.{GoesOn, WentOn}
 use Rattle.law_run.specs.CommandLogs.{Exchange, Finished, IsIn, first_reading}
-use Rattle.law_run.specs.Holdings.{holds_along, holds_after, hold_by_log, hand_by_log, last_found, is_lease_read, claims_in}
+use Rattle.law_run.specs.Holdings.{holds_along, holds_after, hold_by_log, hand_by_log, filled_by_log, last_found, is_lease_read, claims_in}
 use Rattle.law_run.specs.OnHand.{WasClear}
 use Rattle.law_run.specs.Sessions.{is_attached}
 use Rattle.law_run.proofs.FreeBlocks.{map-bits}
-use Rattle.law_run.proofs.Hands.{HasBlock, has-filter, filter-has, hand-is-held, hand-keeps, hand-fewer, told-quiet, give-leaves, give-fewer}
+use Rattle.law_run.proofs.Hands.{HasBlock, has-filter, filter-has, hand-is-held, hand-keeps, hand-fewer, LinksNone, left-same, told-quiet, give-leaves, give-fewer}
 use Rattle.law_run.proofs.Holding.{first-more, claims-more}
 use Rattle.law_run.proofs.Meets.{exchange}
 use Rattle.law_run.proofs.OnExtent.{claims_at, map-no-lease}
@@ -144,7 +144,7 @@ module _ (s : Setting) (before : List Finished) (from : List Exchange) (spares :
   }
 
   -- an exchange that leaves all leases as they are, and the blocks in hand of the extents that aren't given back
-  same-holds : (P K K' : ℕ → Type 0) (own : List Exchange) (x : Exchange) → Work P K own → is_lease_read s.geometry x.ask ≡ false → GoesOn x.answer → claims_at x.ask ≡ false →
+  same-holds : (P K K' : ℕ → Type 0) (own : List Exchange) (x : Exchange) → Work P K own → LinksNone x.ask → is_lease_read s.geometry x.ask ≡ false → GoesOn x.answer → claims_at x.ask ≡ false →
       ((l : ℕ) → l < lease_count s.geometry → hold_by_log s before (x ∷ own ++ from) l ≡ hold_by_log s before (own ++ from) l) → ((e : ℕ) → K e → K' e) →
       ((b : ℕ) → ¬ K' (extent_of s.geometry b) → HasBlock (hand_by_log s before (own ++ from)) b →
       HasBlock (hand_answered s.geometry (last_found (own ++ from)) x.ask x.bytes x.answer (hand_by_log s before (own ++ from))) b) →
@@ -152,13 +152,14 @@ module _ (s : Setting) (before : List Finished) (from : List Exchange) (spares :
       ((b : ℕ) → HasBlock (hand_answered s.geometry (last_found (own ++ from)) x.ask x.bytes x.answer (hand_by_log s before (own ++ from))) b → K' (extent_of s.geometry b) →
       K (extent_of s.geometry b) ⊎ WasClear s.geometry own b) →
       Work P K' (x ∷ own)
-  same-holds P K K' own x r unread goes unclaimed same wider keeps fewer clear = record {
+  same-holds P K K' own x r links unread goes unclaimed same wider keeps fewer clear = record {
     along = along-next own x r.along unread goes unclaimed (λ image below spare. same (image_lease image) (image-below s.geometry image below));
     later = λ l below left. same l below ∙ r.later l below left;
     given = λ l claim until below p held. r.given l claim until below p (sym (same l below) ∙ held);
     hand = λ b has apart left. (
         let old = r.hand b has (λ k. apart (wider _ k)) left in
-        hand-keeps s before x (own ++ from) b r.along.has (keeps b apart old)
+        hand-keeps s before x (own ++ from) b r.along.has
+        (subst (λ (l : List ℕ). HasBlock l b) (sym (left-same x.ask (filled_by_log s before (own ++ from)) _ links)) (keeps b apart old))
         (ap is_held (same (extent_lease s.geometry (extent_of s.geometry b)) (extent-below s.geometry _ (inside b has))) ∙ hand-is-held s before (own ++ from) b r.along.has old));
     fewer = λ b has. r.fewer b (fewer b (hand-fewer s before x (own ++ from) b r.along.has has));
     cleared = λ b has k. (
@@ -171,7 +172,7 @@ module _ (s : Setting) (before : List Finished) (from : List Exchange) (spares :
   map-read P K own extent bytes r =
       let x = read_of (map_at s.geometry extent) bytes in
       let H = holds_along s.geometry (is_attached before) (holds_after s.geometry before) (own ++ from) in
-      same-holds P K K own x r (map-no-lease s.geometry extent) tt refl
+      same-holds P K K own x r tt (map-no-lease s.geometry extent) tt refl
       (λ l below. ap (λ (h : ℕ → Hold). h (lease_at l)) (along-more s.geometry (is_attached before) (holds_after s.geometry before) x (own ++ from) r.along.has)
       ∙ at-other H (map_at s.geometry extent) (lease_at l) _ (lease-map s.geometry l extent below))
       (λ e k. k) (λ b apart has. has) (λ b has. has) (λ b has k. inl k)
@@ -187,7 +188,7 @@ module _ (s : Setting) (before : List Finished) (from : List Exchange) (spares :
       let done = own1 ++ from in
       let bytes = map_bytes (with_clear blocks (map_at s.geometry extent) bits) in
       let x = exchange (ask.Write kind.Give (record { 0 = map_at s.geometry extent }) until) bytes answer.Done in
-      same-holds P (GivenBack extent) (GivenBack (extent + 1)) own1 x r refl tt refl
+      same-holds P (GivenBack extent) (GivenBack (extent + 1)) own1 x r tt refl tt refl
       (λ l below. ap (λ (h : ℕ → Hold). h (lease_at l)) (along-more s.geometry (is_attached before) (holds_after s.geometry before) x done r.along.has))
       (λ e k. omega (arith, k))
       (λ b apart has. give-leaves s.geometry (last_found done) extent bytes (hand_by_log s before done) b (λ e. apart (omega (arith, e))) has)

@@ -12,7 +12,7 @@ use Rattle.plx_rules.specs.Boot as boot
 use Rattle.plx_rules.specs.Boot.{Happening, Place, Idle, Begins, In, Position, position, goes_to, place_after_begin, went_on, asks, writes_out, reply_of, replies_at, Fits, IsRun}
 use Rattle.plx_rules.specs.Commands.{IsBuilt, IsWellFormed, command_part}
 use Rattle.plx_rules.specs.Ends.{End}
-use Rattle.plx_rules.specs.Hands.{found_by, filled_answered, hand_answered, hand_held}
+use Rattle.plx_rules.specs.Hands.{found_by, filled_answered, filled_held, hand_answered, hand_held, hand_left}
 use Rattle.plx_rules.specs.Holds.{Hold, Nothing, Seen, Wrote, Waited, Held, after_answer, sample_of, holds_after_reply, first_hold, after_first}
 use Rattle.plx_rules.specs.Session.{Session, Known}
 use Rattle.plx_rules.specs.Settings.{Setting}
@@ -20,7 +20,7 @@ use Rattle.law_run.specs.AllowedAsks.{WentOn, MayAsk}
 use Rattle.law_run.specs.Bounds.{bound}
 use Rattle.law_run.specs.Causes.{MayGoOnWith, MayFollow, AllFollow}
 use Rattle.law_run.specs.CommandLogs.{Exchange, Finished, CommandLog, Commands, Between, Within, commands_after_start, commands_after_exchange, commands}
-use Rattle.law_run.specs.Holdings.{at_first, after_first_answer, holds_along, holds_after, last_found, hand_told, hand_along, hand_after, hand_by_log}
+use Rattle.law_run.specs.Holdings.{at_first, after_first_answer, holds_along, holds_after, last_found, hand_told, hand_along, hand_after, hand_by_log, filled_told, filled_along, filled_by_log}
 use Rattle.law_run.specs.Positions.{known_at, IsByCommands, PositionsAgree}
 use Rattle.law_run.specs.Rules.{AllAllowed, AllKept, KeepsRules, IsSetting, RunsKeepRules}
 use Rattle.law_run.specs.Sessions.{is_attached}
@@ -91,9 +91,14 @@ along-more g attached before x [] has = absurd has
 along-more g attached before x (y ∷ older) has = refl
 
 pub told-more : (g : Geometry) (attached : ℕ → Bool) (before : ℕ → Hold) (hand : List ℕ) (x : Exchange) (done : List Exchange) → HasFirst done →
-    hand_told g attached before hand (x ∷ done) ≡ hand_answered g (last_found done) x.ask x.bytes x.answer (hand_along g attached before hand done)
+    hand_told g attached before hand (x ∷ done) ≡ hand_left x.ask (filled_along g attached before done) (hand_answered g (last_found done) x.ask x.bytes x.answer (hand_along g attached before hand done))
 told-more g attached before hand x [] has = absurd has
 told-more g attached before hand x (y ∷ older) has = refl
+
+pub filled-more : (g : Geometry) (attached : ℕ → Bool) (before : ℕ → Hold) (x : Exchange) (done : List Exchange) → HasFirst done →
+    filled_told g attached before (x ∷ done) ≡ filled_answered x.ask x.bytes x.answer (filled_along g attached before done)
+filled-more g attached before x [] has = absurd has
+filled-more g attached before x (y ∷ older) has = refl
 
 -- ---- where a boot stands
 
@@ -119,16 +124,16 @@ abbrev pub held_in : Setting → CommandLog → ℕ → Hold
 held_in s log = holds_along s.geometry (is_attached log.before) (holds_after s.geometry log.before) log.exchanges
 
 -- where a boot stands fits its commands
-abbrev pub Agree : Setting → (ℕ → Hold) → List ℕ → Option ℕ → Option (ℕ × List ℕ) → Place → Commands → Type 0
-Agree s holds hand sample found (Idle known) (Between before) = AllKept s before × Rests s before known × (holds ≡ holds_after s.geometry before) × (hand ≡ hand_after s.geometry before)
-Agree s holds hand sample found (Begins known command) (Within log) = Begun s known command log × (holds ≡ holds_after s.geometry log.before) × (hand ≡ hand_after s.geometry log.before)
-Agree s holds hand sample found (In known command part) (Within log) =
+abbrev pub Agree : Setting → (ℕ → Hold) → List ℕ → List (ℕ × List ℕ) → Option ℕ → Option (ℕ × List ℕ) → Place → Commands → Type 0
+Agree s holds hand filled sample found (Idle known) (Between before) = AllKept s before × Rests s before known × (holds ≡ holds_after s.geometry before) × (hand ≡ hand_after s.geometry before)
+Agree s holds hand filled sample found (Begins known command) (Within log) = Begun s known command log × (holds ≡ holds_after s.geometry log.before) × (hand ≡ hand_after s.geometry log.before)
+Agree s holds hand filled sample found (In known command part) (Within log) =
     RunsWithRest s log part × (holds ≡ held_in s log) × (sample ≡ last_sample log.exchanges) × HasFirst log.exchanges × Rests s log.before known
-    × (hand ≡ hand_by_log s log.before log.exchanges) × (found ≡ last_found log.exchanges)
-Agree s holds hand sample found place commands = ⊥
+    × (hand ≡ hand_by_log s log.before log.exchanges) × (found ≡ last_found log.exchanges) × (filled ≡ filled_by_log s log.before log.exchanges)
+Agree s holds hand filled sample found place commands = ⊥
 
 abbrev pub AgreeAt : Setting → Position → Commands → Type 0
-AgreeAt s p commands = Agree s p.holds p.hand p.sample p.found p.place commands
+AgreeAt s p commands = Agree s p.holds p.hand p.filled p.sample p.found p.place commands
 
 -- an answered ask is one more exchange
 along : (s : Setting) (log : CommandLog) (x : Exchange) (known : Known) (command : Command) (holds : ℕ → Hold) (hand : List ℕ) (filled : List (ℕ × List ℕ)) (part : Part End) (left : ℕ) → AllKept s log.before → Rests s log.before known →
@@ -136,33 +141,36 @@ along : (s : Setting) (log : CommandLog) (x : Exchange) (known : Known) (command
     length log.exchanges + suc left ≤ bound s log.before log.command →
     holds ≡ holds_along s.geometry (is_attached log.before) (holds_after s.geometry log.before) (x ∷ log.exchanges) →
     hand ≡ hand_told s.geometry (is_attached log.before) (holds_after s.geometry log.before) (hand_after s.geometry log.before) (x ∷ log.exchanges) →
+    filled ≡ filled_told s.geometry (is_attached log.before) (holds_after s.geometry log.before) (x ∷ log.exchanges) →
     AgreeAt s (goes_to s.geometry known command holds hand filled (sample_of x.answer) (found_by x.ask x.answer) part) (commands_after_exchange x (reply_of part) (Within log))
-along s log x known command holds hand filled (Ends end) left older rests allowed at_once may right bounded same told =
+along s log x known command holds hand filled (Ends end) left older rests allowed at_once may right bounded same told fills =
     ((record { allowed = (may.0, allowed); at_once = (may.1, at_once); replied = right.0; bounded = omega arith }, older), right.1, ap (holds_after_reply end.reply) same, λ i. hand_held s.geometry (holds_after_reply end.reply (same i)) (told i))
-along s log x known command holds hand filled (ReadThen block rest fault) left older rests allowed at_once may right bounded same told =
-    (record { older = older; allowed = (may.0, allowed); at_once = (may.1, at_once); left = left; right = right; bounded = omega arith }, same, refl, tt, rests, λ i. hand_held s.geometry (same i) (told i), refl)
-along s log x known command holds hand filled (WriteThen kind block bytes guard done fault missed) left older rests allowed at_once may right bounded same told =
-    (record { older = older; allowed = (may.0, allowed); at_once = (may.1, at_once); left = left; right = right; bounded = omega arith }, same, refl, tt, rests, λ i. hand_held s.geometry (same i) (told i), refl)
-along s log x known command holds hand filled (ClockThen rest) left older rests allowed at_once may right bounded same told =
-    (record { older = older; allowed = (may.0, allowed); at_once = (may.1, at_once); left = left; right = right; bounded = omega arith }, same, refl, tt, rests, λ i. hand_held s.geometry (same i) (told i), refl)
-along s log x known command holds hand filled (UntilThen from rest) left older rests allowed at_once may right bounded same told =
-    (record { older = older; allowed = (may.0, allowed); at_once = (may.1, at_once); left = left; right = right; bounded = omega arith }, same, refl, tt, rests, λ i. hand_held s.geometry (same i) (told i), refl)
+along s log x known command holds hand filled (ReadThen block rest fault) left older rests allowed at_once may right bounded same told fills =
+    (record { older = older; allowed = (may.0, allowed); at_once = (may.1, at_once); left = left; right = right; bounded = omega arith }, same, refl, tt, rests, λ i. hand_held s.geometry (same i) (told i), refl, λ i. filled_held s.geometry (same i) (fills i))
+along s log x known command holds hand filled (WriteThen kind block bytes guard done fault missed) left older rests allowed at_once may right bounded same told fills =
+    (record { older = older; allowed = (may.0, allowed); at_once = (may.1, at_once); left = left; right = right; bounded = omega arith }, same, refl, tt, rests, λ i. hand_held s.geometry (same i) (told i), refl, λ i. filled_held s.geometry (same i) (fills i))
+along s log x known command holds hand filled (ClockThen rest) left older rests allowed at_once may right bounded same told fills =
+    (record { older = older; allowed = (may.0, allowed); at_once = (may.1, at_once); left = left; right = right; bounded = omega arith }, same, refl, tt, rests, λ i. hand_held s.geometry (same i) (told i), refl, λ i. filled_held s.geometry (same i) (fills i))
+along s log x known command holds hand filled (UntilThen from rest) left older rests allowed at_once may right bounded same told fills =
+    (record { older = older; allowed = (may.0, allowed); at_once = (may.1, at_once); left = left; right = right; bounded = omega arith }, same, refl, tt, rests, λ i. hand_held s.geometry (same i) (told i), refl, λ i. filled_held s.geometry (same i) (fills i))
 
 -- what follows the answer to the ask that stands
 follows : (s : Setting) (log : CommandLog) (known : Known) (command : Command) (holds : ℕ → Hold) (hand : List ℕ) (filled : List (ℕ × List ℕ)) (sample : Option ℕ) (found : Option (ℕ × List ℕ)) (part : Part End) (a : Ask) (x : Answer) →
-    Agree s holds hand sample found (In known command part) (Within log) → standing part ≡ Some a → Fits a x →
-    AgreeAt s (goes_to s.geometry known command (after_answer sample a (bytes_out part) x holds) (hand_answered s.geometry found a (bytes_out part) x hand) (filled_answered a (bytes_out part) x filled) (sample_of x) (found_by a x) (answered part x))
+    Agree s holds hand filled sample found (In known command part) (Within log) → standing part ≡ Some a → Fits a x →
+    AgreeAt s (goes_to s.geometry known command (after_answer sample a (bytes_out part) x holds) (hand_left a filled (hand_answered s.geometry found a (bytes_out part) x hand)) (filled_answered a (bytes_out part) x filled) (sample_of x) (found_by a x) (answered part x))
     (commands_after_exchange (exchange a (bytes_out part) x) (reply_of (answered part x)) (Within log))
 follows s log known command holds hand filled sample found part a x agree stands fits =
     let r = agree.0 in
     let next = meets-next (May s log.before log.command) (Shows s log.before log.command) part log.exchanges a r.left r.right stands in
-    along s log (exchange a (bytes_out part) x) known command (after_answer sample a (bytes_out part) x holds) (hand_answered s.geometry found a (bytes_out part) x hand) (filled_answered a (bytes_out part) x filled) (answered part x) next.left r.older agree.4 r.allowed r.at_once next.allowed
+    along s log (exchange a (bytes_out part) x) known command (after_answer sample a (bytes_out part) x holds) (hand_left a filled (hand_answered s.geometry found a (bytes_out part) x hand)) (filled_answered a (bytes_out part) x filled) (answered part x) next.left r.older agree.4 r.allowed r.at_once next.allowed
     (next.follows x fits) (let within = r.bounded in let fewer = next.fewer in omega arith)
     (ap (λ h. after_answer sample a (bytes_out part) x h) agree.1
     ∙ (ap (λ o. after_answer o a (bytes_out part) x (held_in s log)) agree.2
     ∙ sym (along-more s.geometry (is_attached log.before) (holds_after s.geometry log.before) (exchange a (bytes_out part) x) log.exchanges agree.3)))
-    ((λ i. hand_answered s.geometry (agree.6 i) a (bytes_out part) x (agree.5 i))
+    ((λ i. hand_left a (agree.7 i) (hand_answered s.geometry (agree.6 i) a (bytes_out part) x (agree.5 i)))
     ∙ sym (told-more s.geometry (is_attached log.before) (holds_after s.geometry log.before) (hand_after s.geometry log.before) (exchange a (bytes_out part) x) log.exchanges agree.3))
+    (ap (filled_answered a (bytes_out part) x) agree.7
+    ∙ sym (filled-more s.geometry (is_attached log.before) (holds_after s.geometry log.before) (exchange a (bytes_out part) x) log.exchanges agree.3))
 
 -- where the first reading of a command leads
 abbrev first_at : Setting → CommandLog → Known → Command → (reading : ℕ) → (ℕ → Hold) → List ℕ → Type 0
@@ -191,11 +199,12 @@ right-at-first s right log known command holds hand reading b same in_hand small
     (subst Q (sym b.none_yet) tt) (subst (λ done. AllFollow s log.before log.command done) (sym b.none_yet) tt)
     (subst (λ done. WentOn done × Unit {0}) (sym b.none_yet) (tt, tt), subst (λ done. MayGoOnWith s log ask.Clock done) (sym b.none_yet) tt) moved (let n = next.1 in omega arith)
     (ap (λ done. holds_along s.geometry (is_attached log.before) H (clock reading ∷ done)) (sym b.none_yet))
-    (ap (λ done. hand_told s.geometry (is_attached log.before) H (hand_after s.geometry log.before) (clock reading ∷ done)) (sym b.none_yet))))
+    (ap (λ done. hand_told s.geometry (is_attached log.before) H (hand_after s.geometry log.before) (clock reading ∷ done)) (sym b.none_yet))
+    (ap (λ done. filled_told s.geometry (is_attached log.before) H (clock reading ∷ done)) (sym b.none_yet))))
 
 -- a happening of a run keeps where the boot stands and its commands in step
 goes-on : (s : Setting) → BeginsRight s → (p : Position) (place : Place) (so_far : Commands) (a : Ask) (bytes : List ℕ) (x : Answer) →
-    Agree s p.holds p.hand p.sample p.found place so_far → asks place ≡ Some a → writes_out place ≡ bytes → Fits a x →
+    Agree s p.holds p.hand p.filled p.sample p.found place so_far → asks place ≡ Some a → writes_out place ≡ bytes → Fits a x →
     AgreeAt s (went_on s a bytes x p place) (commands_after_exchange (exchange a bytes x) (replies_at s x p place) so_far)
 goes-on s right p (Idle known) so_far a bytes x agree stands writes fits = absurd (let P : ⊥ = cc in P)
 goes-on s right p (Begins known command) (Between before) a bytes x agree stands writes fits = absurd agree
@@ -219,29 +228,29 @@ goes-on s right p (In known command part) (Within log) a bytes x agree stands wr
     let P : List ℕ → Type 0 = λ out. AgreeAt s (went_on s a out x p (In known command part)) (commands_after_exchange (exchange a out x) (reply_of (answered part x)) (Within log)) in
     subst P writes (follows s log known command p.holds p.hand p.filled p.sample p.found part a x agree stands fits)
 
-begins : (s : Setting) (holds : ℕ → Hold) (hand : List ℕ) (sample : Option ℕ) (found : Option (ℕ × List ℕ)) (known : Known) (so_far : Commands) (command : Command) → IsWellFormed command → IsBuilt command →
-    Agree s holds hand sample found (Idle known) so_far → Agree s holds hand None None (Begins known command) (commands_after_start command so_far)
-begins s holds hand sample found known (Between before) command formed built agree =
+begins : (s : Setting) (holds : ℕ → Hold) (hand : List ℕ) (filled : List (ℕ × List ℕ)) (sample : Option ℕ) (found : Option (ℕ × List ℕ)) (known : Known) (so_far : Commands) (command : Command) → IsWellFormed command → IsBuilt command →
+    Agree s holds hand filled sample found (Idle known) so_far → Agree s holds hand filled None None (Begins known command) (commands_after_start command so_far)
+begins s holds hand filled sample found known (Between before) command formed built agree =
     (record { older = agree.0; rests = agree.1; is = refl; none_yet = refl; formed = formed; built = built }, agree.2, agree.3)
-begins s holds hand sample found known (Within log) command formed built agree = absurd agree
+begins s holds hand filled sample found known (Within log) command formed built agree = absurd agree
 
 pub agrees : (s : Setting) → BeginsRight s → (log : List Happening) → IsRun s log → AgreeAt s (position s log) (commands s log)
 agrees s right log boot.empty = (tt, record { sessions = λ image. refl; claims = refl }, refl, refl)
 agrees s right log (boot.begins {log = older} {command = command} known run idle formed built) =
     let p = position s older in
-    let P : Place → Type 0 = λ here. Agree s p.holds p.hand p.sample p.found here (commands s older) in
-    let Q : Place → Type 0 = λ here. Agree s p.holds p.hand None None (place_after_begin command here) (commands_after_start command (commands s older)) in
-    subst Q (sym idle) (begins s p.holds p.hand p.sample p.found known (commands s older) command formed built (subst P idle (agrees s right older run)))
+    let P : Place → Type 0 = λ here. Agree s p.holds p.hand p.filled p.sample p.found here (commands s older) in
+    let Q : Place → Type 0 = λ here. Agree s p.holds p.hand p.filled None None (place_after_begin command here) (commands_after_start command (commands s older)) in
+    subst Q (sym idle) (begins s p.holds p.hand p.filled p.sample p.found known (commands s older) command formed built (subst P idle (agrees s right older run)))
 agrees s right log (boot.goes_on {log = older} {ask = a} {bytes = bytes} {answer = x} run stands writes fits) =
     let p = position s older in
     goes-on s right p p.place (commands s older) a bytes x (agrees s right older run) stands writes fits
 
-keeps-rules : (s : Setting) (holds : ℕ → Hold) (hand : List ℕ) (sample : Option ℕ) (found : Option (ℕ × List ℕ)) (here : Place) (so_far : Commands) → ((log : CommandLog) → so_far ≡ Within log → 1 ≤ bound s log.before log.command) →
-    Agree s holds hand sample found here so_far → KeepsRules s so_far (asks here) (writes_out here)
-keeps-rules s holds hand sample found (Idle known) (Between before) least agree = agree.0
-keeps-rules s holds hand sample found (Idle known) (Within log) least agree = absurd agree
-keeps-rules s holds hand sample found (Begins known command) (Between before) least agree = absurd agree
-keeps-rules s holds hand sample found (Begins known command) (Within log) least agree =
+keeps-rules : (s : Setting) (holds : ℕ → Hold) (hand : List ℕ) (filled : List (ℕ × List ℕ)) (sample : Option ℕ) (found : Option (ℕ × List ℕ)) (here : Place) (so_far : Commands) → ((log : CommandLog) → so_far ≡ Within log → 1 ≤ bound s log.before log.command) →
+    Agree s holds hand filled sample found here so_far → KeepsRules s so_far (asks here) (writes_out here)
+keeps-rules s holds hand filled sample found (Idle known) (Between before) least agree = agree.0
+keeps-rules s holds hand filled sample found (Idle known) (Within log) least agree = absurd agree
+keeps-rules s holds hand filled sample found (Begins known command) (Between before) least agree = absurd agree
+keeps-rules s holds hand filled sample found (Begins known command) (Within log) least agree =
     let b = agree.0 in record {
       older = b.older;
       allowed = subst (λ done. AllAllowed s log.before log.command done) (sym b.none_yet) tt;
@@ -250,8 +259,8 @@ keeps-rules s holds hand sample found (Begins known command) (Within log) least 
       follows = λ a stands. subst (λ done. MayGoOnWith s log a done) (sym b.none_yet) tt;
       bounded = λ a stands. (let size : length log.exchanges ≡ 0 = ap (λ (d : List Exchange). length d) b.none_yet in let one = least log refl in omega arith);
     }
-keeps-rules s holds hand sample found (In known command part) (Between before) least agree = absurd agree
-keeps-rules s holds hand sample found (In known command part) (Within log) least agree =
+keeps-rules s holds hand filled sample found (In known command part) (Between before) least agree = absurd agree
+keeps-rules s holds hand filled sample found (In known command part) (Within log) least agree =
     let r = agree.0 in record {
       older = r.older;
       allowed = r.allowed;
@@ -267,7 +276,7 @@ keeps-rules s holds hand sample found (In known command part) (Within log) least
 pub runs-keep : ((s : Setting) → IsSetting s → BeginsRight s) → ((s : Setting) (before : List Finished) (command : Command) → 1 ≤ bound s before command) → RunsKeepRules
 runs-keep right least s log setting run =
     let p = position s log in
-    keeps-rules s p.holds p.hand p.sample p.found p.place (commands s log) (λ l e. least s l.before l.command) (agrees s (right s setting) log run)
+    keeps-rules s p.holds p.hand p.filled p.sample p.found p.place (commands s log) (λ l e. least s l.before l.command) (agrees s (right s setting) log run)
 
 -- ---- leases and sessions
 
@@ -275,7 +284,7 @@ attached-same : (s : Setting) (before : List Finished) (image : ℕ) (found : Op
 attached-same s before image None fits = sym fits
 attached-same s before image (Some session) fits = sym fits.0
 
-by-commands : (s : Setting) (p : Position) (place : Place) (so_far : Commands) → p.place ≡ place → Agree s p.holds p.hand p.sample p.found place so_far →
+by-commands : (s : Setting) (p : Position) (place : Place) (so_far : Commands) → p.place ≡ place → Agree s p.holds p.hand p.filled p.sample p.found place so_far →
     IsByCommands s p so_far
 by-commands s p (Idle known) (Between before) ps agree = record {
   holds = λ block i. agree.2 i block;

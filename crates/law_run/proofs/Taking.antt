@@ -23,7 +23,7 @@ use Rattle.plx_geom.proofs.Places.{lease-map, map-map, extent-below}
 use Rattle.plx_geom.specs.Geometry.{IsGeometry, lease_count, extent_lease, lease_at, map_at}
 use Rattle.plx_rules.specs.Part.{Part}
 use Rattle.plx_rules.specs.Ends.{End, ends, lost_part, damaged_part}
-use Rattle.plx_rules.specs.Hands.{is_held, set_since, hand_answered, hand_held}
+use Rattle.plx_rules.specs.Hands.{is_held, set_since, hand_answered, hand_held, hand_left}
 use Rattle.plx_rules.specs.Holds.{Hold, Held}
 use Rattle.plx_rules.specs.InUse.{InUse, lease_name, first_reached, unless_reached}
 use Rattle.plx_rules.specs.Rests.{extent_of}
@@ -37,7 +37,7 @@ use Rattle.law_run.specs.AllowedAsks.{GoesOn, WentOn, take_of_blocks, MayAsk}
 use Rattle.law_run.specs.Busy.{IsBusy, NoneBusy, FirstBusy}
 use Rattle.law_run.specs.CommandLogs.{Exchange, CommandLog, IsIn}
 use Rattle.law_run.specs.Holdings as holdings
-use Rattle.law_run.specs.Holdings.{holds_along, holds_after, hold_by_log, hand_by_log, last_found, IsUntil, claims_in, lost_claim, claims_begun}
+use Rattle.law_run.specs.Holdings.{holds_along, holds_after, hold_by_log, hand_by_log, filled_by_log, last_found, IsUntil, claims_in, lost_claim, claims_begun}
 use Rattle.law_run.specs.KnownBytes.{nothing_given, given_after_exchanges}
 use Rattle.law_run.specs.Machines.{with_work}
 use Rattle.law_run.specs.Refusals.{IsNamedFirst}
@@ -166,7 +166,7 @@ module _ (s : Setting) (geometry : IsGeometry s.geometry) (first : CommandLog) (
   pub more-taken : (M : ℕ → Type 0) (tried : ℕ) (done : List Exchange) (t : Taking) (x : Exchange) (blocks : List ℕ) → HasTaken M tried done t →
       claims_in s.geometry (after_work first (x ∷ done)) ≡ claims_in s.geometry (after_work first done) → GoesOn x.answer →
       ((l : ℕ) → l < lease_count s.geometry → hold_by_log s first.before (after_work first (x ∷ done)) l ≡ hold_by_log s first.before (after_work first done) l) →
-      hand_answered s.geometry (last_found (after_work first done)) x.ask x.bytes x.answer (hand_by_log s first.before (after_work first done)) ≡ t.hand ++ blocks →
+      hand_left x.ask (filled_by_log s first.before (after_work first done)) (hand_answered s.geometry (last_found (after_work first done)) x.ask x.bytes x.answer (hand_by_log s first.before (after_work first done))) ≡ t.hand ++ blocks →
       ((b : ℕ) → HasBlock blocks b → (extent_of s.geometry b < s.geometry.extents) × (is_held (hold_by_log s first.before (after_work first done) (extent_lease s.geometry (extent_of s.geometry b))) ≡ true)) →
       ((l : ℕ) (seen : LeaseRecord) → l < lease_count s.geometry → ¬ IsBusy s (log (x ∷ done)) l seen) → claims_at x.ask ≡ false →
       ((e : ℕ) → M e → given_after_exchanges (x ∷ done) nothing_given (map_at s.geometry e) ≡ given_after_exchanges done nothing_given (map_at s.geometry e)) → HasTaken M tried (x ∷ done) (with_taken t blocks)
@@ -223,7 +223,7 @@ module _ (s : Setting) (geometry : IsGeometry s.geometry) (first : CommandLog) (
   pub still-taken : (M : ℕ → Type 0) (tried : ℕ) (done : List Exchange) (t : Taking) (x : Exchange) → HasTaken M tried done t →
       claims_in s.geometry (after_work first (x ∷ done)) ≡ claims_in s.geometry (after_work first done) → GoesOn x.answer →
       ((l : ℕ) → l < lease_count s.geometry → hold_by_log s first.before (after_work first (x ∷ done)) l ≡ hold_by_log s first.before (after_work first done) l) →
-      hand_answered s.geometry (last_found (after_work first done)) x.ask x.bytes x.answer (hand_by_log s first.before (after_work first done)) ≡ hand_by_log s first.before (after_work first done) →
+      hand_left x.ask (filled_by_log s first.before (after_work first done)) (hand_answered s.geometry (last_found (after_work first done)) x.ask x.bytes x.answer (hand_by_log s first.before (after_work first done))) ≡ hand_by_log s first.before (after_work first done) →
       ((l : ℕ) (seen : LeaseRecord) → l < lease_count s.geometry → ¬ IsBusy s (log (x ∷ done)) l seen) → claims_at x.ask ≡ false →
       ((e : ℕ) → M e → given_after_exchanges (x ∷ done) nothing_given (map_at s.geometry e) ≡ given_after_exchanges done nothing_given (map_at s.geometry e)) → HasTaken M tried (x ∷ done) t
   still-taken M tried done t x r begun goes same answered none quiet stands =

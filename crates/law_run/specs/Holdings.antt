@@ -9,7 +9,7 @@ use Rattle.plx_disk.specs.declared.ask.Ask.TheVariants as ask
 use Rattle.plx_disk.specs.declared.ask.Answer.{Answer}
 use Rattle.plx_disk.specs.declared.ask.Answer.TheVariants as answer
 use Rattle.plx_geom.specs.Geometry.{Geometry, lease_count, image_lease, lease_at, map_at}
-use Rattle.plx_rules.specs.Hands.{found_by, hand_answered, hand_held, is_held}
+use Rattle.plx_rules.specs.Hands.{found_by, filled_answered, filled_held, hand_answered, hand_held, hand_left, is_held}
 use Rattle.plx_rules.specs.Holds.{Hold, Nothing, Wrote, Waited, Held, no_holds, after_answer, sample_of, holds_after_reply}
 use Rattle.plx_rules.specs.Rests.{extent_of}
 use Rattle.plx_rules.specs.Settings.{Setting}
@@ -74,13 +74,26 @@ abbrev pub last_found : List Exchange → Option (ℕ × List ℕ)
 last_found [] = None
 last_found (exchange ∷ older) = found_by exchange.ask exchange.answer
 
+-- which blocks were filled since the last link after some exchanges of a command that began with these holdings, before the newest one's leases are looked at
+abbrev pub filled_told : Geometry → (attached : ℕ → Bool) → (start : ℕ → Hold) → List Exchange → List (ℕ × List ℕ)
+filled_told g attached start [] = []
+filled_told g attached start (exchange ∷ []) = []
+filled_told g attached start (exchange ∷ last ∷ older) =
+    filled_answered exchange.ask exchange.bytes exchange.answer
+    (filled_held g (holds_along g attached start (last ∷ older)) (filled_told g attached start (last ∷ older)))
+
+-- those of them whose extents are held
+abbrev pub filled_along : Geometry → (attached : ℕ → Bool) → (start : ℕ → Hold) → List Exchange → List (ℕ × List ℕ)
+filled_along g attached start exchanges = filled_held g (holds_along g attached start exchanges) (filled_told g attached start exchanges)
+
 -- what is in hand after some exchanges of a command that began with these holdings and blocks, before the newest one's leases are looked at
 abbrev pub hand_told : Geometry → (attached : ℕ → Bool) → (start : ℕ → Hold) → (hand : List ℕ) → List Exchange → List ℕ
 hand_told g attached start hand [] = hand
 hand_told g attached start hand (exchange ∷ []) = hand
 hand_told g attached start hand (exchange ∷ last ∷ older) =
-    hand_answered g (found_by last.ask last.answer) exchange.ask exchange.bytes exchange.answer
-    (hand_held g (holds_along g attached start (last ∷ older)) (hand_told g attached start hand (last ∷ older)))
+    hand_left exchange.ask (filled_along g attached start (last ∷ older))
+    (hand_answered g (found_by last.ask last.answer) exchange.ask exchange.bytes exchange.answer
+    (hand_held g (holds_along g attached start (last ∷ older)) (hand_told g attached start hand (last ∷ older))))
 
 -- what is in hand then: of those blocks the ones whose extents are held
 abbrev pub hand_along : Geometry → (attached : ℕ → Bool) → (start : ℕ → Hold) → (hand : List ℕ) → List Exchange → List ℕ
@@ -98,6 +111,10 @@ hand_after g (finished ∷ before) =
 -- what is in hand after some exchanges of a command with those before it
 abbrev pub hand_by_log : Setting → List Finished → List Exchange → List ℕ
 hand_by_log s before exchanges = hand_along s.geometry (is_attached before) (holds_after s.geometry before) (hand_after s.geometry before) exchanges
+
+-- which blocks were filled since the last link after some exchanges of a command with those before it
+abbrev pub filled_by_log : Setting → List Finished → List Exchange → List (ℕ × List ℕ)
+filled_by_log s before exchanges = filled_along s.geometry (is_attached before) (holds_after s.geometry before) exchanges
 
 -- ---- claims
 

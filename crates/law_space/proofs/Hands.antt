@@ -17,32 +17,35 @@ use Rattle.law_lease.proofs.LeaseSteps.{reached-leased}
 use Rattle.law_lease.proofs.Leased.{IsAskedAt, Leased}
 use Rattle.law_lease.proofs.Owners.{exclusion, grip-held}
 use Rattle.law_space.proofs.Kept.{CarefulAt, MapKept, lease_block}
+use Rattle.law_space.proofs.Lists.{unlinked-in}
 use Rattle.law_space.proofs.MapWrites.{hand-after, kept-marked}
 use Rattle.law_space.proofs.Marks.{MayMark}
 use Rattle.law_space.proofs.SpaceSteps.{reached-spaced}
 
--- what is in hand while a give is asked was in hand
-hand-before : (g : Geometry) (place : Place) (found : Option (ℕ × List ℕ)) (hand : List ℕ) (block : ℕ) → is_in block (hand_at g place found hand) ≡ true → is_in block hand ≡ true
-hand-before g (In known command (WriteThen kind.Give b bytes guard done fault missed)) found hand block is = elim (hand-after g found kind.Give b bytes hand block is) [
+-- what is in hand while a write is asked was in hand
+hand-before : (g : Geometry) (place : Place) (found : Option (ℕ × List ℕ)) (filled : List (ℕ × List ℕ)) (hand : List ℕ) (block : ℕ) → is_in block (hand_at g place found filled hand) ≡ true → is_in block hand ≡ true
+hand-before g (In known command (WriteThen kind.Give b bytes guard done fault missed)) found filled hand block is = elim (hand-after g found kind.Give b bytes hand block is) [
   | inl before ↦ before
   | inr taken ↦ absurd (let e : kind.Give ≡ kind.Take = taken.take in let P : ⊥ = cc in P)
 ]
-hand-before g other found hand block is = is
+hand-before g (In known command (WriteThen kind.Link b bytes guard done fault missed)) found filled hand block is = unlinked-in kind.Link filled hand block is
+hand-before g (In known command (WriteThen kind.Record b bytes guard done fault missed)) found filled hand block is = unlinked-in kind.Record filled hand block is
+hand-before g other found filled hand block is = is
 
 -- of a give that is waited for, it stays in hand
-hand-given : (g : Geometry) (place : Place) (found : Option (ℕ × List ℕ)) (hand : List ℕ) (block boot : ℕ) (write : Issued) → IsAskedAt place boot write → is_in block (hand_at g place found hand) ≡ true →
+hand-given : (g : Geometry) (place : Place) (found : Option (ℕ × List ℕ)) (filled : List (ℕ × List ℕ)) (hand : List ℕ) (block boot : ℕ) (write : Issued) → IsAskedAt place boot write → is_in block (hand_at g place found filled hand) ≡ true →
     write.kind ≡ kind.Give → is_in block (hand_from g found kind.Give write.block write.bytes hand) ≡ true
-hand-given g (In known command (WriteThen k b bytes guard done fault missed)) found hand block boot write asked is give =
-    let H : WriteKind → Type 0 = λ x. is_in block (hand_at g (In known command (WriteThen x b bytes guard done fault missed)) found hand) ≡ true in
+hand-given g (In known command (WriteThen k b bytes guard done fault missed)) found filled hand block boot write asked is give =
+    let H : WriteKind → Type 0 = λ x. is_in block (hand_at g (In known command (WriteThen x b bytes guard done fault missed)) found filled hand) ≡ true in
     let here : is_in block (hand_from g found kind.Give b bytes hand) ≡ true = subst H (sym asked.0 ∙ give) is in
     subst (λ (x : List ℕ). is_in block (hand_from g found kind.Give write.block x hand) ≡ true) (sym asked.2)
     (subst (λ (n : ℕ). is_in block (hand_from g found kind.Give n bytes hand) ≡ true) (sym asked.1) here)
-hand-given g (Idle known) found hand block boot write asked is give = absurd asked
-hand-given g (Begins known command) found hand block boot write asked is give = absurd asked
-hand-given g (In known command (Ends end)) found hand block boot write asked is give = absurd asked
-hand-given g (In known command (ReadThen b rest fault)) found hand block boot write asked is give = absurd asked
-hand-given g (In known command (ClockThen rest)) found hand block boot write asked is give = absurd asked
-hand-given g (In known command (UntilThen from rest)) found hand block boot write asked is give = absurd asked
+hand-given g (Idle known) found filled hand block boot write asked is give = absurd asked
+hand-given g (Begins known command) found filled hand block boot write asked is give = absurd asked
+hand-given g (In known command (Ends end)) found filled hand block boot write asked is give = absurd asked
+hand-given g (In known command (ReadThen b rest fault)) found filled hand block boot write asked is give = absurd asked
+hand-given g (In known command (ClockThen rest)) found filled hand block boot write asked is give = absurd asked
+hand-given g (In known command (UntilThen from rest)) found filled hand block boot write asked is give = absurd asked
 
 -- a write that is waited for is one that may be asked of a map
 asked-careful : (place : Place) (found : Option (ℕ × List ℕ)) (boot : ℕ) (write : Issued) → IsAskedAt place boot write → CarefulAt found place → MayMark write.kind found write.block write.bytes
@@ -83,7 +86,7 @@ hands-allocated w reached a block below has = by_pending (w.seats a).pending ref
         (grip-held p.place (pending_write w.surface.writes (w.seats a).pending) lease (p.holds lease) has.owns.claim has.owns.until has.owns.held) has.owns.time
 
     in-hand : is_in block p.hand ≡ true
-    in-hand = hand-before g p.place p.found p.hand block has.here
+    in-hand = hand-before g p.place p.found p.filled p.hand block has.here
 
     by_pending : (pending : Option ℕ) → (w.seats a).pending ≡ pending → bit_of now (block - map_at g extent) ≡ true
     by_pending None is =
@@ -97,7 +100,7 @@ hands-allocated w reached a block below has = by_pending (w.seats a).pending ref
         let kept' : MapKept g extent now (Some asked.0) p.hand p.found = subst K (ap (pending_write w.surface.writes) is ∙ asked.1) kept in
         kept-marked g leased.geometry extent now p.hand p.found asked.0 (w.rests n) right.placed right.flags right.long
         (asked-careful p.place p.found ((setting_of w a).boot) asked.0 asked.2 ((reached-spaced reached).careful a below)) kept' block in-hand refl
-        (hand-given g p.place p.found p.hand block ((setting_of w a).boot) asked.0 asked.2 has.here)
+        (hand-given g p.place p.found p.filled p.hand block ((setting_of w a).boot) asked.0 asked.2 has.here)
 
 -- two boots that have a block in hand are one
 pub hands-apart : HandsApart

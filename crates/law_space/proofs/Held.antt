@@ -18,7 +18,7 @@ use Rattle.plx_gate.specs.Leases.{read_lease}
 use Rattle.plx_geom.specs.Geometry.{Geometry, extent_lease, lease_at}
 use Rattle.plx_rules.specs.Boot.{Happening, Began, Asked, Place, Idle, Begins, In, Position, position, after_part, first_part, first_read, goes_to, went_on}
 use Rattle.plx_rules.specs.Ends.{End}
-use Rattle.plx_rules.specs.Hands.{found_by, filled_answered, hand_answered, is_held}
+use Rattle.plx_rules.specs.Hands.{found_by, filled_answered, hand_answered, hand_left, is_held}
 use Rattle.plx_rules.specs.Holds.{Hold, Nothing, Seen, Wrote, Waited, Held, after_answer, after_first, after_write, hold_after_renewal, sample_of, hold_after_read, hold_after_claim}
 use Rattle.plx_rules.specs.Part.{Part, answered}
 use Rattle.plx_rules.specs.Rests.{extent_of}
@@ -45,7 +45,7 @@ hand-went : (s : Setting) (ask : Ask) (bytes : List ℕ) (answer : Answer) (p : 
 hand-went s ask bytes answer p (Idle known) held = held
 hand-went s ask bytes answer p (Begins known command) held = hand-first s known command answer p held
 hand-went s ask bytes answer p (In known command part) held =
-    hand-goes s.geometry known command (after_answer p.sample ask bytes answer p.holds) (hand_answered s.geometry p.found ask bytes answer p.hand) (filled_answered ask bytes answer p.filled) (sample_of answer) (found_by ask answer) (answered part answer)
+    hand-goes s.geometry known command (after_answer p.sample ask bytes answer p.holds) (hand_left ask p.filled (hand_answered s.geometry p.found ask bytes answer p.hand)) (filled_answered ask bytes answer p.filled) (sample_of answer) (found_by ask answer) (answered part answer)
 
 -- so it is wherever a boot stands
 pub hand-held : (s : Setting) (log : List Happening) → HandHeld s.geometry (position s log)

@@ -4,10 +4,12 @@ use Rattle.std.specs.Prelude.{◌||◌, ◌&&◌, not, filter, if◌then◌else�
 use Rattle.std.proofs.lemmas.Bool.Decides.{eqb_tells}
 use Rattle.std.proofs.lemmas.Nat.{div-mul-add, div-add-mod'}
 use Rattle.std.proofs.Math.Nat.{mod-lt}
+use Rattle.plx_base.specs.declared.write_kind.WriteKind.{WriteKind}
+use Rattle.plx_base.specs.declared.write_kind.WriteKind.TheVariants as kind
 use Rattle.plx_commands.specs.Replies.{is_in}
 use Rattle.plx_geom.specs.Geometry.{Geometry, extents_start, map_at}
-use Rattle.plx_rules.specs.Hands.{set_since}
-use Rattle.plx_rules.specs.Rests.{extent_of}
+use Rattle.plx_rules.specs.Hands.{hand_unlinked, set_since}
+use Rattle.plx_rules.specs.Rests.{extent_of, filled_blocks}
 
 -- an element of a list is its first or one of the others
 in-cons : (block first : ℕ) (others : List ℕ) → is_in block (first ∷ others) ≡ true → (block ≡ first) ⊎ (is_in block others ≡ true)
@@ -46,6 +48,12 @@ filter-in test block (first ∷ others) is passes = by_test (test first) refl (i
     by_test true e (inr later) rest = in-later block first (filter test others) (rest later)
     by_test false e (inl same) rest = absurd (let f : true ≡ false = sym passes ∙ (ap test same ∙ e) in let P : ⊥ = cc in P)
     by_test false e (inr later) rest = rest later
+
+-- what stays in hand was in hand
+pub unlinked-in : (k : WriteKind) (filled : List (ℕ × List ℕ)) (hand : List ℕ) (block : ℕ) → is_in block (hand_unlinked k filled hand) ≡ true → is_in block hand ≡ true
+unlinked-in kind.Link filled hand block is = (in-filter (λ b. not (is_in b (filled_blocks filled))) block hand is).0
+unlinked-in kind.Record filled hand block is = (in-filter (λ b. not (is_in b (filled_blocks filled))) block hand is).0
+unlinked-in other filled hand block is = is
 
 -- an element of a list is in a longer one
 pub append-in : (block : ℕ) (one other : List ℕ) → is_in block other ≡ true → is_in block (one ++ other) ≡ true

@@ -18,7 +18,7 @@ use Rattle.plx_extent.specs.Maps.{bit_of}
 use Rattle.plx_geom.specs.Geometry.{Geometry, extent_lease, lease_at, map_at}
 use Rattle.plx_rules.specs.Boot.{Happening, Began, Asked, Place, Idle, Begins, In, Position, position, place_of, after_part, goes_to, place_after_begin, first_part, went_on}
 use Rattle.plx_rules.specs.Ends.{End}
-use Rattle.plx_rules.specs.Hands.{filled_done, hand_from, hand_held, is_held}
+use Rattle.plx_rules.specs.Hands.{filled_done, hand_from, hand_held, hand_unlinked, is_held}
 use Rattle.plx_rules.specs.Holds.{Hold, Held, no_holds, after_answer, after_write, after_first, session_at, hold_after_reading}
 use Rattle.plx_rules.specs.Owners.{first_landed, pending_write}
 use Rattle.plx_rules.specs.Part.{Part, Ends, ReadThen, WriteThen, ClockThen, UntilThen}
@@ -35,7 +35,7 @@ use Rattle.law_lease.proofs.Lists.{push-cases}
 use Rattle.law_space.proofs.CarefulCommands.{careful-command}
 use Rattle.law_space.proofs.Held.{hand-held, read-held, written-held}
 use Rattle.law_space.proofs.Kept.{AreMarking, CarefulAt, IsMarking, CarefulSeat, KeptAt, KeptSeat, MapKept, Spaced, lease_block}
-use Rattle.law_space.proofs.Lists.{in-filter}
+use Rattle.law_space.proofs.Lists.{in-filter, unlinked-in}
 use Rattle.law_space.proofs.MapWrites.{kept-done, kept-fewer, map-kept-issued, kept-read, kept-unread, map-of, marking-issued}
 use Rattle.law_space.proofs.Marks.{Careful, IsOfMap, MayMark}
 use Rattle.law_space.proofs.SpaceLands.{marking-lands, seat-landed}
@@ -194,22 +194,24 @@ module _ (w : World) (leased : Leased w) (spaced : Spaced w) (a : ℕ) (below : 
         (here : p.place ≡ In known command (WriteThen what block bytes guard done fault missed)) where
       pub write-fault-spaced : Spaced (with-log (Asked (ask.Write what (record { 0 = block }) guard) bytes answer.Fault ∷ seat.log))
       write-fault-spaced =
-          went-spaced (Asked (ask.Write what (record { 0 = block }) guard) bytes answer.Fault ∷ seat.log) known command no_holds p.hand p.filled None None fault
+          went-spaced (Asked (ask.Write what (record { 0 = block }) guard) bytes answer.Fault ∷ seat.log) known command no_holds (hand_unlinked what p.filled p.hand) p.filled None None fault
           (ap (went_on setting (ask.Write what (record { 0 = block }) guard) bytes answer.Fault p) here)
           (careful-at _ here).2 (λ extent within claim until e live. nothing-held claim until e)
 
       pub miss-spaced : (reading : ℕ) → Spaced (with-log (Asked (ask.Write what (record { 0 = block }) guard) bytes (answer.Missed reading) ∷ seat.log))
       miss-spaced reading =
-          went-spaced (Asked (ask.Write what (record { 0 = block }) guard) bytes (answer.Missed reading) ∷ seat.log) known command no_holds p.hand p.filled None None (missed reading)
+          went-spaced (Asked (ask.Write what (record { 0 = block }) guard) bytes (answer.Missed reading) ∷ seat.log) known command no_holds (hand_unlinked what p.filled p.hand) p.filled None None (missed reading)
           (ap (went_on setting (ask.Write what (record { 0 = block }) guard) bytes (answer.Missed reading) p) here)
           ((careful-at _ here).3 reading) (λ extent within claim until e live. nothing-held claim until e)
 
       pub done-spaced : (n : ℕ) → seat.pending ≡ Some n → HasLanded w.surface n →
           Spaced (with-log (Asked (ask.Write what (record { 0 = block }) guard) bytes answer.Done ∷ seat.log))
       done-spaced n waited landed =
-          went-spaced (Asked (ask.Write what (record { 0 = block }) guard) bytes answer.Done ∷ seat.log) known command (after_write what block bytes p.holds) (hand_from g p.found what block bytes p.hand) (filled_done what block bytes p.filled) None None done
+          went-spaced (Asked (ask.Write what (record { 0 = block }) guard) bytes answer.Done ∷ seat.log) known command (after_write what block bytes p.holds) (hand_unlinked what p.filled (hand_from g p.found what block bytes p.hand)) (filled_done what block bytes p.filled) None None done
           (ap (went_on setting (ask.Write what (record { 0 = block }) guard) bytes answer.Done p) here)
-          (careful-at _ here).1 kept
+          (careful-at _ here).1
+          (λ extent within claim until e live. kept-fewer g extent (map_now extent) None (hand_from g p.found what block bytes p.hand) (hand_unlinked what p.filled (hand_from g p.found what block bytes p.hand)) None
+          (λ b is. unlinked-in what p.filled (hand_from g p.found what block bytes p.hand) b is) (kept extent within claim until e live))
         where
           asked : (write : Issued) × (slice_get writes n ≡ Some write) × IsAskedAt p.place setting.boot write
           asked = (leased.seated a below).asked n waited

@@ -272,7 +272,7 @@ has-block = record {
     held = (let H : Position → Type 0 = λ r. hold_at_place r.place (pending_write after.surface.writes (after.seats 0).pending) 3 (r.holds 3) ≡ Held mine 11000 in subst H (sym stands-after) held-there);
     time = omega arith;
   };
-  here = (let H : Position → Type 0 = λ r. is_in 11 (hand_at small_geometry r.place r.found r.hand) ≡ true in
+  here = (let H : Position → Type 0 = λ r. is_in 11 (hand_at small_geometry r.place r.found r.filled r.hand) ≡ true in
       subst H (sym stands-after)
       (filter-in (λ block. is_held (q.holds (lease_at (extent_lease small_geometry (extent_of small_geometry block))))) 11 (hand_from small_geometry q.found kind.Take 10 taken_bytes q.hand) in-hand-written
       (ap is_held held-there)));

@@ -11,8 +11,8 @@ use Rattle.law_space.proofs.Kept.{IsMarking}
 use Rattle.law_space.proofs.MapWrites.{marking-landed}
 use Rattle.law_tree.proofs.ByKind.{OnFresh, TreePlaced}
 use Rattle.law_tree.proofs.TreeLands.{LandsAs}
-use Rattle.std.proofs.Common.{arith, length, ◌≡◌, ◌≢◌, ℕ, ◌<◌, ◌⊎◌, inl, inr, List, [], ◌∷◌, ◌++◌, Bool, true, false, Option, Some, None, refl, ap, sym, ◌∙◌, subst, slice_set}
-use Rattle.std.specs.Prelude.{slice_get, filter, ◌==◌, ◌||◌, if◌then◌else◌}
+use Rattle.std.proofs.Common.{arith, length, ◌≡◌, ◌≢◌, ℕ, ◌<◌, ◌⊎◌, inl, inr, List, [], ◌∷◌, Bool, true, false, Option, Some, None, refl, ap, sym, ◌∙◌, subst, slice_set}
+use Rattle.std.specs.Prelude.{slice_get, filter, if◌then◌else◌}
 use Rattle.std.proofs.lemmas.Bool.Decides.{eqb_tells}
 use Rattle.plx_base.proofs.Devices.{put-other, put-same}
 use Rattle.plx_base.specs.Sectors.{Device, put, with_landed_sector}
@@ -22,11 +22,8 @@ use Rattle.plx_base.specs.declared.write_kind.WriteKind.TheVariants as kind
 use Rattle.plx_commands.specs.Replies.{is_in}
 use Rattle.plx_disk.specs.Writes.{Issued, MayLand, with_sector}
 use Rattle.plx_disk.proofs.Lists.{set-same, set-other}
-use Rattle.plx_extent.specs.Maps.{bits_of}
 use Rattle.plx_geom.specs.Geometry.{Geometry, extent_lease}
-use Rattle.plx_rules.specs.Boot.{Place, In, position}
-use Rattle.plx_rules.specs.Part.{WriteThen}
-use Rattle.plx_rules.specs.Hands.{hand_from, set_since}
+use Rattle.plx_rules.specs.Boot.{position}
 use Rattle.plx_rules.specs.Rests.{extent_of}
 use Rattle.plx_rules.specs.World.{World, Seat, Reached, setting_at}
 use Rattle.law_lease.proofs.Frame.{grips-before}
@@ -36,7 +33,7 @@ use Rattle.law_lease.proofs.Open.{GripsLease, grips-only}
 use Rattle.law_tree.proofs.Moved.{apart-free}
 use Rattle.law_tree.proofs.Roots.{pool-extent-within}
 use Rattle.law_tree.proofs.TreeLands.{lands}
-use Rattle.law_tree.proofs.Treed.{Treed, due}
+use Rattle.law_tree.proofs.Treed.{Treed, due_of}
 use Rattle.plx_geom.proofs.Places.{extent-below}
 
 -- a block was filled with these bytes
@@ -58,33 +55,11 @@ filled-filter test block bytes (one ∷ others) is = by_test (test one) refl (fi
 abbrev pub IsNotPending : List Issued → (pending : Option ℕ) → (block : ℕ) → Type 0
 IsNotPending writes pending block = (n : ℕ) (x : Issued) → pending ≡ Some n → slice_get writes n ≡ Some x → x.block ≢ block
 
--- a block that a boot has filled is in its hand, and holds those bytes
+-- a block that a boot has filled, and that is in its hand, holds those bytes
 abbrev pub FilledSeat : Geometry → (time : ℕ) → Device → List Issued → (appliance : ℕ) → Seat → Type 0
 FilledSeat g time d writes a seat =
     (block : ℕ) (bytes : List ℕ) → IsFilled block bytes (position (setting_at g a seat.boots) seat.log).filled → IsNotPending writes seat.pending block →
-    (claim : Claim) (until : ℕ) → GripsLease g time writes a seat (extent_lease g (extent_of g block)) claim until →
-    (d block ≡ bytes) × (is_in block (position (setting_at g a seat.boots) seat.log).hand ≡ true)
-
--- what is in hand stays so while a write is waited for
-in-more : (c : ℕ) (one other : List ℕ) → is_in c one ≡ true → is_in c (one ++ other) ≡ true
-in-more c [] other is = absurd (let P : ⊥ = cc in P)
-in-more c (x ∷ one) other is = elim (eqb_tells c x) [
-  | inl same ↦ (rw same.0 refl)
-  | inr away ↦ (rw away.0 (in-more c one other (subst (λ (b : Bool). (b || is_in c one) ≡ true) away.0 is)))
-]
-
-hand-in : (g : Geometry) (pending : Option ℕ) (place : Place) (found : Option (ℕ × List ℕ)) (hand : List ℕ) (c : ℕ) → is_in c hand ≡ true → is_in c (due g pending place found hand) ≡ true
-hand-in g None place found hand c is = is
-hand-in g (Some n) (In known command (WriteThen kind.Take block bytes guard done fault missed)) found hand c is = by_found found
-  where
-    by_found : (f : Option (ℕ × List ℕ)) → is_in c (hand_from g f kind.Take block bytes hand) ≡ true
-    by_found None = is
-    by_found (Some x) = by_test (x.0 == block)
-      where
-        by_test : (t : Bool) → is_in c (if t then hand ++ set_since block (bits_of g.extent_blocks x.1) (bits_of g.extent_blocks bytes) else hand) ≡ true
-        by_test true = in-more c hand _ is
-        by_test false = is
-hand-in g (Some n) other found hand c is = is
+    is_in block (due_of g a seat) ≡ true → (claim : Claim) (until : ℕ) → GripsLease g time writes a seat (extent_lease g (extent_of g block)) claim until → d block ≡ bytes
 
 -- the landing of a sector leaves it
 module _ (names : ℕ → ℕ → Type 0) (w : World) (reached : Reached w) (treed : Treed names w) (number sector : ℕ) (write : Issued) (may : MayLand w.surface number sector write) where
@@ -95,17 +70,16 @@ module _ (names : ℕ → ℕ → Type 0) (w : World) (reached : Reached w) (tre
   after = put w.surface.device write.block (with_landed_sector sector write.bytes (w.surface.device write.block))
 
   pub filled-lands : (b : ℕ) → b < w.appliances → FilledSeat w.geometry w.surface.time w.surface.device w.surface.writes b (w.seats b) → FilledSeat w.geometry w.surface.time after now b (w.seats b)
-  filled-lands b below before c x is unwritten claim until grips =
+  filled-lands b below before c x is unwritten in_hand claim until grips =
       let leased = reached-leased reached in
       let lease = extent_lease w.geometry (extent_of w.geometry c) in
       let was = grips-before w leased number sector write may lease b below claim until grips in
-      let old = before c x is unwritten' was.0 was.1 was.2 in
-      let p = position (setting_at w.geometry b (w.seats b).boots) (w.seats b).log in
-      let free = treed.fresh b below c (hand-in w.geometry (w.seats b).pending p.place p.found p.hand c old.1) was.0 was.1 was.2 in
+      let old = before c x is unwritten' in_hand was.0 was.1 was.2 in
+      let free = treed.fresh b below c in_hand was.0 was.1 was.2 in
       let L = lands names w reached treed number sector write may in
       let ne : c ≢ write.block = λ at. apart-free w.geometry w.surface.device L.under write.block L.writes c free.pool free.off
       (λ under. unwritten' number write (grips-only w leased lease (extent-below w.geometry (extent_of w.geometry c) (pool-extent-within w.geometry c free.pool)) b below was.0 was.1 was.2 number write (L.opens lease under)) may.found (sym at)) at in
-      (put-other w.surface.device write.block (with_landed_sector sector write.bytes (w.surface.device write.block)) c ne ∙ old.0, old.1)
+      put-other w.surface.device write.block (with_landed_sector sector write.bytes (w.surface.device write.block)) c ne ∙ old
     where
       unwritten' : IsNotPending w.surface.writes (w.seats b).pending c
       unwritten' n y waits found = elim (eqb_tells n number) [

@@ -56,7 +56,7 @@ pub record WriteAsked (s : Setting) (p : Position) (k : WriteKind) (block : ℕ)
 pub write-asked : (s : Setting) (log : List Happening) → IsSetting s → IsRun s log → (known : Known) (command : Command) (k : WriteKind) (block : ℕ) (bytes : List ℕ) (guard : ℕ) (done fault : Part End) (missed : ℕ → Part End) →
     (position s log).place ≡ In known command (WriteThen k block bytes guard done fault missed) → WriteAsked s (position s log) k block bytes guard
 write-asked s log setting run known command k block bytes guard done fault missed here =
-    by_log (commands s log) (let P : Place → Type 0 = λ q. Agree s (position s log).holds (position s log).hand (position s log).sample (position s log).found q (commands s log) in subst P here (agrees s (begins-right s setting) log run))
+    by_log (commands s log) (let P : Place → Type 0 = λ q. Agree s (position s log).holds (position s log).hand (position s log).filled (position s log).sample (position s log).found q (commands s log) in subst P here (agrees s (begins-right s setting) log run))
   where
     p : Position
     p = position s log
@@ -66,7 +66,7 @@ write-asked s log setting run known command k block bytes guard done fault misse
     by_left of zero right hand found = absurd right
     by_left of (suc left) right hand found = record { of = of; may = right.0.0.1; hand = hand; found = found }
 
-    by_log : (so_far : Commands) → Agree s (position s log).holds (position s log).hand (position s log).sample (position s log).found (In known command (WriteThen k block bytes guard done fault missed)) so_far → WriteAsked s (position s log) k block bytes guard
+    by_log : (so_far : Commands) → Agree s (position s log).holds (position s log).hand (position s log).filled (position s log).sample (position s log).found (In known command (WriteThen k block bytes guard done fault missed)) so_far → WriteAsked s (position s log) k block bytes guard
     by_log (Between before) agree = absurd agree
     by_log (Within of) agree = by_left of agree.0.left agree.0.right agree.5 agree.6
 
@@ -105,7 +105,7 @@ module _ (names : ℕ → ℕ → Type 0) (w : World) (reached : Reached w) (tre
   -- a block in hand is free
   pub in-hand-free : (c : ℕ) → is_in c p.hand ≡ true → HoldsInTime p.holds w.surface.time (extent_lease g (extent_of g c)) → IsFree g d c
   in-hand-free c is holds =
-      let D : Option ℕ → Type 0 = λ o. is_in c (due g o p.place p.found p.hand) ≡ true in
+      let D : Option ℕ → Type 0 = λ o. is_in c (due g o p.place p.found p.filled p.hand) ≡ true in
       let K : Option ℕ → Type 0 = λ o. grip_at p.place (pending_write w.surface.writes o) (lease_at (extent_lease g (extent_of g c))) (p.holds (lease_at (extent_lease g (extent_of g c)))) ≡ Held holds.0 holds.1 in
       treed.fresh a below c (subst D (sym none) is) holds.0 holds.1
       (subst K (sym none) (grip-open p.place None (lease_at (extent_lease g (extent_of g c))) (p.holds (lease_at (extent_lease g (extent_of g c)))) refl ∙ holds.2), holds.3)

@@ -13,10 +13,11 @@ use Rattle.plx_commands.specs.declared.event.Event.{Event}
 use Rattle.plx_disk.specs.Writes.{Issued, HasLanded, all_sectors}
 use Rattle.plx_disk.specs.declared.ask.Ask.TheVariants as ask
 use Rattle.plx_disk.specs.declared.ask.Answer.TheVariants as answer
+use Rattle.plx_extent.specs.Maps.{bits_of}
 use Rattle.plx_geom.specs.Geometry.{Geometry, extent_lease, lease_at}
 use Rattle.plx_rules.specs.Boot.{Happening, Began, Asked, Place, Idle, Begins, In, Position, position, place_of, after_part, goes_to, place_after_begin, first_part, went_on}
 use Rattle.plx_rules.specs.Ends.{End}
-use Rattle.plx_rules.specs.Hands.{filled_done, hand_from, is_held}
+use Rattle.plx_rules.specs.Hands.{filled_done, hand_from, hand_unlinked, hand_written, is_held}
 use Rattle.plx_rules.specs.Holds.{Hold, Held, no_holds, after_answer, after_write, after_first, session_at, hold_after_reading}
 use Rattle.plx_rules.specs.Owners.{first_landed, pending_write}
 use Rattle.plx_rules.specs.Part.{Part, ReadThen, WriteThen, ClockThen, UntilThen}
@@ -35,23 +36,28 @@ use Rattle.law_space.proofs.Lists.{in-filter}
 use Rattle.law_space.proofs.MapWrites.{hand-after}
 use Rattle.law_tree.proofs.Treed.{Treed, FreshSeat, IsFree, due, hand_while}
 
--- by its kind: a give leaves blocks out, a take adds some
-done-due : (g : Geometry) (known : Known) (command : Command) (k : WriteKind) (block : ℕ) (bytes : List ℕ) (guard : ℕ) (done fault : Part End) (missed : ℕ → Part End) (found : Option (ℕ × List ℕ)) (hand : List ℕ) (c : ℕ) →
-    is_in c (hand_from g found k block bytes hand) ≡ true → is_in c (hand_while g (In known command (WriteThen k block bytes guard done fault missed)) found hand) ≡ true
-done-due g known command kind.Take block bytes guard done fault missed found hand c is = is
-done-due g known command kind.Give block bytes guard done fault missed found hand c is = elim (hand-after g found kind.Give block bytes hand c is) [
+-- a write that takes and gives no block leaves the hand
+from-leaves : (leaves : List ℕ → List ℕ) (g : Geometry) (k : WriteKind) (block : ℕ) (bytes : List ℕ) (f : Option (ℕ × List ℕ)) (hand : List ℕ) (c : ℕ) →
+    ((old new : List Bool) → hand_written k block old new hand ≡ hand) → is_in c (leaves (hand_from g f k block bytes hand)) ≡ true → is_in c (leaves hand) ≡ true
+from-leaves leaves g k block bytes None hand c same is = is
+from-leaves leaves g k block bytes (Some x) hand c same is = by_test (x.0 == block) is
+  where
+    by_test : (t : Bool) → is_in c (leaves (if t then hand_written k block (bits_of g.extent_blocks x.1) (bits_of g.extent_blocks bytes) hand else hand)) ≡ true → is_in c (leaves hand) ≡ true
+    by_test true is' = subst (λ (h : List ℕ). is_in c (leaves h) ≡ true) (same (bits_of g.extent_blocks x.1) (bits_of g.extent_blocks bytes)) is'
+    by_test false is' = is'
+
+-- by its kind: a give and a link leave blocks out, a take adds some
+done-due : (g : Geometry) (known : Known) (command : Command) (k : WriteKind) (block : ℕ) (bytes : List ℕ) (guard : ℕ) (done fault : Part End) (missed : ℕ → Part End) (found : Option (ℕ × List ℕ))
+    (filled : List (ℕ × List ℕ)) (hand : List ℕ) (c : ℕ) → is_in c (hand_unlinked k filled (hand_from g found k block bytes hand)) ≡ true →
+    is_in c (hand_while g (In known command (WriteThen k block bytes guard done fault missed)) found filled hand) ≡ true
+done-due g known command kind.Take block bytes guard done fault missed found filled hand c is = is
+done-due g known command kind.Give block bytes guard done fault missed found filled hand c is = elim (hand-after g found kind.Give block bytes hand c is) [
   | inl before ↦ before
   | inr taken ↦ absurd (let e : kind.Give ≡ kind.Take = taken.take in let P : ⊥ = cc in P)
 ]
-done-due g known command other block bytes guard done fault missed found hand c is = by_found found is
-  where
-    by_found : (f : Option (ℕ × List ℕ)) → is_in c (hand_from g f other block bytes hand) ≡ true → is_in c hand ≡ true
-    by_found None is' = is'
-    by_found (Some x) is' = by_test (x.0 == block) is'
-      where
-        by_test : (t : Bool) → is_in c (if t then hand else hand) ≡ true → is_in c hand ≡ true
-        by_test true is'' = is''
-        by_test false is'' = is''
+done-due g known command kind.Link block bytes guard done fault missed found filled hand c is = from-leaves (λ h. hand_unlinked kind.Link filled h) g kind.Link block bytes found hand c (λ old new. refl) is
+done-due g known command kind.Record block bytes guard done fault missed found filled hand c is = from-leaves (λ h. hand_unlinked kind.Record filled h) g kind.Record block bytes found hand c (λ old new. refl) is
+done-due g known command other block bytes guard done fault missed found filled hand c is = from-leaves (λ h. h) g other block bytes found hand c (λ old new. refl) is
 
 module _ (names : ℕ → ℕ → Type 0) (w : World) (leased : Leased w) (treed : Treed names w) (a : ℕ) (below : a < w.appliances) (trace : List Entry) (history : List Event) where
   abbrev g : Geometry
@@ -111,7 +117,7 @@ module _ (names : ℕ → ℕ → Type 0) (w : World) (leased : Leased w) (treed
   -- what is in hand where no write is waited for
   free-hand : seat.pending ≡ None → (c : ℕ) → is_in c p.hand ≡ true → (claim : Claim) (until : ℕ) → p.holds (lease_of c) ≡ Held claim until → time ≤ until + 50 → IsFree g w.surface.device c
   free-hand none c is claim until held live =
-      let D : Option ℕ → Type 0 = λ o. is_in c (due g o p.place p.found p.hand) ≡ true in
+      let D : Option ℕ → Type 0 = λ o. is_in c (due g o p.place p.found p.filled p.hand) ≡ true in
       let K : Option ℕ → Type 0 = λ o. grip_at p.place (pending_write writes o) (lease_of c) (p.holds (lease_of c)) ≡ Held claim until in
       treed.fresh a below c (subst D (sym none) is) claim until (subst K (sym none) (grip-open p.place None (lease_of c) (p.holds (lease_of c)) refl ∙ held), live)
 
@@ -166,17 +172,17 @@ module _ (names : ℕ → ℕ → Type 0) (w : World) (leased : Leased w) (treed
         (here : p.place ≡ In known command (WriteThen what block bytes guard done fault missed)) where
       pub write-fault-treed : Treed names (with-seat (with-log (Asked (ask.Write what (record { 0 = block }) guard) bytes answer.Fault ∷ seat.log)))
       write-fault-treed =
-          went-treed (Asked (ask.Write what (record { 0 = block }) guard) bytes answer.Fault ∷ seat.log) known command no_holds p.hand p.filled None None fault
+          went-treed (Asked (ask.Write what (record { 0 = block }) guard) bytes answer.Fault ∷ seat.log) known command no_holds (hand_unlinked what p.filled p.hand) p.filled None None fault
           (ap (went_on setting (ask.Write what (record { 0 = block }) guard) bytes answer.Fault p) here) (λ c is claim until e live. nothing-held claim until e)
 
       pub miss-treed : (reading : ℕ) → Treed names (with-seat (with-log (Asked (ask.Write what (record { 0 = block }) guard) bytes (answer.Missed reading) ∷ seat.log)))
       miss-treed reading =
-          went-treed (Asked (ask.Write what (record { 0 = block }) guard) bytes (answer.Missed reading) ∷ seat.log) known command no_holds p.hand p.filled None None (missed reading)
+          went-treed (Asked (ask.Write what (record { 0 = block }) guard) bytes (answer.Missed reading) ∷ seat.log) known command no_holds (hand_unlinked what p.filled p.hand) p.filled None None (missed reading)
           (ap (went_on setting (ask.Write what (record { 0 = block }) guard) bytes (answer.Missed reading) p) here) (λ c is claim until e live. nothing-held claim until e)
 
       pub done-treed : (n : ℕ) → seat.pending ≡ Some n → HasLanded w.surface n → Treed names (with-seat (with-log (Asked (ask.Write what (record { 0 = block }) guard) bytes answer.Done ∷ seat.log)))
       done-treed n waited landed =
-          went-treed (Asked (ask.Write what (record { 0 = block }) guard) bytes answer.Done ∷ seat.log) known command (after_write what block bytes p.holds) (hand_from g p.found what block bytes p.hand) (filled_done what block bytes p.filled) None None done
+          went-treed (Asked (ask.Write what (record { 0 = block }) guard) bytes answer.Done ∷ seat.log) known command (after_write what block bytes p.holds) (hand_unlinked what p.filled (hand_from g p.found what block bytes p.hand)) (filled_done what block bytes p.filled) None None done
           (ap (went_on setting (ask.Write what (record { 0 = block }) guard) bytes answer.Done p) here) free
         where
           asked : (write : Issued) × (slice_get writes n ≡ Some write) × IsAskedAt p.place setting.boot write
@@ -188,7 +194,7 @@ module _ (names : ℕ → ℕ → Type 0) (w : World) (leased : Leased w) (treed
           all : write.landed ≡ all_sectors
           all = let same : landed.0 ≡ write = (let e : Some landed.0 ≡ Some write = sym landed.1 ∙ asked.1 in cc) in ap (λ (x : Issued). x.landed) (sym same) ∙ landed.2
 
-          free : (c : ℕ) → is_in c (hand_from g p.found what block bytes p.hand) ≡ true → (claim : Claim) (until : ℕ) → after_write what block bytes p.holds (lease_of c) ≡ Held claim until → time ≤ until + 50 → IsFree g w.surface.device c
+          free : (c : ℕ) → is_in c (hand_unlinked what p.filled (hand_from g p.found what block bytes p.hand)) ≡ true → (claim : Claim) (until : ℕ) → after_write what block bytes p.holds (lease_of c) ≡ Held claim until → time ≤ until + 50 → IsFree g w.surface.device c
           free c is claim until e live =
               let there : pending_write writes seat.pending ≡ Some write = ap (pending_write writes) waited ∙ asked.1 in
               let set : first_landed (Some write) ≡ true = first-set write true (ap (λ (l : List Bool). slice_get l 0) all) in
@@ -196,6 +202,6 @@ module _ (names : ℕ → ℕ → Type 0) (w : World) (leased : Leased w) (treed
               ap (λ (q : Place). grip_at q (Some write) (lease_of c) (p.holds (lease_of c))) here
               ∙ (ap (λ (f : Bool). grip_while what (lease_of c == block) f bytes (p.holds (lease_of c))) set ∙ written-held what block bytes p.holds (lease_of c) claim until e) in
               let K : Option Issued → Type 0 = λ o. grip_at p.place o (lease_of c) (p.holds (lease_of c)) ≡ Held claim until in
-              let D : Option ℕ → Type 0 = λ o. is_in c (due g o p.place p.found p.hand) ≡ true in
-              let E : Place → Type 0 = λ q. is_in c (hand_while g q p.found p.hand) ≡ true in
-              treed.fresh a below c (subst D (sym waited) (subst E (sym here) (done-due g known command what block bytes guard done fault missed p.found p.hand c is))) claim until (subst K (sym there) held, live)
+              let D : Option ℕ → Type 0 = λ o. is_in c (due g o p.place p.found p.filled p.hand) ≡ true in
+              let E : Place → Type 0 = λ q. is_in c (hand_while g q p.found p.filled p.hand) ≡ true in
+              treed.fresh a below c (subst D (sym waited) (subst E (sym here) (done-due g known command what block bytes guard done fault missed p.found p.filled p.hand c is))) claim until (subst K (sym there) held, live)

@@ -33,7 +33,7 @@ use Rattle.law_lease.proofs.Rests.{rests-home}
 use Rattle.law_tree.proofs.ByKind.{TreePlaced, TreeWaits}
 use Rattle.law_tree.proofs.TreeLands.{landed-treed}
 use Rattle.law_tree.proofs.TreeSeats.{seat-treed, start-treed, begin-treed, read-treed, fault-treed, clock-treed, wait-treed, write-fault-treed, miss-treed, done-treed}
-use Rattle.law_tree.proofs.Treed.{Treed, FreshSeat, IsFree, TreesPlaced, TreesWait, due, hand_while}
+use Rattle.law_tree.proofs.Treed.{Treed, FreshSeat, IsFree, TreesPlaced, TreesWait, due_of, hand_while}
 
 -- a lease is held in time, by what a boot holds that waits for no write
 abbrev pub HoldsInTime : (holds : ℕ → Hold) → (time lease : ℕ) → Type 0
@@ -43,7 +43,7 @@ HoldsInTime holds time lease = (claim : Claim) × (until : ℕ) × (holds (lease
 pub record MeetsTree (names : ℕ → Type 0) (g : Geometry) (time : ℕ) (d : Device) (p : Position) (leases : List ℕ) (k : WriteKind) (block : ℕ) (bytes : List ℕ) : Type 0 where
   pub placed : (home : ℕ) → home_of leases ≡ Some home → HoldsInTime p.holds time home → TreePlaced k g d home block bytes
   pub waits : ((lease : ℕ) → is_in lease leases ≡ true → HoldsInTime p.holds time lease) → TreeWaits k g d leases names block bytes no_sectors
-  pub taken : (c : ℕ) → is_in c (hand_while g p.place p.found p.hand) ≡ true → HoldsInTime p.holds time (extent_lease g (extent_of g c)) → IsFree g d c
+  pub taken : (c : ℕ) → is_in c (hand_while g p.place p.found p.filled p.hand) ≡ true → HoldsInTime p.holds time (extent_lease g (extent_of g c)) → IsFree g d c
 
 -- each lease on which a write that may be issued rests is held, and its guard is not above its end
 pub granted : (g : Geometry) (boot : ℕ) (holds : ℕ → Hold) (rests : List ℕ) (k : WriteKind) (block : ℕ) (bytes : List ℕ) (guard : ℕ) → MayIssue g boot holds rests k block bytes guard →
@@ -144,13 +144,16 @@ module _ (names : ℕ → ℕ → Type 0) (w : World) (leased : Leased w) (treed
 
 -- ---- all events
 
--- who knows the parts says what each write meets as it is issued, and that what a boot has in hand is named by no write that it waits for
+-- what a boot has in hand is named by no write that it waits for
+abbrev pub SparesHands : (names : ℕ → ℕ → Type 0) → World → Type 0
+SparesHands names w = (number b c : ℕ) → b < w.appliances → (w.seats b).pending ≡ Some number → is_in c (due_of w.geometry b (w.seats b)) ≡ true → names number c → ⊥
+
+-- who knows the parts says what each write meets as it is issued
 pub record RulesOfTrees (names : ℕ → ℕ → Type 0) (w : World) : Type 0 where
   pub meets : (a : ℕ) (known : Known) (command : Command) (k : WriteKind) (block : ℕ) (bytes : List ℕ) (guard : ℕ) (done fault : Part End) (missed : ℕ → Part End) → a < w.appliances →
       (stands w a).place ≡ In known command (WriteThen k block bytes guard done fault missed) → (w.seats a).pending ≡ None →
       MeetsTree (names (length w.surface.writes)) w.geometry w.surface.time w.surface.device (stands w a) (rests_on w.geometry command (stands w a).holds (stands w a).filled k block bytes) k block bytes
-  pub spared : (number b c : ℕ) → b < w.appliances → (w.seats b).pending ≡ Some number →
-      is_in c (due w.geometry (w.seats b).pending (stands w b).place (stands w b).found (stands w b).hand) ≡ true → names number c → ⊥
+  pub spared : SparesHands names w
 
 pub keeps-trees : (names : ℕ → ℕ → Type 0) {w v : World} {event : Event} → Step w event v → Reached w → RulesOfTrees names w → Treed names w → Treed names v
 keeps-trees names (world.ticks {w = w} {by = by} room) reached rules treed = record {

@@ -9,7 +9,7 @@ use Rattle.plx_disk.specs.Writes.{Issued}
 use Rattle.plx_geom.specs.Geometry.{Geometry, extent_lease}
 use Rattle.plx_radix.specs.Paths.{Unreachable, Shared}
 use Rattle.plx_rules.specs.Boot.{Place, In, position}
-use Rattle.plx_rules.specs.Hands.{hand_from}
+use Rattle.plx_rules.specs.Hands.{hand_from, hand_unlinked}
 use Rattle.plx_rules.specs.Part.{WriteThen}
 use Rattle.plx_rules.specs.Rests.{extent_of, home_of}
 use Rattle.plx_rules.specs.World.{World, Seat, setting_at}
@@ -18,14 +18,21 @@ use Rattle.law_lease.proofs.Open.{GripsLease, IsOpen}
 use Rattle.plx_rules.specs.Trees.{trees_of, InPool, IsRooted}
 use Rattle.law_tree.proofs.ByKind.{TreePlaced, TreeWaits}
 
--- what is in hand while a write is waited for: of a take its blocks too
-abbrev pub hand_while : Geometry → Place → (found : Option (ℕ × List ℕ)) → (hand : List ℕ) → List ℕ
-hand_while g (In known command (WriteThen kind.Take block bytes guard done fault missed)) found hand = hand_from g found kind.Take block bytes hand
-hand_while g other found hand = hand
+-- what is in hand while a write is waited for: of a take its blocks too, and of a link and a record's write not those that it links
+abbrev pub hand_while : Geometry → Place → (found : Option (ℕ × List ℕ)) → (filled : List (ℕ × List ℕ)) → (hand : List ℕ) → List ℕ
+hand_while g (In known command (WriteThen kind.Take block bytes guard done fault missed)) found filled hand = hand_from g found kind.Take block bytes hand
+hand_while g (In known command (WriteThen kind.Link block bytes guard done fault missed)) found filled hand = hand_unlinked kind.Link filled hand
+hand_while g (In known command (WriteThen kind.Record block bytes guard done fault missed)) found filled hand = hand_unlinked kind.Record filled hand
+hand_while g other found filled hand = hand
 
-abbrev pub due : Geometry → (pending : Option ℕ) → Place → (found : Option (ℕ × List ℕ)) → (hand : List ℕ) → List ℕ
-due g None place found hand = hand
-due g (Some n) place found hand = hand_while g place found hand
+abbrev pub due : Geometry → (pending : Option ℕ) → Place → (found : Option (ℕ × List ℕ)) → (filled : List (ℕ × List ℕ)) → (hand : List ℕ) → List ℕ
+due g None place found filled hand = hand
+due g (Some n) place found filled hand = hand_while g place found filled hand
+
+-- the same, of a seat
+abbrev pub due_of : Geometry → (appliance : ℕ) → Seat → List ℕ
+due_of g a seat = due g seat.pending (position (setting_at g a seat.boots) seat.log).place (position (setting_at g a seat.boots) seat.log).found
+    (position (setting_at g a seat.boots) seat.log).filled (position (setting_at g a seat.boots) seat.log).hand
 
 -- a block that is free to be linked
 pub record IsFree (g : Geometry) (d : Device) (block : ℕ) : Type 0 where
@@ -35,7 +42,7 @@ pub record IsFree (g : Geometry) (d : Device) (block : ℕ) : Type 0 where
 -- a block in the hand of a boot that holds its extent's lease in time is reached by no path
 abbrev pub FreshSeat : Geometry → (time : ℕ) → Device → List Issued → (appliance : ℕ) → Seat → Type 0
 FreshSeat g time d writes a seat =
-    (block : ℕ) → is_in block (due g seat.pending (position (setting_at g a seat.boots) seat.log).place (position (setting_at g a seat.boots) seat.log).found (position (setting_at g a seat.boots) seat.log).hand) ≡ true →
+    (block : ℕ) → is_in block (due_of g a seat) ≡ true →
     (claim : Claim) (until : ℕ) → GripsLease g time writes a seat (extent_lease g (extent_of g block)) claim until → IsFree g d block
 
 -- while a write is open under its home, what its kind says of its place holds

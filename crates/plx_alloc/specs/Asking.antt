@@ -34,10 +34,12 @@ SparesLeases g (ask.Write kind block guard) = KeepsLeases kind
 SparesLeases g ask.Clock = Unit {0}
 SparesLeases g (ask.Until from) = Unit {0}
 
--- an ask that leaves the hand: no block is taken or given back
+-- an ask that leaves the hand: no block is taken or given back, filled or linked to a node
 abbrev pub SparesHand : Ask → Type 0
 SparesHand (ask.Write kind.Take block guard) = ⊥
 SparesHand (ask.Write kind.Give block guard) = ⊥
+SparesHand (ask.Write kind.Fresh block guard) = ⊥
+SparesHand (ask.Write kind.Link block guard) = ⊥
 SparesHand other = Unit {0}
 
 -- what the claim of a take asks concerns its lease alone, and every other ask of a take no lease

@@ -63,11 +63,11 @@ use Rattle.plx_appliance.proofs.Entered.{held-image}
 use Rattle.plx_appliance.proofs.Failing.{EndsOnFailure, claim-fails, kept-asks, same-ask}
 use Rattle.plx_appliance.proofs.Goes.{work-asks}
 use Rattle.plx_appliance.proofs.Held.{spare-holds}
-use Rattle.plx_appliance.proofs.InHand.{spares-hand}
+use Rattle.plx_appliance.proofs.InHand.{FillsNone, spares-fills, spares-hand}
 use Rattle.plx_appliance.proofs.Lengthened.{renewed-holds, renewed-inside}
 use Rattle.plx_appliance.proofs.Moved.{claim-settled, claimed-others, holds-own, leaves-settled, release-holds-as}
-use Rattle.plx_appliance.proofs.Reserved.{reserve-hand, reserve-holds, reserve-inside, take-fails}
-use Rattle.plx_appliance.proofs.RetireAnswered.{retire-fails, retire-hand, retire-holds, retire-inside}
+use Rattle.plx_appliance.proofs.Reserved.{reserve-fills, reserve-hand, take-ask-stands, reserve-holds, reserve-inside, take-fails}
+use Rattle.plx_appliance.proofs.RetireAnswered.{ask-is, place-fills, retire-fails, retire-hand, retire-holds, retire-inside}
 
 -- an answer that fits is within the limit of readings
 pub fits-timely : (q : Ask) (a : Answer) → Fits q a → IsTimely a
@@ -385,6 +385,17 @@ work-hand g lent later (work.Retire old) new q a holds sample found result same 
     by-retire (λ w. HandMoves g later (hand_answered g found q (bytes_out (work_rest lent (work.Retire old))) a (hand_numbers lent.space))) old new a lent later result m
     (λ x moves. let hand = retire-hand g lent later old x q a found result space after stands (subst (λ (k : Geometry). retire_tells k old.stage found) same i) own left moves in
     record { within = hand.0; held = hand.1 })
+
+-- what the command that runs asks fills no block
+pub work-fills : (lent : Lent) (w : Work) (q : Ask) → Some q ≡ standing (work_rest lent w) → Spares w q → FillsNone q
+work-fills lent (work.Attach old) q stands spare = spares-fills q (work-spares lent (work.Attach old) q tt stands spare)
+work-fills lent (work.Detach d) q stands spare = spares-fills q (work-spares lent (work.Detach d) q tt stands spare)
+work-fills lent (work.Record r) q stands spare = spares-fills q (work-spares lent (work.Record r) q tt stands spare)
+work-fills lent (work.Read r) q stands spare = spares-fills q (work-spares lent (work.Read r) q tt stands spare)
+work-fills lent (work.Write w) q stands spare = spares-fills q (work-spares lent (work.Write w) q tt stands spare)
+work-fills lent (work.Renew r) q stands spare = spares-fills q (work-spares lent (work.Renew r) q tt stands spare)
+work-fills lent (work.Reserve r) q stands spare = subst (λ (x : Ask). FillsNone x) (take-ask-stands lent r q stands) (reserve-fills r.work.at r.work)
+work-fills lent (work.Retire r) q stands spare = subst (λ (x : Ask). FillsNone x) (ask-is lent r q stands) (place-fills r.stage)
 
 -- ---- a write that fails or is missed ends the command
 

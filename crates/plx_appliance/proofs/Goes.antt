@@ -222,6 +222,7 @@ pub record FirstIn (s : Setting) (lent : Lent) (w : Work) (tokens : List (Option
   pub held : HoldsAs s.geometry (image_leases tokens) extents (position s (Asked ask.Clock [] (answer.Reading reading) ∷ log)).holds
   pub in_hand : (position s (Asked ask.Clock [] (answer.Reading reading) ∷ log)).hand ≡ hand
   pub no_reply : None ≡ replies s (answer.Reading reading) (position s log)
+  pub unfilled : (position s (Asked ask.Clock [] (answer.Reading reading) ∷ log)).filled ≡ []
 
 -- a command that has begun stands for its log, with these leases and this hand
 pub record BegunStands (s : Setting) (known : Known) (b : Begun) (log : List Happening) (leases extents : ℕ → Hold) (hand : List ℕ) : Type 0 where
@@ -269,6 +270,7 @@ first-in s known after b w log reading leases extents hand tokens waits is same 
       in_hand = ap (λ (q : Position). q.hand) moved ∙ ap (λ (q : ℕ → Hold). hand_held s.geometry q p.hand) stays ∙ ap (hand_held s.geometry holds) waits.hand_is
           ∙ first-hand s.geometry known reading leases extents p.holds hand waits.held waits.within;
       no_reply = reply-asks (work_rest after w) asks ∙ ap reply_of (sym part-is) ∙ sym (first-replies s known b p reading h);
+      unfilled = ap (λ (q : Position). q.filled) moved;
     }
 
 -- a command ends at its first reading
@@ -277,6 +279,7 @@ pub record FirstEnds (s : Setting) (known : Known) (r : Reply) (leases extents :
   pub held : HoldsAs s.geometry (leases_after r leases) (leases_after r extents) (position s (Asked ask.Clock [] (answer.Reading reading) ∷ log)).holds
   pub in_hand : (position s (Asked ask.Clock [] (answer.Reading reading) ∷ log)).hand ≡ hand_after_reply r hand
   pub replied : Some r ≡ replies s (answer.Reading reading) (position s log)
+  pub unfilled : (position s (Asked ask.Clock [] (answer.Reading reading) ∷ log)).filled ≡ []
 
 pub first-ends : (s : Setting) (known after : Known) (b : Begun) (r : Reply) (log : List Happening) (reading : ℕ) (leases extents : ℕ → Hold) (hand : List ℕ) (tokens : List (Option (Token Image))) →
     BegunStands s known b log leases extents hand →
@@ -306,4 +309,5 @@ first-ends s known after b r log reading leases extents hand tokens waits is sam
           ∙ hand-as g (leases_after r (image_leases tokens)) (leases_after r exts) (holds_after_reply r holds) hand now waits.within
           ∙ reply-hand g exts r (held_hand g exts hand) hand refl;
       replied = ap reply_of (sym part-is) ∙ sym (first-replies s known b p reading h);
+      unfilled = ap (λ (q : Position). q.filled) moved;
     }

@@ -14,7 +14,7 @@ use Rattle.plx_geom.specs.Geometry.{Geometry, IsGeometry, extent_lease, lease_at
 use Rattle.std.proofs.Math.Nat.{div-lt_iff_lt-mul}
 use Rattle.plx_alloc.specs.Pools.{AreInPool, IsInPool}
 use Rattle.plx_alloc.specs.Tables.{numbers}
-use Rattle.plx_rules.specs.Hands.{hand_answered, hand_from, hand_held, hand_written, is_held}
+use Rattle.plx_rules.specs.Hands.{blocks_without, filled_answered, filled_done, hand_answered, hand_from, hand_held, hand_left, hand_unlinked, hand_written, is_held}
 use Rattle.plx_rules.specs.Holds.{Hold, Nothing, Seen, Wrote, Waited, Held}
 use Rattle.plx_rules.specs.Rests.{extent_of}
 use Rattle.plx_extent.specs.Maps.{bits_of}
@@ -139,6 +139,57 @@ spares-hand g found (ask.Write k block guard) bytes (answer.Missed r) hand spare
 spares-hand g found (ask.Write k block guard) bytes answer.Fault hand spare = refl
 spares-hand g found ask.Clock bytes a hand spare = refl
 spares-hand g found (ask.Until from) bytes a hand spare = refl
+
+-- ---- what is filled and linked
+
+-- an ask that fills no block
+abbrev pub FillsNone : Ask → Type 0
+FillsNone (ask.Write kind.Fresh block guard) = ⊥
+FillsNone other = Unit {0}
+
+-- so is one that leaves the hand
+pub spares-fills : (q : Ask) → SparesHand q → FillsNone q
+spares-fills (ask.Write kind.Fresh block guard) spare = absurd spare
+spares-fills (ask.Write k block guard) spare = tt
+spares-fills (ask.Read block) spare = tt
+spares-fills ask.Clock spare = tt
+spares-fills (ask.Until from) spare = tt
+
+-- where nothing was filled, nothing is filled then
+pub unfilled-after : (q : Ask) (bytes : List ℕ) (a : Answer) → FillsNone q → filled_answered q bytes a [] ≡ []
+unfilled-after (ask.Write k block guard) bytes answer.Done none = by-kind k none
+  where
+    by-kind : (k' : WriteKind) → FillsNone (ask.Write k' block guard) → filled_done k' block.0 bytes [] ≡ []
+    by-kind kind.Fresh none' = absurd none'
+    by-kind kind.Link none' = refl
+    by-kind kind.Record none' = refl
+    by-kind other none' = refl
+unfilled-after (ask.Write k block guard) bytes (answer.Bytes b) none = refl
+unfilled-after (ask.Write k block guard) bytes (answer.Reading r) none = refl
+unfilled-after (ask.Write k block guard) bytes (answer.Missed r) none = refl
+unfilled-after (ask.Write k block guard) bytes answer.Fault none = refl
+unfilled-after (ask.Read block) bytes a none = refl
+unfilled-after ask.Clock bytes a none = refl
+unfilled-after (ask.Until from) bytes a none = refl
+
+-- and nothing leaves the hand by a link
+without-none : (hand : List ℕ) → blocks_without [] hand ≡ hand
+without-none [] = refl
+without-none (block ∷ hand) = ap (λ (l : List ℕ). block ∷ l) (without-none hand)
+
+pub left-unfilled : (q : Ask) (filled : List (ℕ × List ℕ)) (hand : List ℕ) → filled ≡ [] → hand_left q filled hand ≡ hand
+left-unfilled q filled hand none = ap (λ (f : List (ℕ × List ℕ)). hand_left q f hand) none ∙ by-ask q
+  where
+    by-kind : (k : WriteKind) → hand_unlinked k [] hand ≡ hand
+    by-kind kind.Link = without-none hand
+    by-kind kind.Record = without-none hand
+    by-kind other = refl
+
+    by-ask : (r : Ask) → hand_left r [] hand ≡ hand
+    by-ask (ask.Write k block guard) = by-kind k
+    by-ask (ask.Read block) = refl
+    by-ask ask.Clock = refl
+    by-ask (ask.Until from) = refl
 
 -- ---- blocks of pools
 

@@ -19,7 +19,11 @@ use Rattle.plx_rules.specs.Part.{bytes_out, standing}
 use Rattle.plx_rules.proofs.Nested.{asks-followed, bytes-followed, standing-followed}
 use Rattle.plx_lease.specs.ClaimEnds.{claim_end}
 use Rattle.plx_lease.specs.Claiming.{claim_rest}
-use Rattle.plx_lease.specs.Holding.{HoldsAtEnd, LeavesClaim, claim_ask, other_after}
+use Rattle.plx_lease.specs.Holding.{HoldsAtEnd, LeavesClaim, claim_ask, claim_ask_at, other_after}
+use Rattle.plx_lease.specs.declared.claim.ClaimAt.{ClaimAt}
+use Rattle.plx_lease.specs.declared.claim.ClaimAt.TheVariants as claim
+use Rattle.plx_base.specs.declared.lease.Claim.{Claim}
+use Rattle.plx_appliance.proofs.InHand.{FillsNone}
 use Rattle.plx_lease.specs.declared.claim_end.ClaimEnd.{ClaimEnd as End'}
 use Rattle.plx_lease.proofs.Asking.{claim-asks}
 use Rattle.plx_lease.proofs.Held.{claim-holds, claim-standing}
@@ -344,6 +348,23 @@ reserve-inside g lent later old new q a holds sample found result same space sui
     }
 
 -- ---- the hand
+
+-- what a reserve asks fills no block
+claim-fills : (place : ClaimAt) (lease : ℕ) (c : Claim) → FillsNone (claim_ask_at place lease c)
+claim-fills claim.Sample lease c = tt
+claim-fills claim.Read lease c = tt
+claim-fills claim.Damaged lease c = tt
+claim-fills claim.Write lease c = tt
+claim-fills claim.Wait lease c = tt
+claim-fills claim.Reread lease c = tt
+claim-fills claim.DamagedLate lease c = tt
+
+pub reserve-fills : (place : ReserveAt) (m : Take) → FillsNone (reserve_ask_at place m)
+reserve-fills at.Map m = tt
+reserve-fills at.Write m = tt
+reserve-fills at.Look m = tt
+reserve-fills at.Claim m = claim-fills m.claim.at m.claim.number m.claim.claim
+reserve-fills at.Damaged m = tt
 
 pub reserve-hand : (g : Geometry) (lent later : Lent) (old new : Reserve) (q : Ask) (a : Answer) (holds : ℕ → Hold) (sample : Option ℕ) (found : Option (ℕ × List ℕ)) (result : Option Reply) →
     old.setting.geometry ≡ g → lent.space.geometry ≡ g → Some q ≡ standing (reserve_work_rest lent old) → IsReserving old holds sample found → IsHand g (extents_of later.space) (hand_numbers later.space) →

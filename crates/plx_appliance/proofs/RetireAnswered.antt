@@ -42,7 +42,7 @@ use Rattle.plx_appliance.specs.declared.setting.Setting.{Setting as Own}
 use Rattle.plx_alloc.proofs.Asking.{map-is-no-lease}
 use Rattle.plx_appliance.proofs.Failing.{EndsOnFailure, same-ask}
 use Rattle.plx_appliance.proofs.Held.{nothing-at, spare-holds}
-use Rattle.plx_appliance.proofs.InHand.{spares-hand}
+use Rattle.plx_appliance.proofs.InHand.{FillsNone, spares-hand}
 use Rattle.plx_appliance.proofs.Moved.{extent-released, release-holds-as}
 
 -- ---- what it asks
@@ -69,7 +69,7 @@ place-standing : (lent : Lent) (place : RetireStage) (r : Retire) → standing (
 place-standing lent (stage.Extents m) r = extents-standing m.at (around_of (rules_setting r.setting) r.setting.appliance.0 lent.known lent.leases) lent.space m.giving
 place-standing lent (stage.Image image) r = refl
 
-ask-is : (lent : Lent) (r : Retire) (q : Ask) → Some q ≡ standing (retire_images_rest lent r) → ask_of r.stage ≡ q
+pub ask-is : (lent : Lent) (r : Retire) (q : Ask) → Some q ≡ standing (retire_images_rest lent r) → ask_of r.stage ≡ q
 ask-is lent r q stands = sym (same-ask q (ask_of r.stage) (stands ∙ place-standing lent r.stage r))
 
 giving-asks : (place : GivingAt) (o : Around) (a : Allocator) (m : Giving) → Asks (giving_at place o a m)
@@ -231,6 +231,20 @@ place-hand (stage.Image image) r new read a before after result held tells moves
     let bytes = bytes_out (retire_stage_rest (stage.Image image) before r) in
     subst (λ (later : Allocator). held_hand g (extents_of later) (hand_answered g read (image_release image) bytes a (hand_numbers now)) ≡ hand_numbers later) (sym moves.space)
     (ap (held_hand g (extents_of now)) (spares-hand g read (image_release image) bytes a (hand_numbers now) tt) ∙ held)
+
+-- what a retire asks fills no block
+giving-fills : (place : GivingAt) (m : Giving) → FillsNone (giving_ask_at place m)
+giving-fills giving.Map m = tt
+giving-fills giving.Write m = tt
+giving-fills giving.Damaged m = tt
+
+extents-fill : (place : RetireAt) (m : Giving) → FillsNone (retire_ask_at place m)
+extents-fill at.Give m = giving-fills m.at m
+extents-fill at.Release m = tt
+
+pub place-fills : (place : RetireStage) → FillsNone (ask_of place)
+place-fills (stage.Extents m) = extents-fill m.at m.giving
+place-fills (stage.Image image) = tt
 
 -- what is in hand
 pub retire-hand : (g : Geometry) (lent later : Lent) (old new : Retire) (q : Ask) (a : Answer) (found : Option (ℕ × List ℕ)) (result : Option Reply) →

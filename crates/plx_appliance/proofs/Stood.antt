@@ -112,7 +112,7 @@ first-stands a h e w log reading same extents hand first =
     subst (λ (st : Setting). Stood e (read_at st log reading) (λ lent. IsInWork lent w (read_at st log reading))) (sym same)
     (stood-as e (read_at a.holdings.setting log reading) (λ lent. IsInWork lent w (read_at a.holdings.setting log reading)) a.holdings.setting.geometry
     (record { leases = image_leases e.leases.leases.items; extents = extents_in h; hand = hand_in h })
-    (ap (λ (st : Setting). st.geometry) same) (keeps-by _ _ _ _ _ _ refl extents hand) first.in_it first.held first.in_hand)
+    (ap (λ (st : Setting). st.geometry) same) (keeps-by _ _ _ _ _ _ refl extents hand) first.in_it first.held first.in_hand first.unfilled)
 
 -- and one whose command ends
 pub last-stands : (a : Appliance) (h e k : Holdings) (r : Reply) (log : List Happening) (reading : ℕ) → k.setting ≡ a.holdings.setting → known_of k ≡ known_after r (known_of e) →
@@ -124,4 +124,4 @@ last-stands a h e k r log reading same known leases extents hand first =
     (stood-as k (read_at a.holdings.setting log reading) (λ lent. (read_at a.holdings.setting log reading).place ≡ Idle lent.known) a.holdings.setting.geometry
     (record { leases = leases_after r (image_leases e.leases.leases.items); extents = leases_after r (extents_in h); hand = hand_after_reply r (hand_in h) })
     (ap (λ (st : Setting). st.geometry) same) (keeps-by _ _ _ _ _ _ leases extents hand)
-    (subst (λ (k2 : Known). (read_at a.holdings.setting log reading).place ≡ Idle k2) (sym known) first.idle) first.held first.in_hand)
+    (subst (λ (k2 : Known). (read_at a.holdings.setting log reading).place ≡ Idle k2) (sym known) first.idle) first.held first.in_hand first.unfilled)

@@ -7,7 +7,7 @@ use Rattle.plx_disk.specs.declared.ask.Answer.{Answer}
 use Rattle.plx_rules.specs.Part.{Part, answered, bytes_out, standing}
 use Rattle.plx_rules.specs.Boot.{Asked, Fits, Happening, Idle, Place, Position, after_part, asks, goes_to, place_of, position, replies, replies_at, reply_of, went_on, writes_out}
 use Rattle.plx_rules.specs.Ends.{End, ends}
-use Rattle.plx_rules.specs.Hands.{filled_answered, found_by, hand_answered, hand_held}
+use Rattle.plx_rules.specs.Hands.{filled_answered, filled_held, found_by, hand_answered, hand_held, hand_left}
 use Rattle.plx_rules.specs.Holds.{Hold, after_answer, holds_after_reply, sample_of}
 use Rattle.plx_geom.specs.Geometry.{Geometry}
 use Rattle.plx_rules.specs.Session.{Known}
@@ -31,11 +31,11 @@ use Rattle.plx_appliance.specs.Moving.{Moves}
 use Rattle.plx_appliance.specs.Stands.{Inside}
 use Rattle.plx_appliance.specs.Works.{Spares, work_rest, work_setting, work_suits}
 use Rattle.plx_appliance.specs.declared.work.Work.{Work}
-use Rattle.plx_appliance.proofs.Answered.{work-hand, work-holds, work-inside}
+use Rattle.plx_appliance.proofs.Answered.{work-fills, work-hand, work-holds, work-inside}
 use Rattle.plx_appliance.proofs.Failing.{kept-leases, same-ask}
 use Rattle.plx_appliance.proofs.First.{holds-asks, place-asks}
 use Rattle.plx_appliance.proofs.Goes.{reply-asks, reply-holds, work-asks}
-use Rattle.plx_appliance.proofs.InHand.{hand-within, dropped-hand, hand-as, kept-hand, reply-hand}
+use Rattle.plx_appliance.proofs.InHand.{left-unfilled, unfilled-after, hand-within, dropped-hand, hand-as, kept-hand, reply-hand}
 
 -- what an appliance keeps of leases, and its hand
 pub record KeptLeases : Type 0 where
@@ -50,13 +50,15 @@ pub record WorkIsAnswered (s : Setting) (lent later : Lent) (w new : Work) (log 
   pub held : HoldsAs s.geometry (image_leases_after_write q a after.leases) (image_leases_after_write q a after.extents) (after_answer (position s log).sample q bytes a (position s log).holds)
   pub inside : result ≡ None → Inside new (after_answer (position s log).sample q bytes a (position s log).holds) (sample_of a) (found_by q a)
   pub within : AreWithin s.geometry (hand_answered s.geometry (position s log).found q bytes a before.hand)
+  pub unfilled : (position s log).filled ≡ []
+  pub fills : filled_answered q bytes a [] ≡ []
   pub hand_moves : held_hand s.geometry after.extents (hand_answered s.geometry (position s log).found q bytes a before.hand) ≡ after.hand
 
 -- the position after it
 position-after : (s : Setting) (lent : Lent) (w : Work) (log : List Happening) (q : Ask) (bytes : List ℕ) (a : Answer) → (i : IsInWork lent w (position s log)) →
     position s (Asked q bytes a ∷ log)
     ≡ goes_to s.geometry i.before i.command (after_answer (position s log).sample q bytes a (position s log).holds)
-    (hand_answered s.geometry (position s log).found q bytes a (position s log).hand) (filled_answered q bytes a (position s log).filled) (sample_of a) (found_by q a) (answered (work_rest lent w) a)
+    (hand_left q (position s log).filled (hand_answered s.geometry (position s log).found q bytes a (position s log).hand)) (filled_answered q bytes a (position s log).filled) (sample_of a) (found_by q a) (answered (work_rest lent w) a)
 position-after s lent w log q bytes a i = ap (λ (place : Place). went_on s q bytes a (position s log) place) i.place_is
 
 replies-in-work : (s : Setting) (lent : Lent) (w : Work) (log : List Happening) (a : Answer) → IsInWork lent w (position s log) →
@@ -68,6 +70,7 @@ pub record WentIn (s : Setting) (later : Lent) (new : Work) (log : List Happenin
   pub in_it : IsInWork later new (position s (Asked q bytes a ∷ log))
   pub held : HoldsAs s.geometry (image_leases_after_write q a after.leases) (image_leases_after_write q a after.extents) (position s (Asked q bytes a ∷ log)).holds
   pub in_hand : (position s (Asked q bytes a ∷ log)).hand ≡ dropped_hand q a after.hand
+  pub unfilled : (position s (Asked q bytes a ∷ log)).filled ≡ []
   pub no_reply : None ≡ replies s a (position s log)
 
 pub went-in : (s : Setting) (lent later : Lent) (w new : Work) (log : List Happening) (q : Ask) (bytes : List ℕ) (a : Answer) (before after : KeptLeases) →
@@ -93,10 +96,14 @@ went-in s lent later w new log q bytes a before after h is =
             (subst (λ (t : ℕ → Hold). Inside new t (sample_of a) (found_by q a)) (sym holding) (h.inside refl)));
       };
       held = subst (λ (t : ℕ → Hold). HoldsAs g (image_leases_after_write q a after.leases) (image_leases_after_write q a after.extents) t) (sym holding) h.held;
-      in_hand = ap (λ (r : Position). r.hand) moved ∙ ap (λ (t : ℕ → Hold). hand_held g t (hand_answered g p.found q bytes a p.hand)) stays
+      in_hand = ap (λ (r : Position). r.hand) moved ∙ ap (λ (t : ℕ → Hold). hand_held g t (hand_left q p.filled (hand_answered g p.found q bytes a p.hand))) stays
+          ∙ ap (hand_held g now) (left-unfilled q p.filled (hand_answered g p.found q bytes a p.hand) h.unfilled)
           ∙ ap (λ (l : List ℕ). hand_held g now (hand_answered g p.found q bytes a l)) h.hand
           ∙ hand-as g (image_leases_after_write q a after.leases) (image_leases_after_write q a after.extents) now all h.held h.within
           ∙ dropped-hand g after.extents q a after.hand all h.hand_moves;
+      unfilled = ap (λ (x : Position). x.filled) moved
+          ∙ ap (λ (f : List (ℕ × List ℕ)). filled_held g (after_part (answered (work_rest lent w) a) now) (filled_answered q bytes a f)) h.unfilled
+          ∙ ap (filled_held g (after_part (answered (work_rest lent w) a) now)) h.fills;
       no_reply = reply-asks (work_rest later new) asks ∙ ap reply_of is ∙ sym (replies-in-work s lent w log a h.at);
     }
 
@@ -105,6 +112,7 @@ pub record WentOut (s : Setting) (known : Known) (r : Reply) (log : List Happeni
   pub idle : (position s (Asked q bytes a ∷ log)).place ≡ Idle (known_after r known)
   pub held : HoldsAs s.geometry (leases_after r (image_leases_after_write q a after.leases)) (leases_after r (image_leases_after_write q a after.extents)) (position s (Asked q bytes a ∷ log)).holds
   pub in_hand : (position s (Asked q bytes a ∷ log)).hand ≡ hand_after_reply r (dropped_hand q a after.hand)
+  pub unfilled : (position s (Asked q bytes a ∷ log)).filled ≡ []
   pub replied : Some r ≡ replies s a (position s log)
 
 pub went-out : (s : Setting) (lent later : Lent) (w new : Work) (r : Reply) (log : List Happening) (q : Ask) (bytes : List ℕ) (a : Answer) (before after : KeptLeases) →
@@ -124,10 +132,14 @@ went-out s lent later w new r log q bytes a before after h is =
     record {
       idle = ap (λ (x : Position). x.place) moved ∙ ap (place_of h.at.before h.at.command) (sym is);
       held = subst (λ (t : ℕ → Hold). HoldsAs g (leases_after r leases) (leases_after r extents) t) (sym holding) kept;
-      in_hand = ap (λ (x : Position). x.hand) moved ∙ ap (λ (t : ℕ → Hold). hand_held g t (hand_answered g p.found q bytes a p.hand)) stays
+      in_hand = ap (λ (x : Position). x.hand) moved ∙ ap (λ (t : ℕ → Hold). hand_held g t (hand_left q p.filled (hand_answered g p.found q bytes a p.hand))) stays
+          ∙ ap (hand_held g (holds_after_reply r now)) (left-unfilled q p.filled (hand_answered g p.found q bytes a p.hand) h.unfilled)
           ∙ ap (λ (l : List ℕ). hand_held g (holds_after_reply r now) (hand_answered g p.found q bytes a l)) h.hand
           ∙ hand-as g (leases_after r leases) (leases_after r extents) (holds_after_reply r now) all kept h.within
           ∙ reply-hand g extents r (dropped_hand q a after.hand) all (dropped-hand g after.extents q a after.hand all h.hand_moves);
+      unfilled = ap (λ (x : Position). x.filled) moved
+          ∙ ap (λ (f : List (ℕ × List ℕ)). filled_held g (after_part (answered (work_rest lent w) a) now) (filled_answered q bytes a f)) h.unfilled
+          ∙ ap (filled_held g (after_part (answered (work_rest lent w) a) now)) h.fills;
       replied = ap reply_of is ∙ sym (replies-in-work s lent w log a h.at);
     }
 
@@ -176,6 +188,8 @@ answered-by a w new log q r bytes found h result runs stands standing' fits is s
       record {
         at = i;
         hand = stands.hand;
+        unfilled = stands.unfilled;
+        fills = unfilled-after r bytes found (work-fills lent w r stands' spares);
         held = subst (λ (bs : List ℕ). HoldsAs g (image_leases_after_write r found later.leases) (image_leases_after_write r found (extents_in h)) (now bs)) writes held;
         inside = λ none. subst (λ (bs : List ℕ). Inside new (now bs) (sample_of found) (found_by r found)) writes
             (work-inside g lent later w new r found p.holds p.sample p.found result same own.0 suit stands' spares fits held i.inside moves none
@@ -198,15 +212,17 @@ pub record Stood (kept : Holdings) (p : Position) (At : Lent → Type 0) : Type 
   pub at : At (lent_of kept)
   pub held : HoldsAs kept.setting.geometry (image_leases kept.leases.leases.items) (extents_in kept) p.holds
   pub hand : p.hand ≡ hand_in kept
+  pub unfilled : p.filled ≡ []
 
 -- the same by what is kept in its place
 pub stood-as : (kept : Holdings) (p : Position) (At : Lent → Type 0) (g : Geometry) (k : KeptLeases) → kept.setting.geometry ≡ g →
-    keeps_of kept ≡ k → At (lent_of kept) → HoldsAs g k.leases k.extents p.holds → p.hand ≡ k.hand → Stood kept p At
-stood-as kept p At g k same keeps at held hand = record {
+    keeps_of kept ≡ k → At (lent_of kept) → HoldsAs g k.leases k.extents p.holds → p.hand ≡ k.hand → p.filled ≡ [] → Stood kept p At
+stood-as kept p At g k same keeps at held hand unfilled = record {
   at = at;
   held = subst (λ (x : Geometry). HoldsAs x (image_leases kept.leases.leases.items) (extents_in kept) p.holds) (sym same)
       (subst (λ (x : KeptLeases). HoldsAs g x.leases x.extents p.holds) (sym keeps) held);
   hand = hand ∙ ap (λ (x : KeptLeases). x.hand) (sym keeps);
+  unfilled = unfilled;
 }
 
 abbrev pub kept_state : (leases extents : ℕ → Hold) → (hand : List ℕ) → KeptLeases
@@ -227,7 +243,7 @@ stands-in a h new log q bytes found same kept went =
     (record { leases = image_leases_after_write q found (image_leases h.leases.leases.items); extents = image_leases_after_write q found (extents_in h); hand = dropped_hand q found (hand_in h) })
     (ap (λ (st : Given). st.geometry) same)
     (keeps-by _ _ _ _ _ _ (sym (kept-leases q found (image_leases h.leases.leases.items) kept)) (sym (kept-leases q found (extents_in h) kept)) (sym (kept-hand q found (hand_in h) kept)))
-    went.in_it went.held went.in_hand)
+    went.in_it went.held went.in_hand went.unfilled)
 
 -- and so does one whose command ends
 pub stands-out : (a : Appliance) (h kept : Holdings) (r : Reply) (log : List Happening) (q : Ask) (bytes : List ℕ) (found : Answer) →
@@ -238,7 +254,7 @@ stands-out a h kept r log q bytes found d went =
     (stood-as kept (position (appliance_setting a) (Asked q bytes found ∷ log)) (λ lent. (position (appliance_setting a) (Asked q bytes found ∷ log)).place ≡ Idle lent.known) a.holdings.setting.geometry
     (record { leases = leases_after r (image_leases_after_write q found (image_leases h.leases.leases.items)); extents = leases_after r (image_leases_after_write q found (extents_in h)); hand = hand_after_reply r (dropped_hand q found (hand_in h)) })
     (ap (λ (st : Given). st.geometry) d.setting) (keeps-by _ _ _ _ _ _ d.leases d.extents d.hand)
-    (subst (λ (known : Known). (position (appliance_setting a) (Asked q bytes found ∷ log)).place ≡ Idle known) (sym d.known) went.idle) went.held went.in_hand)
+    (subst (λ (known : Known). (position (appliance_setting a) (Asked q bytes found ∷ log)).place ≡ Idle known) (sym d.known) went.idle) went.held went.in_hand went.unfilled)
 
 -- a command that runs waits for its first reading, or is after it
 pub by-begun : {P : Type 0} (st : Stage) → true ≡ has_begun st → ((b : Begun) → st ≡ stage.Begun b → P) → P

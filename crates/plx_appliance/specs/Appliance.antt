@@ -1,5 +1,5 @@
 -- An appliance, by the log of its boot.
-use Rattle.std.specs.Prelude.{◌≡◌, ℕ, List, Bool, true, false, Some, is_some}
+use Rattle.std.specs.Prelude.{◌≡◌, ℕ, List, [], Bool, true, false, Some, is_some}
 use Rattle.plx_commands.specs.declared.command.Command.{Command}
 use Rattle.plx_disk.specs.declared.ask.Ask.{Ask}
 use Rattle.plx_rules.specs.Boot.{Position, Idle, Begins, In, Happening, asks, position, writes_out}
@@ -45,11 +45,13 @@ StandsAt s lent stage.Idle p = p.place ≡ Idle lent.known
 StandsAt s lent (stage.Begun begun) p = HasBegun s lent.known begun p
 StandsAt s lent (stage.In w) p = IsInWork lent w p
 
--- an appliance stands for a log that leads to where it stands, its tokens are what the log holds, and its hand is the one of the log
+-- an appliance stands for a log that leads to where it stands, its tokens are what the log holds, and its hand is the one of the log;
+-- no command fills a block yet
 pub record StandsFor (a : Appliance) (log : List Happening) : Type 0 where
   pub at : StandsAt (appliance_setting a) (lent_of a.holdings) a.stage (position (appliance_setting a) log)
   pub held : HoldsAs a.holdings.setting.geometry (image_leases a.holdings.leases.leases.items) (extents_in a.holdings) (position (appliance_setting a) log).holds
   pub hand : (position (appliance_setting a) log).hand ≡ hand_in a.holdings
+  pub unfilled : (position (appliance_setting a) log).filled ≡ []
 
 -- this ask stands where the log leads, and these bytes are to be written
 pub record IsStanding (a : Appliance) (log : List Happening) (ask : Ask) (bytes : List ℕ) : Type 0 where

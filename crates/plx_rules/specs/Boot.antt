@@ -10,7 +10,7 @@ use Rattle.plx_geom.specs.Geometry.{Geometry}
 use Rattle.plx_rules.specs.Part.{Part, Ends, ReadThen, WriteThen, ClockThen, UntilThen, answered, standing, bytes_out}
 use Rattle.plx_rules.specs.Commands.{IsBuilt, IsWellFormed, command_part}
 use Rattle.plx_rules.specs.Ends.{End}
-use Rattle.plx_rules.specs.Hands.{found_by, filled_answered, filled_held, hand_answered, hand_held}
+use Rattle.plx_rules.specs.Hands.{found_by, filled_answered, filled_held, hand_answered, hand_held, hand_left}
 use Rattle.plx_rules.specs.Holds.{Hold, no_holds, after_answer, sample_of, holds_after_reply, after_first}
 use Rattle.plx_rules.specs.Session.{Known, nothing_known}
 use Rattle.plx_rules.specs.Settings.{Setting}
@@ -83,7 +83,8 @@ abbrev pub went_on : Setting → Ask → List ℕ → Answer → Position → Pl
 went_on s ask bytes answer p (Idle known) = p
 went_on s ask bytes answer p (Begins known command) = first_read s known command answer p
 went_on s ask bytes answer p (In known command part) =
-    goes_to s.geometry known command (after_answer p.sample ask bytes answer p.holds) (hand_answered s.geometry p.found ask bytes answer p.hand) (filled_answered ask bytes answer p.filled)
+    goes_to s.geometry known command (after_answer p.sample ask bytes answer p.holds)
+    (hand_left ask p.filled (hand_answered s.geometry p.found ask bytes answer p.hand)) (filled_answered ask bytes answer p.filled)
     (sample_of answer) (found_by ask answer) (answered part answer)
 
 -- where a boot stands after its log, whose newest happening stands first

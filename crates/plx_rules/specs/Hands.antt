@@ -10,7 +10,7 @@ use Rattle.plx_disk.specs.declared.ask.Answer.TheVariants as answer
 use Rattle.plx_extent.specs.Maps.{bits_of}
 use Rattle.plx_geom.specs.Geometry.{Geometry, extent_lease, lease_at}
 use Rattle.plx_rules.specs.Holds.{Hold, Nothing, Seen, Wrote, Waited, Held}
-use Rattle.plx_rules.specs.Rests.{extent_of}
+use Rattle.plx_rules.specs.Rests.{extent_of, filled_blocks}
 
 -- a lease is held
 abbrev pub is_held : Hold → Bool
@@ -47,7 +47,7 @@ hand_from g None kind block bytes hand = hand
 hand_from g (Some found) kind block bytes hand =
     if found.0 == block then hand_written kind block (bits_of g.extent_blocks found.1) (bits_of g.extent_blocks bytes) hand else hand
 
--- what is in hand after an answer, before leases are looked at
+-- what takes and gives make of what is in hand by an answer, before leases are looked at
 abbrev pub hand_answered : Geometry → Option (ℕ × List ℕ) → Ask → List ℕ → Answer → List ℕ → List ℕ
 hand_answered g found (ask.Write kind block guard) bytes answer.Done hand = hand_from g found kind block.0 bytes hand
 hand_answered g found ask bytes answer hand = hand
@@ -73,3 +73,16 @@ filled_answered ask bytes answer filled = filled
 -- of these those that lie in an extent whose lease is held
 abbrev pub filled_held : Geometry → (holds : ℕ → Hold) → List (ℕ × List ℕ) → List (ℕ × List ℕ)
 filled_held g holds filled = filter (λ one. is_held (holds (lease_at (extent_lease g (extent_of g one.0))))) filled
+
+-- ---- what links take out of the hand
+
+-- what stays in hand from the ask of a write on: a link and the write of a record link the blocks that were filled
+abbrev pub hand_unlinked : WriteKind → (filled : List (ℕ × List ℕ)) → List ℕ → List ℕ
+hand_unlinked kind.Link filled hand = blocks_without (filled_blocks filled) hand
+hand_unlinked kind.Record filled hand = blocks_without (filled_blocks filled) hand
+hand_unlinked other filled hand = hand
+
+-- what stays in hand after any answer to an ask
+abbrev pub hand_left : Ask → (filled : List (ℕ × List ℕ)) → List ℕ → List ℕ
+hand_left (ask.Write kind block guard) filled hand = hand_unlinked kind filled hand
+hand_left other filled hand = hand

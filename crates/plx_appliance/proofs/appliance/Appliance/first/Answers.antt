@@ -28,6 +28,7 @@ returns-in-Ok-clause-log c = λ log begun is stands.
           (sym c.set.ensures) stood.at;
       held = stood.held;
       hand = stood.hand;
+      unfilled = stood.unfilled;
     }
 
 pub returns-in-Ok-clause-reply : goal.returns-in-Ok-clause-reply
@@ -55,6 +56,7 @@ returns-in-Err-clause-log c = λ log begun is stands.
       at = subst (λ (st : Stage). StandsAt (rules_setting k.setting) (lent_of k) st (position (rules_setting k.setting) (Asked ask.Clock [] (answer.Reading c.args.reading) ∷ log))) (sym c.replace.ensures.after) stood.at;
       held = stood.held;
       hand = stood.hand;
+      unfilled = stood.unfilled;
     }
 
 pub returns-in-Err-clause-reply : goal.returns-in-Err-clause-reply

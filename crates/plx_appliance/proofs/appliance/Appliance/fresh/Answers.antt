@@ -1,4 +1,4 @@
-use Rattle.std.proofs.Common.{◌≡◌, ℕ, ap, sym, subst}
+use Rattle.std.proofs.Common.{◌≡◌, ℕ, ap, refl, sym, subst}
 use Rattle.plx_geom.specs.Geometry.{lease_at}
 use Rattle.plx_rules.specs.Boot.{Idle}
 use Rattle.plx_rules.specs.Holds.{Hold, Nothing}
@@ -17,4 +17,5 @@ returns-clause-log c =
           subst (λ (leases : ℕ → Hold). P leases (extents_in h)) (sym c.in_ok-holdings.ensures.leases)
           (subst (P (λ image. Nothing)) (sym c.in_ok-holdings.ensures.extents) (nothing-at h.setting.geometry (lease_at lease)));
       hand = sym c.in_ok-holdings.ensures.hand;
+      unfilled = refl;
     }

@@ -32,7 +32,7 @@ returns-in-None-clause-log c = λ log ask bytes work is stands standing fits.
     let same = c.drop_failed.ensures.kept kept in
     let stood = subst (λ (k : Holdings). Stood k (position (rules_setting k.setting) (Asked ask bytes found ∷ log)) (λ lent. IsInWork lent new (position (rules_setting k.setting) (Asked ask bytes found ∷ log)))) (sym same)
     (stands-in a h new log ask bytes found x.setting (subst (λ (q : Ask). DropsNothing q found) by.0 kept) went) in
-    record { at = stood.at; held = stood.held; hand = stood.hand }
+    record { at = stood.at; held = stood.held; hand = stood.hand; unfilled = stood.unfilled }
 
 pub returns-in-None-clause-reply : goal.returns-in-None-clause-reply
 returns-in-None-clause-reply c = λ log ask bytes work is stands standing fits.
@@ -70,6 +70,7 @@ returns-in-Some-clause-log c = λ log ask bytes work is stands standing fits.
           (sym c.set.ensures) stood.at;
       held = stood.held;
       hand = stood.hand;
+      unfilled = stood.unfilled;
     }
 
 pub returns-in-Some-clause-reply : goal.returns-in-Some-clause-reply
