@@ -174,8 +174,8 @@ module _ (w : World) (content : KeepsContent w) (a : ℕ) (below : a < w.applian
   is-none (Some s) e = absurd (let P : ⊥ = cc in P)
 
   -- a seat that waits for no write holds what its position says
-  seat-holds : (log : List Happening) (known : Known) (command : Command) (holds : ℕ → Hold) (hand : List ℕ) (filled : List (ℕ × List ℕ)) (sample : Option ℕ) (found : Option (ℕ × List ℕ)) (part : Part End) →
-      position s log ≡ goes_to g known command holds hand filled sample found part → (i : ℕ) (claim : Claim) (until : ℕ) →
+  seat-holds : (log : List Happening) (known : Known) (command : Command) (holds : ℕ → Hold) (hand : List ℕ) (filled : List (ℕ × List ℕ)) (sample : Option ℕ) (found : Option (ℕ × List ℕ)) {latest : ℕ} (part : Part End) →
+      position s log ≡ goes_to g known command holds hand filled sample found latest part → (i : ℕ) (claim : Claim) (until : ℕ) →
       Grips g time writes a (record { boots = (w.seats a).boots; log = log; pending = None }) i claim until → holds (lease_at (image_lease i)) ≡ Held claim until
   seat-holds log known command holds hand filled sample found part leads i claim until grips =
       let P : Position → Type 0 = λ q. grip_at q.place None (lease_at (image_lease i)) (q.holds (lease_at (image_lease i))) ≡ Held claim until in
@@ -221,10 +221,10 @@ module _ (w : World) (content : KeepsContent w) (a : ℕ) (below : a < w.applian
   -- ---- the clock
 
   -- a reading in a command that serves an image, or doesn't
-  read-clock : (event : Event) (log : List Happening) (known : Known) (command : Command) (part : Part End) (reading : ℕ) (hand : List ℕ) (filled : List (ℕ × List ℕ)) → NoMap g hand → starts_and_crashes w.trace ≡ events_told (event ∷ w.history) →
+  read-clock : (event : Event) (log : List Happening) (known : Known) (command : Command) (part : Part End) (reading : ℕ) (hand : List ℕ) (filled : List (ℕ × List ℕ)) {latest : ℕ} → NoMap g hand → starts_and_crashes w.trace ≡ events_told (event ∷ w.history) →
       (place : Place) → p.place ≡ place → ((b : ℕ) (x : Issued) → IsAskedAt place b x → ⊥) → IsReadingAt reading time → ModelRuns g a command known m →
       Leased (went_to w content a below event log known command (λ block. hold_after_reading reading (p.holds block)) (Some reading) (just_at g command (λ block. hold_after_reading reading (p.holds block)) reading) (with_reply_of (appliance_no a) part w.trace)) →
-      position s log ≡ goes_to g known command (λ block. hold_after_reading reading (p.holds block)) hand filled (Some reading) None part →
+      position s log ≡ goes_to g known command (λ block. hold_after_reading reading (p.holds block)) hand filled (Some reading) None latest part →
       Fair g a command known (λ block. hold_after_reading reading (p.holds block)) (Some reading) (just_at g command (λ block. hold_after_reading reading (p.holds block)) reading) part →
       ((i : ℕ) → i < g.images → Minds g time writes m a (w.seats a) i →
       (Names command i → (regime : Regime) × Looks g a i command known regime m × HeldPart g a i command known regime part device × IsOn g i device regime) × ((Names command i → ⊥) → HasContent g a i known device m)) →

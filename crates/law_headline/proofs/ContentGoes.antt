@@ -161,8 +161,8 @@ module _ (w : World) (content : KeepsContent w) (a : ℕ) (below : a < w.applian
 
   module _ (said : starts_and_crashes w.trace ≡ events_told (event ∷ w.history)) (running : ModelRuns g a command known m) where
     -- the command goes on
-    content-on : (part : Part End) (hand : List ℕ) (filled : List (ℕ × List ℕ)) (found : Option (ℕ × List ℕ)) → NoMap g hand → FoundMap g found → Leased (went_to w.trace) →
-        position (setting_at g a (w.seats a).boots) log ≡ record { holds = holds; hand = hand; filled = filled; sample = sample; found = found; place = In known command part } → Fair g a command known holds sample false part →
+    content-on : (part : Part End) (hand : List ℕ) (filled : List (ℕ × List ℕ)) (found : Option (ℕ × List ℕ)) {latest : ℕ} → NoMap g hand → FoundMap g found → Leased (went_to w.trace) →
+        position (setting_at g a (w.seats a).boots) log ≡ record { holds = holds; hand = hand; filled = filled; sample = sample; found = found; latest = latest; place = In known command part } → Fair g a command known holds sample false part →
         ((i : ℕ) → i < g.images → Minds g time writes m a seat' i →
         (Names command i → IsRightFor part i) × ((Names command i → ⊥) → HasContent g a i known device m)) → LeavesNoneOpen →
         KeepsContent (went_to w.trace)
@@ -198,7 +198,7 @@ module _ (w : World) (content : KeepsContent w) (a : ℕ) (below : a < w.applian
     }
 
     -- the command ends
-    module _ (end : End) (hand : List ℕ) (filled : List (ℕ × List ℕ)) (found : Option (ℕ × List ℕ)) (none : NoMap g hand) (read : FoundMap g found) (leased : Leased (went_to (entry.Reply (appliance_no a) end.reply ∷ w.trace))) (leads : position (setting_at g a (w.seats a).boots) log ≡ goes_to g known command holds hand filled sample found (Ends end))
+    module _ (end : End) (hand : List ℕ) (filled : List (ℕ × List ℕ)) (found : Option (ℕ × List ℕ)) {latest : ℕ} (none : NoMap g hand) (read : FoundMap g found) (leased : Leased (went_to (entry.Reply (appliance_no a) end.reply ∷ w.trace))) (leads : position (setting_at g a (w.seats a).boots) log ≡ goes_to g known command holds hand filled sample found latest (Ends end))
         (fair : IsFairEnd g command known holds just end) (own : Owned (Ends end)) (quiet : LeavesNoneOpen ⊎ IsDropping end.reply) (now : just ≡ true → IsJust (Ends end)) where
       abbrev n : Model
       n = model_after_reply m a command end.reply
@@ -418,8 +418,8 @@ module _ (w : World) (content : KeepsContent w) (a : ℕ) (below : a < w.applian
     still (inl quiet) = quiet
     still (inr no') = absurd no'
 
-    pub content-went : (part : Part End) (hand : List ℕ) (filled : List (ℕ × List ℕ)) (found : Option (ℕ × List ℕ)) → NoMap g hand → FoundMap g found → Leased (went_to (with_reply_of (appliance_no a) part w.trace)) →
-        position (setting_at g a (w.seats a).boots) log ≡ goes_to g known command holds hand filled sample found part → Fair g a command known holds sample just part →
+    pub content-went : (part : Part End) (hand : List ℕ) (filled : List (ℕ × List ℕ)) (found : Option (ℕ × List ℕ)) {latest : ℕ} → NoMap g hand → FoundMap g found → Leased (went_to (with_reply_of (appliance_no a) part w.trace)) →
+        position (setting_at g a (w.seats a).boots) log ≡ goes_to g known command holds hand filled sample found latest part → Fair g a command known holds sample just part →
         Owned part → LeavesNoneOpen ⊎ IsDrop part → (just ≡ true → IsJust part) → KeepsContent (went_to (with_reply_of (appliance_no a) part w.trace))
     content-went (Ends end) hand filled found none read leased leads fair own quiet now = content-replied end hand filled found none read leased leads fair own quiet now
     content-went (ReadThen block rest fault) hand filled found none read leased leads fair own quiet now =

@@ -232,7 +232,7 @@ module _ (s : Setting) (geometry : IsGeometry s.geometry) (a : ℕ) (command : C
         (harmless.still (harmless.worn takes.worn takes.claims) unchanged)
     fair-claim_extent true count extent below rest right t holds sample just e backs =
         claim-fair (extent_lease s.geometry extent) (extent-below s.geometry extent below) (λ k low. image-extent s.geometry k extent low) (after_extent_claim s count extent rest (with_claim_begun t))
-        (fair-claimed count extent below rest right (with_claim_begun t) e) t.claimed t.known.claims holds sample just backs
+        (fair-claimed count extent below rest right (with_claim_begun t) e) t.uses t.known.claims holds sample just backs
 
     fair-if_free : (count extent : ℕ) → extent < s.geometry.extents → (free : List ℕ) (rest : Taking → Part End) → GoesFair rest → GoesFair (claim_if_free s count extent free rest)
     fair-if_free count extent below [] rest right t holds sample just e backs = right t holds sample just e backs
@@ -301,9 +301,9 @@ module _ (s : Setting) (geometry : IsGeometry s.geometry) (a : ℕ) (command : C
     )
 
     -- blocks in hand are given back
-    fair-given : (extent until : ℕ) (blocks : List ℕ) (bits : List Bool) (rest : Part End) → HoldsMap s.geometry.extent_blocks (map_bytes (with_clear blocks (map_at s.geometry extent) bits)) → StaysFair rest →
-        StaysFair (give_found s known extent until blocks (Some bits) rest)
-    fair-given extent until blocks bits rest spells right holds sample just backs = (
+    fair-given : (uses : List InUse) (extent until : ℕ) (blocks : List ℕ) (bits : List Bool) (rest : Part End) → HoldsMap s.geometry.extent_blocks (map_bytes (with_clear blocks (map_at s.geometry extent) bits)) → StaysFair rest →
+        StaysFair (give_found s known uses extent until blocks (Some bits) rest)
+    fair-given uses extent until blocks bits rest spells right holds sample just backs = (
       record { named = tt; spells = spells },
       length-map_bytes (with_clear blocks (map_at s.geometry extent) bits),
       right holds None false backs,
@@ -313,33 +313,33 @@ module _ (s : Setting) (geometry : IsGeometry s.geometry) (a : ℕ) (command : C
       λ reading. refl,
     )
 
-    fair-give : (extent until : ℕ) → extent < s.geometry.extents → (blocks : List ℕ) (rest : Part End) → is_in (map_at s.geometry extent) blocks ≡ false → StaysFair rest → StaysFair (give_part s known extent until blocks rest)
-    fair-give extent until below [] rest out right holds sample just backs = right holds sample just backs
-    fair-give extent until below (block ∷ blocks) rest out right holds sample just backs = (
+    fair-give : (uses : List InUse) (extent until : ℕ) → extent < s.geometry.extents → (blocks : List ℕ) (rest : Part End) → is_in (map_at s.geometry extent) blocks ≡ false → StaysFair rest → StaysFair (give_part s known uses extent until blocks rest)
+    fair-give uses extent until below [] rest out right holds sample just backs = right holds sample just backs
+    fair-give uses extent until below (block ∷ blocks) rest out right holds sample just backs = (
       λ bytes spelled.
           let holds-map = spelled.map extent below refl in
-          let P : Option (List Bool) → Type 0 = λ o. Fairly (after-map extent sample bytes holds) None false (give_found s known extent until (block ∷ blocks) o rest) in
+          let P : Option (List Bool) → Type 0 = λ o. Fairly (after-map extent sample bytes holds) None false (give_found s known uses extent until (block ∷ blocks) o rest) in
           subst P (sym (map-read s.geometry.extent_blocks bytes holds-map))
-          (fair-given extent until (block ∷ blocks) (bits_of s.geometry.extent_blocks bytes) rest
+          (fair-given uses extent until (block ∷ blocks) (bits_of s.geometry.extent_blocks bytes) rest
           (clear-spelled s.geometry.extent_blocks (block ∷ blocks) (map_at s.geometry extent) (bits_of s.geometry.extent_blocks bytes) geometry.blocks_high out holds-map.is) right
           _ None false (backs-read s.geometry known holds (map_at s.geometry extent) sample bytes backs)),
       read-failed gives.read_fault (map_at s.geometry extent) known holds None false refl backs,
       λ k c u low e' w. map-unconfirmed extent k low e',
     )
 
-    fair-give_up : (hand : List ℕ) → NoMap s.geometry hand → (extent : ℕ) → extent < s.geometry.extents → (hold : Hold) (rest : Part End) → StaysFair rest → StaysFair (retire_extent s known hand extent hold rest)
-    fair-give_up hand none extent below (Held claim until) rest right =
-        fair-give extent until below (in_extent s.geometry extent hand) _ (out-filter _ (map_at s.geometry extent) hand (none extent below))
+    fair-give_up : (uses : List InUse) (hand : List ℕ) → NoMap s.geometry hand → (extent : ℕ) → extent < s.geometry.extents → (hold : Hold) (rest : Part End) → StaysFair rest → StaysFair (retire_extent s known uses hand extent hold rest)
+    fair-give_up uses hand none extent below (Held claim until) rest right =
+        fair-give uses extent until below (in_extent s.geometry extent hand) _ (out-filter _ (map_at s.geometry extent) hand (none extent below))
         (fair-release (extent_use s.geometry extent until) rest (extent-unused extent) right)
-    fair-give_up hand none extent below Nothing rest right = right
-    fair-give_up hand none extent below (Seen l) rest right = right
-    fair-give_up hand none extent below (Wrote claim until) rest right = right
-    fair-give_up hand none extent below (Waited claim until) rest right = right
+    fair-give_up uses hand none extent below Nothing rest right = right
+    fair-give_up uses hand none extent below (Seen l) rest right = right
+    fair-give_up uses hand none extent below (Wrote claim until) rest right = right
+    fair-give_up uses hand none extent below (Waited claim until) rest right = right
 
-    fair-extents : (first : ℕ → Hold) (hand : List ℕ) → NoMap s.geometry hand → (left extent : ℕ) (rest : Part End) → left + extent ≡ s.geometry.extents → StaysFair rest → StaysFair (retire_extents s known first hand left extent rest)
-    fair-extents first hand none zero extent rest all right = right
-    fair-extents first hand none (suc left) extent rest all right =
-        fair-give_up hand none extent (omega (arith, all)) (first (lease_at (extent_lease s.geometry extent))) _ (fair-extents first hand none left (extent + 1) rest (omega (arith, all)) right)
+    fair-extents : (uses : List InUse) (first : ℕ → Hold) (hand : List ℕ) → NoMap s.geometry hand → (left extent : ℕ) (rest : Part End) → left + extent ≡ s.geometry.extents → StaysFair rest → StaysFair (retire_extents s known uses first hand left extent rest)
+    fair-extents uses first hand none zero extent rest all right = right
+    fair-extents uses first hand none (suc left) extent rest all right =
+        fair-give_up uses hand none extent (omega (arith, all)) (first (lease_at (extent_lease s.geometry extent))) _ (fair-extents uses first hand none left (extent + 1) rest (omega (arith, all)) right)
 
     fair-lease : (lease : ℕ) (session : Option Session) (hold : Hold) (rest : Part End) → (session ≡ None → (k : ℕ) (t : Session) → k < s.geometry.images → known.sessions k ≡ Some t → image_lease k ≢ lease) → StaysFair rest →
         StaysFair (retire_lease s known lease session hold rest)
@@ -357,7 +357,7 @@ module _ (s : Setting) (geometry : IsGeometry s.geometry) (a : ℕ) (command : C
 
     pub fair-give_back : (first : ℕ → Hold) (hand : List ℕ) → NoMap s.geometry hand → StaysFair (ends reply.Retired known) → StaysFair (retire_part s known first hand)
     fair-give_back first hand none right =
-        fair-extents first hand none s.geometry.extents 0 _ (omega arith) (fair-images first s.geometry.images 0 _
+        fair-extents [] first hand none s.geometry.extents 0 _ (omega arith) (fair-images first s.geometry.images 0 _
         (fair-lease root_lease None (first (lease_at root_lease)) _ (λ e k t below is same. root-image k (sym same)) right))
 
 -- ---- the commands
@@ -367,7 +367,7 @@ module _ (s : Setting) (geometry : IsGeometry s.geometry) (a : ℕ) (known : Kno
   fair-reserve hand count sample just =
       fair-take s geometry a (Reserve count) known refl (record { busy = refl; read_fault = refl; write_fault = refl; full = refl; worn = refl; claims = refl }) holds count _
       (λ t h l j e b. fair-still s a (Reserve count) known h l j t.known reply.Reserved e (λ i. refl) b tt (harmless.unnamed refl refl))
-      (first_taking known hand) holds sample just refl backs
+      (first_taking [] known hand) holds sample just refl backs
 
   pub fair-retire : (hand : List ℕ) → NoMap s.geometry hand → (sample : Option ℕ) (just : Bool) → IsFair s a Retire known holds sample just (retire_part s known holds hand)
   fair-retire hand none sample just =

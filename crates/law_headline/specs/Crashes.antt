@@ -10,7 +10,7 @@ use Rattle.plx_rules.specs.World.{World, Reached, Step, stands}
 -- the appliance is in its next boot, whose log is empty; it holds no lease, knows no session and is in no command; no other appliance and no write changes
 pub record CrashLeaves (w v : World) (appliance : ℕ) : Type 0 where
   pub seat : v.seats appliance ≡ record { boots = (w.seats appliance).boots + 1; log = []; pending = None }
-  pub fresh : stands v appliance ≡ record { holds = no_holds; hand = []; filled = []; sample = None; found = None; place = Idle (nothing_known 0) }
+  pub fresh : stands v appliance ≡ record { holds = no_holds; hand = []; filled = []; sample = None; found = None; latest = 0; place = Idle (nothing_known 0) }
   pub others : (other : ℕ) → other ≢ appliance → v.seats other ≡ w.seats other
   pub surface : v.surface ≡ w.surface
 

@@ -194,7 +194,7 @@ module _ (s : Setting) (geometry : IsGeometry s.geometry) (small : s.boot < 2 ^ 
   right-found : (count extent : ℕ) (below : extent < s.geometry.extents) (claim : Claim) (until : ℕ) (found : Option (List Bool)) (from : ℕ) (first : ℕ → Hold) (rest : Taking → Part End) (t : Taking) (holds : ℕ → Hold) (sample : Option ℕ) →
       holds (lease_block extent) ≡ Held claim until → SameFrom from first holds → GoesRight from first rest → SpaceRight holds sample (take_found s count extent until found rest t)
   right-found count extent below claim until None from first rest t holds sample held same right =
-      right-ends s command t.known (extent_use s.geometry extent until ∷ t.claimed) (reply.Damaged (record { 0 = map_at s.geometry extent })) t.known holds sample
+      right-ends s command t.known (extent_use s.geometry extent until ∷ t.uses) (reply.Damaged (record { 0 = map_at s.geometry extent })) t.known holds sample
   right-found count extent below claim until (Some bits) from first rest t holds sample held same right =
       right-set extent below claim until bits (take (count - length t.hand) (free_from t.hand (map_at s.geometry extent) bits)) from first rest t holds sample held same right
 
@@ -255,9 +255,9 @@ module _ (s : Setting) (geometry : IsGeometry s.geometry) (small : s.boot < 2 ^ 
   right-claim_extent false count extent below first rest t holds sample e rests none same right = tt
   right-claim_extent true count extent below first rest t holds sample e rests none same right =
       let few = nat_lt-tells t.known.claims last_claim e in
-      lawful-unfilled s.geometry s.boot command (ClaimLeaves (extent_lease s.geometry extent) holds) (λ end held fresh last. Unit {0}) (claim_part s.boot t.claimed (extent_lease s.geometry extent) t.known.claims)
+      lawful-unfilled s.geometry s.boot command (ClaimLeaves (extent_lease s.geometry extent) holds) (λ end held fresh last. Unit {0}) (claim_part s.boot t.uses (extent_lease s.geometry extent) t.known.claims)
       (after_extent_claim s count extent rest (with_claim_begun t)) holds sample
-      (leaves-claim s.geometry s.boot small command (extent_lease s.geometry extent) (extent-below s.geometry extent below) holds t.claimed t.known.claims holds sample (omega (arith, few)) (λ j ne r. refl) none)
+      (leaves-claim s.geometry s.boot small command (extent_lease s.geometry extent) (extent-below s.geometry extent below) holds t.uses t.known.claims holds sample (omega (arith, few)) (λ j ne r. refl) none)
       (λ end h l left. right-extent_claimed count extent below first holds rest (with_claim_begun t) end h l rests same left right)
 
   right-if_free : (count extent : ℕ) (below : extent < s.geometry.extents) (first : ℕ → Hold) (free : List ℕ) (rest : Taking → Part End) (t : Taking) (holds : ℕ → Hold) (sample : Option ℕ) →
@@ -268,7 +268,7 @@ module _ (s : Setting) (geometry : IsGeometry s.geometry) (small : s.boot < 2 ^ 
 
   right-other_found : (count extent : ℕ) (below : extent < s.geometry.extents) (first : ℕ → Hold) (found : Option (List Bool)) (rest : Taking → Part End) (t : Taking) (holds : ℕ → Hold) (sample : Option ℕ) →
       ((e : ℕ) → IsRest (first (lease_block e))) → holds (lease_block extent) ≡ Nothing → SameFrom (extent + 1) first holds → GoesRight (extent + 1) first rest → SpaceRight holds sample (other_found s count extent found rest t)
-  right-other_found count extent below first None rest t holds sample rests none same right = right-ends s command t.known t.claimed (reply.Damaged (record { 0 = map_at s.geometry extent })) t.known holds sample
+  right-other_found count extent below first None rest t holds sample rests none same right = right-ends s command t.known t.uses (reply.Damaged (record { 0 = map_at s.geometry extent })) t.known holds sample
   right-other_found count extent below first (Some bits) rest t holds sample rests none same right =
       right-if_free count extent below first (free_from t.hand (map_at s.geometry extent) bits) rest t holds sample rests none same right
 
@@ -308,7 +308,7 @@ module _ (s : Setting) (geometry : IsGeometry s.geometry) (small : s.boot < 2 ^ 
   right-reserve known holds hand count sample rests =
       right-held count holds s.geometry.extents 0 _ (omega arith)
       (right-others count holds s.geometry.extents 0 _ rests (omega arith) (right-taken count s.geometry.extents holds _ (λ t h l same. tt)))
-      (first_taking known hand) holds sample (λ e past low. refl)
+      (first_taking [] known hand) holds sample (λ e past low. refl)
 
   -- ---- a retire
 
@@ -338,11 +338,11 @@ module _ (s : Setting) (geometry : IsGeometry s.geometry) (small : s.boot < 2 ^ 
   abbrev FromImage : (image lease : ℕ) → Type 0
   FromImage image lease = (lease ≡ root_lease) ⊎ ((image_lease image ≤ lease) × (lease < extent_lease s.geometry 0))
 
-  right-given : (known : Known) (extent : ℕ) (below : extent < s.geometry.extents) (claim : Claim) (until : ℕ) (blocks : List ℕ) (found : Option (List Bool)) (holds : ℕ → Hold) (sample : Option ℕ) (rest : Part End) →
-      holds (lease_block extent) ≡ Held claim until → SpaceRight holds None rest → SpaceRight holds sample (give_found s known extent until blocks found rest)
-  right-given known extent below claim until blocks None holds sample rest held right =
-      right-ends s command known (extent_use s.geometry extent until ∷ []) (reply.Damaged (record { 0 = map_at s.geometry extent })) known holds sample
-  right-given known extent below claim until blocks (Some bits) holds sample rest held right = (
+  right-given : (known : Known) (uses : List InUse) (extent : ℕ) (below : extent < s.geometry.extents) (claim : Claim) (until : ℕ) (blocks : List ℕ) (found : Option (List Bool)) (holds : ℕ → Hold) (sample : Option ℕ) (rest : Part End) →
+      holds (lease_block extent) ≡ Held claim until → SpaceRight holds None rest → SpaceRight holds sample (give_found s known uses extent until blocks found rest)
+  right-given known uses extent below claim until blocks None holds sample rest held right =
+      right-ends s command known (extent_use s.geometry extent until ∷ uses) (reply.Damaged (record { 0 = map_at s.geometry extent })) known holds sample
+  right-given known uses extent below claim until blocks (Some bits) holds sample rest held right = (
     record {
       placed = (extent, below, refl, ap (λ (n : ℕ). extent_lease s.geometry n ∷ []) (map-found s.geometry extent some-blocks));
       grants = λ lease needs. space-granted extent holds claim until lease held (one-in lease _ needs ∙ ap (extent_lease s.geometry) (map-found s.geometry extent some-blocks));
@@ -369,9 +369,9 @@ module _ (s : Setting) (geometry : IsGeometry s.geometry) (small : s.boot < 2 ^ 
       wider lease (inl low) = inl low
       wider lease (inr high) = inr (omega (arith, high.0), high.1)
 
-  right-given_up : (known : Known) (hand : List ℕ) (extent : ℕ) (below : extent < s.geometry.extents) (first : ℕ → Hold) (hold : Hold) (rest : Part End) → first (lease_block extent) ≡ hold →
-      RestRight (FromExtent (extent + 1)) first rest → RestRight (FromExtent extent) first (retire_extent s known hand extent hold rest)
-  right-given_up known hand extent below first (Held claim until) rest is right holds sample same = by_hand (in_extent s.geometry extent hand)
+  right-given_up : (known : Known) (uses : List InUse) (hand : List ℕ) (extent : ℕ) (below : extent < s.geometry.extents) (first : ℕ → Hold) (hold : Hold) (rest : Part End) → first (lease_block extent) ≡ hold →
+      RestRight (FromExtent (extent + 1)) first rest → RestRight (FromExtent extent) first (retire_extent s known uses hand extent hold rest)
+  right-given_up known uses hand extent below first (Held claim until) rest is right holds sample same = by_hand (in_extent s.geometry extent hand)
     where
       due : InUse
       due = extent_use s.geometry extent until
@@ -392,25 +392,25 @@ module _ (s : Setting) (geometry : IsGeometry s.geometry) (small : s.boot < 2 ^ 
           wider lease (inl low) = inl low
           wider lease (inr high) = inr (omega (arith, high.0), high.1)
 
-      by_hand : (blocks : List ℕ) → SpaceRight holds sample (give_part s known extent until blocks (release_then s known due rest))
+      by_hand : (blocks : List ℕ) → SpaceRight holds sample (give_part s known uses extent until blocks (release_then s known due rest))
       by_hand [] = released holds sample same
       by_hand (block ∷ blocks) = (
         λ bytes.
             let now : ℕ → Hold = after_answer sample (ask.Read (record { 0 = map_at s.geometry extent })) [] (answer.Bytes bytes) holds in
             let same' : SameOn (FromExtent extent) first now = λ lease left. lease-read lease extent sample bytes holds (from-below extent lease left) ∙ same lease left in
-            right-given known extent below claim until (block ∷ blocks) (read_map s.geometry.extent_blocks bytes) now None _ (same' (extent_lease s.geometry extent) (inr (omega arith, within)) ∙ is) (released now None same'),
+            right-given known uses extent below claim until (block ∷ blocks) (read_map s.geometry.extent_blocks bytes) now None _ (same' (extent_lease s.geometry extent) (inr (omega arith, within)) ∙ is) (released now None same'),
         tt,
       )
-  right-given_up known hand extent below first Nothing rest is right holds sample same = right-past known hand extent first rest right holds sample same
-  right-given_up known hand extent below first (Seen l) rest is right holds sample same = right-past known hand extent first rest right holds sample same
-  right-given_up known hand extent below first (Wrote claim until) rest is right holds sample same = right-past known hand extent first rest right holds sample same
-  right-given_up known hand extent below first (Waited claim until) rest is right holds sample same = right-past known hand extent first rest right holds sample same
+  right-given_up known uses hand extent below first Nothing rest is right holds sample same = right-past known hand extent first rest right holds sample same
+  right-given_up known uses hand extent below first (Seen l) rest is right holds sample same = right-past known hand extent first rest right holds sample same
+  right-given_up known uses hand extent below first (Wrote claim until) rest is right holds sample same = right-past known hand extent first rest right holds sample same
+  right-given_up known uses hand extent below first (Waited claim until) rest is right holds sample same = right-past known hand extent first rest right holds sample same
 
-  right-extents : (known : Known) (first : ℕ → Hold) (hand : List ℕ) (left extent : ℕ) (rest : Part End) → left + extent ≡ s.geometry.extents → RestRight (FromExtent s.geometry.extents) first rest →
-      RestRight (FromExtent extent) first (retire_extents s known first hand left extent rest)
-  right-extents known first hand zero extent rest all right = let same : s.geometry.extents ≡ extent = omega (arith, all) in subst (λ (e : ℕ). RestRight (FromExtent e) first rest) same right
-  right-extents known first hand (suc left) extent rest all right =
-      right-given_up known hand extent (omega (arith, all)) first (first (lease_block extent)) _ refl (right-extents known first hand left (extent + 1) rest (omega (arith, all)) right)
+  right-extents : (known : Known) (uses : List InUse) (first : ℕ → Hold) (hand : List ℕ) (left extent : ℕ) (rest : Part End) → left + extent ≡ s.geometry.extents → RestRight (FromExtent s.geometry.extents) first rest →
+      RestRight (FromExtent extent) first (retire_extents s known uses first hand left extent rest)
+  right-extents known uses first hand zero extent rest all right = let same : s.geometry.extents ≡ extent = omega (arith, all) in subst (λ (e : ℕ). RestRight (FromExtent e) first rest) same right
+  right-extents known uses first hand (suc left) extent rest all right =
+      right-given_up known uses hand extent (omega (arith, all)) first (first (lease_block extent)) _ refl (right-extents known uses first hand left (extent + 1) rest (omega (arith, all)) right)
 
   -- a lease that is held without a session is given up, and any other stays
   right-lease : (known : Known) (lease : ℕ) (below : lease < lease_count s.geometry) (first : ℕ → Hold) (session : Option Session) (hold : Hold) (Left After : ℕ → Type 0) (rest : Part End) → first (lease_at lease) ≡ hold →
@@ -443,7 +443,7 @@ module _ (s : Setting) (geometry : IsGeometry s.geometry) (small : s.boot < 2 ^ 
 
   pub right-retire : (known : Known) (holds : ℕ → Hold) (hand : List ℕ) (sample : Option ℕ) → SpaceRight holds sample (retire_part s known holds hand)
   right-retire known holds hand sample =
-      right-extents known holds hand s.geometry.extents 0 _ (omega arith)
+      right-extents known [] holds hand s.geometry.extents 0 _ (omega arith)
       (λ now last same. right-images known holds s.geometry.images 0 _ (omega arith)
       (right-lease known root_lease (omega arith) holds None (holds (lease_at root_lease)) (FromImage s.geometry.images) (λ l. ⊥) _ refl (inl refl) (λ l none. absurd none) (λ h l same'. tt))
       now last (λ lease left. same lease (first-leases lease left)))

@@ -143,12 +143,12 @@ module _ (w : World) (leased : Leased w) (a : ℕ) (below : a < w.appliances) (t
   }
 
   -- an ask was answered
-  went-leased : (log : List Happening) (known : Known) (command : Command) (holds : ℕ → Hold) (hand : List ℕ) (filled : List (ℕ × List ℕ)) (sample : Option ℕ) (found : Option (ℕ × List ℕ)) (part : Part End) →
-      position setting log ≡ goes_to g known command holds hand filled sample found part →
+  went-leased : (log : List Happening) (known : Known) (command : Command) (holds : ℕ → Hold) (hand : List ℕ) (filled : List (ℕ × List ℕ)) (sample : Option ℕ) (found : Option (ℕ × List ℕ)) {latest : ℕ} (part : Part End) →
+      position setting log ≡ goes_to g known command holds hand filled sample found latest part →
       ((lease : ℕ) (within : lease < lease_count g) → Good w.rests time writes lease (leased.on lease within).standing boot None (holds (lease_at lease))) →
       LawfulRest g boot command holds (filled_held g holds filled) sample part → ((s : ℕ) → sample ≡ Some s → s ≤ time + 50) → Leased (with-log log)
-  went-leased log known command holds hand filled sample found part leads good lawful sampled =
-      log-leased log (goes_to g known command holds hand filled sample found part) leads
+  went-leased log known command holds hand filled sample found {latest} part leads good lawful sampled =
+      log-leased log (goes_to g known command holds hand filled sample found latest part) leads
       (λ lease within. good-part w.rests time writes lease (leased.on lease within).standing boot part holds (lease_at lease) (good lease within))
       (lawful-placed g boot known command holds filled sample part lawful) sampled
 

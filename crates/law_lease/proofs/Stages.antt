@@ -29,7 +29,7 @@ use Rattle.plx_rules.specs.Boot.{Happening, Began, Asked, Place, Idle, Begins, I
 use Rattle.plx_rules.specs.Hands.{filled_answered, found_by, hand_answered, hand_left}
 use Rattle.plx_rules.specs.Commands.{IsBuilt, IsWellFormed, command_part}
 use Rattle.plx_rules.specs.Ends.{End}
-use Rattle.plx_rules.specs.Holds.{Hold, hold_after_read, after_answer, after_write, holds_after_reply, after_first, first_hold, session_at, sample_of}
+use Rattle.plx_rules.specs.Holds.{Hold, hold_after_read, after_answer, after_write, holds_after_reply, after_first, first_hold, session_at, sample_of, latest_after}
 use Rattle.plx_rules.specs.Session.{Known}
 use Rattle.plx_rules.specs.Settings.{boot_number}
 use Rattle.plx_rules.specs.World as world
@@ -220,9 +220,9 @@ module _ (g : Geometry) (appliances : ℕ) (few : appliances ≤ 8) (lease : ℕ
         IsSpot lease (place_in a.0 (with_happening seat (Asked asked bytes ans))) (spot_next known command hold ans rest)
     spot-next known command part here asked bytes ans rest leads hold held seat is =
         let q : Position = place_in a.0 seat in
-        let e : place_in a.0 (with_happening seat (Asked asked bytes ans)) ≡ goes_to g known command (after_answer q.sample asked bytes ans q.holds) (hand_left asked q.filled (hand_answered g q.found asked bytes ans q.hand)) (filled_answered asked bytes ans q.filled) (sample_of ans) (found_by asked ans) rest =
+        let e : place_in a.0 (with_happening seat (Asked asked bytes ans)) ≡ goes_to g known command (after_answer q.sample asked bytes ans q.holds) (hand_left asked q.filled (hand_answered g q.found asked bytes ans q.hand)) (filled_answered asked bytes ans q.filled) (sample_of ans) (found_by asked ans) (latest_after ans q.latest) rest =
         ap (went_on (setting_at g a.0 seat.boots) asked bytes ans q) (is.place ∙ here)
-        ∙ ap (goes_to g known command (after_answer q.sample asked bytes ans q.holds) (hand_left asked q.filled (hand_answered g q.found asked bytes ans q.hand)) (filled_answered asked bytes ans q.filled) (sample_of ans) (found_by asked ans)) leads in
+        ∙ ap (goes_to g known command (after_answer q.sample asked bytes ans q.holds) (hand_left asked q.filled (hand_answered g q.found asked bytes ans q.hand)) (filled_answered asked bytes ans q.filled) (sample_of ans) (found_by asked ans) (latest_after ans q.latest)) leads in
         subst (λ (x : Position). IsSpot lease x (spot_next known command hold ans rest)) (sym e) (record {
           hold = next-holds lease q r is asked bytes ans rest ∙ held;
           sample = refl;
@@ -281,9 +281,9 @@ module _ (g : Geometry) (appliances : ℕ) (few : appliances ≤ 8) (lease : ℕ
         let part : (boots : ℕ) → Part End = λ boots. first_part (setting_at g a.0 boots) known t command q in
         let all : part (st.seats a.0).boots ≡ rest = ap part (st.boots a.0) ∙ is q.holds _ held-q in
         let P : Part End → Type 0 = λ x. Step w (event.Reading a t) (goes_on w (event.Reading a t) a ask.Clock [] (answer.Reading t) x) in
-        let e : place_in a.0 (with_happening (st.seats a.0) (Asked ask.Clock [] (answer.Reading t))) ≡ goes_to g known command (after_first g known t q.holds) q.hand [] (Some t) None rest =
+        let e : place_in a.0 (with_happening (st.seats a.0) (Asked ask.Clock [] (answer.Reading t))) ≡ goes_to g known command (after_first g known t q.holds) q.hand [] (Some t) None t rest =
         ap (went_on (setting_at g a.0 (st.seats a.0).boots) ask.Clock [] (answer.Reading t) q) (stands-at _ here)
-        ∙ ap (goes_to g known command (after_first g known t q.holds) q.hand [] (Some t) None) all in
+        ∙ ap (goes_to g known command (after_first g known t q.holds) q.hand [] (Some t) None t) all in
         go (Asked ask.Clock [] (answer.Reading t)) (event.Reading a t ∷ st.history) (with_reply_of a rest tr) _
         (world.later st.reached (subst P all (world.begins {reading = t} known command below (stands-at _ here) now)))
         (subst (λ (x : Position). IsSpot lease x (spot_next known command hold (answer.Reading t) rest)) (sym e) (record {

@@ -1,5 +1,5 @@
 -- The rest of a command of one image by its next ask.
-use Rattle.std.proofs.Common.{◌≡◌, ℕ, zero, suc, ◌+◌, ◌≤◌, ◌<◌, List, ◌∷◌, Some, refl, sym, subst, ◌∙◌, arith, inl, inr}
+use Rattle.std.proofs.Common.{◌≡◌, ℕ, zero, suc, ◌+◌, ◌≤◌, ◌<◌, List, ◌∷◌, Some, refl, ap, sym, subst, ◌∙◌, arith, inl, inr}
 use Rattle.plx_base.specs.declared.lease.Claim.{Claim}
 use Rattle.plx_base.specs.declared.lease.LeaseName.{LeaseName}
 use Rattle.plx_base.specs.declared.lease.LeaseName.TheVariants as lease
@@ -11,27 +11,30 @@ use Rattle.plx_commands.specs.declared.reply.Reply.TheVariants as reply
 use Rattle.plx_disk.specs.declared.ask.Ask.{Ask}
 use Rattle.plx_disk.specs.declared.ask.Ask.TheVariants as ask
 use Rattle.plx_disk.specs.declared.ask.Answer.TheVariants as answer
-use Rattle.plx_geom.specs.Geometry.{Geometry, lease_count, lease_number, image_lease}
+use Rattle.plx_geom.specs.Geometry.{Geometry, lease_count, lease_number, image_lease, lease_at, map_at}
 use Rattle.plx_rules.specs.Part.{Part}
 use Rattle.plx_rules.specs.Attaching.{image_use}
 use Rattle.plx_rules.specs.Ends.{End, ends, lost_part, write_then, ends_in_time}
 use Rattle.plx_rules.specs.Holds.{Hold, Nothing, Held}
-use Rattle.plx_rules.specs.InUse.{lease_name}
+use Rattle.plx_rules.proofs.InUse.{same-first}
+use Rattle.plx_rules.specs.InUse.{InUse, IsNamedFirst, lease_name}
 use Rattle.plx_rules.specs.Owners.{Needs}
 use Rattle.plx_rules.specs.Session.{Known, nothing_known}
 use Rattle.plx_rules.specs.Settings.{Setting}
+use Rattle.law_run.specs.CommandLogs.{Exchange, Finished, first_reading, older_than}
 use Rattle.law_run.specs.Causes.{MayFollow}
-use Rattle.law_run.specs.CommandLogs.{Exchange, Finished, first_reading}
 use Rattle.law_run.specs.Holdings as holdings
-use Rattle.law_run.specs.Holdings.{hold_by_log, IsUntil, claims_in, claims_begun}
-use Rattle.law_run.specs.Refusals.{IsNamedFirst}
-use Rattle.law_run.specs.Replies.{IsConfirmed, IsInUse, going, unread, of_clock, WasLost, RestsOn, of_need, Comes, IsReplied, worked}
+use Rattle.law_run.specs.Holdings.{hold_by_log, last_found, IsUntil, claims_in, claims_begun}
+use Rattle.law_run.specs.Replies.{IsConfirmed, of_clock, WasLost, RestsOn, of_need, Comes, IsReplied, worked}
 use Rattle.law_run.specs.Replies as replies
+use Rattle.law_run.specs.Uses as uses
+use Rattle.law_run.specs.Uses.{IsInUse, IsOfCommand}
 use Rattle.law_run.proofs.Holding.{Course, Going, going-clock}
 use Rattle.law_run.proofs.Meets.{exchange, Meets}
 use Rattle.law_run.proofs.OnImage.{NamesOne, names-own, names-only, lease-name, by-time}
 use Rattle.law_run.proofs.Passed.{Passed, passed-all}
-use Rattle.law_run.proofs.Rests.{rests-lost, written-none, rests-failed}
+use Rattle.law_run.proofs.Rests.{rests-lost, rests-failed}
+use Rattle.law_run.proofs.Uses.{of-one}
 use Rattle.law_run.proofs.Right.{clock, Rests, finish, log_on, Shows, Right}
 use Rattle.plx_base.proofs.Tests.{lt-cases}
 
@@ -81,7 +84,7 @@ missed-shows s before known command reading fine done lease until k block bytes 
       replied-fine s before command reading fine (x ∷ done) (rw first refl) (reply.Lost (lease_name s.geometry lease) until last)
           (replies.missed k (record { 0 = block }) bytes (done, refl)
           (of_need (subst (λ l. Needs s.geometry k block l) (sym (number-name s.geometry lease within)) needs))),
-      rests-lost s before command (x ∷ done) (lease_name s.geometry lease) until last known.claims (written-none s.geometry (lease_name s.geometry lease) until last x done refl) claims,
+      rests-lost s before command (x ∷ done) (lease_name s.geometry lease) until last known.claims claims,
     )
 
 -- a write, which rests on a lease, where that is allowed
@@ -116,21 +119,32 @@ module _ (s : Setting) (before : List Finished) (known : Known) (command : Comma
       let after = going-clock s before done reading slot.0 c going' in
       subst (λ (name : LeaseName). Right s before command (clock reading ∷ done) (ends (reply.Lost name c.until reading) (nothing_known known.claims)) n) (sym (lease-name s.geometry slot.0 within)) (
         replied-fine s before command c.reading fine (clock reading ∷ done) after.first (reply.Lost (lease.Image slot) c.until reading)
-            (replies.reached slot (of_clock (done, refl))
-            (going (names-own command slot.0 one) (holdings.held c.claim after.held)) past (λ other until' is le. alone other until' is)),
-        rests-lost s before command (clock reading ∷ done) (lease.Image slot) c.until reading known.claims refl (let b = after.begun in omega arith),
+            (replies.reached due (sym (lease-name s.geometry slot.0 within)) refl (of_clock (done, refl))
+            (uses.used (record { of = uses.named slot.0 within (names-own command slot.0 one) refl; until = holdings.held c.claim after.held })) past (λ other is le. alone other is)),
+        rests-lost s before command (clock reading ∷ done) (lease.Image slot) c.until reading known.claims (let b = after.begun in omega arith),
       )
     where
-      alone : (other until' : ℕ) → IsInUse s (log_on before command (clock reading ∷ done)) other until' → IsNamedFirst slot.0 c.until other until'
-      alone other until' (going named is) =
-          let same = names-only command slot.0 one other named in
-          let here = subst (λ o. IsUntil until' (hold_by_log s before (clock reading ∷ done) (image_lease o))) same is in
-          inr (one-until c.claim c.until until' _ (going-clock s before done reading slot.0 c going').held here, omega arith)
-      alone other until' (unread claim bytes r older named last waited none gone) =
-          let same = names-only command slot.0 one other named in
-          let e : Held c.claim c.until ≡ Nothing =
-          sym (going-clock s before done reading slot.0 c going').held ∙ subst (λ o. hold_by_log s before (clock reading ∷ done) (image_lease o) ≡ Nothing) same gone in
+      due : InUse
+      due = record { lease = image_lease slot.0; until = c.until }
+
+      now : hold_by_log s before (clock reading ∷ done) (image_lease slot.0) ≡ Held c.claim c.until
+      now = (going-clock s before done reading slot.0 c going').held
+
+      its : (l : ℕ) → IsOfCommand s (log_on before command (clock reading ∷ done)) l → image_lease slot.0 ≡ l
+      its l of = of-one s (log_on before command (clock reading ∷ done)) slot.0 (names-only command slot.0 one) (going-clock s before done reading slot.0 c going').mine l of
+
+      alone : (other : InUse) → IsInUse s (log_on before command (clock reading ∷ done)) other → IsNamedFirst due other
+      alone other (uses.used u) =
+          let same = its other.lease u.of in
+          same-first due other (one-until c.claim c.until other.until _ (ap (hold_by_log s before (clock reading ∷ done)) (sym same) ∙ now) u.until) same
+      alone other (uses.unread claim bytes r older below is waited none gone) =
+          let found : last_found done ≡ Some (lease_at other.lease, bytes) = ap (λ (d : List Exchange). last_found (older_than d)) is in
+          let same = (going'.quiet (lease_at other.lease) bytes found).0 other.lease below refl in
+          let e : Held c.claim c.until ≡ Nothing = sym now ∙ (ap (hold_by_log s before (clock reading ∷ done)) (sym same) ∙ gone) in
           absurd (let P : ⊥ = cc in P)
+      alone other (uses.rested extent claim bytes r older below at_map is none held) =
+          let found : last_found done ≡ Some (map_at s.geometry extent, bytes) = ap (λ (d : List Exchange). last_found (older_than d)) is in
+          absurd ((going'.quiet (map_at s.geometry extent) bytes found).1 extent refl)
 
   -- a reply after one more reading
   pub asks-confirm : (done : List Exchange) (r : Reply) (next : Known) (n : ℕ) → Going s before done slot.0 c → MayFollow s (log_on before command done) ask.Clock →

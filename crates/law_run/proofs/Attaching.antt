@@ -12,8 +12,8 @@ use Rattle.plx_gate.specs.Descriptors.{read_descriptor}
 use Rattle.plx_gate.specs.Images.{read_image}
 use Rattle.plx_gate.specs.declared.descriptor.Descriptor.{Descriptor}
 use Rattle.plx_gate.specs.declared.image.ImageRecord.{ImageRecord}
-use Rattle.plx_geom.specs.Geometry.{Geometry, lease_count, image_lease, record_at, descriptor_at, data_at, map_at}
-use Rattle.plx_geom.proofs.Places.{record-record, record-log, record-descriptor, record-data, record-map, log-descriptor, descriptor-descriptor, data-descriptor, map-descriptor, map-data}
+use Rattle.plx_geom.specs.Geometry.{Geometry, lease_count, image_lease, extents_start, record_at, descriptor_at, data_at, map_at}
+use Rattle.plx_geom.proofs.Places.{record-record, record-log, record-descriptor, record-data, log-descriptor, descriptor-descriptor, data-descriptor, descriptor-below, data-below, record-map, map-descriptor, map-data}
 use Rattle.plx_rules.specs.Part.{Part}
 use Rattle.plx_rules.specs.Journaled.{Journaled}
 use Rattle.plx_rules.specs.Attaching.{image_use, attach_ends, after_load, load_journal, after_record, load_image}
@@ -37,7 +37,7 @@ use Rattle.law_run.proofs.Asking.{IsFine, replied-fine, asks-confirm}
 use Rattle.law_run.proofs.Counted.{write-counted}
 use Rattle.law_run.proofs.Facts.{stored_by_session, plain-parts, stores-session}
 use Rattle.law_run.proofs.Grown.{with-block-same, with-other, fits-empty}
-use Rattle.law_run.proofs.Holding.{first-more, claims-more, Spared, spared-more, Course, Going, going-more}
+use Rattle.law_run.proofs.Holding.{first-more, claims-more, Spared, spared-more, Course, Going, going-more, reads-no-claim}
 use Rattle.law_run.proofs.Following.{read-inside, past-unbusy}
 use Rattle.law_run.proofs.Inside.{IsInside, AllInside, inside-of, inside-record, inside-descriptor, not-outside, alone-inside}
 use Rattle.law_run.proofs.Inserted.{gap-is}
@@ -45,6 +45,7 @@ use Rattle.law_run.proofs.Loading.{Says, says, Loading, loads-first, loads-none,
 use Rattle.law_run.proofs.Meets.{exchange, meets-more}
 use Rattle.law_run.proofs.OnImage.{NamesOne, names-own, names-other, names-only}
 use Rattle.law_run.proofs.Rests.{KeepsHolds, rests-by}
+use Rattle.law_run.proofs.Uses.{quiet-read}
 use Rattle.law_run.proofs.Right.{read_of, clock, FitsSession, FitsAt, Rests, finish, log_on, May, Shows, Right}
 use Rattle.plx_base.proofs.Tests.{nat_le-true, nat_le-false, lt-cases, clash, eqb-isn't}
 use Rattle.plx_commands.proofs.Places.{at-other, at-same}
@@ -127,10 +128,10 @@ module _ (s : Setting) (before : List Finished) (known next : Known) (slot : Slo
       unattached-by s before known next slot missing same rests done r none keeps going.spared (let b = going.begun in omega arith)
 
   -- after a read past the leases
-  going-bytes : (done : List Exchange) (block : ℕ) (bytes : List ℕ) → lease_count s.geometry < block → Going s before done slot.0 c →
+  going-bytes : (done : List Exchange) (block : ℕ) (bytes : List ℕ) → lease_count s.geometry < block → block < extents_start s.geometry → Going s before done slot.0 c →
       Going s before (read_of block bytes ∷ done) slot.0 c
-  going-bytes done block bytes past going =
-      going-more s before done (read_of block bytes) slot.0 c tt (λ other apart. tt) (no-claim s.geometry block past) tt going
+  going-bytes done block bytes past before' going =
+      going-more s before done (read_of block bytes) slot.0 c tt (λ other apart. tt) (reads-no-claim s.geometry block done (no-claim s.geometry block past)) tt refl (quiet-read s.geometry slot.0 done block bytes past before') going
 
   -- after bytes that were read past the leases, and that are within the format as far as the record tells, any ask may follow
   reads-follow : (done : List Exchange) (block : ℕ) (bytes : List ℕ) (kept : ImageRecord) → lease_count s.geometry < block → ((extent : ℕ) → block ≢ map_at s.geometry extent) →
@@ -155,20 +156,20 @@ module _ (s : Setting) (before : List Finished) (known next : Known) (slot : Slo
   clock-follows done block bytes past = (λ outside. refl, past-unbusy s (log_on before (Attach slot) (read_of block bytes ∷ done)) slot within refl block bytes refl past)
 
   -- a read past the leases, which may fail
-  pub asks-read : (done : List Exchange) (block : ℕ) (rest : List ℕ → Part End) (n : ℕ) → lease_count s.geometry < block → Going s before done slot.0 c →
+  pub asks-read : (done : List Exchange) (block : ℕ) (rest : List ℕ → Part End) (n : ℕ) → lease_count s.geometry < block → block < extents_start s.geometry → Going s before done slot.0 c →
       MayFollow s (log_on before (Attach slot) done) (ask.Read (record { 0 = block })) →
       ((bytes : List ℕ) → Going s before (read_of block bytes ∷ done) slot.0 c →
       Right s before (Attach slot) (read_of block bytes ∷ done) (rest bytes) n) →
       Right s before (Attach slot) done (read_then block next rest) (suc n)
-  asks-read done block rest n past going on right = (
+  asks-read done block rest n past before' going on right = (
     ((going.went, tt), on),
-    λ bytes long. right bytes (going-bytes done block bytes past going),
+    λ bytes long. right bytes (going-bytes done block bytes past before' going),
     (
         let x = exchange (ask.Read (record { 0 = block })) [] answer.Fault in (
           replied-fine s before (Attach slot) c.reading fine (x ∷ done) (first-more done x c.reading going.first) (reply.ReadFault (record { 0 = block })) (done, refl),
           unattached-by s before known next slot missing same rests (x ∷ done) (reply.ReadFault (record { 0 = block })) (λ other b. refl) (λ h. refl)
               (spared-more s before done x slot.0 going.has (λ other apart. tt) going.spared)
-              (let more = claims-more s.geometry done x going.has (no-claim s.geometry block past) in let b = going.begun in omega arith),
+              (let more = claims-more s.geometry done x (reads-no-claim s.geometry block done (no-claim s.geometry block past)) in let b = going.begun in omega arith),
         )
         ),
   )
@@ -309,7 +310,7 @@ module _ (s : Setting) (before : List Finished) (known next : Known) (slot : Slo
         let block = descriptor_at g slot.0 place in
         let room : place < g.slots = omega arith in
         let given = told_now done in
-        asks-read done block _ (suc (suc (twice left))) (omega arith) going (on (ask.Read (record { 0 = block })))
+        asks-read done block _ (suc (suc (twice left))) (omega arith) (let b = descriptor-below g slot.0 place within room in omega (arith, b)) going (on (ask.Read (record { 0 = block })))
         (λ bytes going1.
         let done1 = after_descriptor place bytes done in
         by-finding bytes going1 (finding kept g.slots place bytes) (says kept g.slots place (read_descriptor bytes))
@@ -351,7 +352,7 @@ module _ (s : Setting) (before : List Finished) (known next : Known) (slot : Slo
             let sound = says'.2 in
             let found : record_on g (given_with (told_now done) (descriptor_at g slot.0 place) bytes) slot.0 ≡ Some kept =
             ap record_in (with-other (told_now done) (descriptor_at g slot.0 place) bytes (record_at g slot.0) (record-descriptor g slot.0 slot.0 place within)) ∙ l.found in
-            asks-read done1 (data_at g slot.0 place) _ (suc (twice left)) (omega arith) going1
+            asks-read done1 (data_at g slot.0 place) _ (suc (twice left)) (omega arith) (data-below g slot.0 place within (omega arith)) going1
             (reads-follow done (descriptor_at g slot.0 place) bytes kept (omega arith) (λ extent same. map-descriptor g extent slot.0 place within (omega arith) (sym same))
             (inside-descriptor g slot.0 kept place bytes within sound) plain found (ask.Read (record { 0 = data_at g slot.0 place })))
             (λ data' going2. counts d data' going2
@@ -371,7 +372,7 @@ module _ (s : Setting) (before : List Finished) (known next : Known) (slot : Slo
       ((kept : ImageRecord) → AllInside s.geometry slot.0 kept done) → Right s before (Attach slot) done (load_image s next slot.0 c.until) (suc (suc (twice s.geometry.slots)))
   right-load done going on unknown inside =
       let g = s.geometry in
-      asks-read done (record_at g slot.0) _ (suc (twice g.slots)) (omega arith) going on
+      asks-read done (record_at g slot.0) _ (suc (twice g.slots)) (omega arith) (omega (arith, within)) going on
       (λ bytes going1. by-record bytes going1 (attached_record bytes) refl)
     where
       record-now : (bytes : List ℕ) (kept : ImageRecord) → read_image bytes ≡ Some kept →

@@ -3,8 +3,8 @@ use Rattle.std.proofs.Common.{◌≤◌, List, arith}
 use Rattle.plx_commands.specs.declared.command.Command.{Command}
 use Rattle.plx_commands.specs.declared.command.Command.TheVariants.{Attach, Detach, Create, Delete, Read, Write, Flush, Reserve, Renew, Retire, Reclaim}
 use Rattle.plx_rules.specs.Settings.{Setting}
-use Rattle.law_run.specs.Bounds.{bound}
-use Rattle.law_run.specs.CommandLogs.{Finished}
+use Rattle.law_run.specs.Bounds.{bound, bound_of}
+use Rattle.law_run.specs.CommandLogs.{Exchange, Finished, CommandLog}
 use Rattle.law_run.specs.Positions.{PositionsAgree}
 use Rattle.law_run.specs.Rules.{IsSetting, RunsKeepRules}
 use Rattle.law_run.proofs.Attaches.{attach-begins}
@@ -36,18 +36,21 @@ begins-right s is before known Retire reading formed built older rests small =
     let r = retire-begins s is.geometry before known reading older rests in (r.0, (let b = r.1 in omega arith), r.2)
 begins-right s is before known Reclaim reading formed built older rests small = absurd built
 
-some-bound : (s : Setting) (before : List Finished) (command : Command) → 1 ≤ bound s before command
-some-bound s before (Attach slot) = omega arith
-some-bound s before (Detach slot) = omega arith
-some-bound s before (Create slot size label) = omega arith
-some-bound s before (Delete slot) = omega arith
-some-bound s before (Read slot vblock) = omega arith
-some-bound s before (Write slot vblock payload) = omega arith
-some-bound s before (Flush slot) = omega arith
-some-bound s before (Reserve count) = omega arith
-some-bound s before Renew = omega arith
-some-bound s before Retire = omega arith
-some-bound s before Reclaim = omega arith
+some-bound-of : (s : Setting) (before : List Finished) (command : Command) (exchanges : List Exchange) → 1 ≤ bound_of s before command exchanges
+some-bound-of s before (Attach slot) exchanges = omega arith
+some-bound-of s before (Detach slot) exchanges = omega arith
+some-bound-of s before (Create slot size label) exchanges = omega arith
+some-bound-of s before (Delete slot) exchanges = omega arith
+some-bound-of s before (Read slot vblock) exchanges = omega arith
+some-bound-of s before (Write slot vblock payload) exchanges = omega arith
+some-bound-of s before (Flush slot) exchanges = omega arith
+some-bound-of s before (Reserve count) exchanges = omega arith
+some-bound-of s before Renew exchanges = omega arith
+some-bound-of s before Retire exchanges = omega arith
+some-bound-of s before Reclaim exchanges = omega arith
+
+some-bound : (s : Setting) (log : CommandLog) → 1 ≤ bound s log
+some-bound s log = some-bound-of s log.before log.command log.exchanges
 
 pub runs-keep-rules : RunsKeepRules
 runs-keep-rules = runs-keep begins-right some-bound

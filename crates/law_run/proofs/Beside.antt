@@ -31,6 +31,7 @@ use Rattle.law_run.proofs.Grown.{with-other}
 use Rattle.law_run.proofs.Hands.{HasBlock, filter-all, hand-more, hand-is-held, told-quiet}
 use Rattle.law_run.proofs.Meets.{exchange}
 use Rattle.law_run.proofs.Runs.{HasFirst, last_sample, along-more}
+use Rattle.law_run.proofs.Uses.{claim_block, claim_written, block_found, bytes_found}
 use Rattle.plx_base.proofs.Tests.{clash}
 
 -- an exchange is one of a claim of this lease: a reading, a read of the lease, or its claim that is done
@@ -80,12 +81,7 @@ of-told g lease done x extent below of = go x.ask x.answer of
     go (ask.Write kind.Claim block guard) answer.Done of' = with-other before' block.0 x.bytes (map_at g extent) (λ e. lease-map g lease extent below (sym (e ∙ of')))
     go a y of' = absurd of'
 
--- the block of a claim
-abbrev pub claimed_by : Ask → ℕ
-claimed_by (ask.Write kind.Claim block guard) = block.0
-claimed_by a = 0
-
-of-claimed : (lease : ℕ) (a : Ask) (x : Answer) → IsOfClaim lease a x → (claimed_by a ≡ 0) ⊎ (claimed_by a ≡ lease_at lease)
+of-claimed : (lease : ℕ) (a : Ask) (x : Answer) → IsOfClaim lease a x → (claim_block a ≡ 0) ⊎ (claim_block a ≡ lease_at lease)
 of-claimed lease ask.Clock (answer.Reading reading) of = inl refl
 of-claimed lease (ask.Until from) (answer.Reading reading) of = inl refl
 of-claimed lease (ask.Read block) (answer.Bytes found) of = inl refl
@@ -104,8 +100,8 @@ pub record Beside (s : Setting) (first : CommandLog) (lease : ℕ) (from done : 
   pub hand : hand_by_log s first.before (after_work first done) ≡ hand_by_log s first.before (after_work first from)
   pub older : (x : Exchange) → IsIn x from → IsIn x done
   pub told : (extent : ℕ) → given_after_exchanges done nothing_given (map_at s.geometry extent) ≡ given_after_exchanges from nothing_given (map_at s.geometry extent)
-  pub claims : (l guard : ℕ) (bytes : List ℕ) → l ≢ lease → IsIn (exchange (ask.Write kind.Claim (record { 0 = lease_at l }) guard) bytes answer.Done) done →
-      IsIn (exchange (ask.Write kind.Claim (record { 0 = lease_at l }) guard) bytes answer.Done) from
+  pub still : (x : Exchange) → IsIn x (after_work first from) → IsIn x (after_work first done)
+  pub claims : (l guard : ℕ) (bytes : List ℕ) → l ≢ lease → IsIn (claim_written l guard bytes) (after_work first done) → IsIn (claim_written l guard bytes) (after_work first from)
 
 pub beside-none : (s : Setting) (first : CommandLog) (lease : ℕ) (from : List Exchange) → HasFirst (after_work first from) → Beside s first lease from from
 beside-none s first lease from has = record {
@@ -115,6 +111,7 @@ beside-none s first lease from has = record {
   hand = refl;
   older = λ x is. is;
   told = λ extent. refl;
+  still = λ x is. is;
   claims = λ l guard bytes apart is. is;
 }
 
@@ -133,9 +130,10 @@ beside-more s first lease from done x has-from below unheld of b = record {
   others = others;
   hand = hand-more s first.before x (after_work first done) b.has
       ∙ (ap (hand_held s.geometry H) (of-quiet s.geometry (last_found (after_work first done)) (filled_by_log s first.before (after_work first done)) lease x.ask x.bytes x.answer (hand_by_log s first.before (after_work first done)) of)
-      ∙ (filter-all (λ c. is_held (H (lease_at (extent_lease s.geometry (extent_of s.geometry c))))) (hand_by_log s first.before (after_work first done)) still ∙ b.hand));
+      ∙ (filter-all (λ c. is_held (H (lease_at (extent_lease s.geometry (extent_of s.geometry c))))) (hand_by_log s first.before (after_work first done)) in-hand ∙ b.hand));
   older = λ y is. inr (b.older y is);
   told = λ extent. of-told s.geometry lease done x extent below of ∙ b.told extent;
+  still = λ y is. inr (b.still y is);
   claims = claims;
 }
   where
@@ -148,16 +146,15 @@ beside-more s first lease from done x has-from below unheld of b = record {
         ap (λ (h : ℕ → Hold). h (lease_at l)) (along-more s.geometry (is_attached first.before) (holds_after s.geometry first.before) x (after_work first done) b.has)
         ∙ (other-stays (last_sample (after_work first done)) x.ask x.bytes x.answer (holds_along s.geometry (is_attached first.before) (holds_after s.geometry first.before) (after_work first done)) lease l apart of (subst IsRest (sym old) rests) ∙ old)
 
-    still : (c : ℕ) → HasBlock (hand_by_log s first.before (after_work first done)) c → is_held (H (lease_at (extent_lease s.geometry (extent_of s.geometry c)))) ≡ true
-    still c in_hand =
+    in-hand : (c : ℕ) → HasBlock (hand_by_log s first.before (after_work first done)) c → is_held (H (lease_at (extent_lease s.geometry (extent_of s.geometry c)))) ≡ true
+    in-hand c in_hand =
         let l = extent_lease s.geometry (extent_of s.geometry c) in
         let was : is_held (hold_by_log s first.before (after_work first from) l) ≡ true = hand-is-held s first.before (after_work first from) c has-from (subst (λ (h : List ℕ). HasBlock h c) b.hand in_hand) in
         ap is_held (others l (λ e. clash (is_held (hold_by_log s first.before (after_work first from) l)) was (ap (λ n. is_held (hold_by_log s first.before (after_work first from) n)) e ∙ unheld)) (rest-held _ was)) ∙ was
 
-    claims : (l guard : ℕ) (bytes : List ℕ) → l ≢ lease → IsIn (exchange (ask.Write kind.Claim (record { 0 = lease_at l }) guard) bytes answer.Done) (x ∷ done) →
-        IsIn (exchange (ask.Write kind.Claim (record { 0 = lease_at l }) guard) bytes answer.Done) from
+    claims : (l guard : ℕ) (bytes : List ℕ) → l ≢ lease → IsIn (claim_written l guard bytes) (after_work first (x ∷ done)) → IsIn (claim_written l guard bytes) (after_work first from)
     claims l guard bytes apart (inl here) =
-        let e : lease_at l ≡ claimed_by x.ask = ap (λ (y : Exchange). claimed_by y.ask) here in
+        let e : lease_at l ≡ claim_block x.ask = ap (λ (y : Exchange). claim_block y.ask) here in
         absurd (elim (of-claimed lease x.ask x.answer of) [ inl none ↦ (let f = e ∙ none in omega (arith, f)) | inr own ↦ apart (lease-lease l lease (e ∙ own)) ])
     claims l guard bytes apart (inr there) = b.claims l guard bytes apart there
 
@@ -171,15 +168,6 @@ is_clock_ask a = false
 abbrev pub after_clock : List Exchange → Bool
 after_clock (x ∷ y ∷ older) = is_clock_ask y.ask
 after_clock other = false
-
--- the block and the bytes that were found
-abbrev pub block_found : Option (ℕ × List ℕ) → ℕ
-block_found None = 0
-block_found (Some found) = found.0
-
-abbrev pub bytes_found : Option (ℕ × List ℕ) → List ℕ
-bytes_found None = []
-bytes_found (Some found) = found.1
 
 -- an exchange that reads nothing ends none
 pub unread-unbusy : (s : Setting) (log : CommandLog) (done : List Exchange) → last_found done ≡ None → (l : ℕ) (seen : LeaseRecord) → ¬ IsBusy s (with_exchanges log done) l seen

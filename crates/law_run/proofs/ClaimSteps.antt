@@ -1,6 +1,6 @@
 -- The exchanges of a claim: what is held of its lease after each, and how many claims began.
-use Rattle.std.proofs.Common.{◌≡◌, ℕ, ◌+◌, ◌≤◌, ◌<◌, ◌^◌, List, [], ◌∷◌, true, false, Some, refl, ap, ◌∙◌, arith}
-use Rattle.std.specs.Prelude.{if◌then◌else◌, nat_le, nat_lt}
+use Rattle.std.proofs.Common.{◌≡◌, ℕ, ◌+◌, ◌≤◌, ◌<◌, ◌^◌, List, [], ◌∷◌, true, false, Some, refl, ap, ◌∙◌, arith, Bool}
+use Rattle.std.specs.Prelude.{if◌then◌else◌, nat_le, nat_lt, not}
 use Rattle.std.specs.Str.{bytes_eq}
 use Rattle.plx_base.specs.declared.lease.LeaseRecord.{LeaseRecord}
 use Rattle.plx_base.specs.declared.write_kind.WriteKind.TheVariants as kind
@@ -16,7 +16,7 @@ use Rattle.plx_rules.specs.Holds.{Hold, Nothing, Seen, Wrote, Waited, Held, hold
 use Rattle.plx_rules.specs.Settings.{Setting}
 use Rattle.plx_rules.specs.Times.{window, wait, term, is_expired}
 use Rattle.law_run.specs.CommandLogs.{Exchange, Finished}
-use Rattle.law_run.specs.Holdings.{holds_along, holds_after, hold_by_log, is_lease_read, claims_in}
+use Rattle.law_run.specs.Holdings.{holds_along, holds_after, hold_by_log, is_lease_read, claims_in, is_map_found, last_found}
 use Rattle.law_run.specs.Sessions.{is_attached}
 use Rattle.law_run.proofs.Holding.{claims-more}
 use Rattle.law_run.proofs.Meets.{exchange}
@@ -50,22 +50,25 @@ after_rereading first boot lease number sample bytes reading again =
 
 -- ---- how many claims began
 
--- the read of a lease, directly after a reading, begins a claim
+-- the clock and the read of a lease directly after it begin one claim
 pub counts-sight : (g : Geometry) (first : List Exchange) (lease sample : ℕ) (x : Answer) → HasFirst first → lease < lease_count g →
     claims_in g (read_of_lease lease x ∷ clock sample ∷ first) ≡ 1 + claims_in g first
 counts-sight g first lease sample x has within =
-    rw (nat_le-true 1 (lease_at lease) (omega arith), nat_le-true (lease_at lease) (lease_count g) (omega (arith, within)))
-    (ap (λ n. 1 + n) (claims-more g first (clock sample) has refl))
+    rw (nat_le-true 1 (lease_at lease) (omega arith), nat_le-true (lease_at lease) (lease_count g) (omega (arith, within))) (by-map (is_map_found g (last_found first)))
+  where
+    by-map : (map : Bool) → (if not map then 1 else 0) + ((if map then 1 else 0) + claims_in g first) ≡ 1 + claims_in g first
+    by-map true = omega arith
+    by-map false = omega arith
 
 pub counts-claiming : (g : Geometry) (first : List Exchange) (boot lease number sample : ℕ) (bytes : List ℕ) (x : Answer) → HasFirst first → lease < lease_count g →
     claims_in g (claim_write boot lease number sample x ∷ after_sight first lease sample bytes) ≡ 1 + claims_in g first
 counts-claiming g first boot lease number sample bytes x has within =
-    claims-more g (after_sight first lease sample bytes) (claim_write boot lease number sample x) tt refl ∙ counts-sight g first lease sample (answer.Bytes bytes) has within
+    claims-more g (after_sight first lease sample bytes) (claim_write boot lease number sample x) refl ∙ counts-sight g first lease sample (answer.Bytes bytes) has within
 
 pub counts-waiting : (g : Geometry) (first : List Exchange) (boot lease number sample : ℕ) (bytes : List ℕ) (reading : ℕ) → HasFirst first → lease < lease_count g →
     claims_in g (after_waiting first boot lease number sample bytes reading) ≡ 1 + claims_in g first
 counts-waiting g first boot lease number sample bytes reading has within =
-    claims-more g (after_claiming first boot lease number sample bytes) (claim_wait sample reading) tt refl ∙ counts-claiming g first boot lease number sample bytes answer.Done has within
+    claims-more g (after_claiming first boot lease number sample bytes) (claim_wait sample reading) refl ∙ counts-claiming g first boot lease number sample bytes answer.Done has within
 
 -- the reread begins none
 pub counts-rereading : (g : Geometry) (first : List Exchange) (boot lease number sample : ℕ) (bytes : List ℕ) (reading : ℕ) (x : Answer) → HasFirst first → lease < lease_count g →

@@ -20,8 +20,8 @@ use Rattle.plx_disk.specs.declared.ask.Answer.{Answer}
 use Rattle.plx_disk.specs.declared.ask.Answer.TheVariants as answer
 use Rattle.plx_gate.specs.Leases.{lease_bytes, read_lease}
 use Rattle.plx_gate.proofs.Leases.{lease-only}
-use Rattle.plx_geom.specs.Geometry.{Geometry, lease_count, image_lease, extent_lease, lease_at, record_at, descriptor_at}
-use Rattle.plx_geom.proofs.Places.{image-below, image-extent, lease-lease, lease-record, lease-log, lease-descriptor, lease-data, lease-map}
+use Rattle.plx_geom.specs.Geometry.{Geometry, lease_count, image_lease, lease_at, descriptor_at, record_at}
+use Rattle.plx_geom.proofs.Places.{image-below, lease-lease, lease-record, lease-log, lease-descriptor, lease-data, lease-map}
 use Rattle.plx_rules.specs.Part.{Part, Ends}
 use Rattle.plx_rules.specs.Attaching.{load_image, after_claim, claim_image}
 use Rattle.plx_rules.specs.Claims.{ClaimEnd, ClaimReadFault, ClaimDamaged, claim_of, own_record, own_use, claim_in_time, reread_by, reread_part, written_part, if_expired, seen_part}
@@ -33,35 +33,36 @@ use Rattle.plx_rules.specs.Session.{Known, with_claim, nothing_known}
 use Rattle.plx_rules.specs.Settings.{Setting}
 use Rattle.plx_rules.specs.Times.{window, wait, term, is_expired}
 use Rattle.law_run.specs.AllowedAsks.{WentOn, claim_of_lease}
-use Rattle.law_run.specs.Causes.{HasReadOutside, HasReached, of_image_lease, of_extent_lease, IsRefused, MayFollow}
-use Rattle.law_run.specs.CommandLogs.{Exchange, Finished, IsIn, first_reading}
+use Rattle.law_run.specs.CommandLogs.{Exchange, Finished, IsIn, older_than, first_reading}
+use Rattle.law_run.specs.Causes.{HasReadOutside, HasReached, IsRefused, MayFollow}
 use Rattle.law_run.specs.Holdings as holdings
 use Rattle.law_run.specs.Holdings.{at_first, holds_after, hold_by_log, IsUntil, is_clock, claims_in, claims_begun, IsNotHeld}
 use Rattle.law_run.specs.KnownBytes.{nothing_given, given_with, given_after_command}
 use Rattle.law_run.specs.Outside.{no_lease}
-use Rattle.law_run.specs.Refusals.{IsNamedFirst, NeedsClaim, NamesBlock, of_read, of_write, NeedsImage, of_delete, of_block}
+use Rattle.law_run.specs.Refusals.{NeedsClaim, NamesBlock, of_read, of_write, NeedsImage, of_delete, of_block}
 use Rattle.law_run.specs.Busy.{unexpired, taken}
-use Rattle.law_run.specs.Replies.{IsInUse, going, unread, of_clock, of_wait, of_claim, ReadRestsOn, of_record, of_log, of_descriptor, of_data, of_image, in_image}
+use Rattle.law_run.specs.Replies.{of_clock, of_wait, of_claim, ReadRestsOn, of_record, of_log, of_descriptor, of_data, of_image, in_image}
 use Rattle.law_run.specs.Replies as replies
 use Rattle.law_run.specs.Sessions.{names, attached_by, is_attached}
-use Rattle.law_run.specs.Space as space
-use Rattle.law_run.specs.Space.{rested}
 use Rattle.law_run.proofs.Asking.{IsFine, replied-fine}
 use Rattle.law_run.proofs.Attaching.{twice, attach-one, unattached-by, right-load}
 use Rattle.law_run.proofs.Detaching.{lease-apart}
 use Rattle.law_run.proofs.Grown.{with-other}
 use Rattle.law_run.proofs.Holding.{first-hold, first-more, claims-more, LeavesOthers, Spared, spared-first, spared-more, Course}
-use Rattle.law_run.proofs.Beside.{claimed_by, after_clock, sight-unbusy, reread-unbusy}
+use Rattle.law_run.proofs.Beside.{after_clock, sight-unbusy, reread-unbusy}
 use Rattle.law_run.proofs.Following.{first-follows, read-nothing, read-inside, none-unbusy}
 use Rattle.law_run.proofs.Inside.{inside-lease, lease-inside}
 use Rattle.law_run.proofs.OnImage.{names-own, names-only, lease-name}
-use Rattle.law_run.proofs.OnExtent.{claims_at}
 use Rattle.law_run.proofs.Passed.{Passed, passed-all}
+use Rattle.law_run.specs.Uses as uses
+use Rattle.law_run.specs.Uses.{IsInUse, IsOfCommand}
+use Rattle.plx_rules.proofs.InUse.{same-first}
+use Rattle.plx_rules.specs.InUse.{InUse, IsNamedFirst}
+use Rattle.law_run.proofs.Uses.{claim_block, block_second, block_found, claim_written, not-claim, of-one, no-map}
 use Rattle.law_run.proofs.Rests.{KeepsHolds, rests-lost, rests-failed}
 use Rattle.law_run.proofs.Right.{clock, Rests, finish, log_on, Right}
 use Rattle.law_run.proofs.Runs.{HasFirst}
 use Rattle.law_run.proofs.Spelled.{lease-rest}
-use Rattle.law_run.proofs.Taking.{claim_done}
 use Rattle.plx_base.proofs.Tests.{clash}
 use Rattle.law_run.proofs.ClaimRules.{bytes-other}
 use Rattle.law_run.proofs.ClaimSteps.{read_of_lease, claim_write, claim_wait, after_sight, after_claiming, after_waiting, after_rereading, counts-sight, counts-claiming, counts-waiting, counts-rereading, own-limits, own-back, held-sight, held-claiming, held-waiting, held-late, held-rereading}
@@ -81,8 +82,8 @@ pub attach-passed : (s : Setting) (before : List Finished) (slot : SlotNo) (done
 attach-passed s before slot done n missing within few = record {
   sessions = λ lt image needed. absurd (let P : ⊥ = cc in P);
   unattached = λ lt other is. (let same : other ≡ slot = cc in ap (λ (x : SlotNo). is_attached before x.0) same ∙ missing lt);
-  in_time = λ lt image until reading is. clash (is_attached before slot.0)
-      (subst (λ n'. is_attached before n' ≡ true) (names-only (Attach slot) slot.0 (attach-one slot) image is.used) is.attached) (missing (omega (arith, lt)));
+  in_time = λ lt one reading is. clash (is_attached before slot.0)
+      (subst (λ n'. is_attached before n' ≡ true) (names-only (Attach slot) slot.0 (attach-one slot) is.image is.used) is.attached) (missing (omega (arith, lt)));
   slots = λ lt other is. (let same : slot ≡ other = cc in subst (λ (x : SlotNo). x.0 < s.geometry.images) same (within lt));
   images = λ lt image kept needs found. absurd (no-image slot image needs);
   free = λ lt other size label kept is found. absurd (let P : ⊥ = cc in P);
@@ -225,10 +226,27 @@ module _ (s : Setting) (boot_small : s.boot < 2 ^ 128) (before : List Finished) 
   begun5 sample bytes reading' x = counts-rereading s.geometry d0 s.boot (image_lease slot.0) known.claims sample bytes reading' x tt lease-within
 
   begun6 : (sample : ℕ) (bytes : List ℕ) (reading' : ℕ) (again : List ℕ) (last : ℕ) → claims_in s.geometry (clock last ∷ d5 sample bytes reading' again) ≡ 1
-  begun6 sample bytes reading' again last = claims-more s.geometry (d5 sample bytes reading' again) (clock last) tt refl ∙ begun5 sample bytes reading' (answer.Bytes again)
+  begun6 sample bytes reading' again last = claims-more s.geometry (d5 sample bytes reading' again) (clock last) (no-map s.geometry (lease_at (image_lease slot.0)) again (λ extent at. lease-map s.geometry (image_lease slot.0) extent lease-within at)) ∙ begun5 sample bytes reading' (answer.Bytes again)
 
   one-more : (done : List Exchange) → claims_in s.geometry done ≡ 1 → known.claims + 1 ≡ claims_in s.geometry done + claims_begun s.geometry before
   one-more done is = let c = rests.claims in omega arith
+
+  -- no claim was written but of its lease
+  mine4 : (sample : ℕ) (bytes : List ℕ) (reading' : ℕ) (l guard : ℕ) (written : List ℕ) → IsIn (claim_written l guard written) (d4 sample bytes reading') → l ≡ image_lease slot.0
+  mine4 sample bytes reading' l guard written (inl here) = absurd (not-claim _ _ refl refl here)
+  mine4 sample bytes reading' l guard written (inr (inl here)) = lease-lease l (image_lease slot.0) (ap (λ (x : Exchange). claim_block x.ask) here)
+  mine4 sample bytes reading' l guard written (inr (inr (inl here))) = absurd (not-claim _ _ refl refl here)
+  mine4 sample bytes reading' l guard written (inr (inr (inr (inl here)))) = absurd (not-claim _ _ refl refl here)
+  mine4 sample bytes reading' l guard written (inr (inr (inr (inr (inl here))))) = absurd (not-claim _ _ refl refl here)
+  mine4 sample bytes reading' l guard written (inr (inr (inr (inr (inr none))))) = absurd none
+
+  mine5 : (sample : ℕ) (bytes : List ℕ) (reading' : ℕ) (again : List ℕ) (l guard : ℕ) (written : List ℕ) → IsIn (claim_written l guard written) (d5 sample bytes reading' again) → l ≡ image_lease slot.0
+  mine5 sample bytes reading' again l guard written (inl here) = absurd (not-claim _ _ refl refl here)
+  mine5 sample bytes reading' again l guard written (inr there) = mine4 sample bytes reading' l guard written there
+
+  its : (done : List Exchange) → ((l guard : ℕ) (written : List ℕ) → IsIn (claim_written l guard written) done → l ≡ image_lease slot.0) →
+      (l : ℕ) → IsOfCommand s (log_on before (Attach slot) done) l → image_lease slot.0 ≡ l
+  its done mine l of = of-one s (log_on before (Attach slot) done) slot.0 (names-only (Attach slot) slot.0 (attach-one slot)) mine l of
 
   -- what is held of the lease
   nothing-held : hold_by_log s before d0 (image_lease slot.0) ≡ Nothing
@@ -272,28 +290,23 @@ module _ (s : Setting) (boot_small : s.boot < 2 ^ 128) (before : List Finished) 
   follows0 : (a : Ask) → MayFollow s (log_on before (Attach slot) d0) a
   follows0 a = first-follows s before (Attach slot) reading fine (λ image until named is. absurd (nothing-used until _ nothing-held (own-hold d0 image until named is))) a
 
-  -- no extent's lease is claimed
-  no-extents : (sample e : ℕ) (claim : Claim) → ¬ IsIn (claim_done (extent_lease s.geometry e) claim) (d1 sample)
-  no-extents sample e claim (inl same) = let c : true ≡ false = ap (λ (y : Exchange). claims_at y.ask) same in let P : ⊥ = cc in P
-  no-extents sample e claim (inr (inl same)) = let c : true ≡ false = ap (λ (y : Exchange). claims_at y.ask) same in let P : ⊥ = cc in P
-  no-extents sample e claim (inr (inr none)) = none
-
-  own-claim : (sample : ℕ) (bytes : List ℕ) (reading' e : ℕ) (claim : Claim) → ¬ IsIn (claim_done (extent_lease s.geometry e) claim) (d4 sample bytes reading')
-  own-claim sample bytes reading' e claim (inl same) = let c : true ≡ false = ap (λ (y : Exchange). claims_at y.ask) same in let P : ⊥ = cc in P
-  own-claim sample bytes reading' e claim (inr (inl same)) =
-      image-extent s.geometry slot.0 e within (sym (lease-lease (extent_lease s.geometry e) (image_lease slot.0) (ap (λ (y : Exchange). claimed_by y.ask) same)))
-  own-claim sample bytes reading' e claim (inr (inr (inl same))) = let c : true ≡ false = ap (λ (y : Exchange). claims_at y.ask) same in let P : ⊥ = cc in P
-  own-claim sample bytes reading' e claim (inr (inr (inr there))) = no-extents sample e claim there
+  mine1 : (sample l guard : ℕ) (written : List ℕ) → IsIn (claim_written l guard written) (d1 sample) → l ≡ image_lease slot.0
+  mine1 sample l guard written (inl here) = absurd (not-claim _ _ refl refl here)
+  mine1 sample l guard written (inr (inl here)) = absurd (not-claim _ _ refl refl here)
+  mine1 sample l guard written (inr (inr none)) = absurd none
 
   follows1 : (sample : ℕ) (a : Ask) → MayFollow s (log_on before (Attach slot) (d1 sample)) a
   follows1 sample a = (reached, read-nothing s (log_on before (Attach slot) d0) refl, no-fact (d1 sample) refl)
     where
+      by-use : (one : InUse) → IsInUse s (log_on before (Attach slot) (d1 sample)) one → ⊥
+      by-use one (uses.used u) =
+          let same = its (d1 sample) (mine1 sample) one.lease u.of in
+          nothing-used one.until _ (ap (hold_by_log s before (d1 sample)) (sym same) ∙ nothing1 sample) u.until
+      by-use one (uses.unread c bytes r older below at_end waited none gone) = clash true refl (ap after_clock at_end)
+      by-use one (uses.rested extent c bytes r older below at_map at_end none held) = clash true refl (ap after_clock at_end)
+
       reached : ¬ HasReached s (log_on before (Attach slot) (d1 sample)) sample
-      reached (of_image_lease image until (going named is) past) = nothing-used until _ (nothing1 sample) (own-hold (d1 sample) image until named is)
-      reached (of_image_lease image until (unread c bytes r older named at_end waited none gone) past) = clash true refl (ap after_clock at_end)
-      reached (of_extent_lease e until (space.going c below was is) past) = no-extents sample e c was
-      reached (of_extent_lease e until (space.unread c bytes r older below at_end waited none) past) = clash true refl (ap after_clock at_end)
-      reached (of_extent_lease e until (rested c bytes r older below at_end none held) past) = clash true refl (ap after_clock at_end)
+      reached late = by-use late.due late.used
 
   -- bytes of the lease that spell one
   inside : (done : List Exchange) (bytes : List ℕ) → read_lease bytes ≢ None → ¬ HasReadOutside s (log_on before (Attach slot) (read_lease_of (answer.Bytes bytes) ∷ done))
@@ -312,14 +325,17 @@ module _ (s : Setting) (boot_small : s.boot < 2 ^ 128) (before : List Finished) 
       MayFollow s (log_on before (Attach slot) (d4 sample bytes reading')) a
   follows4 sample bytes reading' small past early a = (reached, read-nothing s (log_on before (Attach slot) (d3 sample bytes)) refl, no-fact (d4 sample bytes reading') refl)
     where
+      by-use : (one : InUse) → IsInUse s (log_on before (Attach slot) (d4 sample bytes reading')) one → reading' < one.until
+      by-use one (uses.used u) =
+          let same = its (d4 sample bytes reading') (mine4 sample bytes reading') one.lease u.of in
+          let ends = waited-until (claim_of s.boot known.claims sample) (sample + term) one.until _
+          (ap (hold_by_log s before (d4 sample bytes reading')) (sym same) ∙ waited4 sample bytes reading' small past early) u.until in
+          omega (arith, ends, early)
+      by-use one (uses.unread c bytes' r older below at_end waited none gone) = let e : false ≡ true = ap ends_by_clock at_end in absurd (clash true refl (sym e))
+      by-use one (uses.rested extent c bytes' r older below at_map at_end none held) = let e : false ≡ true = ap ends_by_clock at_end in absurd (clash true refl (sym e))
+
       reached : ¬ HasReached s (log_on before (Attach slot) (d4 sample bytes reading')) reading'
-      reached (of_image_lease image until (going named is) late) =
-          let u = waited-until (claim_of s.boot known.claims sample) (sample + term) until _ (waited4 sample bytes reading' small past early) (own-hold (d4 sample bytes reading') image until named is) in
-          omega (arith, u, early, late)
-      reached (of_image_lease image until (unread c bytes' r older named at_end waited none gone) late) = let e : false ≡ true = ap ends_by_clock at_end in clash true refl (sym e)
-      reached (of_extent_lease e until (space.going c below was is) late) = own-claim sample bytes reading' e c was
-      reached (of_extent_lease e until (space.unread c bytes' r older below at_end waited none) late) = let e' : false ≡ true = ap ends_by_clock at_end in clash true refl (sym e')
-      reached (of_extent_lease e until (rested c bytes' r older below at_end none held) late) = let e' : false ≡ true = ap ends_by_clock at_end in clash true refl (sym e')
+      reached late = let below = by-use late.due late.used in let past' = late.past in omega (arith, below, past')
 
   -- ---- its ends
 
@@ -368,7 +384,20 @@ module _ (s : Setting) (boot_small : s.boot < 2 ^ 128) (before : List Finished) 
   goes-held sample bytes reading' again some some' on held =
       let c : Course = record { reading = reading; claim = claim_of s.boot known.claims sample; until = sample + term; begun = 1 } in
       right-load s before known (with_claim known) slot c within missing fine (let k = rests.claims in omega arith) (λ image. refl) rests (d5 sample bytes reading' again)
-      (record { has = tt; first = refl; held = held; spared = spared5 sample bytes reading' (answer.Bytes again); begun = begun5 sample bytes reading' (answer.Bytes again); went = went5 sample bytes reading' again }) on
+      (record {
+        has = tt;
+        first = refl;
+        held = held;
+        spared = spared5 sample bytes reading' (answer.Bytes again);
+        begun = begun5 sample bytes reading' (answer.Bytes again);
+        went = went5 sample bytes reading' again;
+        mine = mine5 sample bytes reading' again;
+        quiet = λ block found is. (
+            let same : lease_at (image_lease slot.0) ≡ block = ap block_found is in (
+              (λ l below at. sym (lease-lease (image_lease slot.0) l (same ∙ at))),
+              (λ extent at. lease-map s.geometry (image_lease slot.0) extent lease-within (same ∙ at)),
+            ));
+      }) on
       (λ place. unknown place)
       (λ kept. (inside-lease s.geometry slot.0 kept (image_lease slot.0) again lease-within some', (tt, (tt, (inside-lease s.geometry slot.0 kept (image_lease slot.0) bytes lease-within some, (tt, (tt, tt)))))))
     where
@@ -433,8 +462,9 @@ module _ (s : Setting) (boot_small : s.boot < 2 ^ 128) (before : List Finished) 
         let P : Part End → Type 0 = λ part. Right s before (Attach slot) (clock last ∷ done) part n in
         by-own-rest P sample last (Ends ClaimDamaged) (λ late. lost-name (clock last ∷ done) until last n (
           replied-fine s before (Attach slot) reading fine (clock last ∷ done) refl (reply.Lost (lease.Image slot) until last)
-              (replies.reached slot (of_clock (done, refl)) (in-use last) late (λ other until' used le. alone last other until' used)),
-          rests-lost s before (Attach slot) (clock last ∷ done) (lease.Image slot) until last (known.claims + 1) refl (one-more (clock last ∷ done) (begun6 sample bytes reading' again last)),
+              (replies.reached (record { lease = image_lease slot.0; until = until }) (sym (lease-name s.geometry slot.0 within)) refl (of_clock (done, refl)) (in-use last) late
+              (λ other used le. alone last other used)),
+          rests-lost s before (Attach slot) (clock last ∷ done) (lease.Image slot) until last (known.claims + 1) (one-more (clock last ∷ done) (begun6 sample bytes reading' again last)),
         ))
         (λ soon. no-lease (d4 sample bytes reading') again last n refl sees (spared5 sample bytes reading' (answer.Bytes again)) (begun6 sample bytes reading' again last)),
   )
@@ -442,21 +472,23 @@ module _ (s : Setting) (boot_small : s.boot < 2 ^ 128) (before : List Finished) 
       gone : (last : ℕ) → hold_by_log s before (clock last ∷ d5 sample bytes reading' again) (image_lease slot.0) ≡ Nothing
       gone last = ap (hold_after_reading last) (held5 sample bytes reading' again small past early ∙ ap (λ t. hold_after_reread t (Held (claim_of s.boot known.claims sample) (sample + term))) is)
 
-      in-use : (last : ℕ) → IsInUse s (log_on before (Attach slot) (clock last ∷ d5 sample bytes reading' again)) slot.0 (sample + term)
-      in-use last = unread (claim_of s.boot known.claims sample) again last (d4 sample bytes reading') (names-own (Attach slot) slot.0 (attach-one slot)) refl
+      in-use : (last : ℕ) → IsInUse s (log_on before (Attach slot) (clock last ∷ d5 sample bytes reading' again)) (record { lease = image_lease slot.0; until = sample + term })
+      in-use last = uses.unread (claim_of s.boot known.claims sample) again last (d4 sample bytes reading') lease-within refl
           (waited4 sample bytes reading' small past early) sees (gone last)
 
-      alone : (last other until' : ℕ) → IsInUse s (log_on before (Attach slot) (clock last ∷ d5 sample bytes reading' again)) other until' → IsNamedFirst slot.0 (sample + term) other until'
-      alone last other until' (going named is') =
-          let same = names-only (Attach slot) slot.0 (attach-one slot) other named in
-          absurd (nothing-used until' _ (gone last) (subst (λ o. IsUntil until' (hold_by_log s before (clock last ∷ d5 sample bytes reading' again) (image_lease o))) same is'))
-      alone last other until' (unread c bytes' r older named at_end waited none gone') =
-          let same = names-only (Attach slot) slot.0 (attach-one slot) other named in
-          let e : older ≡ d4 sample bytes reading' = cc in
-          let w : hold_by_log s before (d4 sample bytes reading') (image_lease slot.0) ≡ Waited c until' =
-          subst (λ (o : List Exchange). hold_by_log s before o (image_lease slot.0) ≡ Waited c until') e (subst (λ i. hold_by_log s before older (image_lease i) ≡ Waited c until') same waited) in
-          let u : Waited (claim_of s.boot known.claims sample) (sample + term) ≡ Waited c until' = sym (waited4 sample bytes reading' small past early) ∙ w in
-          inr ((let v : sample + term ≡ until' = cc in v), omega arith)
+      alone : (last : ℕ) (other : InUse) → IsInUse s (log_on before (Attach slot) (clock last ∷ d5 sample bytes reading' again)) other →
+          IsNamedFirst (record { lease = image_lease slot.0; until = sample + term }) other
+      alone last other (uses.used u) =
+          let done = clock last ∷ d5 sample bytes reading' again in
+          let same = its done (λ l guard written is'. elim is' [ inl here ↦ absurd (not-claim (clock last) (claim_written l guard written) refl refl here) | inr there ↦ mine5 sample bytes reading' again l guard written there ]) other.lease u.of in
+          absurd (nothing-used other.until _ (ap (hold_by_log s before done) (sym same) ∙ gone last) u.until)
+      alone last other (uses.unread c bytes' r older below at_end waited none gone') =
+          let same : image_lease slot.0 ≡ other.lease = lease-lease (image_lease slot.0) other.lease (ap block_second at_end) in
+          let e : d4 sample bytes reading' ≡ older = ap (λ (d : List Exchange). older_than (older_than d)) at_end in
+          let w : hold_by_log s before (d4 sample bytes reading') (image_lease slot.0) ≡ Waited c other.until = (λ i. hold_by_log s before (e i) (same i)) ∙ waited in
+          let u : Waited (claim_of s.boot known.claims sample) (sample + term) ≡ Waited c other.until = sym (waited4 sample bytes reading' small past early) ∙ w in
+          same-first (record { lease = image_lease slot.0; until = sample + term }) other (let v : sample + term ≡ other.until = cc in v) same
+      alone last other (uses.rested extent c bytes' r older below at_map at_end none held) = absurd (lease-map s.geometry (image_lease slot.0) extent lease-within (ap block_second at_end))
 
   -- ---- the wait
 
@@ -473,9 +505,10 @@ module _ (s : Setting) (boot_small : s.boot < 2 ^ 128) (before : List Finished) 
       by-own-rest (λ part. Right s before (Attach slot) done part n) sample reading' _
       (λ late. lost-name done until reading' n (
         replied-fine s before (Attach slot) reading fine done refl (reply.Lost (lease.Image slot) until reading')
-            (replies.reached slot (of_wait (sample + wait) (d3 sample bytes, refl)) (going (names-own (Attach slot) slot.0 (attach-one slot)) (holdings.wrote own' (wrote4 sample bytes reading' small late))) late
-            (λ other until' used le. alone late other until' used)),
-        rests-lost s before (Attach slot) done (lease.Image slot) until reading' (known.claims + 1) refl (one-more done (begun4 sample bytes reading')),
+            (replies.reached (record { lease = image_lease slot.0; until = until }) (sym (lease-name s.geometry slot.0 within)) refl (of_wait (sample + wait) (d3 sample bytes, refl))
+            (uses.used (record { of = uses.named slot.0 within (names-own (Attach slot) slot.0 (attach-one slot)) refl; until = holdings.wrote own' (wrote4 sample bytes reading' small late) })) late
+            (λ other used le. alone late other used)),
+        rests-lost s before (Attach slot) done (lease.Image slot) until reading' (known.claims + 1) (one-more done (begun4 sample bytes reading')),
       ))
       (λ early. (
         ((went4 sample bytes reading', tt), follows4 sample bytes reading' small past early ask.Clock),
@@ -483,15 +516,16 @@ module _ (s : Setting) (boot_small : s.boot < 2 ^ 128) (before : List Finished) 
         read-fails done (suc (suc (twice s.geometry.slots))) refl (spared5 sample bytes reading' answer.Fault) (begun5 sample bytes reading' answer.Fault),
       ))
     where
-      alone : sample + term ≤ reading' → (other until' : ℕ) → IsInUse s (log_on before (Attach slot) (d4 sample bytes reading')) other until' → IsNamedFirst slot.0 (sample + term) other until'
-      alone late other until' (going named is) =
-          let same = names-only (Attach slot) slot.0 (attach-one slot) other named in
-          inr (
-            written-until (claim_of s.boot known.claims sample) (sample + term) until' _ (wrote4 sample bytes reading' small late)
-                (subst (λ o. IsUntil until' (hold_by_log s before (d4 sample bytes reading') (image_lease o))) same is),
-            omega arith,
-          )
-      alone late other until' (unread c bytes' r older named at_end waited none gone) =
+      alone : sample + term ≤ reading' → (other : InUse) → IsInUse s (log_on before (Attach slot) (d4 sample bytes reading')) other →
+          IsNamedFirst (record { lease = image_lease slot.0; until = sample + term }) other
+      alone late other (uses.used u) =
+          let same = its (d4 sample bytes reading') (mine4 sample bytes reading') other.lease u.of in
+          same-first (record { lease = image_lease slot.0; until = sample + term }) other
+          (written-until (claim_of s.boot known.claims sample) (sample + term) other.until _
+          (ap (hold_by_log s before (d4 sample bytes reading')) (sym same) ∙ wrote4 sample bytes reading' small late) u.until) same
+      alone late other (uses.unread c bytes' r older below at_end waited none gone) =
+          let e : false ≡ true = ap ends_by_clock at_end in absurd (clash true refl (sym e))
+      alone late other (uses.rested extent c bytes' r older below at_map at_end none held) =
           let e : false ≡ true = ap ends_by_clock at_end in absurd (clash true refl (sym e))
 
   -- ---- the claim
@@ -503,7 +537,7 @@ module _ (s : Setting) (boot_small : s.boot < 2 ^ 128) (before : List Finished) 
   after-seen sample bytes small None sees = (
     ((went2 sample bytes, tt), (λ outside. refl, none-unbusy s (log_on before (Attach slot) (d2 sample bytes)) (lease_at (image_lease slot.0)) bytes refl sees)),
     λ last small'. no-lease (d1 sample) bytes last (suc (suc (suc (suc (twice s.geometry.slots))))) refl sees (spared2 sample (answer.Bytes bytes))
-        (claims-more s.geometry (d2 sample bytes) (clock last) tt refl ∙ begun2 sample (answer.Bytes bytes)),
+        (claims-more s.geometry (d2 sample bytes) (clock last) (no-map s.geometry (lease_at (image_lease slot.0)) bytes (λ extent at. lease-map s.geometry (image_lease slot.0) extent lease-within at)) ∙ begun2 sample (answer.Bytes bytes)),
   )
   after-seen sample bytes small (Some seen) sees = by-expired (is_expired seen sample) refl
     where
@@ -544,7 +578,7 @@ module _ (s : Setting) (boot_small : s.boot < 2 ^ 128) (before : List Finished) 
             λ late past small'. lost-name (claims_lease sample (answer.Missed late) ∷ d2 sample bytes) (sample + window) late n (
               replied-fine s before (Attach slot) reading fine (claims_lease sample (answer.Missed late) ∷ d2 sample bytes) refl (reply.Lost (lease.Image slot) (sample + window) late)
                   (replies.missed kind.Claim (record { 0 = block }) (lease_bytes (own_record own')) (d2 sample bytes, refl) (of_claim refl)),
-              rests-lost s before (Attach slot) (claims_lease sample (answer.Missed late) ∷ d2 sample bytes) (lease.Image slot) (sample + window) late (known.claims + 1) refl
+              rests-lost s before (Attach slot) (claims_lease sample (answer.Missed late) ∷ d2 sample bytes) (lease.Image slot) (sample + window) late (known.claims + 1)
                   (one-more (claims_lease sample (answer.Missed late) ∷ d2 sample bytes) (begun3 sample bytes (answer.Missed late))),
             ),
           )

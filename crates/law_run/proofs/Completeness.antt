@@ -9,7 +9,7 @@ use Rattle.plx_disk.specs.declared.ask.Ask.TheVariants as ask
 use Rattle.plx_disk.specs.declared.ask.Answer.TheVariants as answer
 use Rattle.plx_rules.specs.Settings.{Setting}
 use Rattle.law_run.specs.CommandLogs.{CommandLog, WasAnswered}
-use Rattle.law_run.specs.Completeness.{HasCause, fact, failed, missed, reached, reached_extent, busy, full, worn, outside, outside_map, outside_lease, OkWithoutCause}
+use Rattle.law_run.specs.Completeness.{HasCause, fact, failed, missed, reached, busy, full, worn, outside, outside_map, outside_lease, OkWithoutCause}
 use Rattle.law_run.specs.Replies.{Comes, IsReplied, refused, worked}
 use Rattle.law_run.specs.Replies as replies
 
@@ -35,8 +35,7 @@ of-work s log reply.Exists comes = absurd comes
 of-work s log (reply.OutOfRange size) comes = absurd comes
 of-work s log (reply.Busy lease seen) comes = inl (busy lease seen comes)
 of-work s log (reply.Lost lease until reading) (replies.missed k b bytes was rests) = inl (missed _ bytes _ was)
-of-work s log (reply.Lost lease until reading) (replies.reached slot last used past first) = inl (reached slot.0 until reading last used past)
-of-work s log (reply.Lost lease until reading) (replies.reached_extent extent last used past first) = inl (reached_extent extent.0 until reading last used past)
+of-work s log (reply.Lost lease until reading) (replies.reached due name ends last its past first) = inl (reached due reading last its past)
 of-work s log (reply.ReadFault b) comes = inl (failed _ _ comes)
 of-work s log (reply.WriteFault b) comes = inl (failed _ comes.2 comes.3)
 of-work s log reply.Full comes = inl (full comes)

@@ -1,5 +1,5 @@
 -- What may follow on the newest exchange of a command.
-use Rattle.std.proofs.Common.{◌≡◌, ◌≢◌, ℕ, zero, suc, ◌<◌, List, [], ◌∷◌, length, true, false, Some, None, refl, ap, sym, subst, ◌∙◌, arith, inl, inr}
+use Rattle.std.proofs.Common.{◌≡◌, ◌≢◌, ℕ, zero, suc, ◌<◌, List, [], ◌∷◌, length, true, Some, None, refl, ap, sym, subst, ◌∙◌, arith, inl, inr}
 use Rattle.plx_base.specs.declared.lease.LeaseRecord.{LeaseRecord}
 use Rattle.plx_base.specs.declared.numbers.SlotNo.{SlotNo}
 use Rattle.plx_commands.specs.declared.command.Command.{Command}
@@ -9,22 +9,21 @@ use Rattle.plx_gate.specs.Leases.{read_lease}
 use Rattle.plx_geom.proofs.Places.{image-below}
 use Rattle.plx_geom.specs.Geometry.{lease_count, image_lease, lease_at, map_at}
 use Rattle.plx_rules.specs.Part.{Part, Ends, ReadThen, WriteThen, ClockThen, UntilThen}
+use Rattle.plx_rules.specs.InUse.{InUse}
 use Rattle.plx_rules.specs.Settings.{Setting}
 use Rattle.plx_rules.specs.Space.{read_map}
 use Rattle.law_run.specs.Busy.{IsBusy, unexpired, taken}
-use Rattle.law_run.specs.Causes.{record_alone, HasReadOutside, of_lease, of_map, of_image, HasReached, of_image_lease, of_extent_lease, WasAttachBusy, MayFollow}
+use Rattle.law_run.specs.Causes.{record_alone, HasReadOutside, of_lease, of_map, of_image, HasReached, WasAttachBusy, MayFollow}
 use Rattle.law_run.specs.CommandLogs.{Exchange, Finished, CommandLog}
 use Rattle.law_run.specs.Holdings.{hold_by_log, IsUntil, last_found}
 use Rattle.law_run.specs.KnownBytes.{known_in}
 use Rattle.law_run.specs.Outside.{IsOutside}
-use Rattle.law_run.specs.Replies.{going, unread}
 use Rattle.law_run.specs.Sessions.{names}
-use Rattle.law_run.specs.Space as space
-use Rattle.law_run.specs.Space.{IsExtentInUse, rested}
+use Rattle.law_run.specs.Uses as uses
+use Rattle.law_run.specs.Uses.{IsInUse, IsOfCommand}
 use Rattle.law_run.proofs.Asking.{IsFine}
-use Rattle.law_run.proofs.Beside.{block_found, bytes_found}
+use Rattle.law_run.proofs.Uses.{block_found, bytes_found, not-claim}
 use Rattle.law_run.proofs.Meets.{Meets}
-use Rattle.law_run.proofs.OnExtent.{claims_at}
 use Rattle.law_run.proofs.Passed.{passed-all}
 use Rattle.law_run.proofs.Right.{clock, log_on}
 
@@ -33,14 +32,6 @@ pub read-nothing : (s : Setting) (log : CommandLog) → last_found log.exchanges
 read-nothing s log none (of_lease lease bytes within last bad) = let e = sym none ∙ ap last_found last.1 in let P : ⊥ = cc in P
 read-nothing s log none (of_map extent bytes within last bad) = let e = sym none ∙ ap last_found last.1 in let P : ⊥ = cc in P
 read-nothing s log none (of_image image block bytes named last bad) = let e = sym none ∙ ap last_found last.1 in let P : ⊥ = cc in P
-
--- no lease is in use by the first reading alone, but those of images that are named
-first-extents : (s : Setting) (before : List Finished) (command : Command) (reading e until : ℕ) → ¬ IsExtentInUse s (log_on before command (clock reading ∷ [])) (clock reading ∷ []) e until
-first-extents s before command reading e until (space.going claim below (inl same) is) =
-    let c : true ≡ false = ap (λ (y : Exchange). claims_at y.ask) same in let P : ⊥ = cc in P
-first-extents s before command reading e until (space.going claim below (inr none) is) = none
-first-extents s before command reading e until (space.unread claim bytes last older below at_end waited none) = let n : 1 ≡ suc (suc (length older)) = ap (λ (d : List Exchange). length d) at_end in omega (arith, n)
-first-extents s before command reading e until (rested claim bytes last older below at_end none held) = let n : 1 ≡ suc (suc (length older)) = ap (λ (d : List Exchange). length d) at_end in omega (arith, n)
 
 -- any ask may follow on the first reading, where it is below the end of each named image's lease and no refusal's fact holds
 pub first-follows : (s : Setting) (before : List Finished) (command : Command) (reading : ℕ) → IsFine s before command reading →
@@ -52,11 +43,20 @@ first-follows s before command reading fine early a = (
   λ refused. passed-all s (log_on before command (clock reading ∷ [])) (fine (clock reading ∷ []) refl) refused.0 refused.1 refused.2,
 )
   where
+    by-use : (one : InUse) → IsInUse s (log_on before command (clock reading ∷ [])) one → reading < one.until
+    by-use one (uses.used u) = by-command u.of
+      where
+        by-command : IsOfCommand s (log_on before command (clock reading ∷ [])) one.lease → reading < one.until
+        by-command (uses.named image below named is) = early image one.until named (subst (λ l. IsUntil one.until (hold_by_log s before (clock reading ∷ []) l)) is u.until)
+        by-command (uses.claimed claim below (inl here)) = absurd (not-claim (clock reading) _ refl refl here)
+        by-command (uses.claimed claim below (inr none)) = absurd none
+    by-use one (uses.unread claim bytes last older below at_end waited none gone) =
+        absurd (let n : 1 ≡ suc (suc (length older)) = ap (λ (d : List Exchange). length d) at_end in omega (arith, n))
+    by-use one (uses.rested extent claim bytes last older below at_map at_end none held) =
+        absurd (let n : 1 ≡ suc (suc (length older)) = ap (λ (d : List Exchange). length d) at_end in omega (arith, n))
+
     reached : ¬ HasReached s (log_on before command (clock reading ∷ [])) reading
-    reached (of_image_lease image until (going named is) past) = let below = early image until named is in omega (arith, below, past)
-    reached (of_image_lease image until (unread claim bytes last older named at_end waited none gone) past) =
-        let n : 1 ≡ suc (suc (length older)) = ap (λ (d : List Exchange). length d) at_end in omega (arith, n)
-    reached (of_extent_lease extent until used past) = first-extents s before command reading extent until used
+    reached late = let below = by-use late.due late.used in let past = late.past in omega (arith, below, past)
 
 -- ---- after a read
 

@@ -1,5 +1,5 @@
 -- All blocks in hand of an extent, and all extents, are given up, after any exchanges of a command.
-use Rattle.std.proofs.Common.{◌≡◌, ℕ, zero, suc, ◌+◌, ◌*◌, ◌≤◌, ◌<◌, List, [], ◌∷◌, ◌++◌, false, None, refl, ap, sym, subst, ◌∙◌, arith, inl, inr, ◌⊎◌, ◌≢◌}
+use Rattle.std.proofs.Common.{◌≡◌, ℕ, zero, suc, ◌+◌, ◌*◌, ◌≤◌, ◌<◌, List, [], ◌∷◌, ◌++◌, false, Some, None, refl, ap, sym, subst, ◌∙◌, arith, inl, inr, ◌⊎◌, ◌≢◌}
 use Rattle.std.specs.Prelude.{◌==◌}
 use Rattle.std.proofs.lemmas.Bool.Decides.{leb_tells}
 use Rattle.plx_base.specs.declared.lease.Claim.{Claim}
@@ -18,7 +18,7 @@ use Rattle.plx_geom.specs.Geometry.{extent_lease, lease_at, map_at}
 use Rattle.plx_rules.specs.Ends.{End}
 use Rattle.plx_rules.specs.Hands.{is_held}
 use Rattle.plx_rules.specs.Holds.{Hold, Nothing, Seen, Wrote, Waited, Held}
-use Rattle.plx_rules.specs.InUse.{lease_name}
+use Rattle.plx_rules.specs.InUse.{InUse, lease_name, first_reached}
 use Rattle.plx_rules.specs.Owners.{Needs}
 use Rattle.plx_rules.specs.Part.{Part}
 use Rattle.plx_rules.specs.Rests.{extent_of}
@@ -48,7 +48,7 @@ retire-asks-are zero n = omega arith
 retire-asks-are (suc left) n = let e = retire-asks-are left n in omega arith
 
 -- what an end of the work shows, each by its last ask
-pub record Endings (s : Setting) (before : List Finished) (from : List Exchange) (spares : ℕ → Type 0) (known : Known) (Shows : List Exchange → End → Type 0) : Type 0 where
+pub record Endings (s : Setting) (before : List Finished) (from : List Exchange) (spares : ℕ → Type 0) (uses : List InUse) (known : Known) (Shows : List Exchange → End → Type 0) : Type 0 where
   pub unread : (own : List Exchange) (extent : ℕ) → Along s before from spares own → extent < s.geometry.extents →
       Shows (exchange (ask.Read (record { 0 = map_at s.geometry extent })) [] answer.Fault ∷ own ++ from) (record { reply = reply.ReadFault (record { 0 = map_at s.geometry extent }); known = known })
   pub unwritten : (own : List Exchange) (k : WriteKind) (block until : ℕ) (bytes : List ℕ) → Along s before from spares own →
@@ -57,22 +57,24 @@ pub record Endings (s : Setting) (before : List Finished) (from : List Exchange)
       Needs s.geometry k block (extent_lease s.geometry extent) →
       Shows (exchange (ask.Write k (record { 0 = block }) until) bytes (answer.Missed last) ∷ own ++ from)
       (record { reply = reply.Lost (lease_name s.geometry (extent_lease s.geometry extent)) until last; known = nothing_known known.claims })
-  pub reached : (own : List Exchange) (extent until last : ℕ) (claim : Claim) (bytes : List ℕ) → Along s before from spares (read_of (map_at s.geometry extent) bytes ∷ own) → extent < s.geometry.extents →
-      read_map s.geometry.extent_blocks bytes ≡ None → hold_by_log s before (clock last ∷ read_of (map_at s.geometry extent) bytes ∷ own ++ from) (extent_lease s.geometry extent) ≡ Held claim until → until ≤ last →
+  pub reached : (own : List Exchange) (extent until last : ℕ) (claim : Claim) (bytes : List ℕ) (due : InUse) → Along s before from spares (read_of (map_at s.geometry extent) bytes ∷ own) → extent < s.geometry.extents →
+      read_map s.geometry.extent_blocks bytes ≡ None → hold_by_log s before (clock last ∷ read_of (map_at s.geometry extent) bytes ∷ own ++ from) (extent_lease s.geometry extent) ≡ Held claim until →
+      first_reached (extent_use s.geometry extent until ∷ uses) last ≡ Some due →
       Shows (clock last ∷ read_of (map_at s.geometry extent) bytes ∷ own ++ from)
-      (record { reply = reply.Lost (lease_name s.geometry (extent_lease s.geometry extent)) until last; known = nothing_known known.claims })
+      (record { reply = reply.Lost (lease_name s.geometry due.lease) due.until last; known = nothing_known known.claims })
   pub damaged : (own : List Exchange) (extent until last : ℕ) (claim : Claim) (bytes : List ℕ) → Along s before from spares (read_of (map_at s.geometry extent) bytes ∷ own) → extent < s.geometry.extents →
-      read_map s.geometry.extent_blocks bytes ≡ None → hold_by_log s before (clock last ∷ read_of (map_at s.geometry extent) bytes ∷ own ++ from) (extent_lease s.geometry extent) ≡ Held claim until → last < until →
+      read_map s.geometry.extent_blocks bytes ≡ None → hold_by_log s before (clock last ∷ read_of (map_at s.geometry extent) bytes ∷ own ++ from) (extent_lease s.geometry extent) ≡ Held claim until →
+      first_reached (extent_use s.geometry extent until ∷ uses) last ≡ None →
       Shows (clock last ∷ read_of (map_at s.geometry extent) bytes ∷ own ++ from) (record { reply = reply.Damaged (record { 0 = map_at s.geometry extent }); known = known })
 
 module _ (s : Setting) (before : List Finished) (from : List Exchange) (spares : ℕ → Type 0) (inside : (b : ℕ) → HasBlock (hand_by_log s before from) b → extent_of s.geometry b < s.geometry.extents) where
   abbrev Work : (P K : ℕ → Type 0) → (own : List Exchange) → Type 0
   Work P K own = Retiring s before from spares P K own
 
-  module _ (high : s.geometry.extent_blocks ≤ 32768) (command : Command) (known : Known) (May : List Exchange → Ask → List ℕ → Type 0) (Shows : List Exchange → End → Type 0)
+  module _ (high : s.geometry.extent_blocks ≤ 32768) (command : Command) (uses : List InUse) (known : Known) (May : List Exchange → Ask → List ℕ → Type 0) (Shows : List Exchange → End → Type 0)
       (pool : (b : ℕ) → HasBlock (hand_by_log s before from) b → (extent : ℕ) → b ≢ map_at s.geometry extent)
       (allowed : (done : List Exchange) (a : Ask) (bytes : List ℕ) → MayAsk s (log_on before command done) a bytes → IsOfOneMap s.geometry a → May done a bytes)
-      (endings : Endings s before from spares known Shows) where
+      (endings : Endings s before from spares uses known Shows) where
     abbrev MeetsGivingUp : (own : List Exchange) → Part End → ℕ → Type 0
     MeetsGivingUp own part n = Meets May Shows (own ++ from) part n
 
@@ -84,12 +86,12 @@ module _ (s : Setting) (before : List Finished) (from : List Exchange) (spares :
     pub gives : (P : ℕ → Type 0) (own : List Exchange) (extent until n : ℕ) (claim : Claim) (blocks : List ℕ) (rest : Part End) → extent < s.geometry.extents → ¬ P (extent_lease s.geometry extent) →
         Work P (GivenBack extent) own → hold_by_log s before (own ++ from) (extent_lease s.geometry extent) ≡ Held claim until → in_extent s.geometry extent (hand_by_log s before from) ≡ blocks →
         ((own' : List Exchange) → Work P (GivenBack (extent + 1)) own' → hold_by_log s before (own' ++ from) (extent_lease s.geometry extent) ≡ Held claim until → MeetsGivingUp own' rest n) →
-        MeetsGivingUp own (give_part s known extent until blocks rest) (suc (suc n))
+        MeetsGivingUp own (give_part s known uses extent until blocks rest) (suc (suc n))
     gives P own extent until n claim [] rest below left r held among next =
         let one = next own (given-more s before from spares inside P own extent r (none-among s before from spares inside P (GivenBack extent) own extent r among)) held in
         more (suc n) rest own (more n rest own one)
     gives P own extent until n claim (block ∷ blocks) rest below left r held among next =
-        one-gives s before command known May Shows (own ++ from) extent until claim all (record {
+        one-gives s before command uses known May Shows (own ++ from) extent until claim all (record {
           within = below;
           held = held;
           fresh = λ b has. r.hand b (mine b has).0 (λ k. (let same = (mine b has).1 in omega (arith, k, same))) (λ p. left (subst (λ e. P (extent_lease s.geometry e)) (mine b has).1 p));
@@ -102,8 +104,8 @@ module _ (s : Setting) (before : List Finished) (from : List Exchange) (spares :
           unread = endings.unread own extent r.along below;
           unwritten = λ read bits is. endings.unwritten (read_of (map_at s.geometry extent) read ∷ own) kind.Give (map_at s.geometry extent) until _ (now read).along;
           missed = λ read bits last is. endings.missed (read_of (map_at s.geometry extent) read ∷ own) kind.Give extent (map_at s.geometry extent) until _ last (now read).along below (extent, below, refl, refl);
-          reached = λ read last none held' past. endings.reached own extent until last claim read (now read).along below none held' past;
-          damaged = λ read last none held' early. endings.damaged own extent until last claim read (now read).along below none held' early;
+          reached = λ read last due none held' found. endings.reached own extent until last claim read due (now read).along below none held' found;
+          damaged = λ read last none held' found. endings.damaged own extent until last claim read (now read).along below none held' found;
         })
         rest n (λ read bits is.
         let own1 = read_of (map_at s.geometry extent) read ∷ own in
@@ -151,7 +153,7 @@ module _ (s : Setting) (before : List Finished) (from : List Exchange) (spares :
       -- the extents from one on
       pub retires : (left extent : ℕ) (own : List Exchange) (n : ℕ) (rest : Part End) → left + extent ≡ s.geometry.extents → Work (PastExtent s extent) (GivenBack extent) own →
           ((own' : List Exchange) → Work (PastExtent s s.geometry.extents) (GivenBack s.geometry.extents) own' → MeetsGivingUp own' rest n) →
-          MeetsGivingUp own (retire_extents s known holds hand left extent rest) (retire_asks left n)
+          MeetsGivingUp own (retire_extents s known uses holds hand left extent rest) (retire_asks left n)
       retires zero extent own n rest all r right =
           right own (subst (λ e. Work (PastExtent s e) (GivenBack e) own) (let e : extent ≡ s.geometry.extents = omega arith in e) r)
       retires (suc left) extent own n rest all r right =
@@ -160,7 +162,7 @@ module _ (s : Setting) (before : List Finished) (from : List Exchange) (spares :
           (λ own' r'. retires left (extent + 1) own' n rest (omega arith) r' right)
         where
           tail : Part End
-          tail = retire_extents s known holds hand left (extent + 1) rest
+          tail = retire_extents s known uses holds hand left (extent + 1) rest
 
           m : ℕ
           m = retire_asks left n
@@ -175,7 +177,7 @@ module _ (s : Setting) (before : List Finished) (from : List Exchange) (spares :
 
           by-hold : (hold : Hold) → hold_by_log s before (own ++ from) (extent_lease s.geometry extent) ≡ hold →
               ((own' : List Exchange) → Work (PastExtent s (extent + 1)) (GivenBack (extent + 1)) own' → MeetsGivingUp own' tail m) →
-              MeetsGivingUp own (retire_extent s known hand extent hold tail) (suc (suc (suc m)))
+              MeetsGivingUp own (retire_extent s known uses hand extent hold tail) (suc (suc (suc m)))
           by-hold (Held claim until) is next =
               gives (PastExtent s extent) own extent until (suc m) claim (in_extent s.geometry extent hand) (release_then s known (extent_use s.geometry extent until) tail) (omega arith)
               (λ p. omega (arith, p.1)) r is (ap (in_extent s.geometry extent) (sym in_hand))

@@ -14,11 +14,12 @@ use Rattle.plx_commands.specs.Places.{at}
 use Rattle.plx_rules.specs.Holds.{Hold, Nothing, Seen, Wrote, Waited, Held, after_answer, after_write, hold_after_read, hold_after_reading}
 use Rattle.plx_rules.specs.Settings.{Setting}
 use Rattle.law_run.specs.AllowedAsks.{GoesOn, WentOn}
-use Rattle.law_run.specs.CommandLogs.{Exchange, Finished, first_reading}
-use Rattle.law_run.specs.Holdings.{lease_attached, at_first, holds_along, holds_after, hold_by_log, is_lease_read, claims_in}
+use Rattle.law_run.specs.CommandLogs.{Exchange, Finished, IsIn, first_reading}
+use Rattle.law_run.specs.Holdings.{lease_attached, at_first, holds_along, holds_after, hold_by_log, is_lease_read, claims_in, begins_claim}
 use Rattle.law_run.specs.Sessions.{is_attached}
 use Rattle.law_run.proofs.Right.{clock, IsHeld}
 use Rattle.law_run.proofs.Runs.{HasFirst, last_sample, along-more}
+use Rattle.law_run.proofs.Uses.{claims_at, claim_written, not-claim, IsQuiet, quiet-none, quiet-unfound}
 use Rattle.plx_base.proofs.Tests.{nat_le-true, nat_lt-true}
 use Rattle.plx_commands.proofs.Places.{at-other}
 
@@ -140,32 +141,52 @@ pub record Going (s : Setting) (before : List Finished) (done : List Exchange) (
   pub spared : Spared s before done image
   pub begun : claims_in s.geometry done ≡ c.begun
   pub went : WentOn done
+  pub mine : (l guard : ℕ) (bytes : List ℕ) → IsIn (claim_written l guard bytes) done → l ≡ image_lease image
+  pub quiet : IsQuiet s.geometry image done
 
 pub going-first : (s : Setting) (before : List Finished) (image : ℕ) (claim : Claim) (until reading : ℕ) → hold_by_log s before (clock reading ∷ []) (image_lease image) ≡ Held claim until →
     Going s before (clock reading ∷ []) image (record { reading = reading; claim = claim; until = until; begun = 0 })
-going-first s before image claim until reading held = record { has = tt; first = refl; held = held; spared = spared-first s before reading image; begun = refl; went = (tt, tt) }
+going-first s before image claim until reading held = record {
+  has = tt;
+  first = refl;
+  held = held;
+  spared = spared-first s before reading image;
+  begun = refl;
+  went = (tt, tt);
+  mine = λ l guard bytes is. elim is [ inl here ↦ absurd (not-claim (clock reading) (claim_written l guard bytes) refl refl here) | inr none ↦ absurd none ];
+  quiet = quiet-none s.geometry image (clock reading ∷ []) refl;
+}
 
 pub first-more : (done : List Exchange) (x : Exchange) (reading : ℕ) → first_reading done ≡ Some reading → first_reading (x ∷ done) ≡ Some reading
 first-more done x reading first = rw first refl
 
--- an exchange that reads no lease begins no claim
-pub claims-more : (g : Geometry) (done : List Exchange) (x : Exchange) → HasFirst done → is_lease_read g x.ask ≡ false → claims_in g (x ∷ done) ≡ claims_in g done
-claims-more g [] x has none = absurd has
-claims-more g (y ∷ older) x has none = rw none (omega arith)
+-- an exchange that begins no claim leaves their number
+pub claims-more : (g : Geometry) (done : List Exchange) (x : Exchange) → begins_claim g x.ask done ≡ false → claims_in g (x ∷ done) ≡ claims_in g done
+claims-more g done x none = rw none (omega arith)
+
+-- the read of a block that is no lease begins none
+pub reads-no-claim : (g : Geometry) (block : ℕ) (done : List Exchange) → is_lease_read g (ask.Read (record { 0 = block })) ≡ false →
+    begins_claim g (ask.Read (record { 0 = block })) done ≡ false
+reads-no-claim g block done none = rw none refl
 
 pub going-more : (s : Setting) (before : List Finished) (done : List Exchange) (x : Exchange) (image : ℕ) (c : Course) →
-    LeavesHeld (lease_at (image_lease image)) x.ask x.answer → LeavesOthers image x → is_lease_read s.geometry x.ask ≡ false → GoesOn x.answer → Going s before done image c →
-    Going s before (x ∷ done) image c
-going-more s before done x image c leave others none on g = record {
+    LeavesHeld (lease_at (image_lease image)) x.ask x.answer → LeavesOthers image x → begins_claim s.geometry x.ask done ≡ false → GoesOn x.answer →
+    claims_at x.ask ≡ false → IsQuiet s.geometry image (x ∷ done) → Going s before done image c → Going s before (x ∷ done) image c
+going-more s before done x image c leave others none on unclaimed quiet g = record {
   has = tt;
   first = first-more done x c.reading g.first;
   held = hold-stays s before done x (image_lease image) c.claim c.until g.has leave g.held;
   spared = spared-more s before done x image g.has others g.spared;
-  begun = claims-more s.geometry done x g.has none ∙ g.begun;
+  begun = claims-more s.geometry done x none ∙ g.begun;
   went = (on, g.went);
+  mine = λ l guard bytes is. elim is [
+    | inl here ↦ absurd (not-claim x (claim_written l guard bytes) unclaimed refl here)
+    | inr there ↦ g.mine l guard bytes there
+  ];
+  quiet = quiet;
 }
 
 -- one more reading of the clock
 pub going-clock : (s : Setting) (before : List Finished) (done : List Exchange) (reading image : ℕ) (c : Course) → Going s before done image c →
     Going s before (clock reading ∷ done) image c
-going-clock s before done reading image c g = going-more s before done (clock reading) image c tt (λ other ne. tt) refl tt g
+going-clock s before done reading image c g = going-more s before done (clock reading) image c tt (λ other ne. tt) (quiet-unfound s.geometry image done g.quiet) tt refl (quiet-none s.geometry image (clock reading ∷ done) refl) g

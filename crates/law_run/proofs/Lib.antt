@@ -1,5 +1,6 @@
 pub mod Inserted
 pub mod Meets
+pub mod Uses
 pub mod Then
 pub mod Right
 pub mod Runs

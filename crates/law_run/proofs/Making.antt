@@ -42,7 +42,8 @@ use Rattle.law_run.proofs.Meets.{exchange}
 use Rattle.law_run.proofs.OnImage.{OnImage, names-own, names-other, still, on-image, Ready}
 use Rattle.law_run.proofs.Passed.{Passed, passed-at-most}
 use Rattle.law_run.proofs.Rests.{KeepsHolds, held-after, rests-by}
-use Rattle.law_run.proofs.Right.{clock, FitsSession, FitsAt, Rests, finish, log_on, May, Right}
+use Rattle.law_run.proofs.Uses.{quiet-none}
+use Rattle.law_run.proofs.Right.{clock, FitsSession, FitsAt, Rests, finish, log_on, Right, May}
 use Rattle.law_run.proofs.Runs.{start, hand_start}
 use Rattle.law_run.proofs.Spelled.{image-rest}
 use Rattle.plx_base.proofs.Tests.{eqb-true, nat_le-true, nat_le-false, nat_le-tells, nat_le-past, nat_lt-tells, not-false, and-parts, opposite-true}
@@ -100,7 +101,7 @@ module _ (s : Setting) (before : List Finished) (known : Known) (command : Comma
       let x = exchange (ask.Write kind.Record (record { 0 = record_at s.geometry slot.0 }) until) (image_bytes made) answer.Done in
       let c : Course = record { reading = reading; claim = claim; until = until; begun = 0 } in
       let next = with_session known slot.0 (Some (new_session made)) in
-      let going1 = going-more s before (clock reading ∷ []) x slot.0 c tt (λ other apart. tt) refl tt (going-first s before slot.0 claim until reading ready.now) in
+      let going1 = going-more s before (clock reading ∷ []) x slot.0 c tt (λ other apart. tt) refl tt refl (quiet-none s.geometry slot.0 (x ∷ clock reading ∷ []) refl) (going-first s before slot.0 claim until reading ready.now) in
       asks-write (May s before command) s before known command reading fine (clock reading ∷ []) (image_lease slot.0) until kind.Record (record_at s.geometry slot.0) (image_bytes made)
       (ends_in_time s known (image_use slot.0 until) r next) 1 refl (let a = rests.claims in omega arith) (λ y e. rw e refl) (image-below s.geometry slot.0 ready.fits.within)
       (slot.0, ready.fits.within, refl, refl) (((tt, tt), may), ready-follows s before known command slot reading on rests session claim until ready fine ask.Clock)

@@ -1,13 +1,11 @@
 -- Commands that work on extents: no refusal's fact holds of them, and what their reads and ends leave.
-use Rattle.std.proofs.Common.{◌≡◌, ◌≢◌, ℕ, suc, ◌+◌, ◌-◌, ◌≤◌, List, [], ◌∷◌, Bool, true, false, Option, Some, None, refl, ap, sym, subst, ◌∙◌, arith}
+use Rattle.std.proofs.Common.{◌≡◌, ℕ, suc, ◌+◌, ◌-◌, ◌≤◌, List, ◌∷◌, Bool, true, false, Option, Some, None, refl, ap, sym, subst, ◌∙◌, arith}
 use Rattle.std.specs.Prelude.{nat_le, ◌==◌, is_some}
-use Rattle.plx_base.proofs.Tests.{eqb-true, eqb-false, nat_lt-false, nat_le-false, and-no}
+use Rattle.plx_base.proofs.Tests.{eqb-true, nat_lt-false, nat_le-false, and-no}
 use Rattle.plx_base.specs.declared.lease.LeaseName.TheVariants as lease
-use Rattle.plx_base.specs.declared.write_kind.WriteKind.TheVariants as kind
 use Rattle.plx_commands.specs.declared.command.Command.{Command}
 use Rattle.plx_commands.specs.declared.command.Command.TheVariants.{Reserve, Retire}
 use Rattle.plx_commands.specs.declared.reply.Reply.{Reply}
-use Rattle.plx_disk.specs.declared.ask.Ask.{Ask}
 use Rattle.plx_disk.specs.declared.ask.Ask.TheVariants as ask
 use Rattle.plx_geom.specs.Geometry.{Geometry, lease_count, extent_lease, map_at}
 use Rattle.plx_rules.specs.InUse.{lease_name}
@@ -25,21 +23,6 @@ use Rattle.law_run.proofs.Holding.{Spared}
 use Rattle.law_run.proofs.Rests.{KeepsHolds, rests-by}
 use Rattle.law_run.proofs.Right.{FitsAt, Rests, finish}
 
--- whether an ask is a claim's
-abbrev pub claims_at : Ask → Bool
-claims_at (ask.Write kind.Claim block guard) = true
-claims_at a = false
-
--- the block of the read before the newest exchange
-abbrev pub read_block : Ask → ℕ
-read_block (ask.Read block) = block.0
-read_block a = 0
-
-abbrev pub block_second : List Exchange → ℕ
-block_second [] = 0
-block_second (x ∷ []) = 0
-block_second (x ∷ y ∷ older) = read_block y.ask
-
 -- ---- no refusal's fact holds
 
 reserve-block : (count image v : ℕ) → ¬ NamesBlock (Reserve count) image v
@@ -54,7 +37,7 @@ pub reserve-fine : (s : Setting) (before : List Finished) (count reading : ℕ) 
 reserve-fine s before count reading done first = record {
   sessions = λ lt image needed. absurd (let P : ⊥ = cc in P);
   unattached = λ lt slot is. absurd (let P : ⊥ = cc in P);
-  in_time = λ lt image until reading' is. (let used = is.used in let P : ⊥ = cc in P);
+  in_time = λ lt one reading' is. (let used = is.used in let P : ⊥ = cc in P);
   slots = λ lt slot is. absurd (let P : ⊥ = cc in P);
   images = λ lt image kept needs found. absurd (reserve-image count image needs);
   free = λ lt slot size label kept is found. absurd (let P : ⊥ = cc in P);
@@ -78,7 +61,7 @@ pub retire-fine : (s : Setting) (before : List Finished) (reading : ℕ) → IsF
 retire-fine s before reading done first = record {
   sessions = λ lt image needed. absurd (let P : ⊥ = cc in P);
   unattached = λ lt slot is. absurd (let P : ⊥ = cc in P);
-  in_time = λ lt image until reading' is. (let used = is.used in let P : ⊥ = cc in P);
+  in_time = λ lt one reading' is. (let used = is.used in let P : ⊥ = cc in P);
   slots = λ lt slot is. absurd (let P : ⊥ = cc in P);
   images = λ lt image kept needs found. absurd (retire-image image needs);
   free = λ lt slot size label kept is found. absurd (let P : ⊥ = cc in P);
@@ -106,10 +89,6 @@ map-no-lease g extent = and-no (nat_le 1 (map_at g extent)) (nat_le (map_at g ex
 -- bytes that are no map are none that was found
 pub bad-map : (g : Geometry) (block : ℕ) (bytes : List ℕ) → read_map g.extent_blocks bytes ≡ None → is_map_found g (Some (block, bytes)) ≡ false
 bad-map g block bytes none = and-no (map_at g (extent_of g block) == block) (is_some (read_map g.extent_blocks bytes)) (ap is_some none)
-
--- and a block that is no map isn't
-pub no-map : (g : Geometry) (block : ℕ) (bytes : List ℕ) → ((extent : ℕ) → block ≢ map_at g extent) → is_map_found g (Some (block, bytes)) ≡ false
-no-map g block bytes apart = let e = eqb-false (map_at g (extent_of g block)) block (λ same. apart (extent_of g block) (sym same)) in rw e refl
 
 -- a map that was read is
 pub map-is-found : (g : Geometry) (extent : ℕ) (bytes : List ℕ) (bits : List Bool) → 1 ≤ g.extent_blocks → read_map g.extent_blocks bytes ≡ Some bits → is_map_found g (Some (map_at g extent, bytes)) ≡ true

@@ -24,14 +24,15 @@ use Rattle.plx_rules.specs.Settings.{Setting}
 use Rattle.plx_rules.specs.Space.{read_map, with_clear, in_extent}
 use Rattle.law_run.specs.AllowedAsks.{GoesOn, WentOn}
 use Rattle.law_run.specs.CommandLogs.{Exchange, Finished, IsIn, first_reading}
-use Rattle.law_run.specs.Holdings.{holds_along, holds_after, hold_by_log, hand_by_log, filled_by_log, last_found, is_lease_read, claims_in}
+use Rattle.law_run.specs.Holdings.{holds_along, holds_after, hold_by_log, hand_by_log, filled_by_log, last_found, claims_in, begins_claim}
 use Rattle.law_run.specs.OnHand.{WasClear}
 use Rattle.law_run.specs.Sessions.{is_attached}
 use Rattle.law_run.proofs.FreeBlocks.{map-bits}
 use Rattle.law_run.proofs.Hands.{HasBlock, has-filter, filter-has, hand-is-held, hand-keeps, hand-fewer, LinksNone, left-same, told-quiet, give-leaves, give-fewer}
-use Rattle.law_run.proofs.Holding.{first-more, claims-more}
+use Rattle.law_run.proofs.Holding.{first-more, claims-more, reads-no-claim}
 use Rattle.law_run.proofs.Meets.{exchange}
-use Rattle.law_run.proofs.OnExtent.{claims_at, map-no-lease}
+use Rattle.law_run.proofs.OnExtent.{map-no-lease}
+use Rattle.law_run.proofs.Uses.{claims_at}
 use Rattle.law_run.proofs.Right.{read_of}
 use Rattle.law_run.proofs.Runs.{HasFirst, along-more}
 
@@ -131,20 +132,20 @@ module _ (s : Setting) (before : List Finished) (from : List Exchange) (spares :
 
   -- ---- one more exchange
 
-  along-next : (own : List Exchange) (x : Exchange) → Along s before from spares own → is_lease_read s.geometry x.ask ≡ false → GoesOn x.answer → claims_at x.ask ≡ false →
+  along-next : (own : List Exchange) (x : Exchange) → Along s before from spares own → begins_claim s.geometry x.ask (own ++ from) ≡ false → GoesOn x.answer → claims_at x.ask ≡ false →
       ((image : ℕ) → image < s.geometry.images → spares (image_lease image) → hold_by_log s before (x ∷ own ++ from) (image_lease image) ≡ hold_by_log s before (own ++ from) (image_lease image)) →
       Along s before from spares (x ∷ own)
   along-next own x a unread goes unclaimed spared = record {
     has = tt;
     first = λ reading is. first-more (own ++ from) x reading (a.first reading is);
-    begun = claims-more s.geometry (own ++ from) x a.has unread ∙ a.begun;
+    begun = claims-more s.geometry (own ++ from) x unread ∙ a.begun;
     went = (goes, a.went);
     unclaimed = λ block guard bytes is. elim is [ inl here ↦ absurd (no-claim x unclaimed block guard bytes (sym here)) | inr there ↦ a.unclaimed block guard bytes there ];
     spared = λ image below spare. spared image below spare ∙ a.spared image below spare;
   }
 
   -- an exchange that leaves all leases as they are, and the blocks in hand of the extents that aren't given back
-  same-holds : (P K K' : ℕ → Type 0) (own : List Exchange) (x : Exchange) → Work P K own → LinksNone x.ask → is_lease_read s.geometry x.ask ≡ false → GoesOn x.answer → claims_at x.ask ≡ false →
+  same-holds : (P K K' : ℕ → Type 0) (own : List Exchange) (x : Exchange) → Work P K own → LinksNone x.ask → begins_claim s.geometry x.ask (own ++ from) ≡ false → GoesOn x.answer → claims_at x.ask ≡ false →
       ((l : ℕ) → l < lease_count s.geometry → hold_by_log s before (x ∷ own ++ from) l ≡ hold_by_log s before (own ++ from) l) → ((e : ℕ) → K e → K' e) →
       ((b : ℕ) → ¬ K' (extent_of s.geometry b) → HasBlock (hand_by_log s before (own ++ from)) b →
       HasBlock (hand_answered s.geometry (last_found (own ++ from)) x.ask x.bytes x.answer (hand_by_log s before (own ++ from))) b) →
@@ -172,7 +173,7 @@ module _ (s : Setting) (before : List Finished) (from : List Exchange) (spares :
   map-read P K own extent bytes r =
       let x = read_of (map_at s.geometry extent) bytes in
       let H = holds_along s.geometry (is_attached before) (holds_after s.geometry before) (own ++ from) in
-      same-holds P K K own x r tt (map-no-lease s.geometry extent) tt refl
+      same-holds P K K own x r tt (reads-no-claim s.geometry (map_at s.geometry extent) (own ++ from) (map-no-lease s.geometry extent)) tt refl
       (λ l below. ap (λ (h : ℕ → Hold). h (lease_at l)) (along-more s.geometry (is_attached before) (holds_after s.geometry before) x (own ++ from) r.along.has)
       ∙ at-other H (map_at s.geometry extent) (lease_at l) _ (lease-map s.geometry l extent below))
       (λ e k. k) (λ b apart has. has) (λ b has. has) (λ b has k. inl k)

@@ -16,13 +16,14 @@ use Rattle.plx_rules.specs.Attaching.{image_use}
 use Rattle.plx_rules.specs.Commands.{attached_part, of_attached}
 use Rattle.plx_rules.specs.Ends.{End, ends, lost_part, in_time}
 use Rattle.plx_rules.specs.Holds.{Held}
-use Rattle.plx_rules.specs.InUse.{lease_name}
+use Rattle.plx_rules.proofs.InUse.{same-first}
+use Rattle.plx_rules.specs.InUse.{InUse, IsNamedFirst, lease_name}
 use Rattle.plx_rules.specs.Session.{Session, Known, nothing_known}
 use Rattle.plx_rules.specs.Settings.{Setting}
 use Rattle.law_run.specs.CommandLogs.{Exchange, Finished, CommandLog, first_reading}
 use Rattle.law_run.specs.Holdings.{holds_after, hold_by_log}
 use Rattle.law_run.specs.KnownBytes.{given_after}
-use Rattle.law_run.specs.Refusals.{IsExpired, IsNamedFirst, not_attached, expired}
+use Rattle.law_run.specs.Refusals.{IsExpired, not_attached, expired}
 use Rattle.law_run.specs.Replies.{refused}
 use Rattle.law_run.specs.Sessions.{names, uses, needs, attached_by, is_attached}
 use Rattle.law_run.proofs.Holding.{spared-first, hold-after-first}
@@ -98,12 +99,12 @@ needs-attached before command image on attached other is =
 -- the lease that a command uses hasn't ended at its first reading
 pub in-time : (s : Setting) (before : List Finished) (command : Command) (done : List Exchange) (image : ℕ) (claim : Claim) (until reading : ℕ) →
     ((other : ℕ) → uses command other ≡ true → other ≡ image) → holds_after s.geometry before (lease_at (image_lease image)) ≡ Held claim until →
-    first_reading done ≡ Some reading → reading < until → (other until' reading' : ℕ) → ¬ IsExpired s (log_on before command done) other until' reading'
-in-time s before command done image claim until reading only held first below other until' reading' is =
-    let same = only other is.used in
-    let here : holds_after s.geometry before (lease_at (image_lease image)) ≡ Held is.claim until' =
-    subst (λ n. holds_after s.geometry before (lease_at (image_lease n)) ≡ Held is.claim until') same is.held in
-    let ends : until ≡ until' = (let e : Held claim until ≡ Held is.claim until' = sym held ∙ here in cc) in
+    first_reading done ≡ Some reading → reading < until → (one : InUse) (reading' : ℕ) → ¬ IsExpired s (log_on before command done) one reading'
+in-time s before command done image claim until reading only held first below one reading' is =
+    let same = is.is ∙ ap image_lease (only is.image is.used) in
+    let here : holds_after s.geometry before (lease_at (image_lease image)) ≡ Held is.claim one.until =
+    subst (λ n. holds_after s.geometry before (lease_at n) ≡ Held is.claim one.until) same is.held in
+    let ends : until ≡ one.until = (let e : Held claim until ≡ Held is.claim one.until = sym held ∙ here in cc) in
     let read : reading ≡ reading' = (let e : Some reading ≡ Some reading' = sym first ∙ is.first in cc) in
     let past = is.reached in
     omega arith
@@ -151,20 +152,20 @@ module _ (s : Setting) (before : List Finished) (known : Known) (command : Comma
   late claim until within attached held past left =
       subst (λ (n : LeaseName). Right s before command (clock reading ∷ []) (ends (reply.Lost n until reading) (nothing_known known.claims)) left) (sym (lease-name s.geometry slot.0 within)) (
         refused 3 (reading, refl)
-            (expired slot (record { used = on.used slot.0 ∙ names-own command slot.0 on.named; attached = attached; claim = claim; held = held; first = refl; reached = past })
-            (λ other until' is. alone other until' is))
+            (expired slot (record { image = slot.0; is = refl; used = on.used slot.0 ∙ names-own command slot.0 on.named; attached = attached; claim = claim; held = held; first = refl; reached = past })
+            (λ other is. alone other is))
             (λ p other refuses. passed-at-most s (log_on before command (clock reading ∷ [])) 3 p other
             (passed-sessions s _ (needs-attached before command slot.0 on attached) (λ n is. absurd (on.no_attach n is))) refuses),
-        rests-lost s before command (clock reading ∷ []) (lease.Image slot) until reading known.claims refl (let c = rests.claims in omega arith),
+        rests-lost s before command (clock reading ∷ []) (lease.Image slot) until reading known.claims (let c = rests.claims in omega arith),
       )
     where
-      alone : (other until' : ℕ) → IsExpired s (log_on before command (clock reading ∷ [])) other until' reading → IsNamedFirst slot.0 until other until'
-      alone other until' is =
-          let same = names-only command slot.0 on.named other (sym (on.used other) ∙ is.used) in
-          let here : holds_after s.geometry before (lease_at (image_lease slot.0)) ≡ Held is.claim until' =
-          subst (λ n. holds_after s.geometry before (lease_at (image_lease n)) ≡ Held is.claim until') same is.held in
-          let e : Held claim until ≡ Held is.claim until' = sym held ∙ here in
-          inr ((let u : until ≡ until' = cc in u), omega arith)
+      alone : (other : InUse) → IsExpired s (log_on before command (clock reading ∷ [])) other reading → IsNamedFirst (record { lease = image_lease slot.0; until = until }) other
+      alone other is =
+          let same : other.lease ≡ image_lease slot.0 = is.is ∙ ap image_lease (names-only command slot.0 on.named is.image (sym (on.used is.image) ∙ is.used)) in
+          let here : holds_after s.geometry before (lease_at (image_lease slot.0)) ≡ Held is.claim other.until =
+          subst (λ l. holds_after s.geometry before (lease_at l) ≡ Held is.claim other.until) same is.held in
+          let e : Held claim until ≡ Held is.claim other.until = sym held ∙ here in
+          same-first (record { lease = image_lease slot.0; until = until }) other (let u : until ≡ other.until = cc in u) (sym same)
 
   -- the image has a session, and its lease is held at the first reading
   pub record Ready (session : Session) (claim : Claim) (until : ℕ) : Type 0 where

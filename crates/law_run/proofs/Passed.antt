@@ -10,6 +10,8 @@ use Rattle.plx_commands.specs.declared.command.Command.TheVariants.{Attach, Crea
 use Rattle.plx_commands.specs.declared.reply.Reply.{Reply}
 use Rattle.plx_gate.specs.declared.image.ImageRecord.{ImageRecord}
 use Rattle.plx_rules.specs.Records.{is_live, generation_of, size_of, applied_of}
+use Rattle.plx_geom.specs.Geometry.{image_lease}
+use Rattle.plx_rules.specs.InUse.{InUse}
 use Rattle.plx_rules.specs.Settings.{Setting}
 use Rattle.plx_rules.specs.Stored.{IsWriteCount}
 use Rattle.law_run.specs.CommandLogs.{CommandLog}
@@ -23,7 +25,7 @@ use Rattle.plx_base.proofs.Tests.{clash}
 pub record Passed (s : Setting) (log : CommandLog) (n : ℕ) : Type 0 where
   pub sessions : 2 ≤ n → (image : ℕ) → needs log.command image ≡ true → is_attached log.before image ≡ true
   pub unattached : 3 ≤ n → (slot : SlotNo) → log.command ≡ Attach slot → is_attached log.before slot.0 ≡ false
-  pub in_time : 4 ≤ n → (image until reading : ℕ) → ¬ IsExpired s log image until reading
+  pub in_time : 4 ≤ n → (one : InUse) (reading : ℕ) → ¬ IsExpired s log one reading
   pub slots : 5 ≤ n → (slot : SlotNo) → log.command ≡ Attach slot → slot.0 < s.geometry.images
   pub images : 5 ≤ n → (image : ℕ) (kept : ImageRecord) → NeedsImage log.command image → record_known s.geometry log image ≡ Some kept → is_live kept ≡ true
   pub free : 6 ≤ n → (slot : SlotNo) (size : ℕ) (label : Label) (kept : ImageRecord) → log.command ≡ Create slot size label →
@@ -46,7 +48,7 @@ at-least n p not_below = elim (leb_tells n p) [ inl le ↦ le.1 | inr above ↦ 
 pub passed-at-most : (s : Setting) (log : CommandLog) (n p : ℕ) (other : Reply) → Passed s log n → Refuses s log p other → n ≤ p
 passed-at-most s log n p other h (not_attached image needed missing) = at-least n 1 (λ lt. clash (is_attached log.before image) (h.sessions lt image needed) missing)
 passed-at-most s log n p other h (already_attached slot is attached) = at-least n 2 (λ lt. clash (is_attached log.before slot.0) attached (h.unattached lt slot is))
-passed-at-most s log n p other h (expired {until = until} {reading = reading} slot is first) = at-least n 3 (λ lt. h.in_time lt slot.0 until reading is)
+passed-at-most s log n p other h (expired {until = until} {reading = reading} slot is first) = at-least n 3 (λ lt. h.in_time lt (record { lease = image_lease slot.0; until = until }) reading is)
 passed-at-most s log n p other h (no_slot slot is past) = at-least n 4 (λ lt. (let below = h.slots lt slot is in omega arith))
 passed-at-most s log n p other h (no_image image kept needed found missing) = at-least n 4 (λ lt. clash (is_live kept) (h.images lt image kept needed found) missing)
 passed-at-most s log n p other h (exists slot size label kept is found live) = at-least n 5 (λ lt. clash (is_live kept) live (h.free lt slot size label kept is found))

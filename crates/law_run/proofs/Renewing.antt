@@ -19,7 +19,7 @@ use Rattle.plx_geom.specs.Geometry.{lease_count, image_lease, lease_at}
 use Rattle.plx_rules.specs.Commands.{later_of, renewal, renew_part, attached_uses, command_part}
 use Rattle.plx_rules.specs.Ends.{ends, lost_part}
 use Rattle.plx_rules.specs.Holds.{Hold, Nothing, Seen, Wrote, Waited, Held, hold_after_renewal}
-use Rattle.plx_rules.specs.InUse.{InUse, lease_name, first_reached, unless_reached}
+use Rattle.plx_rules.specs.InUse.{InUse, IsNamedFirst, IsUse, lease_name, first_reached, unless_reached}
 use Rattle.plx_rules.specs.Session.{Session, Known, nothing_known}
 use Rattle.plx_rules.specs.Settings.{Setting}
 use Rattle.plx_rules.specs.Times.{term}
@@ -28,7 +28,7 @@ use Rattle.law_run.specs.Bounds.{one_held, count_held}
 use Rattle.law_run.specs.Causes.{MayFollow}
 use Rattle.law_run.specs.CommandLogs.{Exchange, Finished, IsIn, first_reading}
 use Rattle.law_run.specs.Holdings.{at_first, holds_along, holds_after, hold_by_log, claims_in}
-use Rattle.law_run.specs.Refusals.{IsExpired, IsNamedFirst, NamesBlock, of_read, of_write, NeedsImage, of_delete, of_block, expired}
+use Rattle.law_run.specs.Refusals.{IsExpired, NamesBlock, of_read, of_write, NeedsImage, of_delete, of_block, expired}
 use Rattle.law_run.specs.Replies.{refused}
 use Rattle.law_run.specs.Sessions.{is_attached}
 use Rattle.plx_rules.proofs.Holds.{later-below, later-least}
@@ -39,7 +39,8 @@ use Rattle.law_run.proofs.Limits.{Limited, is-limited}
 use Rattle.law_run.proofs.Meets.{exchange}
 use Rattle.law_run.proofs.OnImage.{passed-sessions, lease-name}
 use Rattle.law_run.proofs.Passed.{Passed, passed-at-most}
-use Rattle.law_run.proofs.Reached.{IsUse, NotAfter, IsFirstDue, TellsFirstDue, first-tells, OfSession, of-session, session-use}
+use Rattle.law_run.proofs.Reached.{OfSession, of-session, session-use}
+use Rattle.plx_rules.proofs.InUse.{IsFirstDue, TellsFirstDue, first-tells}
 use Rattle.law_run.proofs.Rests.{rests-by, rests-lost}
 use Rattle.law_run.proofs.Right.{clock, IsHeld, FitsAt, Rests, finish, log_on, May, Right}
 use Rattle.law_run.proofs.Runs.{HasFirst, along-more, start, hand_start}
@@ -56,7 +57,7 @@ no-image : (image : ℕ) → ¬ NeedsImage Renew image
 no-image image (of_delete other is same) = let P : ⊥ = cc in P
 no-image image (of_block vblock names) = no-block image vblock names
 
-renew-passed : (s : Setting) (before : List Finished) (done : List Exchange) → ((image until reading : ℕ) → ¬ IsExpired s (log_on before Renew done) image until reading) →
+renew-passed : (s : Setting) (before : List Finished) (done : List Exchange) → ((one : InUse) (reading : ℕ) → ¬ IsExpired s (log_on before Renew done) one reading) →
     Passed s (log_on before Renew done) 11
 renew-passed s before done early = record {
   sessions = λ lt image needed. absurd (let P : ⊥ = cc in P);
@@ -193,7 +194,7 @@ module _ (s : Setting) (before : List Finished) (known : Known) (reading : ℕ) 
       record {
         has = tt;
         first = first-more done x reading r.first;
-        begun = claims-more s.geometry done x r.has refl ∙ r.begun;
+        begun = claims-more s.geometry done x refl ∙ r.begun;
         went = (tt, r.went);
         follows = λ a. tt;
         later = λ l le. apart l (λ e. (let P : ⊥ = omega arith in P)) ∙ r.later l (omega arith);
@@ -244,7 +245,7 @@ module _ (s : Setting) (before : List Finished) (known : Known) (reading : ℕ) 
       by-hold (Held claim until) held rest =
           asks-write (May s before Renew) s before known Renew reading fine done lease until kind.Renew (lease_at lease) (lease_bytes (lease_is.Claimed claim (later_of until (reading + term))))
           (renew_part s known (start s before reading) reading left (lease + 1)) (renewals (start s before reading) left (lease + 1)) r.first
-          (let c = rests.claims in let b = r.begun in omega arith) (λ y e. claims-more s.geometry done y r.has (rw e refl)) (omega arith) refl
+          (let c = rests.claims in let b = r.begun in omega arith) (λ y e. claims-more s.geometry done y (rw e refl)) (omega arith) refl
           ((r.went, renewal_of_lease lease claim reading (omega arith) refl held r.first (renewal-limits s before done lease claim until reading small held) refl), r.follows _)
           (rest _ (one-renewal done lease claim until (omega arith) r held))
       by-hold Nothing held rest = rest done (none-held done lease r (λ claim until h. (let P : ⊥ = cc in P)))
@@ -262,12 +263,15 @@ module _ (s : Setting) (before : List Finished) (known : Known) (reading : ℕ) 
   attached-use image (Some session) is fits attached = (session, is, fits.1.within)
 
   -- an expired lease is one of those in use
-  expired-use : (done : List Exchange) (image until reading' : ℕ) → IsExpired s (log_on before Renew done) image until reading' →
-      IsUse (record { lease = image_lease image; until = until }) (attached_uses known (start s before reading) s.geometry.images 0)
-  expired-use done image until reading' is =
+  expired-use : (done : List Exchange) (one : InUse) (reading' : ℕ) → IsExpired s (log_on before Renew done) one reading' →
+      IsUse one (attached_uses known (start s before reading) s.geometry.images 0)
+  expired-use done one reading' is =
+      let image = is.image in
       let a = attached-use image (known.sessions image) refl (rests.sessions image) is.attached in
-      session-use known (start s before reading) s.geometry.images 0 image a.0 is.claim until (omega arith) (let w = a.2 in omega arith) a.1
-      (hold-after-first s before reading image is.claim until a.2 is.attached is.held)
+      let held : holds_after s.geometry before (lease_at (image_lease image)) ≡ Held is.claim one.until = ap (λ l. holds_after s.geometry before (lease_at l)) (sym is.is) ∙ is.held in
+      subst (λ l. IsUse (record { lease = l; until = one.until }) (attached_uses known (start s before reading) s.geometry.images 0)) (sym is.is)
+      (session-use known (start s before reading) s.geometry.images 0 image a.0 is.claim one.until (omega arith) (let w = a.2 in omega arith) a.1
+      (hold-after-first s before reading image is.claim one.until a.2 is.attached held))
 
   -- what the one to be named tells
   due-expired : (due : InUse) → IsFirstDue (attached_uses known (start s before reading) s.geometry.images 0) reading due → (left : ℕ) →
@@ -288,21 +292,17 @@ module _ (s : Setting) (before : List Finished) (known : Known) (reading : ℕ) 
           let slot : SlotNo = record { 0 = o.image } in
           subst (λ (n : LeaseName). Right s before Renew (clock reading ∷ []) (ends (reply.Lost n due.until reading) (nothing_known known.claims)) left) (sym name) (
             refused 3 (reading, refl)
-                (expired slot (record { used = refl; attached = fits.0; claim = h.0; held = held; first = refl; reached = f.past })
-                (λ other until' is. order o.image o.is other until' (f.first (record { lease = image_lease other; until = until' }) (expired-use (clock reading ∷ []) other until' reading is) is.reached)))
+                (expired slot (record { image = o.image; is = refl; used = refl; attached = fits.0; claim = h.0; held = held; first = refl; reached = f.past })
+                (λ other is. subst (λ l. IsNamedFirst (record { lease = l; until = due.until }) other) o.is (f.first other (expired-use (clock reading ∷ []) other reading is) is.reached)))
                 (λ p other refuses. passed-at-most s (log_on before Renew (clock reading ∷ [])) 3 p other
                 (passed-sessions s _ (λ image needed. absurd (let P : ⊥ = cc in P)) (λ n is. absurd (let P : ⊥ = cc in P))) refuses),
-            rests-lost s before Renew (clock reading ∷ []) (lease.Image slot) due.until reading known.claims refl (let c = rests.claims in omega arith),
+            rests-lost s before Renew (clock reading ∷ []) (lease.Image slot) due.until reading known.claims (let c = rests.claims in omega arith),
           )
-        where
-          order : (image : ℕ) → due.lease ≡ image_lease image → (other until' : ℕ) → NotAfter due (record { lease = image_lease other; until = until' }) → IsNamedFirst image due.until other until'
-          order image is other until' (inl less) = inl less
-          order image is other until' (inr same) = inr (same.0, (let l = same.1 in omega arith))
 
   -- a reading below the end of each lease in use
   fine-early : ((one : InUse) → IsUse one (attached_uses known (start s before reading) s.geometry.images 0) → reading < one.until) → IsFine s before Renew reading
-  fine-early early done first = renew-passed s before done (λ image until reading' is. (
-      let below = early (record { lease = image_lease image; until = until }) (expired-use done image until reading' is) in
+  fine-early early done first = renew-passed s before done (λ one reading' is. (
+      let below = early one (expired-use done one reading' is) in
       let e : Some reading ≡ Some reading' = sym first ∙ is.first in
       let same : reading ≡ reading' = cc in
       let past = is.reached in

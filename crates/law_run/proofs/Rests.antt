@@ -2,19 +2,17 @@
 use Rattle.std.proofs.Common.{◌≡◌, ◌≢◌, ℕ, ◌+◌, List, ◌∷◌, Bool, true, false, Option, Some, None, refl, ap, sym, subst, ◌∙◌, arith, inl, inr}
 use Rattle.std.proofs.lemmas.Bool.Decides.{eqb_tells}
 use Rattle.plx_base.specs.declared.lease.LeaseName.{LeaseName}
-use Rattle.plx_base.specs.declared.lease.LeaseName.TheVariants as lease
-use Rattle.plx_base.proofs.Tests.{and-no}
 use Rattle.plx_base.specs.declared.numbers.BlockNo.{BlockNo}
 use Rattle.plx_commands.specs.declared.command.Command.{Command}
 use Rattle.plx_commands.specs.declared.reply.Reply.{Reply}
 use Rattle.plx_commands.specs.declared.reply.Reply.TheVariants as reply
 use Rattle.plx_geom.specs.Geometry.{Geometry, image_lease, lease_at}
-use Rattle.plx_rules.specs.Holds.{Hold, Seen, holds_after_reply}
+use Rattle.plx_rules.specs.Holds.{Hold, holds_after_reply}
 use Rattle.plx_rules.specs.Session.{Session, Known, nothing_known}
 use Rattle.plx_rules.specs.Settings.{Setting}
 use Rattle.plx_rules.specs.Stored.{Given}
 use Rattle.law_run.specs.CommandLogs.{Exchange, Finished}
-use Rattle.law_run.specs.Holdings.{holds_along, holds_after, hold_by_log, last_found, is_clock, claims_in, is_map_found, lost_claim, claims_begun}
+use Rattle.law_run.specs.Holdings.{holds_along, holds_after, hold_by_log, claims_in, claims_begun}
 use Rattle.law_run.specs.KnownBytes.{nothing_given, given_after_command, given_after, known_from, known_in}
 use Rattle.law_run.specs.Sessions.{names, attached_by, is_attached}
 use Rattle.law_run.proofs.Holding.{Spared}
@@ -43,11 +41,6 @@ pub held-after : (s : Setting) (before : List Finished) (command : Command) (don
 held-after s before command done r lease keeps =
     ap (λ (h : ℕ → Hold). h (lease_at lease)) (keeps (holds_along s.geometry (is_attached before) (holds_after s.geometry before) done))
 
--- such a reply is of no claim that was lost
-keeps-none : (g : Geometry) (done : List Exchange) (r : Reply) → KeepsHolds r → lost_claim g r done ≡ 0
-keeps-none g done (reply.Lost lease until reading) keeps = absurd (let e = ap (λ (h : ℕ → Hold). h 0) (keeps (λ block. Seen 0)) in let P : ⊥ = cc in P)
-keeps-none g done r keeps = refl
-
 -- a command that leaves the sessions of all images but one
 pub rests-by : (s : Setting) (before : List Finished) (command : Command) (done : List Exchange) (r : Reply) (known next : Known) (image : ℕ) →
     ((other : ℕ) → other ≢ image → names command other ≡ false) → ((other : ℕ) → other ≢ image → next.sessions other ≡ known.sessions other) →
@@ -60,7 +53,7 @@ rests-by s before command done r known next image only same none keeps spared ow
     | inr apart ↦ subst (λ (o : Option Session). FitsAt s (finish command done r ∷ before) other o) (sym (same other apart.1))
         (by-other other (known.sessions other) apart.1 (rests.sessions other))
   ];
-  claims = (let none = keeps-none s.geometry done r keeps in omega arith);
+  claims = claims;
 }
   where
     by-other : (other : ℕ) (found : Option Session) → other ≢ image → FitsAt s before other found → FitsAt s (finish command done r ∷ before) other found
@@ -88,27 +81,9 @@ own-still s before command done r image (Some session) none keeps fits still hel
 
 -- after a loss nothing is known
 pub rests-lost : (s : Setting) (before : List Finished) (command : Command) (done : List Exchange) (lease : LeaseName) (until reading claims : ℕ) →
-    lost_claim s.geometry (reply.Lost lease until reading) done ≡ 0 → claims ≡ claims_in s.geometry done + claims_begun s.geometry before →
+    claims ≡ claims_in s.geometry done + claims_begun s.geometry before →
     Rests s (finish command done (reply.Lost lease until reading) ∷ before) (nothing_known claims)
-rests-lost s before command done lease until reading claims none is = record { sessions = λ image. refl; claims = omega arith }
-
--- nor after one at the first reading of a claim
-pub rests-lost-claim : (s : Setting) (before : List Finished) (command : Command) (done : List Exchange) (lease : LeaseName) (until reading claims : ℕ) →
-    lost_claim s.geometry (reply.Lost lease until reading) done ≡ 1 → claims ≡ 1 + claims_in s.geometry done + claims_begun s.geometry before →
-    Rests s (finish command done (reply.Lost lease until reading) ∷ before) (nothing_known claims)
-rests-lost-claim s before command done lease until reading claims one is = record { sessions = λ image. refl; claims = omega arith }
-
--- a loss at an answer that is no reading of the clock is of no such claim
-pub written-none : (g : Geometry) (lease : LeaseName) (until reading : ℕ) (x : Exchange) (done : List Exchange) → is_clock x.ask ≡ false → lost_claim g (reply.Lost lease until reading) (x ∷ done) ≡ 0
-written-none g (lease.Extent extent) until reading x done none = rw none refl
-written-none g lease.Root until reading x done none = refl
-written-none g (lease.Image slot) until reading x done none = refl
-
--- nor one where no map was found before
-pub unfound-none : (g : Geometry) (lease : LeaseName) (until reading : ℕ) (x : Exchange) (done : List Exchange) → is_map_found g (last_found done) ≡ false → lost_claim g (reply.Lost lease until reading) (x ∷ done) ≡ 0
-unfound-none g (lease.Extent extent) until reading x done none = let e = and-no (is_clock x.ask) (is_map_found g (last_found done)) none in rw e refl
-unfound-none g lease.Root until reading x done none = refl
-unfound-none g (lease.Image slot) until reading x done none = refl
+rests-lost s before command done lease until reading claims is = record { sessions = λ image. refl; claims = omega arith }
 
 pub rests-failed : (s : Setting) (before : List Finished) (command : Command) (done : List Exchange) (block : BlockNo) (claims : ℕ) →
     claims ≡ claims_in s.geometry done + claims_begun s.geometry before → Rests s (finish command done (reply.WriteFault block) ∷ before) (nothing_known claims)

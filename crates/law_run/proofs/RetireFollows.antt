@@ -61,7 +61,7 @@ module _ (s : Setting) (before : List Finished) (known : Known) where
   ends-both (Some due) reading part done n rest = tt
 
   map-found : (done : List Exchange) (extent until : ℕ) (blocks bytes : List ℕ) (found : Option (List Bool)) → read_map s.geometry.extent_blocks bytes ≡ found → (rest : Part End) (n : ℕ) →
-      FollowsCalm rest n → FollowsAll (read_of (map_at s.geometry extent) bytes ∷ done) (give_found s known extent until blocks found rest) (suc n)
+      FollowsCalm rest n → FollowsAll (read_of (map_at s.geometry extent) bytes ∷ done) (give_found s known [] extent until blocks found rest) (suc n)
   map-found done extent until blocks bytes None is rest n follows = (
     (λ outside. refl, no-attach s (log_on before Retire (read_of (map_at s.geometry extent) bytes ∷ done)) (λ slot is. (let P : ⊥ = cc in P))),
     λ reading small. ends-both (first_reached (extent_use s.geometry extent until ∷ []) reading) reading (ends (reply.Damaged (record { 0 = map_at s.geometry extent })) known) _ n tt,
@@ -70,13 +70,13 @@ module _ (s : Setting) (before : List Finished) (known : Known) where
       write-calm (extent_use s.geometry extent until) kind.Give (map_at s.geometry extent) _ rest n follows (read_of (map_at s.geometry extent) bytes ∷ done)
       (map-calm done extent bytes (λ none. (let e = sym is ∙ none in let P : ⊥ = cc in P)))
 
-  give-calm : (extent until : ℕ) (blocks : List ℕ) (rest : Part End) (n : ℕ) → FollowsCalm rest n → FollowsCalm (give_part s known extent until blocks rest) (suc (suc n))
+  give-calm : (extent until : ℕ) (blocks : List ℕ) (rest : Part End) (n : ℕ) → FollowsCalm rest n → FollowsCalm (give_part s known [] extent until blocks rest) (suc (suc n))
   give-calm extent until [] rest n follows done calm = more rest (suc n) (more rest n follows) done calm
   give-calm extent until (block ∷ blocks) rest n follows done calm =
       (calm _, λ bytes long. map-found done extent until (block ∷ blocks) bytes (read_map s.geometry.extent_blocks bytes) refl rest n follows, tt)
 
   module _ (holds : ℕ → Hold) (hand : List ℕ) where
-    extent-calm : (extent : ℕ) (hold : Hold) (rest : Part End) (n : ℕ) → FollowsCalm rest n → FollowsCalm (retire_extent s known hand extent hold rest) (suc (suc (suc n)))
+    extent-calm : (extent : ℕ) (hold : Hold) (rest : Part End) (n : ℕ) → FollowsCalm rest n → FollowsCalm (retire_extent s known [] hand extent hold rest) (suc (suc (suc n)))
     extent-calm extent (Held claim until) rest n follows =
         give-calm extent until (in_extent s.geometry extent hand) (release_then s known (extent_use s.geometry extent until) rest) (suc n)
         (write-calm (extent_use s.geometry extent until) kind.Release _ _ rest n follows)
@@ -85,10 +85,10 @@ module _ (s : Setting) (before : List Finished) (known : Known) where
     extent-calm extent (Wrote claim until) rest n follows = more rest (suc (suc n)) (more rest (suc n) (more rest n follows))
     extent-calm extent (Waited claim until) rest n follows = more rest (suc (suc n)) (more rest (suc n) (more rest n follows))
 
-    extents-calm : (left extent : ℕ) (rest : Part End) (n : ℕ) → FollowsCalm rest n → FollowsCalm (retire_extents s known holds hand left extent rest) (retire_asks left n)
+    extents-calm : (left extent : ℕ) (rest : Part End) (n : ℕ) → FollowsCalm rest n → FollowsCalm (retire_extents s known [] holds hand left extent rest) (retire_asks left n)
     extents-calm zero extent rest n follows = follows
     extents-calm (suc left) extent rest n follows =
-        extent-calm extent (holds (lease_at (extent_lease s.geometry extent))) (retire_extents s known holds hand left (extent + 1) rest) (retire_asks left n) (extents-calm left (extent + 1) rest n follows)
+        extent-calm extent (holds (lease_at (extent_lease s.geometry extent))) (retire_extents s known [] holds hand left (extent + 1) rest) (retire_asks left n) (extents-calm left (extent + 1) rest n follows)
 
     lease-calm : (lease : ℕ) (session : Option Session) (hold : Hold) (rest : Part End) (n : ℕ) → FollowsCalm rest n → FollowsCalm (retire_lease s known lease session hold rest) (suc n)
     lease-calm lease None (Held claim until) rest n follows = write-calm (record { lease = lease; until = until }) kind.Release _ _ rest n follows

@@ -6,6 +6,7 @@ use Rattle.plx_geom.proofs.Places.{extent-below}
 use Rattle.plx_geom.specs.Geometry.{IsGeometry, extent_lease}
 use Rattle.plx_rules.specs.Ends.{End}
 use Rattle.plx_rules.specs.Holds.{Hold}
+use Rattle.plx_rules.specs.InUse.{InUse}
 use Rattle.plx_rules.specs.Part.{Part, Ends, standing}
 use Rattle.plx_rules.specs.Rests.{extent_of}
 use Rattle.plx_rules.specs.Session.{Known}
@@ -27,7 +28,7 @@ use Rattle.law_run.proofs.OnHandEnds.{ends-shown}
 abbrev NoneSpared : ℕ → Type 0
 NoneSpared lease = ⊥
 
-module _ (s : Setting) (geometry : IsGeometry s.geometry) (log : CommandLog) (known : Known) (holds : ℕ → Hold) (hand : List ℕ) (follows : End) (may : MayBeginOnHand s log holds hand) where
+module _ (s : Setting) (geometry : IsGeometry s.geometry) (log : CommandLog) (known : Known) (uses : List InUse) (holds : ℕ → Hold) (hand : List ℕ) (follows : End) (may : MayBeginOnHand s log holds hand) where
   inside : (b : ℕ) → HasBlock (hand_by_log s log.before log.exchanges) b → extent_of s.geometry b < s.geometry.extents
   inside b has = may.inside b (subst (λ (l : List ℕ). HasBlock l b) (sym may.fresh) has)
 
@@ -47,16 +48,16 @@ module _ (s : Setting) (geometry : IsGeometry s.geometry) (log : CommandLog) (kn
     others = λ lease low. r.later lease (omega (arith, low)) (λ p. omega (arith, low, p.0));
   }
 
-  retire-meets : MeetsWork s log (IsOfOneExtent s.geometry) (ShowsOnHand s known follows (AreGivenUp s log)) log.exchanges (retire_work s known holds hand follows) (retire_bound s.geometry)
+  retire-meets : MeetsWork s log (IsOfOneExtent s.geometry) (ShowsOnHand s known uses follows (AreGivenUp s log)) log.exchanges (retire_work s known uses holds hand follows) (retire_bound s.geometry)
   retire-meets =
-      subst (λ n. MeetsWork s log (IsOfOneExtent s.geometry) (ShowsOnHand s known follows (AreGivenUp s log)) log.exchanges (retire_work s known holds hand follows) n)
+      subst (λ n. MeetsWork s log (IsOfOneExtent s.geometry) (ShowsOnHand s known uses follows (AreGivenUp s log)) log.exchanges (retire_work s known uses holds hand follows) n)
       (let e = retire-asks-are s.geometry.extents 0 in let e' : retire_asks s.geometry.extents 0 ≡ 3 * s.geometry.extents = omega arith in e')
-      (retires s log.before log.exchanges NoneSpared inside geometry.blocks_high log.command known
+      (retires s log.before log.exchanges NoneSpared inside geometry.blocks_high log.command uses known
       (λ done a bytes. MayAsk s (with_exchanges log done) a bytes × IsOfOneExtent s.geometry a)
-      (λ done end. ShowsOnHand s known follows (AreGivenUp s log) (with_exchanges log done) end)
+      (λ done end. ShowsOnHand s known uses follows (AreGivenUp s log) (with_exchanges log done) end)
       (λ b has. may.pool b (subst (λ (l : List ℕ). HasBlock l b) (sym may.fresh) has))
       (λ done a bytes may' place. (may', (place.0, place.1, inl place.2)))
-      (ends-shown s geometry log NoneSpared known follows (AreGivenUp s log))
+      (ends-shown s geometry log NoneSpared uses known follows (AreGivenUp s log))
       holds may.held hand may.fresh
       (λ done a bytes extent may' below place. (may', (extent, below, inr place)))
       s.geometry.extents 0 [] 0 (Ends follows) (omega arith)
@@ -65,13 +66,13 @@ module _ (s : Setting) (geometry : IsGeometry s.geometry) (log : CommandLog) (kn
       (λ own r. on_hand.done (given-up own r)))
 
 pub retires-keep-rules : RetiresKeepRules
-retires-keep-rules s log known holds hand follows geometry may =
-    meets-keeps s log (IsOfOneExtent s.geometry) (ShowsOnHand s known follows (AreGivenUp s log)) (retire_work s known holds hand follows) (retire_bound s.geometry)
-    (retire-meets s geometry log known holds hand follows may)
+retires-keep-rules s log known uses holds hand follows geometry may =
+    meets-keeps s log (IsOfOneExtent s.geometry) (ShowsOnHand s known uses follows (AreGivenUp s log)) (retire_work s known uses holds hand follows) (retire_bound s.geometry)
+    (retire-meets s geometry log known uses holds hand follows may)
 
 -- so does it by where it stands
 pub retire-ask : (rest : Part End) (ask : Ask) → Some ask ≡ standing rest → IsRetireAsk rest ask
-retire-ask rest ask stands s log known holds hand follows own geometry may leads = (retires-keep-rules s log known holds hand follows geometry may).asks leads ask (sym stands)
+retire-ask rest ask stands s log known uses holds hand follows own geometry may leads = (retires-keep-rules s log known uses holds hand follows geometry may).asks leads ask (sym stands)
 
 pub retire-end : (rest : Part End) (end : End) → rest ≡ Ends end → IsRetireEnd rest end
-retire-end rest end over s log known holds hand follows own geometry may leads = (retires-keep-rules s log known holds hand follows geometry may).ends leads end over
+retire-end rest end over s log known uses holds hand follows own geometry may leads = (retires-keep-rules s log known uses holds hand follows geometry may).ends leads end over

@@ -2,8 +2,6 @@
 use Rattle.std.proofs.Common.{◌≡◌, ◌≢◌, ℕ, zero, suc, ◌+◌, ◌*◌, ◌≤◌, ◌<◌, List, [], ◌∷◌, ◌++◌, Bool, true, false, Option, Some, None, refl, sym, subst, ◌∙◌, arith, inl, inr, ◌⊎◌}
 use Rattle.std.proofs.lemmas.Bool.Decides.{eqb_tells, leb_tells}
 use Rattle.plx_base.specs.declared.lease.Claim.{Claim}
-use Rattle.plx_base.specs.declared.lease.LeaseName.{LeaseName}
-use Rattle.plx_base.specs.declared.lease.LeaseName.TheVariants as lease
 use Rattle.plx_base.specs.declared.lease.LeaseRecord.TheVariants as lease_is
 use Rattle.plx_base.specs.declared.write_kind.WriteKind.TheVariants as kind
 use Rattle.plx_commands.specs.declared.command.Command.TheVariants.{Retire}
@@ -19,12 +17,13 @@ use Rattle.plx_rules.specs.Commands.{command_part}
 use Rattle.plx_rules.specs.Ends.{End, ends}
 use Rattle.plx_rules.specs.Holds.{Hold, Nothing, Seen, Wrote, Waited, Held}
 use Rattle.plx_rules.specs.Rests.{extent_of}
-use Rattle.plx_rules.specs.Session.{Session, Known, nothing_known}
+use Rattle.plx_rules.specs.InUse.{lease_name}
+use Rattle.plx_rules.specs.Session.{Session, Known}
 use Rattle.plx_rules.specs.Settings.{Setting}
 use Rattle.plx_rules.specs.Space.{retire_lease, retire_images, retire_part}
 use Rattle.law_run.specs.AllowedAsks.{release_of_lease}
 use Rattle.law_run.specs.CommandLogs.{Exchange, Finished, IsIn, first_reading}
-use Rattle.law_run.specs.Holdings.{hold_by_log, hand_by_log, is_lease_read, claims_in, claims_begun}
+use Rattle.law_run.specs.Holdings.{hold_by_log, hand_by_log, claims_in, claims_begun, begins_claim}
 use Rattle.law_run.specs.OnHand as on_hand
 use Rattle.law_run.specs.Replies.{in_map}
 use Rattle.law_run.specs.Rules.{AllKept}
@@ -32,16 +31,19 @@ use Rattle.law_run.specs.Sessions.{attached_by, is_attached}
 use Rattle.law_run.proofs.Asking.{replied-fine, asks-write, unwritten-shows, missed-shows}
 use Rattle.law_run.proofs.Hands.{HasBlock, none-has, held-is, hand-is-held, hand-in-extents}
 use Rattle.law_run.proofs.HandMaps.{hand-no-maps}
-use Rattle.law_run.proofs.Holding.{Spared, spared-more, hold-after-first, first-more, claims-more}
-use Rattle.law_run.proofs.Meets.{exchange, Meets, meets-more}
-use Rattle.law_run.proofs.OnExtent.{claims_at, retire-fine, extent-name, map-no-lease, bad-map, rests-still}
+use Rattle.law_run.proofs.Holding.{Spared, spared-more, hold-after-first, first-more, claims-more, reads-no-claim}
+use Rattle.law_run.proofs.Meets.{exchange, meets-more, Meets}
+use Rattle.law_run.proofs.OnExtent.{retire-fine, map-no-lease, bad-map, rests-still}
 use Rattle.law_run.proofs.GivingUp.{Endings, retire_asks, retire-asks-are, retires}
 use Rattle.law_run.proofs.OnHand.{Along, GivenBack, PastExtent, Retiring, no-claim, passed-over, released, retires-none, same-leases}
 use Rattle.law_run.proofs.OnHandEnds.{lost-comes, map-damaged}
 use Rattle.law_run.proofs.Following.{meets-two}
-use Rattle.law_run.proofs.Rests.{KeepsHolds, rests-lost, unfound-none}
+use Rattle.law_run.proofs.Rests.{KeepsHolds, rests-lost}
+use Rattle.law_run.specs.Uses as uses
+use Rattle.law_run.specs.Uses.{AreUsed, IsOfCommand}
+use Rattle.law_run.proofs.Uses.{claims_at}
+use Rattle.law_run.proofs.Right.{clock, read_of, FitsAt, Rests, finish, log_on, Shows, Right, MayByRules, MayByCauses}
 use Rattle.law_run.proofs.RetireFollows.{image_asks, retire-follows}
-use Rattle.law_run.proofs.Right.{clock, read_of, FitsAt, Rests, finish, log_on, MayByRules, MayByCauses, Shows, Right}
 use Rattle.law_run.proofs.Runs.{start, hand_start}
 use Rattle.plx_base.proofs.Tests.{clash}
 
@@ -78,8 +80,8 @@ module _ (s : Setting) (geometry : IsGeometry s.geometry) (before : List Finishe
   first : (own : List Exchange) → Along s before from Spares own → first_reading (own ++ from) ≡ Some reading
   first own a = a.first reading refl
 
-  claims : (own : List Exchange) (x : Exchange) → Along s before from Spares own → is_lease_read s.geometry x.ask ≡ false → known.claims ≡ claims_in s.geometry (x ∷ own ++ from) + claims_begun s.geometry before
-  claims own x a unread = let c = rests.claims in let m = claims-more s.geometry (own ++ from) x a.has unread in let b = a.begun in omega arith
+  claims : (own : List Exchange) (x : Exchange) → Along s before from Spares own → begins_claim s.geometry x.ask (own ++ from) ≡ false → known.claims ≡ claims_in s.geometry (x ∷ own ++ from) + claims_begun s.geometry before
+  claims own x a unread = let c = rests.claims in let m = claims-more s.geometry (own ++ from) x unread in let b = a.begun in omega arith
 
   leases-spared : (own : List Exchange) → Along s before from Spares own → Spared s before (own ++ from) s.geometry.images
   leases-spared own a other apart below attached held =
@@ -97,14 +99,22 @@ module _ (s : Setting) (geometry : IsGeometry s.geometry) (before : List Finishe
   unclaimed own x a none block guard bytes (inl here) = no-claim x none block guard bytes (sym here)
   unclaimed own x a none block guard bytes (inr there) = elim (a.unclaimed block guard bytes there) [ inl e ↦ no-claim (clock reading) refl block guard bytes (sym e) | inr nowhere ↦ nowhere ]
 
-  endings : Endings s before from Spares known (Shows s before Retire)
+  -- so it uses no lease
+  unused : (own : List Exchange) (x : Exchange) → Along s before from Spares own → claims_at x.ask ≡ false → AreUsed s (log_on before Retire (x ∷ own ++ from)) []
+  unused own x a none = record { sound = λ one there. absurd there; complete = λ one u. by-command one.lease u.of }
+    where
+      by-command : (l : ℕ) → ¬ IsOfCommand s (log_on before Retire (x ∷ own ++ from)) l
+      by-command l (uses.named image below named is) = let P : ⊥ = cc in P
+      by-command l (uses.claimed claim below was) = unclaimed own x a none (lease_at l) _ _ was
+
+  endings : Endings s before from Spares [] known (Shows s before Retire)
   endings = record {
     unread = λ own extent a below. (
         let x = exchange (ask.Read (record { 0 = map_at s.geometry extent })) [] answer.Fault in
         let r = reply.ReadFault (record { 0 = map_at s.geometry extent }) in (
           replied-fine s before Retire reading (retire-fine s before reading) (x ∷ own ++ from) (first-more (own ++ from) x reading (first own a)) r (own ++ from, refl),
           still (x ∷ own ++ from) r (λ other b. refl) (λ h. refl) (spared-more s before (own ++ from) x s.geometry.images a.has (λ other apart. tt) (leases-spared own a))
-              (claims own x a (map-no-lease s.geometry extent)),
+              (claims own x a (reads-no-claim s.geometry (map_at s.geometry extent) (own ++ from) (map-no-lease s.geometry extent))),
         ));
     unwritten = λ own k block until bytes a.
         unwritten-shows s before known Retire reading (retire-fine s before reading) (own ++ from) until k block bytes (first own a)
@@ -112,23 +122,21 @@ module _ (s : Setting) (geometry : IsGeometry s.geometry) (before : List Finishe
     missed = λ own k extent block until bytes last a below needs.
         missed-shows s before known Retire reading (retire-fine s before reading) (own ++ from) (extent_lease s.geometry extent) until k block bytes last (first own a)
         (claims own (exchange (ask.Write k (record { 0 = block }) until) bytes (answer.Missed last)) a refl) (extent-below s.geometry extent below) needs;
-    reached = λ own extent until last claim bytes a below none held past. (
+    reached = λ own extent until last claim bytes due a below none held found. (
         let own1 = read_of (map_at s.geometry extent) bytes ∷ own in
-        let done = clock last ∷ own1 ++ from in
-        subst (λ (name : LeaseName). Shows s before Retire done (record { reply = reply.Lost name until last; known = nothing_known known.claims })) (sym (extent-name s.geometry extent)) (
-          replied-fine s before Retire reading (retire-fine s before reading) done (first-more (own1 ++ from) (clock last) reading (first own1 a)) (reply.Lost (lease.Extent (record { 0 = extent })) until last)
-              (lost-comes s geometry (log_on before Retire done) (record { 0 = extent }) until last (unclaimed own1 (clock last) a refl)
-              (on_hand.reached claim bytes (own ++ from) below refl none held past)),
-          rests-lost s before Retire done (lease.Extent (record { 0 = extent })) until last known.claims
-              (unfound-none s.geometry (lease.Extent (record { 0 = extent })) until last (clock last) (own1 ++ from) (bad-map s.geometry (map_at s.geometry extent) bytes none)) (claims own1 (clock last) a refl),
+        let done = clock last ∷ own1 ++ from in (
+          replied-fine s before Retire reading (retire-fine s before reading) done (first-more (own1 ++ from) (clock last) reading (first own1 a)) (reply.Lost (lease_name s.geometry due.lease) due.until last)
+              (lost-comes s geometry (log_on before Retire done) [] due last (unused own1 (clock last) a refl)
+              (on_hand.reached extent until claim bytes (own ++ from) below refl none held found)),
+          rests-lost s before Retire done (lease_name s.geometry due.lease) due.until last known.claims (claims own1 (clock last) a (bad-map s.geometry (map_at s.geometry extent) bytes none)),
         ));
-    damaged = λ own extent until last claim bytes a below none held early. (
+    damaged = λ own extent until last claim bytes a below none held found. (
         let own1 = read_of (map_at s.geometry extent) bytes ∷ own in
         let done = clock last ∷ own1 ++ from in
         let r = reply.Damaged (record { 0 = map_at s.geometry extent }) in (
           replied-fine s before Retire reading (retire-fine s before reading) done (first-more (own1 ++ from) (clock last) reading (first own1 a)) r
-              (in_map (map-damaged s (log_on before Retire done) extent until last claim bytes (own ++ from) refl none held early)),
-          still done r (λ other b. refl) (λ h. refl) (spared-more s before (own1 ++ from) (clock last) s.geometry.images a.has (λ other apart. tt) (leases-spared own1 a)) (claims own1 (clock last) a refl),
+              (in_map (map-damaged s (log_on before Retire done) [] extent until last claim bytes (own ++ from) refl none held found)),
+          still done r (λ other b. refl) (λ h. refl) (spared-more s before (own1 ++ from) (clock last) s.geometry.images a.has (λ other apart. tt) (leases-spared own1 a)) (claims own1 (clock last) a (bad-map s.geometry (map_at s.geometry extent) bytes none)),
         ));
   }
 
@@ -158,7 +166,7 @@ module _ (s : Setting) (geometry : IsGeometry s.geometry) (before : List Finishe
       by-hold : (hold' : Hold) → hold_by_log s before (own ++ from) l ≡ hold' → MeetsRetiring own (retire_lease s known l None hold' rest) (suc n)
       by-hold (Held claim until) is =
           asks-write (MayByRules s before Retire) s before known Retire reading (retire-fine s before reading) (own ++ from) l until kind.Release (lease_at l) (lease_bytes lease_is.Free) rest n (first own r.along)
-          (let c = rests.claims in let b = r.along.begun in omega arith) (λ y e. claims-more s.geometry (own ++ from) y r.along.has (rw e refl)) below refl
+          (let c = rests.claims in let b = r.along.begun in omega arith) (λ y e. claims-more s.geometry (own ++ from) y (rw e refl)) below refl
           (r.along.went, release_of_lease l claim below refl is refl)
           (right _ (released s before from Spares within P Q K own l until r wider split here
           (λ image less spare e. free spare.0 (attached-below spare.0 spare.2) spare.2 (sym spare.1 ∙ e))))
@@ -226,7 +234,7 @@ module _ (s : Setting) (geometry : IsGeometry s.geometry) (before : List Finishe
 
   allowed-retire : Meets (MayByRules s before Retire) (Shows s before Retire) from (retire_part s known (start s before reading) (hand_start s before reading)) (retire_asks s.geometry.extents (image_asks s.geometry.images 1))
   allowed-retire =
-      retires s before from Spares within geometry.blocks_high Retire known (MayByRules s before Retire) (Shows s before Retire) (hand-no-maps s before Retire from older ((tt, tt), tt)) (λ done a bytes may place. may) endings
+      retires s before from Spares within geometry.blocks_high Retire [] known (MayByRules s before Retire) (Shows s before Retire) (hand-no-maps s before Retire from older ((tt, tt), tt)) (λ done a bytes may place. may) endings
       (start s before reading) (λ extent below. refl) (hand_start s before reading) refl (λ done a bytes extent may below place. may)
       s.geometry.extents 0 [] (image_asks s.geometry.images 1) _ (omega arith)
       (retires-none s before from Spares within tt (tt, tt) (PastExtent s 0) (GivenBack 0) (λ l below p. omega (arith, p.0, p.1)) (λ e k. omega (arith, k)))

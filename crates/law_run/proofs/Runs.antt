@@ -2,6 +2,7 @@
 use Rattle.std.proofs.Common.{◌≡◌, ℕ, suc, ◌+◌, ◌-◌, ◌^◌, ◌≤◌, ◌<◌, List, [], ◌∷◌, length, Bool, true, false, Option, Some, None, refl, ap, sym, subst, ◌∙◌, arith}
 use Rattle.std.specs.Prelude.{is_some, if◌then◌else◌, nat_le, nat_lt, ◌&&◌}
 use Rattle.plx_commands.specs.declared.command.Command.{Command}
+use Rattle.plx_commands.specs.declared.command.Command.TheVariants.{Attach, Detach, Create, Delete, Read, Write, Flush, Reserve, Renew, Retire, Reclaim}
 use Rattle.plx_disk.specs.declared.ask.Ask.{Ask}
 use Rattle.plx_disk.specs.declared.ask.Ask.TheVariants as ask
 use Rattle.plx_disk.specs.declared.ask.Answer.{Answer}
@@ -17,9 +18,9 @@ use Rattle.plx_rules.specs.Holds.{Hold, Nothing, Seen, Wrote, Waited, Held, afte
 use Rattle.plx_rules.specs.Session.{Session, Known}
 use Rattle.plx_rules.specs.Settings.{Setting}
 use Rattle.law_run.specs.AllowedAsks.{WentOn, MayAsk}
-use Rattle.law_run.specs.Bounds.{bound}
+use Rattle.law_run.specs.Bounds.{bound, bound_of}
 use Rattle.law_run.specs.Causes.{MayGoOnWith, MayFollow, AllFollow}
-use Rattle.law_run.specs.CommandLogs.{Exchange, Finished, CommandLog, Commands, Between, Within, commands_after_start, commands_after_exchange, commands}
+use Rattle.law_run.specs.CommandLogs.{Exchange, Finished, CommandLog, Commands, Between, Within, commands_after_start, commands_after_exchange, commands, with_exchange}
 use Rattle.law_run.specs.Holdings.{at_first, after_first_answer, holds_along, holds_after, last_found, hand_told, hand_along, hand_after, hand_by_log, filled_told, filled_along, filled_by_log}
 use Rattle.law_run.specs.Positions.{known_at, IsByCommands, PositionsAgree}
 use Rattle.law_run.specs.Rules.{AllAllowed, AllKept, KeepsRules, IsSetting, RunsKeepRules}
@@ -38,7 +39,7 @@ hand_start s before reading = hand_by_log s before (clock reading ∷ [])
 -- a command that begins after these commands keeps the rules from its first reading on
 abbrev pub BeginsRight : Setting → Type 0
 BeginsRight s = (before : List Finished) (known : Known) (command : Command) (reading : ℕ) → IsWellFormed command → IsBuilt command → AllKept s before → Rests s before known → reading < 2 ^ 48 →
-    (left : ℕ) × (1 + left ≤ bound s before command)
+    (left : ℕ) × (1 + left ≤ bound_of s before command (clock reading ∷ []))
     × Right s before command (clock reading ∷ []) (command_part s known (start s before reading) (hand_start s before reading) reading command) left
 
 -- ---- the first reading
@@ -109,7 +110,7 @@ pub record RunsWithRest (s : Setting) (log : CommandLog) (part : Part End) : Typ
   pub at_once : AllFollow s log.before log.command log.exchanges
   pub left : ℕ
   pub right : Right s log.before log.command log.exchanges part left
-  pub bounded : length log.exchanges + left ≤ bound s log.before log.command
+  pub bounded : length log.exchanges + left ≤ bound s log
 
 -- a command has begun
 pub record Begun (s : Setting) (known : Known) (command : Command) (log : CommandLog) : Type 0 where
@@ -135,14 +136,28 @@ Agree s holds hand filled sample found place commands = ⊥
 abbrev pub AgreeAt : Setting → Position → Commands → Type 0
 AgreeAt s p commands = Agree s p.holds p.hand p.filled p.sample p.found p.place commands
 
+-- what a command meets lowers its bound by nothing
+bound-grows : (s : Setting) (before : List Finished) (command : Command) (x : Exchange) (done : List Exchange) → bound_of s before command done ≤ bound_of s before command (x ∷ done)
+bound-grows s before (Attach slot) x done = omega arith
+bound-grows s before (Detach slot) x done = omega arith
+bound-grows s before (Create slot size label) x done = omega arith
+bound-grows s before (Delete slot) x done = omega arith
+bound-grows s before (Read slot vblock) x done = omega arith
+bound-grows s before (Write slot vblock payload) x done = omega arith
+bound-grows s before (Flush slot) x done = omega arith
+bound-grows s before (Reserve count) x done = omega arith
+bound-grows s before Renew x done = omega arith
+bound-grows s before Retire x done = omega arith
+bound-grows s before Reclaim x done = omega arith
+
 -- an answered ask is one more exchange
 along : (s : Setting) (log : CommandLog) (x : Exchange) (known : Known) (command : Command) (holds : ℕ → Hold) (hand : List ℕ) (filled : List (ℕ × List ℕ)) (part : Part End) (left : ℕ) → AllKept s log.before → Rests s log.before known →
     AllAllowed s log.before log.command log.exchanges → AllFollow s log.before log.command log.exchanges → MayAsk s log x.ask x.bytes × MayFollow s log x.ask → Right s log.before log.command (x ∷ log.exchanges) part left →
-    length log.exchanges + suc left ≤ bound s log.before log.command →
+    length log.exchanges + suc left ≤ bound s (with_exchange x log) →
     holds ≡ holds_along s.geometry (is_attached log.before) (holds_after s.geometry log.before) (x ∷ log.exchanges) →
     hand ≡ hand_told s.geometry (is_attached log.before) (holds_after s.geometry log.before) (hand_after s.geometry log.before) (x ∷ log.exchanges) →
     filled ≡ filled_told s.geometry (is_attached log.before) (holds_after s.geometry log.before) (x ∷ log.exchanges) →
-    AgreeAt s (goes_to s.geometry known command holds hand filled (sample_of x.answer) (found_by x.ask x.answer) part) (commands_after_exchange x (reply_of part) (Within log))
+    AgreeAt s (goes_to s.geometry known command holds hand filled (sample_of x.answer) (found_by x.ask x.answer) 0 part) (commands_after_exchange x (reply_of part) (Within log))
 along s log x known command holds hand filled (Ends end) left older rests allowed at_once may right bounded same told fills =
     ((record { allowed = (may.0, allowed); at_once = (may.1, at_once); replied = right.0; bounded = omega arith }, older), right.1, ap (holds_after_reply end.reply) same, λ i. hand_held s.geometry (holds_after_reply end.reply (same i)) (told i))
 along s log x known command holds hand filled (ReadThen block rest fault) left older rests allowed at_once may right bounded same told fills =
@@ -157,13 +172,14 @@ along s log x known command holds hand filled (UntilThen from rest) left older r
 -- what follows the answer to the ask that stands
 follows : (s : Setting) (log : CommandLog) (known : Known) (command : Command) (holds : ℕ → Hold) (hand : List ℕ) (filled : List (ℕ × List ℕ)) (sample : Option ℕ) (found : Option (ℕ × List ℕ)) (part : Part End) (a : Ask) (x : Answer) →
     Agree s holds hand filled sample found (In known command part) (Within log) → standing part ≡ Some a → Fits a x →
-    AgreeAt s (goes_to s.geometry known command (after_answer sample a (bytes_out part) x holds) (hand_left a filled (hand_answered s.geometry found a (bytes_out part) x hand)) (filled_answered a (bytes_out part) x filled) (sample_of x) (found_by a x) (answered part x))
+    AgreeAt s (goes_to s.geometry known command (after_answer sample a (bytes_out part) x holds) (hand_left a filled (hand_answered s.geometry found a (bytes_out part) x hand)) (filled_answered a (bytes_out part) x filled) (sample_of x) (found_by a x) 0 (answered part x))
     (commands_after_exchange (exchange a (bytes_out part) x) (reply_of (answered part x)) (Within log))
 follows s log known command holds hand filled sample found part a x agree stands fits =
     let r = agree.0 in
     let next = meets-next (May s log.before log.command) (Shows s log.before log.command) part log.exchanges a r.left r.right stands in
     along s log (exchange a (bytes_out part) x) known command (after_answer sample a (bytes_out part) x holds) (hand_left a filled (hand_answered s.geometry found a (bytes_out part) x hand)) (filled_answered a (bytes_out part) x filled) (answered part x) next.left r.older agree.4 r.allowed r.at_once next.allowed
-    (next.follows x fits) (let within = r.bounded in let fewer = next.fewer in omega arith)
+    (next.follows x fits)
+    (let within = r.bounded in let fewer = next.fewer in let grows = bound-grows s log.before log.command (exchange a (bytes_out part) x) log.exchanges in omega arith)
     (ap (λ h. after_answer sample a (bytes_out part) x h) agree.1
     ∙ (ap (λ o. after_answer o a (bytes_out part) x (held_in s log)) agree.2
     ∙ sym (along-more s.geometry (is_attached log.before) (holds_after s.geometry log.before) (exchange a (bytes_out part) x) log.exchanges agree.3)))
@@ -175,7 +191,7 @@ follows s log known command holds hand filled sample found part a x agree stands
 -- where the first reading of a command leads
 abbrev first_at : Setting → CommandLog → Known → Command → (reading : ℕ) → (ℕ → Hold) → List ℕ → Type 0
 first_at s log known command reading holds hand =
-    AgreeAt s (goes_to s.geometry known command holds hand [] (Some reading) None (command_part s known holds (hand_held s.geometry holds hand) reading command))
+    AgreeAt s (goes_to s.geometry known command holds hand [] (Some reading) None reading (command_part s known holds (hand_held s.geometry holds hand) reading command))
     (commands_after_exchange (clock reading) (reply_of (command_part s known holds (hand_held s.geometry holds hand) reading command)) (Within log))
 
 -- the first reading of a command
@@ -192,7 +208,8 @@ right-at-first s right log known command holds hand reading b same in_hand small
     let R : Command → List Exchange → Type 0 = λ c done. Right s log.before c (clock reading ∷ done) part next.0 in
     let moved : R log.command log.exchanges = subst (λ c. R c log.exchanges) (sym b.is) (subst (λ done. R command done) (sym b.none_yet) next.2) in
     let size : length log.exchanges ≡ 0 = ap (λ (d : List Exchange). length d) b.none_yet in
-    let limit : bound s log.before log.command ≡ bound s log.before command = ap (bound s log.before) b.is in
+    let limit : bound_of s log.before log.command (clock reading ∷ log.exchanges) ≡ bound_of s log.before command (clock reading ∷ []) =
+    (λ i. bound_of s log.before (b.is i) (clock reading ∷ b.none_yet i)) in
     subst (λ (h : ℕ → Hold). first_at s log known command reading h hand) (sym here)
     (subst (λ (k : List ℕ). first_at s log known command reading (start s log.before reading) k) (sym in_hand)
     (along s log (clock reading) known command (start s log.before reading) (hand_after s.geometry log.before) [] part next.0 b.older b.rests
@@ -245,7 +262,7 @@ agrees s right log (boot.goes_on {log = older} {ask = a} {bytes = bytes} {answer
     let p = position s older in
     goes-on s right p p.place (commands s older) a bytes x (agrees s right older run) stands writes fits
 
-keeps-rules : (s : Setting) (holds : ℕ → Hold) (hand : List ℕ) (filled : List (ℕ × List ℕ)) (sample : Option ℕ) (found : Option (ℕ × List ℕ)) (here : Place) (so_far : Commands) → ((log : CommandLog) → so_far ≡ Within log → 1 ≤ bound s log.before log.command) →
+keeps-rules : (s : Setting) (holds : ℕ → Hold) (hand : List ℕ) (filled : List (ℕ × List ℕ)) (sample : Option ℕ) (found : Option (ℕ × List ℕ)) (here : Place) (so_far : Commands) → ((log : CommandLog) → so_far ≡ Within log → 1 ≤ bound s log) →
     Agree s holds hand filled sample found here so_far → KeepsRules s so_far (asks here) (writes_out here)
 keeps-rules s holds hand filled sample found (Idle known) (Between before) least agree = agree.0
 keeps-rules s holds hand filled sample found (Idle known) (Within log) least agree = absurd agree
@@ -273,10 +290,10 @@ keeps-rules s holds hand filled sample found (In known command part) (Within log
     }
 
 -- each run keeps the rules, where each command that begins does
-pub runs-keep : ((s : Setting) → IsSetting s → BeginsRight s) → ((s : Setting) (before : List Finished) (command : Command) → 1 ≤ bound s before command) → RunsKeepRules
+pub runs-keep : ((s : Setting) → IsSetting s → BeginsRight s) → ((s : Setting) (log : CommandLog) → 1 ≤ bound s log) → RunsKeepRules
 runs-keep right least s log setting run =
     let p = position s log in
-    keeps-rules s p.holds p.hand p.filled p.sample p.found p.place (commands s log) (λ l e. least s l.before l.command) (agrees s (right s setting) log run)
+    keeps-rules s p.holds p.hand p.filled p.sample p.found p.place (commands s log) (λ l e. least s l) (agrees s (right s setting) log run)
 
 -- ---- leases and sessions
 

@@ -5,7 +5,6 @@ use Rattle.std.specs.Str.{bytes_eq}
 use Rattle.std.proofs.lemmas.Bool.Decides.{eqb_tells}
 use Rattle.std.proofs.lemmas.Slice.Eq.{bytes_eq-Decides}
 use Rattle.plx_base.specs.declared.lease.Claim.{Claim}
-use Rattle.plx_base.specs.declared.lease.LeaseName.TheVariants as lease
 use Rattle.plx_base.specs.declared.lease.LeaseRecord.{LeaseRecord}
 use Rattle.plx_base.specs.declared.write_kind.WriteKind.TheVariants as kind
 use Rattle.plx_commands.proofs.Places.{at-same}
@@ -23,7 +22,7 @@ use Rattle.plx_rules.specs.Claims.{ClaimEnd, ClaimLost, ClaimDamaged, claim_of, 
 use Rattle.plx_rules.specs.Ends.{End, ends, lost_part}
 use Rattle.plx_rules.specs.Hands.{is_held}
 use Rattle.plx_rules.specs.Holds.{Hold, Nothing, Seen, Wrote, Waited, Held, seen_by, hold_after_read, hold_after_reading, hold_after_reread}
-use Rattle.plx_rules.specs.InUse.{InUse, first_reached, unless_reached}
+use Rattle.plx_rules.specs.InUse.{InUse, IsUse, first_reached, unless_reached}
 use Rattle.plx_rules.specs.Session.{Known, with_claim}
 use Rattle.plx_rules.specs.Settings.{Setting}
 use Rattle.plx_rules.specs.Space.{Taking, with_claim_begun, with_claimed, with_busy, first_busy, extent_use, read_map, after_extent_claim}
@@ -31,28 +30,29 @@ use Rattle.plx_rules.specs.Times.{window, wait, term, is_expired}
 use Rattle.law_lease.proofs.LawfulCommands.{IsRest}
 use Rattle.law_run.specs.AllowedAsks.{claim_of_lease}
 use Rattle.law_run.specs.Busy.{IsBusy, unexpired, taken}
-use Rattle.law_run.specs.CommandLogs.{Exchange, CommandLog, IsIn, older_than}
+use Rattle.law_run.specs.CommandLogs.{Exchange, CommandLog, older_than}
 use Rattle.law_run.specs.Holdings as holdings
-use Rattle.law_run.specs.Holdings.{holds_along, holds_after, hold_by_log, last_found, is_clock, IsUntil, claims_in, lost_claim, claims_begun}
+use Rattle.law_run.specs.Holdings.{holds_along, holds_after, hold_by_log, last_found, is_clock, IsUntil, claims_in, claims_begun}
 use Rattle.law_run.specs.Machines.{with_work}
 use Rattle.law_run.specs.Replies.{IsLastReading, of_clock, of_wait, of_claim}
 use Rattle.law_run.specs.Sessions.{is_attached}
-use Rattle.law_run.specs.Space.{IsExtentInUse, going, unread, rested}
+use Rattle.law_run.specs.Uses as uses
+use Rattle.law_run.specs.Uses.{IsInUse, IsOfCommand, IsUsed}
 use Rattle.law_run.specs.Takes as takes
 use Rattle.law_run.specs.Takes.{HoldsOthers}
 use Rattle.law_run.proofs.Asking.{one-until}
-use Rattle.law_run.proofs.Beside.{IsOfClaim, after_work, Beside, beside-none, beside-more, bytes_found, unread-unbusy, sight-unbusy, reread-unbusy}
+use Rattle.law_run.proofs.Beside.{IsOfClaim, after_work, Beside, beside-none, beside-more, unread-unbusy, sight-unbusy, reread-unbusy}
 use Rattle.law_run.proofs.ClaimRules.{bytes-other}
 use Rattle.law_run.proofs.ClaimSteps.{read_of_lease, claim_write, claim_wait, after_sight, after_claiming, after_waiting, after_rereading, counts-sight, counts-claiming, counts-waiting, counts-rereading, own-limits, own-back, held-claiming, held-waiting, held-rereading}
 use Rattle.law_run.proofs.Holding.{claims-more}
-use Rattle.law_run.proofs.OnExtent.{block_second, no-map, map-is-found}
-use Rattle.law_run.proofs.Reached.{IsUse, TellsFirstDue, first-tells}
-use Rattle.law_run.proofs.Rests.{written-none, unfound-none}
+use Rattle.law_run.proofs.OnExtent.{map-is-found}
+use Rattle.law_run.proofs.Uses.{block_second, bytes_found, no-map, used-within}
+use Rattle.plx_rules.proofs.InUse.{TellsFirstDue, first-tells}
 use Rattle.law_run.proofs.Right.{clock, read_of}
 use Rattle.law_run.proofs.Runs.{along-more}
 use Rattle.law_run.proofs.Spelled.{lease-rest}
+use Rattle.law_run.proofs.Taking.{WorkRules, BusyIs, HasTaken, some-blocks, busy-more, Keeping, refuses, write-missed, write-failed, lost-reading, MeetsTaking, more, right-here, extended}
 use Rattle.law_run.proofs.TakeFollows.{Calm, nothing-outside, map-in-format, map-goes-on, lease-goes-on}
-use Rattle.law_run.proofs.Taking.{WorkRules, claim_done, Claimed, BusyIs, HasTaken, some-blocks, busy-more, Keeping, refuses, write-missed, write-failed, claimed-use, lost-reading, MeetsTaking, more, right-here, extended}
 use Rattle.plx_base.proofs.Tests.{clash}
 use Rattle.law_run.proofs.Claiming.{nothing-used}
 
@@ -130,40 +130,52 @@ module _ (s : Setting) (geometry : IsGeometry s.geometry) (small : s.boot < 2 ^ 
     beside-next : (done : List Exchange) (x : Exchange) → IsOfClaim own_lease x.ask x.answer → BesideSo done → BesideSo (x ∷ done)
     beside-next done x of b = beside-more s first own_lease d0 done x r.has lease-within unheld of b
 
-    -- a lease that the take claimed before is claimed still
-    claimed-still : (done : List Exchange) (one : InUse) → BesideSo done → Claimed s geometry first holds known count work d0 one → Claimed s geometry first holds known count work done one
-    claimed-still done one b c = record {
-      extent = c.extent;
-      below = c.below;
-      is = c.is;
-      claim = c.claim;
-      wrote = b.older (claim_done (extent_lease s.geometry c.extent) c.claim) c.wrote;
-      held = b.others (extent_lease s.geometry c.extent) apart (subst IsRest (sym c.held) tt) ∙ c.held;
+    -- a lease that was used before is another one than that which is claimed
+    used-apart : (one : InUse) → IsUsed s (log d0) one → one.lease ≢ own_lease
+    used-apart one u same = nothing-used one.until _ (ap (hold_by_log s first.before (after_work first d0)) same ∙ nothing) u.until
+
+    -- and what is held of it is as before
+    held-still : (done : List Exchange) (l : ℕ) → BesideSo done → l < lease_count s.geometry → l ≢ own_lease →
+        hold_by_log s first.before (after_work first done) l ≡ hold_by_log s first.before (after_work first d0) l
+    held-still done l b less apart = b.others l apart (r.at_rest l less)
+
+    -- it is used still
+    used-still : (done : List Exchange) (one : InUse) → BesideSo done → IsUsed s (log d0) one → IsUsed s (log done) one
+    used-still done one b u = record {
+      of = by-command u.of;
+      until = subst (IsUntil one.until) (sym (held-still done one.lease b (used-within s (log d0) one.lease u.of) (used-apart one u))) u.until;
     }
       where
-        apart : extent_lease s.geometry c.extent ≢ own_lease
-        apart same = let e' : Nothing ≡ Held c.claim one.until = sym nothing ∙ (ap (hold_by_log s first.before (after_work first d0)) (sym same) ∙ c.held) in let P : ⊥ = cc in P
+        by-command : IsOfCommand s (log d0) one.lease → IsOfCommand s (log done) one.lease
+        by-command (uses.named image below' named is) = uses.named image below' named is
+        by-command (uses.claimed claim below' was) = uses.claimed claim below' (b.still _ was)
 
-    -- what goes on beside is among what was claimed
-    all-still : (done : List Exchange) (e' until : ℕ) (claim : Claim) → BesideSo done → e' < s.geometry.extents → e' ≢ e → IsIn (claim_done (extent_lease s.geometry e') claim) done →
-        IsUntil until (hold_by_log s first.before (after_work first done) (extent_lease s.geometry e')) → IsUse (extent_use s.geometry e' until) t.claimed
-    all-still done e' until claim b below' apart is_in until_is =
-        let l = extent_lease s.geometry e' in
-        let ne : l ≢ own_lease = λ same. apart (extent-extent s.geometry e' e same) in
-        r.all e' until claim below' (b.claims l _ _ ne is_in) (subst (IsUntil until) (b.others l ne (r.at_rest l (extent-below s.geometry e' below'))) until_is)
+    -- a lease that is used beside it was used before
+    used-before : (done : List Exchange) (one : InUse) → BesideSo done → one.lease ≢ own_lease → IsUsed s (log done) one → IsUsed s (log d0) one
+    used-before done one b apart u = record {
+      of = by-command u.of;
+      until = subst (IsUntil one.until) (held-still done one.lease b (used-within s (log done) one.lease u.of) apart) u.until;
+    }
+      where
+        by-command : IsOfCommand s (log done) one.lease → IsOfCommand s (log d0) one.lease
+        by-command (uses.named image below' named is) = uses.named image below' named is
+        by-command (uses.claimed claim below' was) = uses.claimed claim below' (b.claims one.lease _ _ apart was)
+
+    all-still : (done : List Exchange) (one : InUse) → BesideSo done → one.lease ≢ own_lease → IsUsed s (log done) one → IsUse one t.uses
+    all-still done one b apart u = r.used.complete one (used-before done one b apart u)
 
     -- the leases that are no extent's are held as before
     others-still : (done : List Exchange) → BesideSo done → HoldsOthers s first (log done)
     others-still done b l less apart = b.others l (apart e below) (r.at_rest l less) ∙ r.others l less apart
 
     -- the take stands after the claim
-    after-claim : (done : List Exchange) (uses : List InUse) (b : Option (ℕ × LeaseRecord)) → BesideSo done → claims_in s.geometry (after_work first done) ≡ 1 + claims_in s.geometry (after_work first d0) →
+    after-claim : (done : List Exchange) (uses' : List InUse) (b : Option (ℕ × LeaseRecord)) → BesideSo done → claims_in s.geometry (after_work first done) ≡ 1 + claims_in s.geometry (after_work first d0) →
         IsRest (hold_by_log s first.before (after_work first done) own_lease) → BusyIs s geometry first holds known count work b done → (b ≡ None → t.busy ≡ None) →
-        ((one : InUse) → IsUse one uses → Claimed s geometry first holds known count work done one) →
-        ((until : ℕ) (claim : Claim) → IsIn (claim_done own_lease claim) done → IsUntil until (hold_by_log s first.before (after_work first done) own_lease) → IsUse (extent_use s.geometry e until) uses) →
-        ((one : InUse) → IsUse one t.claimed → IsUse one uses) →
-        TakenSo M (e + 1) done (record { known = with_claim t.known; claimed = uses; hand = t.hand; busy = b })
-    after-claim done uses b bes begun rest busy unbusy claimed own wider = record {
+        ((one : InUse) → IsUse one uses' → IsUsed s (log done) one) →
+        ((one : InUse) → one.lease ≡ own_lease → IsUsed s (log done) one → IsUse one uses') →
+        ((one : InUse) → IsUse one t.uses → IsUse one uses') →
+        TakenSo M (e + 1) done (record { known = with_claim t.known; uses = uses'; hand = t.hand; busy = b })
+    after-claim done uses' b bes begun rest busy unbusy sound own wider = record {
       has = bes.has;
       went = bes.went r.went;
       claims = (let c = r.claims in omega (arith, begun));
@@ -175,13 +187,13 @@ module _ (s : Setting) (geometry : IsGeometry s.geometry) (small : s.boot < 2 ^ 
       others = others-still done bes;
       hand = bes.hand ∙ r.hand;
       within = r.within;
-      claimed = claimed;
-      all = λ e' until claim below' is_in until_is. elim (eqb_tells e' e) [
-        | inl same ↦
-            subst (λ n. IsUse (extent_use s.geometry n until) uses) (sym same.1)
-            (own until claim (subst (λ n. IsIn (claim_done (extent_lease s.geometry n) claim) done) same.1 is_in) (subst (λ n. IsUntil until (hold_by_log s first.before (after_work first done) (extent_lease s.geometry n))) same.1 until_is))
-        | inr apart ↦ wider (extent_use s.geometry e' until) (all-still done e' until claim bes below' apart.1 is_in until_is)
-      ];
+      used = record {
+        sound = sound;
+        complete = λ one u. elim (eqb_tells one.lease own_lease) [
+          | inl same ↦ own one same.1 u
+          | inr apart ↦ wider one (all-still done one bes apart.1 u)
+        ];
+      };
       busy = busy;
       later = λ e' past less. (
           let l = extent_lease s.geometry e' in
@@ -261,23 +273,20 @@ module _ (s : Setting) (geometry : IsGeometry s.geometry) (small : s.boot < 2 ^ 
           let x = read_of_lease own_lease answer.Fault in
           refuses s geometry first holds known count work (x ∷ done) (with_claim t.known) (reply.ReadFault (record { 0 = lease_at own_lease })) n r.sessions (counted (x ∷ done) begun)
           (λ l less apart. ap (λ (h : ℕ → Hold). h (lease_at l)) (along-more s.geometry (is_attached first.before) (holds_after s.geometry first.before) x (after_work first done) b.has) ∙ others-still done b l less apart)
-          (takes.unread (record { 0 = lease_at own_lease }) (done, refl))
+          (takes.unread (record { 0 = lease_at own_lease }) (after_work first done, refl))
 
       -- a reading has reached leases in use
-      lost-counted : (done : List Exchange) (last : ℕ) (uses : List InUse) (due : InUse) (n : ℕ) → BesideSo done → claims_in s.geometry (after_work first done) ≡ 1 + claims_in s.geometry (after_work first d0) →
-          IsLastReading done last → ((e' : ℕ) → lost_claim s.geometry (reply.Lost (lease.Extent (record { 0 = e' })) due.until last) (after_work first done) ≡ 0) →
-          ((one : InUse) → IsUse one uses → (e' : ℕ) × (one.lease ≡ extent_lease s.geometry e') × IsExtentInUse s (log done) done e' one.until) →
-          ((e' until : ℕ) → IsExtentInUse s (log done) done e' until → IsUse (extent_use s.geometry e' until) uses) → first_reached uses last ≡ Some due →
+      lost-counted : (done : List Exchange) (last : ℕ) (uses' : List InUse) (due : InUse) (n : ℕ) → BesideSo done → claims_in s.geometry (after_work first done) ≡ 1 + claims_in s.geometry (after_work first d0) →
+          IsLastReading (after_work first done) last →
+          ((one : InUse) → IsUse one uses' → IsInUse s (log done) one) → ((one : InUse) → IsInUse s (log done) one → IsUse one uses') → first_reached uses' last ≡ Some due →
           RightSo done (lost_part s (with_claim t.known) due last) n
-      lost-counted done last uses due n b begun is none sound complete reached =
-          lost-reading s geometry first holds known count work done last (with_claim t.known) uses due n is
-          (λ e'. (let none' = none e' in let c = counted done begun in omega (arith, none'))) sound complete reached
+      lost-counted done last uses' due n b begun is sound complete reached =
+          lost-reading s geometry first holds known count work done last (with_claim t.known) uses' due n is
+          (counted done begun) sound complete reached
 
-      -- those that were claimed before are in use
-      others-use : (done : List Exchange) → BesideSo done → (one : InUse) → IsUse one t.claimed →
-          (e' : ℕ) × (one.lease ≡ extent_lease s.geometry e') × IsExtentInUse s (log done) done e' one.until
-      others-use done b one is =
-          let c = claimed-still done one b (r.claimed one is) in (c.extent, c.is, claimed-use s geometry first holds known count work done one c)
+      -- those that were used before are in use
+      others-use : (done : List Exchange) → BesideSo done → (one : InUse) → IsUse one t.uses → IsInUse s (log done) one
+      others-use done b one is = uses.used (used-still done one b (r.used.sound one is))
 
       -- bytes that are no lease end the take
       no-lease : (done : List Exchange) (bytes : List ℕ) (last n : ℕ) → BesideSo (read_of_lease own_lease (answer.Bytes bytes) ∷ done) → read_lease bytes ≡ None →
@@ -288,7 +297,7 @@ module _ (s : Setting) (geometry : IsGeometry s.geometry) (small : s.boot < 2 ^ 
           refuses s geometry first holds known count work (clock last ∷ done') (with_claim t.known) (reply.Damaged (record { 0 = lease_at own_lease })) n r.sessions (counted (clock last ∷ done') begun)
           (others-still (clock last ∷ done') (beside-next done' (clock last) tt b))
           (takes.lease_damaged (record { 0 = lease_at own_lease })
-          (record { extent = e; here = refl; bytes = bytes; reading = last; read = inr (inl refl); outside = none; last = (done', refl) }))
+          (record { extent = e; here = refl; bytes = bytes; reading = last; read = inr (inl refl); outside = none; last = (after_work first done', refl) }))
 
       -- the claim ended Busy, and the take goes on past it
       goes-past : (x : Exchange) (older : List Exchange) (seen : LeaseRecord) → BesideSo (x ∷ older) → claims_in s.geometry (after_work first (x ∷ older)) ≡ 1 + claims_in s.geometry (after_work first d0) →
@@ -297,14 +306,15 @@ module _ (s : Setting) (geometry : IsGeometry s.geometry) (small : s.boot < 2 ^ 
       goes-past x older seen b begun none busy is calm =
           goes (with_busy (with_claim_begun t) own_lease seen) (x ∷ older)
           (extended s geometry first holds known count work M M' (e + 1) (x ∷ older) (with_busy (with_claim_begun t) own_lease seen) e
-          (after-claim (x ∷ older) t.claimed (first_busy t.busy own_lease seen) b begun (subst IsRest (sym none) tt) (busy-end t.busy x older seen busy is) (λ none'. absurd (busy-some t.busy own_lease seen none'))
-          (λ one there. claimed-still (x ∷ older) one b (r.claimed one there)) (λ until claim is_in until_is. absurd (nothing-used until _ none until_is)) (λ one there. there))
+          (after-claim (x ∷ older) t.uses (first_busy t.busy own_lease seen) b begun (subst IsRest (sym none) tt) (busy-end t.busy x older seen busy is) (λ none'. absurd (busy-some t.busy own_lease seen none'))
+          (λ one there. used-still (x ∷ older) one b (r.used.sound one there))
+          (λ one same u. absurd (nothing-used one.until _ (ap (hold_by_log s first.before (after_work first (x ∷ older))) same ∙ none) u.until)) (λ one there. there))
           split (λ few'. ((found, b.older (read_of (map_at s.geometry e) found) (inl refl)), λ none'. absurd (busy-some t.busy own_lease seen none')))) calm
 
       -- ---- the reread
 
-      abbrev uses : ℕ → List InUse
-      uses sample = own_use own_lease (own sample) ∷ t.claimed
+      abbrev in_use : ℕ → List InUse
+      in_use sample = own_use own_lease (own sample) ∷ t.uses
 
       busy1 : (sample : ℕ) → BusyIs s geometry first holds known count work t.busy (d1 sample)
       busy1 sample = busy-more s geometry first holds known count work t.busy (clock sample) d0 (λ l seen less. unread-unbusy s first (after_work first (d1 sample)) refl l seen) r.busy
@@ -338,7 +348,7 @@ module _ (s : Setting) (geometry : IsGeometry s.geometry) (small : s.boot < 2 ^ 
             begun5 again = counts-rereading s.geometry (after_work first d0) s.boot own_lease t.known.claims sample bytes last (answer.Bytes again) r.has lease-within
 
             begun6 : (again : List ℕ) (later : ℕ) → claims_in s.geometry (after_work first (clock later ∷ d5 sample bytes last again)) ≡ 1 + claims_in s.geometry (after_work first d0)
-            begun6 again later = claims-more s.geometry (after_work first (d5 sample bytes last again)) (clock later) tt refl ∙ begun5 again
+            begun6 again later = claims-more s.geometry (after_work first (d5 sample bytes last again)) (clock later) (no-map s.geometry (lease_at own_lease) again (λ e''. lease-map s.geometry own_lease e'' lease-within)) ∙ begun5 again
 
             b6 : (again : List ℕ) (later : ℕ) → BesideSo (clock later ∷ d5 sample bytes last again)
             b6 again later = beside-next (d5 sample bytes last again) (clock later) tt (b5 sample bytes last again)
@@ -350,52 +360,48 @@ module _ (s : Setting) (geometry : IsGeometry s.geometry) (small : s.boot < 2 ^ 
                 let held = held5 again true is in
                 let same : again ≡ lease_bytes (own_record (own sample)) = (bytes_eq-Decides again (lease_bytes (own_record (own sample)))).0 is in
                 let spells : read_lease again ≡ Some (own_record (own sample)) = ap read_lease same ∙ own-back s small first.before (after_work first d0) r.has own_lease t.known.claims small-number sample early-sample again in
-                after-claim (d5 sample bytes last again) (extent_use s.geometry e (sample + term) ∷ t.claimed) t.busy (b5 sample bytes last again) (begun5 again) (subst IsRest (sym held) tt)
+                after-claim (d5 sample bytes last again) (extent_use s.geometry e (sample + term) ∷ t.uses) t.busy (b5 sample bytes last again) (begun5 again) (subst IsRest (sym held) tt)
                 (busy-more s geometry first holds known count work t.busy (read_of_lease own_lease (answer.Bytes again)) (d4 sample bytes last)
                 (λ l seen' less. reread-unbusy s first (after_work first (d4 sample bytes last)) own_lease again (own sample) (sample + term) spells waited refl l seen') busy4)
-                (λ none. none) (claims held) (λ until claim is_in until_is. inl (ap (extent_use s.geometry e) (sym (one-until (own sample) (sample + term) until _ held until_is)))) (λ one there. inr there)
+                (λ none. none) (claims held)
+                (λ one at u. (
+                let ends = one-until (own sample) (sample + term) one.until _ (ap (hold_by_log s first.before (after_work first (d5 sample bytes last again))) at ∙ held) u.until in
+                inl (λ i. record { lease = at i; until = sym ends i }))) (λ one there. inr there)
               where
-                claims : hold_by_log s first.before (after_work first (d5 sample bytes last again)) own_lease ≡ Held (own sample) (sample + term) → (one : InUse) → IsUse one (extent_use s.geometry e (sample + term) ∷ t.claimed) →
-                    Claimed s geometry first holds known count work (d5 sample bytes last again) one
-                claims held one (inl same) = record {
-                  extent = e;
-                  below = below;
-                  is = ap (λ (u : InUse). u.lease) same;
-                  claim = own sample;
-                  wrote = inr (inr (inl refl));
-                  held = held ∙ ap (λ (u : InUse). Held (own sample) u.until) (sym same);
-                }
-                claims held one (inr there) = claimed-still (d5 sample bytes last again) one (b5 sample bytes last again) (r.claimed one there)
+                claims : hold_by_log s first.before (after_work first (d5 sample bytes last again)) own_lease ≡ Held (own sample) (sample + term) → (one : InUse) → IsUse one (extent_use s.geometry e (sample + term) ∷ t.uses) →
+                    IsUsed s (log (d5 sample bytes last again)) one
+                claims held one (inl same) =
+                    subst (λ (u : InUse). IsUsed s (log (d5 sample bytes last again)) u) (sym same)
+                    (record { of = uses.claimed (own sample) lease-within (inr (inr (inl refl))); until = holdings.held (own sample) held })
+                claims held one (inr there) = used-still (d5 sample bytes last again) one (b5 sample bytes last again) (r.used.sound one there)
 
             -- bytes that are no lease: what is in use at the reading after them
             gone6 : (again : List ℕ) (later : ℕ) → bytes_eq again (lease_bytes (own_record (own sample))) ≡ false → hold_by_log s first.before (after_work first (clock later ∷ d5 sample bytes last again)) own_lease ≡ Nothing
             gone6 again later is = ap (hold_after_reading later) (held5 again false is)
 
-            sound6 : (again : List ℕ) (later : ℕ) → read_lease again ≡ None → (one : InUse) → IsUse one (uses sample) →
-                (e' : ℕ) × (one.lease ≡ extent_lease s.geometry e') × IsExtentInUse s (log (clock later ∷ d5 sample bytes last again)) (clock later ∷ d5 sample bytes last again) e' one.until
-            sound6 again later none one (inl same) = (
-              e,
-              ap (λ (u : InUse). u.lease) same,
-              unread (own sample) again later (d4 sample bytes last) below refl (waited ∙ ap (λ (u : InUse). Waited (own sample) u.until) (sym same)) none,
-            )
-            sound6 again later none one (inr there) = others-use (clock later ∷ d5 sample bytes last again) (b6 again later) one there
+            sound6 : (again : List ℕ) (later : ℕ) → bytes_eq again (lease_bytes (own_record (own sample))) ≡ false → read_lease again ≡ None → (one : InUse) → IsUse one (in_use sample) →
+                IsInUse s (log (clock later ∷ d5 sample bytes last again)) one
+            sound6 again later is none one (inl same) =
+                subst (λ (u : InUse). IsInUse s (log (clock later ∷ d5 sample bytes last again)) u) (sym same)
+                (uses.unread (own sample) again later (after_work first (d4 sample bytes last)) lease-within refl waited none (gone6 again later is))
+            sound6 again later is none one (inr there) = others-use (clock later ∷ d5 sample bytes last again) (b6 again later) one there
 
-            complete6 : (again : List ℕ) (later : ℕ) → bytes_eq again (lease_bytes (own_record (own sample))) ≡ false → (e' until : ℕ) →
-                IsExtentInUse s (log (clock later ∷ d5 sample bytes last again)) (clock later ∷ d5 sample bytes last again) e' until → IsUse (extent_use s.geometry e' until) (uses sample)
-            complete6 again later is e' until (going claim below' was until_is) = elim (eqb_tells e' e) [
-              | inl same ↦ absurd (nothing-used until _ (ap (λ n. hold_by_log s first.before (after_work first (clock later ∷ d5 sample bytes last again)) (extent_lease s.geometry n)) same.1 ∙ gone6 again later is) until_is)
-              | inr apart ↦ inr (all-still (clock later ∷ d5 sample bytes last again) e' until claim (b6 again later) below' apart.1 was until_is)
+            complete6 : (again : List ℕ) (later : ℕ) → bytes_eq again (lease_bytes (own_record (own sample))) ≡ false → (one : InUse) →
+                IsInUse s (log (clock later ∷ d5 sample bytes last again)) one → IsUse one (in_use sample)
+            complete6 again later is one (uses.used u) = elim (eqb_tells one.lease own_lease) [
+              | inl same ↦ absurd (nothing-used one.until _ (ap (hold_by_log s first.before (after_work first (clock later ∷ d5 sample bytes last again))) same.1 ∙ gone6 again later is) u.until)
+              | inr apart ↦ inr (all-still (clock later ∷ d5 sample bytes last again) one (b6 again later) apart.1 u)
             ]
-            complete6 again later is e' until (unread claim bytes' later' older' below' at_end waited' none') =
-                let block : lease_at own_lease ≡ lease_at (extent_lease s.geometry e') = ap block_second at_end in
-                let same : own_lease ≡ extent_lease s.geometry e' = lease-lease own_lease (extent_lease s.geometry e') block in
-                let w : Waited (own sample) (sample + term) ≡ Waited claim until = sym waited ∙ (ap (hold_by_log s first.before (after_work first (d4 sample bytes last))) same ∙ waited') in
-                let u : sample + term ≡ until = cc in
+            complete6 again later is one (uses.unread claim bytes' later' older' below' at_end waited' none' gone) =
+                let same : own_lease ≡ one.lease = lease-lease own_lease one.lease (ap block_second at_end) in
+                let before : after_work first (d4 sample bytes last) ≡ older' = ap (λ (d : List Exchange). older_than (older_than d)) at_end in
+                let w : Waited (own sample) (sample + term) ≡ Waited claim one.until = sym waited ∙ ((λ i. hold_by_log s first.before (before i) (same i)) ∙ waited') in
+                let u : sample + term ≡ one.until = cc in
                 inl (λ i. record { lease = sym same i; until = sym u i })
-            complete6 again later is e' until (rested claim bytes' later' older' below' at_end none' held) = absurd (lease-map s.geometry own_lease e' lease-within (ap block_second at_end))
+            complete6 again later is one (uses.rested e' claim bytes' later' older' below' at at_end none' held) = absurd (lease-map s.geometry own_lease e' lease-within (ap block_second at_end))
 
             after-again : (again : List ℕ) (same : Bool) → bytes_eq again (lease_bytes (own_record (own sample))) ≡ same → (found' : Option LeaseRecord) → read_lease again ≡ found' →
-                RightSo (d5 sample bytes last again) (followed_by (reread_by same (uses sample) (own sample) found') next) (suc (suc m))
+                RightSo (d5 sample bytes last again) (followed_by (reread_by same (in_use sample) (own sample) found') next) (suc (suc m))
             after-again again true is found' reads =
                 right-here s geometry first holds known count work M M' (e + 1) e (sample + term) m (own sample) rest (with_claimed (with_claim_begun t) (extent_use s.geometry e (sample + term)))
                 (d5 sample bytes last again) below new split needed (taken5 again is)
@@ -413,11 +419,9 @@ module _ (s : Setting) (geometry : IsGeometry s.geometry) (small : s.boot < 2 ^ 
                 (lease-goes-on s first (d4 sample bytes last) own_lease again lease-within (λ none. (let q = sym reads ∙ none in let P : ⊥ = cc in P)))))
             after-again again false is None reads = (
               work.may (d5 sample bytes last again) _ _ ((b5 sample bytes last again).went r.went, tt) tt (λ outside. refl),
-              λ later small'. by-uses (λ part. RightSo (clock later ∷ d5 sample bytes last again) part (suc m)) next (uses sample) later (Ends ClaimDamaged)
-                  (λ due reached. lost-counted (clock later ∷ d5 sample bytes last again) later (uses sample) due (suc m) (b6 again later) (begun6 again later) (of_clock (d5 sample bytes last again, refl))
-                  (λ e'. unfound-none s.geometry (lease.Extent (record { 0 = e' })) due.until later (clock later) (after_work first (d5 sample bytes last again))
-                  (no-map s.geometry (lease_at own_lease) again (λ e''. lease-map s.geometry own_lease e'' lease-within)))
-                  (sound6 again later reads) (complete6 again later is) reached)
+              λ later small'. by-uses (λ part. RightSo (clock later ∷ d5 sample bytes last again) part (suc m)) next (in_use sample) later (Ends ClaimDamaged)
+                  (λ due reached. lost-counted (clock later ∷ d5 sample bytes last again) later (in_use sample) due (suc m) (b6 again later) (begun6 again later) (of_clock (after_work first (d5 sample bytes last again), refl))
+                  (sound6 again later is reads) (complete6 again later is) reached)
                   (λ none. no-lease (d4 sample bytes last) again later (suc m) (b5 sample bytes last again) reads (begun6 again later)),
             )
 
@@ -426,37 +430,37 @@ module _ (s : Setting) (geometry : IsGeometry s.geometry) (small : s.boot < 2 ^ 
           begun4 : claims_in s.geometry (after_work first (d4 sample bytes last)) ≡ 1 + claims_in s.geometry (after_work first d0)
           begun4 = counts-waiting s.geometry (after_work first d0) s.boot own_lease t.known.claims sample bytes last r.has lease-within
 
-          sound4 : (one : InUse) → IsUse one (uses sample) → (e' : ℕ) × (one.lease ≡ extent_lease s.geometry e') × IsExtentInUse s (log (d4 sample bytes last)) (d4 sample bytes last) e' one.until
-          sound4 one (inl same) = (
-            e,
-            ap (λ (u : InUse). u.lease) same,
-            going (own sample) below (inr (inl refl))
-                (subst (IsUntil one.until) (sym held4) (subst (λ n. IsUntil n (hold_after_reading last (Wrote (own sample) (sample + term)))) (sym (ap (λ (u : InUse). u.until) same)) (until-timed last (own sample) (sample + term)))),
-          )
+          sound4 : (one : InUse) → IsUse one (in_use sample) → IsInUse s (log (d4 sample bytes last)) one
+          sound4 one (inl same) =
+              subst (λ (u : InUse). IsInUse s (log (d4 sample bytes last)) u) (sym same)
+              (uses.used (record {
+                of = uses.claimed (own sample) lease-within (inr (inl refl));
+                until = subst (IsUntil (sample + term)) (sym held4) (until-timed last (own sample) (sample + term));
+              }))
           sound4 one (inr there) = others-use (d4 sample bytes last) (b4 sample bytes last) one there
 
-          complete4 : (e' until : ℕ) → IsExtentInUse s (log (d4 sample bytes last)) (d4 sample bytes last) e' until → IsUse (extent_use s.geometry e' until) (uses sample)
-          complete4 e' until (going claim below' was until_is) = elim (eqb_tells e' e) [
+          complete4 : (one : InUse) → IsInUse s (log (d4 sample bytes last)) one → IsUse one (in_use sample)
+          complete4 one (uses.used u) = elim (eqb_tells one.lease own_lease) [
             | inl same ↦
-                let here : IsUntil until (hold_by_log s first.before (after_work first (d4 sample bytes last)) own_lease) = subst (λ n. IsUntil until (hold_by_log s first.before (after_work first (d4 sample bytes last)) (extent_lease s.geometry n))) same.1 until_is in
-                let u : until ≡ sample + term = timed-until last (own sample) (sample + term) until (subst (IsUntil until) held4 here) in
-                inl (λ i. record { lease = extent_lease s.geometry (same.1 i); until = u i })
-            | inr apart ↦ inr (all-still (d4 sample bytes last) e' until claim (b4 sample bytes last) below' apart.1 was until_is)
+                let here : IsUntil one.until (hold_after_reading last (Wrote (own sample) (sample + term))) =
+                subst (IsUntil one.until) (ap (hold_by_log s first.before (after_work first (d4 sample bytes last))) same.1 ∙ held4) u.until in
+                let ends : one.until ≡ sample + term = timed-until last (own sample) (sample + term) one.until here in
+                inl (λ i. record { lease = same.1 i; until = ends i })
+            | inr apart ↦ inr (all-still (d4 sample bytes last) one (b4 sample bytes last) apart.1 u)
           ]
-          complete4 e' until (unread claim bytes' later older' below' at_end waited' none') = let c : false ≡ true = ap clock_newest at_end in absurd (clash true refl (sym c))
-          complete4 e' until (rested claim bytes' later older' below' at_end none' held) = let c : false ≡ true = ap clock_newest at_end in absurd (clash true refl (sym c))
+          complete4 one (uses.unread claim bytes' later older' below' at_end waited' none' gone) = let c : false ≡ true = ap clock_newest at_end in absurd (clash true refl (sym c))
+          complete4 one (uses.rested e' claim bytes' later older' below' at at_end none' held) = let c : false ≡ true = ap clock_newest at_end in absurd (clash true refl (sym c))
 
-          after-wait : RightSo (d4 sample bytes last) (followed_by (claim_in_time (uses sample) last (reread_part (uses sample) own_lease (own sample))) next) (suc (suc (suc m)))
+          after-wait : RightSo (d4 sample bytes last) (followed_by (claim_in_time (in_use sample) last (reread_part (in_use sample) own_lease (own sample))) next) (suc (suc (suc m)))
           after-wait =
-              by-uses (λ part. RightSo (d4 sample bytes last) part (suc (suc (suc m)))) next (uses sample) last (reread_part (uses sample) own_lease (own sample))
-              (λ due reached. lost-counted (d4 sample bytes last) last (uses sample) due (suc (suc (suc m))) (b4 sample bytes last) begun4 (of_wait (sample + wait) (d3 sample bytes, refl))
-              (λ e'. written-none s.geometry (lease.Extent (record { 0 = e' })) due.until last (claim_wait sample last) (after_work first (d3 sample bytes)) refl) sound4 complete4 reached)
+              by-uses (λ part. RightSo (d4 sample bytes last) part (suc (suc (suc m)))) next (in_use sample) last (reread_part (in_use sample) own_lease (own sample))
+              (λ due reached. lost-counted (d4 sample bytes last) last (in_use sample) due (suc (suc (suc m))) (b4 sample bytes last) begun4 (of_wait (sample + wait) (after_work first (d3 sample bytes), refl)) sound4 complete4 reached)
               (λ none. (
                 work.may (d4 sample bytes last) _ _ ((b4 sample bytes last).went r.went, tt) (e, below, inr refl) (
-                  λ e' until used. (subst (TellsFirstDue (uses sample) last) none (first-tells (uses sample) last)) (extent_use s.geometry e' until) (complete4 e' until used),
+                  λ one used'. (subst (TellsFirstDue (in_use sample) last) none (first-tells (in_use sample) last)) one (complete4 one used'),
                   nothing-outside s (d3 sample bytes) refl,
                 ),
-                λ again long. after-again ((subst (TellsFirstDue (uses sample) last) none (first-tells (uses sample) last)) (own_use own_lease (own sample)) (inl refl)) again
+                λ again long. after-again ((subst (TellsFirstDue (in_use sample) last) none (first-tells (in_use sample) last)) (own_use own_lease (own sample)) (inl refl)) again
                     (bytes_eq again (lease_bytes (own_record (own sample)))) refl (read_lease again) refl,
                 unreadable (d4 sample bytes last) (suc (suc m)) (b4 sample bytes last)
                     (counts-rereading s.geometry (after_work first d0) s.boot own_lease t.known.claims sample bytes last answer.Fault r.has lease-within),
@@ -471,42 +475,39 @@ module _ (s : Setting) (geometry : IsGeometry s.geometry) (small : s.boot < 2 ^ 
       begun3 sample bytes x = counts-claiming s.geometry (after_work first d0) s.boot own_lease t.known.claims sample bytes x r.has lease-within
 
       -- bytes that are no lease at its first read: what is in use at the reading after them
-      complete2 : (sample : ℕ) (bytes : List ℕ) (later : ℕ) → read_lease bytes ≡ None → (e' until : ℕ) →
-          IsExtentInUse s (log (clock later ∷ d2 sample bytes)) (clock later ∷ d2 sample bytes) e' until → IsUse (extent_use s.geometry e' until) t.claimed
-      complete2 sample bytes later none e' until (going claim below' was until_is) =
+      complete2 : (sample : ℕ) (bytes : List ℕ) (later : ℕ) → read_lease bytes ≡ None → (one : InUse) → IsInUse s (log (clock later ∷ d2 sample bytes)) one → IsUse one t.uses
+      complete2 sample bytes later none one (uses.used u) =
           let b = beside-next (d2 sample bytes) (clock later) tt (b2 sample bytes) in
           let gone : hold_by_log s first.before (after_work first (clock later ∷ d2 sample bytes)) own_lease ≡ Nothing = ap (hold_after_reading later) (shown2 sample bytes ∙ ap (λ f. seen_by f sample) none) in
-          elim (eqb_tells e' e) [
-            | inl same ↦ absurd (nothing-used until _ (ap (λ n. hold_by_log s first.before (after_work first (clock later ∷ d2 sample bytes)) (extent_lease s.geometry n)) same.1 ∙ gone) until_is)
-            | inr apart ↦ all-still (clock later ∷ d2 sample bytes) e' until claim b below' apart.1 was until_is
+          elim (eqb_tells one.lease own_lease) [
+            | inl same ↦ absurd (nothing-used one.until _ (ap (hold_by_log s first.before (after_work first (clock later ∷ d2 sample bytes))) same.1 ∙ gone) u.until)
+            | inr apart ↦ all-still (clock later ∷ d2 sample bytes) one b apart.1 u
           ]
-      complete2 sample bytes later none e' until (unread claim bytes' later' older' below' at_end waited' none') =
-          let block : lease_at own_lease ≡ lease_at (extent_lease s.geometry e') = ap block_second at_end in
-          let same : own_lease ≡ extent_lease s.geometry e' = lease-lease own_lease (extent_lease s.geometry e') block in
-          let w : Nothing ≡ Waited claim until = sym (nothing1 sample) ∙ (ap (hold_by_log s first.before (after_work first (d1 sample))) same ∙ waited') in
+      complete2 sample bytes later none one (uses.unread claim bytes' later' older' below' at_end waited' none' gone) =
+          let same : own_lease ≡ one.lease = lease-lease own_lease one.lease (ap block_second at_end) in
+          let before : after_work first (d1 sample) ≡ older' = ap (λ (d : List Exchange). older_than (older_than d)) at_end in
+          let w : Nothing ≡ Waited claim one.until = sym (nothing1 sample) ∙ ((λ i. hold_by_log s first.before (before i) (same i)) ∙ waited') in
           absurd (let P : ⊥ = cc in P)
-      complete2 sample bytes later none e' until (rested claim bytes' later' older' below' at_end none' held) = absurd (lease-map s.geometry own_lease e' lease-within (ap block_second at_end))
+      complete2 sample bytes later none one (uses.rested e' claim bytes' later' older' below' at at_end none' held) = absurd (lease-map s.geometry own_lease e' lease-within (ap block_second at_end))
 
       -- the lease was read
       after-seen : (sample : ℕ) (bytes : List ℕ) → sample < 2 ^ 48 → (found' : Option LeaseRecord) → read_lease bytes ≡ found' →
-          RightSo (d2 sample bytes) (followed_by (seen_part t.claimed own_lease (own sample) found') next) (suc (suc (suc (suc (suc m)))))
+          RightSo (d2 sample bytes) (followed_by (seen_part t.uses own_lease (own sample) found') next) (suc (suc (suc (suc (suc m)))))
       after-seen sample bytes early None sees = (
         work.may (d2 sample bytes) _ _ ((b2 sample bytes).went r.went, tt) tt (λ outside. refl),
         λ later small'.
             let done = clock later ∷ d2 sample bytes in
             let b = beside-next (d2 sample bytes) (clock later) tt (b2 sample bytes) in
-            let begun = claims-more s.geometry (after_work first (d2 sample bytes)) (clock later) tt refl ∙ begun2 sample (answer.Bytes bytes) in
-            by-uses (λ part. RightSo done part (suc (suc (suc (suc m))))) next t.claimed later (Ends ClaimDamaged)
-            (λ due reached. lost-counted done later t.claimed due (suc (suc (suc (suc m)))) b begun (of_clock (d2 sample bytes, refl))
-            (λ e'. unfound-none s.geometry (lease.Extent (record { 0 = e' })) due.until later (clock later) (after_work first (d2 sample bytes))
-            (no-map s.geometry (lease_at own_lease) bytes (λ e''. lease-map s.geometry own_lease e'' lease-within)))
+            let begun = claims-more s.geometry (after_work first (d2 sample bytes)) (clock later) (no-map s.geometry (lease_at own_lease) bytes (λ e''. lease-map s.geometry own_lease e'' lease-within)) ∙ begun2 sample (answer.Bytes bytes) in
+            by-uses (λ part. RightSo done part (suc (suc (suc (suc m))))) next t.uses later (Ends ClaimDamaged)
+            (λ due reached. lost-counted done later t.uses due (suc (suc (suc (suc m)))) b begun (of_clock (after_work first (d2 sample bytes), refl))
             (λ one is. others-use done b one is) (complete2 sample bytes later sees) reached)
             (λ none. no-lease (d1 sample) bytes later (suc (suc (suc (suc m)))) (b2 sample bytes) sees begun),
       )
       after-seen sample bytes early (Some seen) sees = by-expired (is_expired seen sample) refl
         where
           by-expired : (test : Bool) → is_expired seen sample ≡ test →
-              RightSo (d2 sample bytes) (followed_by (if_expired test seen (written_part t.claimed own_lease (own sample))) next) (suc (suc (suc (suc (suc m)))))
+              RightSo (d2 sample bytes) (followed_by (if_expired test seen (written_part t.uses own_lease (own sample))) next) (suc (suc (suc (suc (suc m)))))
           by-expired false is =
               let part = rest (with_busy (with_claim_begun t) own_lease seen) in
               let done = d2 sample bytes in
@@ -539,34 +540,33 @@ module _ (s : Setting) (geometry : IsGeometry s.geometry) (small : s.boot < 2 ^ 
 
       -- ---- its first reading
 
-      complete1 : (sample e' until : ℕ) → IsExtentInUse s (log (d1 sample)) (d1 sample) e' until → IsUse (extent_use s.geometry e' until) t.claimed
-      complete1 sample e' until (going claim below' was until_is) = elim (eqb_tells e' e) [
-        | inl same ↦ absurd (nothing-used until _ (ap (λ n. hold_by_log s first.before (after_work first (d1 sample)) (extent_lease s.geometry n)) same.1 ∙ nothing1 sample) until_is)
-        | inr apart ↦ all-still (d1 sample) e' until claim (b1 sample) below' apart.1 was until_is
+      complete1 : (sample : ℕ) (one : InUse) → IsInUse s (log (d1 sample)) one → IsUse one t.uses
+      complete1 sample one (uses.used u) = elim (eqb_tells one.lease own_lease) [
+        | inl same ↦ absurd (nothing-used one.until _ (ap (hold_by_log s first.before (after_work first (d1 sample))) same.1 ∙ nothing1 sample) u.until)
+        | inr apart ↦ all-still (d1 sample) one (b1 sample) apart.1 u
       ]
-      complete1 sample e' until (unread claim bytes' later' older' below' at_end waited' none') =
-          absurd (lease-map s.geometry (extent_lease s.geometry e') e (extent-below s.geometry e' below') (sym (ap block_second at_end)))
-      complete1 sample e' until (rested claim bytes' later' older' below' at_end none' held) =
+      complete1 sample one (uses.unread claim bytes' later' older' below' at_end waited' none' gone) =
+          absurd (lease-map s.geometry one.lease e below' (sym (ap block_second at_end)))
+      complete1 sample one (uses.rested e' claim bytes' later' older' below' at at_end none' held) =
           let same : found ≡ bytes' = ap (λ (d' : List Exchange). bytes_found (last_found (older_than d'))) at_end in
           let c : Some bits ≡ None = sym is_map ∙ (ap (read_map s.geometry.extent_blocks) same ∙ none') in
           absurd (let P : ⊥ = cc in P)
 
       -- the lease is claimed
-      pub right-claim : RightSo d0 (followed_by (claim_part s.boot t.claimed own_lease t.known.claims) next) (suc (suc (suc (suc (suc (suc (suc m)))))))
+      pub right-claim : RightSo d0 (followed_by (claim_part s.boot t.uses own_lease t.known.claims) next) (suc (suc (suc (suc (suc (suc (suc m)))))))
       right-claim = (
         work.may d0 _ _ (r.went, tt) tt (map-goes-on s first d e found (λ none. (let q = sym is_map ∙ none in let P : ⊥ = cc in P)) _),
-        λ sample early. by-uses (λ part. RightSo (d1 sample) part (suc (suc (suc (suc (suc (suc m))))))) next t.claimed sample _
-            (λ due reached. lost-reading s geometry first holds known count work (d1 sample) sample (with_claim t.known) t.claimed due (suc (suc (suc (suc (suc (suc m)))))) (of_clock (d0, refl))
-            (λ e'. (
+        λ sample early. by-uses (λ part. RightSo (d1 sample) part (suc (suc (suc (suc (suc (suc m))))))) next t.uses sample _
+            (λ due reached. lost-reading s geometry first holds known count work (d1 sample) sample (with_claim t.known) t.uses due (suc (suc (suc (suc (suc (suc m)))))) (of_clock (after_work first d0, refl))
+            (
             let f = map-is-found s.geometry e found bits (some-blocks s geometry first holds known count work) is_map in
-            let one : lost_claim s.geometry (reply.Lost (lease.Extent (record { 0 = e' })) due.until sample) (after_work first (d1 sample)) ≡ 1 = rw f refl in
             let c = r.claims in
-            let b = claims-more s.geometry (after_work first d0) (clock sample) r.has refl in
-            omega (arith, one, b)))
+            let one : claims_in s.geometry (after_work first (d1 sample)) ≡ 1 + claims_in s.geometry (after_work first d0) = rw f refl in
+            omega (arith, one, c))
             (λ one is. others-use (d1 sample) (b1 sample) one is) (complete1 sample) reached)
             (λ none. (
               work.may (d1 sample) _ _ ((b1 sample).went r.went, tt) (e, below, inr refl) (
-                λ e' until used. (subst (TellsFirstDue t.claimed sample) none (first-tells t.claimed sample)) (extent_use s.geometry e' until) (complete1 sample e' until used),
+                λ one used'. (subst (TellsFirstDue t.uses sample) none (first-tells t.uses sample)) one (complete1 sample one used'),
                 map-in-format s d e found (λ bad. (let q = sym is_map ∙ bad in let P : ⊥ = cc in P)),
               ),
               λ bytes long. after-seen sample bytes early (read_lease bytes) refl,

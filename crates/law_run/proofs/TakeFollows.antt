@@ -7,13 +7,14 @@ use Rattle.plx_disk.specs.declared.ask.Answer.TheVariants as answer
 use Rattle.plx_gate.specs.Leases.{read_lease}
 use Rattle.plx_geom.proofs.Places.{lease-map}
 use Rattle.plx_geom.specs.Geometry.{lease_count, lease_at, map_at}
+use Rattle.plx_rules.specs.InUse.{InUse}
 use Rattle.plx_rules.specs.Settings.{Setting}
 use Rattle.plx_rules.specs.Space.{read_map}
 use Rattle.law_run.specs.CommandLogs.{Exchange, CommandLog, LastAnsweredIn, older_than}
 use Rattle.law_run.specs.Holdings.{last_found}
 use Rattle.law_run.specs.Machines.{with_work}
-use Rattle.law_run.specs.Space.{IsExtentInUse}
-use Rattle.law_run.proofs.Beside.{block_found, bytes_found}
+use Rattle.law_run.specs.Uses.{IsInUse}
+use Rattle.law_run.proofs.Uses.{block_found, bytes_found}
 use Rattle.law_run.proofs.Right.{read_of}
 
 -- the newest of a take's exchanges has read bytes that are no lease, or no map
@@ -27,7 +28,7 @@ pub data ReadsOutside (s : Setting) (own : List Exchange) : Type 0 where
 abbrev pub FollowsAnswer : Setting → CommandLog → List Exchange → Ask → Answer → Type 0
 FollowsAnswer s log own a (answer.Bytes bytes) = ReadsOutside s own → a ≡ ask.Clock
 FollowsAnswer s log own a answer.Done = Unit {0}
-FollowsAnswer s log own a (answer.Reading reading) = ((e until : ℕ) → IsExtentInUse s log own e until → reading < until) × ¬ ReadsOutside s (older_than own)
+FollowsAnswer s log own a (answer.Reading reading) = ((one : InUse) → IsInUse s log one → reading < one.until) × ¬ ReadsOutside s (older_than own)
 FollowsAnswer s log own a (answer.Missed reading) = ⊥
 FollowsAnswer s log own a answer.Fault = ⊥
 

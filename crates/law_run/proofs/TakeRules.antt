@@ -1,8 +1,7 @@
 -- Takes keep the rules.
 use Rattle.std.proofs.Common.{◌≡◌, ℕ, zero, suc, ◌+◌, ◌*◌, ◌≤◌, ◌<◌, ◌^◌, List, [], ◌∷◌, ◌++◌, length, Bool, true, false, Option, Some, None, refl, ap, sym, subst, ◌∙◌, arith, inl, inr, ◌⊎◌}
-use Rattle.std.specs.Prelude.{All, nat_lt}
+use Rattle.std.specs.Prelude.{nat_lt}
 use Rattle.std.proofs.lemmas.Bool.Decides.{leb_tells}
-use Rattle.std.proofs.lemmas.List.Elements.{All-nil, All-cons}
 use Rattle.plx_base.specs.declared.lease.LeaseName.{LeaseName}
 use Rattle.plx_base.specs.declared.lease.LeaseName.TheVariants as lease
 use Rattle.plx_base.specs.declared.lease.LeaseRecord.{LeaseRecord}
@@ -32,19 +31,19 @@ use Rattle.law_run.specs.Rules.{IsSetting}
 use Rattle.law_run.specs.Sessions.{is_attached}
 use Rattle.law_run.specs.Space.{HasFailed}
 use Rattle.law_run.specs.Takes as takes
-use Rattle.law_run.specs.Takes.{IsAtRest, IsClaimedHere, IsOfExtents, MayBeginTake, HasEnough, ShowsTake, take_bound, take_work, TakesKeepRules, IsTakeAsk, IsTakeEnd}
+use Rattle.law_run.specs.Takes.{IsAtRest, IsOfExtents, MayBeginTake, HasEnough, ShowsTake, take_bound, take_work, TakesKeepRules, IsTakeAsk, IsTakeEnd}
 use Rattle.law_run.proofs.ClaimRules.{begun-first}
 use Rattle.law_run.proofs.FreeBlocks.{map-bits}
 use Rattle.law_run.proofs.Grown.{with-block-same}
 use Rattle.law_run.proofs.Machines.{MeetsWork, meets-keeps}
 use Rattle.law_run.proofs.Meets.{meets-within}
-use Rattle.law_run.proofs.OnExtent.{extent-name}
-use Rattle.law_run.proofs.Reached.{IsUse}
-use Rattle.law_run.proofs.Right.{clock, read_of}
+use Rattle.law_run.proofs.OnExtent.{extent-name, bad-map}
+use Rattle.law_run.specs.Uses as uses
+use Rattle.law_run.proofs.Right.{read_of}
 use Rattle.law_run.proofs.Runs.{HasFirst}
 use Rattle.law_run.proofs.TakeClaims.{right-claim}
+use Rattle.law_run.proofs.Taking.{WorkRules, BusyIs, HasTaken, with-maps, with-tried, map-taken, clock-taken, Keeping, known-by-log, refuses-taken, MeetsTaking, more, right-here, right-damaged, read-failed, extended}
 use Rattle.law_run.proofs.TakeFollows.{Calm, map-goes-on}
-use Rattle.law_run.proofs.Taking.{WorkRules, BusyIs, HasTaken, with-maps, with-tried, map-taken, clock-taken, Keeping, known-by-log, refuses-taken, claimed-use, MeetsTaking, more, right-here, right-damaged, read-failed, extended}
 use Rattle.plx_base.proofs.Tests.{clash, lt-cases}
 
 -- how many answers are needed for an extent whose lease is held, and for another one
@@ -116,11 +115,6 @@ first-own : (done own : List Exchange) → HasFirst done → (x : Exchange) × (
 first-own [] [] has = absurd has
 first-own (x ∷ older) [] has = (x, older, refl)
 first-own done (x ∷ own) has = (x, own ++ done, refl)
-
--- what holds of each of some leases in use holds of all
-all-uses : (P : InUse → Type 0) (uses : List InUse) → ((one : InUse) → IsUse one uses → P one) → All P uses
-all-uses P [] each = All-nil P
-all-uses P (one ∷ others) each = All-cons P one others (each one (inl refl)) (all-uses P others (λ other there. each other (inr there)))
 
 module _ (s : Setting) (geometry : IsGeometry s.geometry) (small : s.boot < 2 ^ 128) (first : CommandLog) (holds : ℕ → Hold) (known : Known) (count : ℕ) (work : WorkRules s first known count) where
   abbrev TakenSo : (M : ℕ → Type 0) → (tried : ℕ) → List Exchange → Taking → Type 0
@@ -257,13 +251,11 @@ module _ (s : Setting) (geometry : IsGeometry s.geometry) (small : s.boot < 2 ^ 
       by-map bytes (Some bits) is nothing new = by-free bytes bits (free_from t.hand place bits) is refl nothing new
       by-map bytes None is nothing new =
           let r1 = map-taken s geometry first holds known count work (PassedBefore e) e done t e bytes new r in
-          right-damaged s geometry first holds known count work (PassedBefore e) e done t e (suc (suc (suc (suc (suc (suc n)))))) bytes t.claimed r1 is
-          (λ last one use'. (
-          let r2 = clock-taken s geometry first holds known count work (PassedBefore e) e (read_of place bytes ∷ done) t last r1 in
-          let c = r2.claimed one use' in (c.extent, c.is, claimed-use s geometry first holds known count work (clock last ∷ read_of place bytes ∷ done) one c)))
+          right-damaged s geometry first holds known count work (PassedBefore e) e done t e (suc (suc (suc (suc (suc (suc n)))))) bytes t.uses r1 is
+          (λ last one there. uses.used ((clock-taken s geometry first holds known count work (PassedBefore e) e (read_of place bytes ∷ done) t last (bad-map s.geometry place bytes is) r1).used.sound one there))
           (λ one there. there)
           (λ last claim until held. absurd (
-          let r2 = clock-taken s geometry first holds known count work (PassedBefore e) e (read_of place bytes ∷ done) t last r1 in
+          let r2 = clock-taken s geometry first holds known count work (PassedBefore e) e (read_of place bytes ∷ done) t last (bad-map s.geometry place bytes is) r1 in
           let q : Nothing ≡ Held claim until = sym (r2.later e (omega arith) below ∙ nothing) ∙ held in
           let P : ⊥ = cc in P))
 
@@ -302,7 +294,7 @@ module _ (s : Setting) (geometry : IsGeometry s.geometry) (small : s.boot < 2 ^ 
 
   -- what follows once enough blocks are in hand
   abbrev Follows : (Taking → Part End) → (n : ℕ) → Type 0
-  Follows rest n = (t : Taking) (own : List Exchange) → HasEnough s first (with_work first own) own known count t → RightSo own (rest t) n
+  Follows rest n = (t : Taking) (own : List Exchange) → HasEnough s first (with_work first own) known count t → RightSo own (rest t) n
 
   right-end : (rest : Taking → Part End) (n : ℕ) → Follows rest n → GoesSo (PassedBefore s.geometry.extents) s.geometry.extents (taken_part s count rest) n
   right-end rest n follows t done r calm = elim (leb_tells count (length t.hand)) [
@@ -311,7 +303,7 @@ module _ (s : Setting) (geometry : IsGeometry s.geometry) (small : s.boot < 2 ^ 
         knows = known-by-log s geometry first holds known count work done t.known r.sessions r.claims;
         hand = r.hand;
         within = r.within;
-        claimed = all-uses (IsClaimedHere s (with_work first done) done) t.claimed r.claimed;
+        uses = r.used;
         at_rest = λ l below. at-rest _ (r.at_rest l below);
         went = r.went;
       };
@@ -339,8 +331,8 @@ module _ (s : Setting) (geometry : IsGeometry s.geometry) (small : s.boot < 2 ^ 
 
   -- ---- the whole take
 
-  module _ (hand : List ℕ) (begins : MayBeginTake s first holds known hand) where
-    begins-taken : TakenSo (HeldBefore 0) 0 [] (first_taking known hand)
+  module _ (uses' : List InUse) (hand : List ℕ) (begins : MayBeginTake s first holds uses' known hand) where
+    begins-taken : TakenSo (HeldBefore 0) 0 [] (first_taking uses' known hand)
     begins-taken = record {
       has = begun-first first.exchanges begins.others begins.first begins.begun;
       went = begins.went;
@@ -350,8 +342,7 @@ module _ (s : Setting) (geometry : IsGeometry s.geometry) (small : s.boot < 2 ^ 
       others = λ l below apart. refl;
       hand = begins.in_hand;
       within = begins.within;
-      claimed = λ one there. absurd there;
-      all = λ e until claim below is_in until_is. absurd is_in;
+      used = begins.used;
       busy = tt;
       later = λ e past below. sym (begins.extents e below);
       maps = λ few e m. absurd (omega (arith, m.0));
@@ -367,16 +358,16 @@ module _ (s : Setting) (geometry : IsGeometry s.geometry) (small : s.boot < 2 ^ 
         omega arith
 
     -- a take, from its start on, and what follows it
-    pub take-meets : (rest : Taking → Part End) (n : ℕ) → Follows rest n → RightSo [] (take_part s holds count rest (first_taking known hand)) (take_bound s.geometry + n)
+    pub take-meets : (rest : Taking → Part End) (n : ℕ) → Follows rest n → RightSo [] (take_part s holds count rest (first_taking uses' known hand)) (take_bound s.geometry + n)
     take-meets rest n follows =
-        meets-within work.May work.Shows (take_part s holds count rest (first_taking known hand)) first.exchanges (needed n) (take_bound s.geometry + n) (within-bound n)
+        meets-within work.May work.Shows (take_part s holds count rest (first_taking uses' known hand)) first.exchanges (needed n) (take_bound s.geometry + n) (within-bound n)
         (holds-pass s.geometry.extents 0 (other_asks s.geometry holds s.geometry.extents 0 n) _ (omega arith)
         (λ t done r calm. others-pass s.geometry.extents 0 n _ (omega arith) (right-end rest n follows) t done
         (with-maps s geometry first holds known count work (HeldBefore s.geometry.extents) (PassedBefore 0) 0 done t r (λ few e m. elim m [
           | inl held ↦ r.maps few e held
           | inr less ↦ absurd (omega (arith, less))
         ])) calm)
-        (first_taking known hand) [] begins-taken (λ a. tt))
+        (first_taking uses' known hand) [] begins-taken (λ a. tt))
 
 -- the leases as they are held by a log
 abbrev pub holds_by_log : Setting → CommandLog → ℕ → Hold
@@ -384,11 +375,12 @@ holds_by_log s log = holds_along s.geometry (is_attached log.before) (holds_afte
 
 -- where a take has brought enough blocks in hand, another may begin
 pub takes-again : (s : Setting) (first : CommandLog) (own : List Exchange) (known : Known) (count : ℕ) (t : Taking) → HasFirst first.exchanges →
-    HasEnough s first (with_work first own) own known count t → MayBeginTake s (with_work first own) (holds_by_log s (with_work first own)) t.known t.hand
+    HasEnough s first (with_work first own) known count t → MayBeginTake s (with_work first own) (holds_by_log s (with_work first own)) t.uses t.known t.hand
 takes-again s first own known count t has enough =
     let begun = first-own first.exchanges own has in
     let told = enough.told in
     record {
+      used = told.uses;
       extents = λ e below. refl;
       at_rest = told.at_rest;
       in_hand = told.hand;
@@ -401,26 +393,26 @@ takes-again s first own known count t has enough =
     }
 
 -- a take that is work by itself
-pub take-work-meets : (s : Setting) → IsSetting s → (log : CommandLog) (holds : ℕ → Hold) (count : ℕ) (follows : Taking → End) (known : Known) (hand : List ℕ) → MayBeginTake s log holds known hand →
-    MeetsWork s log (IsOfExtents s.geometry) (ShowsTake s log known count follows) log.exchanges (take_work s holds count follows known hand) (take_bound s.geometry)
-take-work-meets s is log holds count follows known hand begins =
-    subst (λ n. MeetsWork s log (IsOfExtents s.geometry) (ShowsTake s log known count follows) log.exchanges (take_work s holds count follows known hand) n)
+pub take-work-meets : (s : Setting) → IsSetting s → (log : CommandLog) (holds : ℕ → Hold) (count : ℕ) (follows : Taking → End) (uses' : List InUse) (known : Known) (hand : List ℕ) → MayBeginTake s log holds uses' known hand →
+    MeetsWork s log (IsOfExtents s.geometry) (ShowsTake s log known count follows) log.exchanges (take_work s holds count follows uses' known hand) (take_bound s.geometry)
+take-work-meets s is log holds count follows uses' known hand begins =
+    subst (λ n. MeetsWork s log (IsOfExtents s.geometry) (ShowsTake s log known count follows) log.exchanges (take_work s holds count follows uses' known hand) n)
     (let none : take_bound s.geometry + 0 ≡ take_bound s.geometry = omega arith in none)
     (take-meets s is.geometry is.boot log holds known count (record {
       May = λ done a bytes. MayAsk s (with_exchanges log done) a bytes × IsOfExtents s.geometry a;
       Shows = λ done end. ShowsTake s log known count follows (with_exchanges log done) end;
       may = λ own a bytes allowed place calm. (allowed, place);
       fails = λ own end why. (own, refl, takes.failed why);
-    }) hand begins (λ t. Ends (follows t)) 0 (λ t own enough. (own, refl, takes.taken t enough)))
+    }) uses' hand begins (λ t. Ends (follows t)) 0 (λ t own enough. (own, refl, takes.taken t enough)))
 
 pub takes-keep-rules : TakesKeepRules
-takes-keep-rules s log holds count follows known hand is begins =
-    meets-keeps s log (IsOfExtents s.geometry) (ShowsTake s log known count follows) (take_work s holds count follows known hand) (take_bound s.geometry)
-    (take-work-meets s is log holds count follows known hand begins)
+takes-keep-rules s log holds count follows uses' known hand is begins =
+    meets-keeps s log (IsOfExtents s.geometry) (ShowsTake s log known count follows) (take_work s holds count follows uses' known hand) (take_bound s.geometry)
+    (take-work-meets s is log holds count follows uses' known hand begins)
 
 -- so does each take by where it stands
 pub take-ask : (rest : Part End) (ask : Ask) → Some ask ≡ standing rest → IsTakeAsk rest ask
-take-ask rest ask stands s log holds count follows known hand own is begins leads = (takes-keep-rules s log holds count follows known hand is begins).asks leads ask (sym stands)
+take-ask rest ask stands s log holds count follows uses' known hand own is begins leads = (takes-keep-rules s log holds count follows uses' known hand is begins).asks leads ask (sym stands)
 
 pub take-end : (rest : Part End) (end : End) → rest ≡ Ends end → IsTakeEnd rest end
-take-end rest end over s log holds count follows known hand own is begins leads = (takes-keep-rules s log holds count follows known hand is begins).ends leads end over
+take-end rest end over s log holds count follows uses' known hand own is begins leads = (takes-keep-rules s log holds count follows uses' known hand is begins).ends leads end over

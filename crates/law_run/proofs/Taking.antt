@@ -6,7 +6,6 @@ use Rattle.plx_base.specs.declared.lease.Claim.{Claim}
 use Rattle.plx_base.specs.declared.lease.LeaseName.{LeaseName}
 use Rattle.plx_base.specs.declared.lease.LeaseName.TheVariants as lease
 use Rattle.plx_base.specs.declared.lease.LeaseRecord.{LeaseRecord}
-use Rattle.plx_base.specs.declared.lease.LeaseRecord.TheVariants as lease_is
 use Rattle.plx_base.specs.declared.numbers.BlockNo.{BlockNo}
 use Rattle.plx_base.specs.declared.write_kind.WriteKind.{WriteKind}
 use Rattle.plx_base.specs.declared.write_kind.WriteKind.TheVariants as kind
@@ -18,53 +17,45 @@ use Rattle.plx_disk.specs.declared.ask.Ask.TheVariants as ask
 use Rattle.plx_disk.specs.declared.ask.Answer.TheVariants as answer
 use Rattle.plx_extent.proofs.Maps.{bits-back, length-bits_from}
 use Rattle.plx_extent.specs.Maps.{bits_of, map_bytes}
-use Rattle.plx_gate.specs.Leases.{lease_bytes}
 use Rattle.plx_geom.proofs.Places.{lease-map, map-map, extent-below}
 use Rattle.plx_geom.specs.Geometry.{IsGeometry, lease_count, extent_lease, lease_at, map_at}
 use Rattle.plx_rules.specs.Part.{Part}
 use Rattle.plx_rules.specs.Ends.{End, ends, lost_part, damaged_part}
 use Rattle.plx_rules.specs.Hands.{is_held, set_since, hand_answered, hand_held, hand_left}
 use Rattle.plx_rules.specs.Holds.{Hold, Held}
-use Rattle.plx_rules.specs.InUse.{InUse, lease_name, first_reached, unless_reached}
+use Rattle.plx_rules.specs.InUse.{InUse, IsUse, lease_name, first_reached, unless_reached}
 use Rattle.plx_rules.specs.Rests.{extent_of}
 use Rattle.plx_rules.specs.Session.{Known, nothing_known}
 use Rattle.plx_rules.specs.Settings.{Setting}
 use Rattle.plx_rules.specs.Space.{Taking, with_taken, extent_use, read_map, free_from, with_set, set_part, take_found, take_here}
-use Rattle.plx_rules.specs.Times.{window, term}
 use Rattle.law_lease.proofs.LawfulCommands.{IsRest}
 use Rattle.law_lease.proofs.LawfulSpace.{timed-rests}
 use Rattle.law_run.specs.AllowedAsks.{GoesOn, WentOn, take_of_blocks, MayAsk}
 use Rattle.law_run.specs.Busy.{IsBusy, NoneBusy, FirstBusy}
 use Rattle.law_run.specs.CommandLogs.{Exchange, CommandLog, IsIn}
-use Rattle.law_run.specs.Holdings as holdings
-use Rattle.law_run.specs.Holdings.{holds_along, holds_after, hold_by_log, hand_by_log, filled_by_log, last_found, IsUntil, claims_in, lost_claim, claims_begun}
+use Rattle.law_run.specs.Holdings.{holds_along, holds_after, hold_by_log, hand_by_log, filled_by_log, last_found, claims_in, claims_begun, is_map_found}
 use Rattle.law_run.specs.KnownBytes.{nothing_given, given_after_exchanges}
 use Rattle.law_run.specs.Machines.{with_work}
-use Rattle.law_run.specs.Refusals.{IsNamedFirst}
 use Rattle.law_run.specs.Replies.{IsLastReading, of_clock, RestsOn, of_need, WasLost}
+use Rattle.law_run.specs.Uses as uses
+use Rattle.law_run.specs.Uses.{AreUsed, IsInUse}
 use Rattle.law_run.specs.Replies as replies
 use Rattle.law_run.specs.Sessions.{is_attached}
-use Rattle.law_run.specs.Space.{IsExtentInUse, going, unread, rested}
 use Rattle.law_run.specs.Takes as takes
-use Rattle.law_run.specs.Takes.{IsClaimedHere, IsOfExtents, HoldsOthers, RefusesTake, FailsTake, counted_by_log}
+use Rattle.law_run.specs.Takes.{IsOfExtents, HoldsOthers, RefusesTake, FailsTake, counted_by_log}
 use Rattle.law_run.proofs.Beside.{after_work, unread-unbusy, map-unbusy}
 use Rattle.law_run.proofs.FreeBlocks.{has-take, take-all, take-none, free-within, free-none, free-fewer, set-taken, map-bits, map-is}
 use Rattle.law_run.proofs.Grown.{with-block-same, with-other}
 use Rattle.law_run.proofs.Hands.{HasBlock, has-append, append-left, append-right, filter-all, extent-found, hand-more, hand-is-held}
-use Rattle.law_run.proofs.Holding.{hold-stays, claims-more}
+use Rattle.law_run.proofs.Holding.{hold-stays, claims-more, reads-no-claim}
 use Rattle.law_run.proofs.Meets.{exchange, Meets, meets-more}
-use Rattle.law_run.proofs.OnExtent.{claims_at, block_second, extent-name, map-no-lease, bad-map}
-use Rattle.law_run.proofs.Reached.{IsUse, NotAfter, IsFirstDue, TellsFirstDue, first-tells}
-use Rattle.law_run.proofs.Rests.{written-none, unfound-none}
+use Rattle.law_run.proofs.OnExtent.{extent-name, map-no-lease, bad-map}
+use Rattle.law_run.proofs.Uses.{claims_at, block_second, used-within, used-more, used-less}
+use Rattle.plx_rules.proofs.InUse.{IsFirstDue, TellsFirstDue, first-tells}
 use Rattle.law_run.proofs.Right.{clock, read_of}
 use Rattle.law_run.proofs.Runs.{HasFirst, along-more}
 use Rattle.law_run.proofs.TakeFollows.{FollowsTake, Calm, map-goes-on}
 use Rattle.plx_rules.proofs.Maps.{length-with_set, set-is-map}
-
--- the claim of a lease that is done
-abbrev pub claim_done : (lease : ℕ) → Claim → Exchange
-claim_done lease claim =
-    exchange (ask.Write kind.Claim (record { 0 = lease_at lease }) (claim.sample + window)) (lease_bytes (lease_is.Claimed claim (claim.sample + term))) answer.Done
 
 -- ---- the maps of the extents that were passed
 
@@ -88,10 +79,6 @@ module _ (s : Setting) (geometry : IsGeometry s.geometry) (first : CommandLog) (
   abbrev pub log : List Exchange → CommandLog
   log own = with_work first own
 
-  -- a lease that the take has claimed
-  abbrev pub Claimed : List Exchange → InUse → Type 0
-  Claimed done one = IsClaimedHere s (log done) done one
-
   -- which claim has ended Busy first, if one has
   abbrev pub BusyIs : Option (ℕ × LeaseRecord) → List Exchange → Type 0
   BusyIs None done = NoneBusy s (log done) done
@@ -108,9 +95,7 @@ module _ (s : Setting) (geometry : IsGeometry s.geometry) (first : CommandLog) (
     pub others : HoldsOthers s first (log done)
     pub hand : hand_by_log s first.before (after_work first done) ≡ t.hand
     pub within : (b : ℕ) → HasBlock t.hand b → extent_of s.geometry b < s.geometry.extents
-    pub claimed : (one : InUse) → IsUse one t.claimed → Claimed done one
-    pub all : (e until : ℕ) (claim : Claim) → e < s.geometry.extents → IsIn (claim_done (extent_lease s.geometry e) claim) done →
-        IsUntil until (hold_by_log s first.before (after_work first done) (extent_lease s.geometry e)) → IsUse (extent_use s.geometry e until) t.claimed
+    pub used : AreUsed s (log done) t.uses
     pub busy : BusyIs t.busy done
     pub later : (e : ℕ) → tried ≤ e → e < s.geometry.extents →
         hold_by_log s first.before (after_work first done) (extent_lease s.geometry e) ≡ holds (lease_at (extent_lease s.geometry e))
@@ -137,8 +122,7 @@ module _ (s : Setting) (geometry : IsGeometry s.geometry) (first : CommandLog) (
     others = r.others;
     hand = r.hand;
     within = r.within;
-    claimed = r.claimed;
-    all = r.all;
+    used = r.used;
     busy = r.busy;
     later = r.later;
     maps = maps';
@@ -155,8 +139,7 @@ module _ (s : Setting) (geometry : IsGeometry s.geometry) (first : CommandLog) (
     others = r.others;
     hand = r.hand;
     within = r.within;
-    claimed = r.claimed;
-    all = r.all;
+    used = r.used;
     busy = r.busy;
     later = λ e past below. r.later e (omega (arith, le, past)) below;
     maps = r.maps;
@@ -179,19 +162,10 @@ module _ (s : Setting) (geometry : IsGeometry s.geometry) (first : CommandLog) (
     others = λ l below apart. same l below ∙ r.others l below apart;
     hand = hand-more s first.before x (after_work first done) r.has ∙ (ap (hand_held s.geometry H) answered ∙ filter-all (λ c. is_held (H (lease_at (extent_lease s.geometry (extent_of s.geometry c))))) (t.hand ++ blocks) still);
     within = λ b has. elim (has-append t.hand blocks b has) [ inl old ↦ r.within b old | inr new ↦ (own b new).0 ];
-    claimed = λ one is. (
-        let c = r.claimed one is in record {
-          extent = c.extent;
-          below = c.below;
-          is = c.is;
-          claim = c.claim;
-          wrote = inr c.wrote;
-          held = same (extent_lease s.geometry c.extent) (extent-below s.geometry c.extent c.below) ∙ c.held;
-        });
-    all = λ e until claim below is_in until_is. elim is_in [
-      | inl here ↦ absurd (let c : true ≡ claims_at x.ask = ap (λ (y : Exchange). claims_at y.ask) here in let f : true ≡ false = c ∙ quiet in let P : ⊥ = cc in P)
-      | inr there ↦ r.all e until claim below there (subst (IsUntil until) (same (extent_lease s.geometry e) (extent-below s.geometry e below)) until_is)
-    ];
+    used = record {
+      sound = λ one is. (let u = r.used.sound one is in used-more s (log done) x one (same one.lease (used-within s (log done) one.lease u.of)) u);
+      complete = λ one u. r.used.complete one (used-less s (log done) x one quiet (same one.lease) u);
+    };
     busy = busy-more t.busy x done none r.busy;
     later = λ e past below. same (extent_lease s.geometry e) (extent-below s.geometry e below) ∙ r.later e past below;
     maps = λ few e m. (
@@ -235,16 +209,16 @@ module _ (s : Setting) (geometry : IsGeometry s.geometry) (first : CommandLog) (
   map-taken M tried done t e bytes new r =
       let x = read_of (map_at s.geometry e) bytes in
       let H = holds_along s.geometry (is_attached first.before) (holds_after s.geometry first.before) (after_work first done) in
-      still-taken M tried done t x r (claims-more s.geometry (after_work first done) x r.has (map-no-lease s.geometry e)) tt
+      still-taken M tried done t x r (claims-more s.geometry (after_work first done) x (reads-no-claim s.geometry (map_at s.geometry e) (after_work first done) (map-no-lease s.geometry e))) tt
       (λ l below. ap (λ (h : ℕ → Hold). h (lease_at l)) (along-more s.geometry (is_attached first.before) (holds_after s.geometry first.before) x (after_work first done) r.has)
       ∙ at-other H (map_at s.geometry e) (lease_at l) _ (lease-map s.geometry l e below))
       refl (λ l seen below. map-unbusy s first (after_work first (x ∷ done)) e bytes refl l seen below) refl
       (λ e' m. with-other (given_after_exchanges done nothing_given) (map_at s.geometry e) bytes (map_at s.geometry e') (λ same. new (subst M (map-map s.geometry e' e some-blocks same) m)))
 
   -- the clock is read
-  pub clock-taken : (M : ℕ → Type 0) (tried : ℕ) (done : List Exchange) (t : Taking) (last : ℕ) → HasTaken M tried done t → HasTaken M tried (clock last ∷ done) t
-  clock-taken M tried done t last r =
-      still-taken M tried done t (clock last) r (claims-more s.geometry (after_work first done) (clock last) r.has refl) tt
+  pub clock-taken : (M : ℕ → Type 0) (tried : ℕ) (done : List Exchange) (t : Taking) (last : ℕ) → is_map_found s.geometry (last_found (after_work first done)) ≡ false → HasTaken M tried done t → HasTaken M tried (clock last ∷ done) t
+  clock-taken M tried done t last none r =
+      still-taken M tried done t (clock last) r (claims-more s.geometry (after_work first done) (clock last) none) tt
       (λ l below. ap (λ (h : ℕ → Hold). h (lease_at l)) (along-more s.geometry (is_attached first.before) (holds_after s.geometry first.before) (clock last) (after_work first done) r.has) ∙ timed-rests last _ (r.at_rest l below))
       refl (λ l seen below. unread-unbusy s first (after_work first (clock last ∷ done)) refl l seen) refl (λ e m. refl)
 
@@ -289,7 +263,7 @@ module _ (s : Setting) (geometry : IsGeometry s.geometry) (first : CommandLog) (
 
     pub take-taken : HasTaken M tried (write_so ∷ read_so) (with_taken t blocks)
     take-taken =
-        more-taken M tried read_so t write_so blocks r (claims-more s.geometry (after_work first read_so) write_so r.has refl) tt
+        more-taken M tried read_so t write_so blocks r (claims-more s.geometry (after_work first read_so) write_so refl) tt
         (λ l less. ap (λ (h : ℕ → Hold). h (lease_at l)) (along-more s.geometry (is_attached first.before) (holds_after s.geometry first.before) write_so (after_work first read_so) r.has))
         answered own (λ l seen less. unread-unbusy s first (after_work first (write_so ∷ read_so)) refl l seen) refl
         (λ e' m. with-other (given_after_exchanges read_so nothing_given) (map_at s.geometry e) out_so (map_at s.geometry e') (λ at. new (subst M (map-map s.geometry e' e some-blocks at) m)))
@@ -331,13 +305,12 @@ module _ (s : Setting) (geometry : IsGeometry s.geometry) (first : CommandLog) (
   pub refuses-taken : (M : ℕ → Type 0) (tried : ℕ) (done : List Exchange) (t : Taking) (r : Reply) (n : ℕ) → HasTaken M tried done t → RefusesTake s (log done) done count r → Keeping done (ends r t.known) n
   refuses-taken M tried done t r n taken why = refuses done t.known r n taken.sessions taken.claims taken.others why
 
-  -- the lease of an extent is lost
-  pub loses : (done : List Exchange) (l e until last claims n : ℕ) → l ≡ extent_lease s.geometry e →
-      claims ≡ claims_in s.geometry (after_work first done) + lost_claim s.geometry (reply.Lost (lease.Extent (record { 0 = e })) until last) (after_work first done) + claims_begun s.geometry first.before →
-      WasLost s (log done) done (lease.Extent (record { 0 = e })) until last → Keeping done (ends (reply.Lost (lease_name s.geometry l) until last) (nothing_known claims)) n
-  loses done l e until last claims n at counted why =
-      subst (λ (name : LeaseName). Keeping done (ends (reply.Lost name until last) (nothing_known claims)) n) (sym (ap (lease_name s.geometry) at ∙ extent-name s.geometry e))
-      (subst (λ c. Keeping done (ends (reply.Lost (lease.Extent (record { 0 = e })) until last) (nothing_known c)) n) (sym counted) (work.fails done _ (takes.lost (record { 0 = e }) until last why)))
+  -- a lease is lost
+  loses : (done : List Exchange) (name : LeaseName) (until last claims n : ℕ) →
+      claims ≡ claims_in s.geometry (after_work first done) + claims_begun s.geometry first.before →
+      WasLost s (log done) name until last → Keeping done (ends (reply.Lost name until last) (nothing_known claims)) n
+  loses done name until last claims n counted why =
+      subst (λ c. Keeping done (ends (reply.Lost name until last) (nothing_known c)) n) (sym counted) (work.fails done _ (takes.lost name until last why))
 
   -- a write came too late for its guard, the end of the lease of an extent
   pub write-missed : (done : List Exchange) (k : WriteKind) (block : BlockNo) (bytes : List ℕ) (e until last claims n : ℕ) → RestsOn s.geometry k block.0 (lease.Extent (record { 0 = e })) →
@@ -345,9 +318,10 @@ module _ (s : Setting) (geometry : IsGeometry s.geometry) (first : CommandLog) (
       Keeping (exchange (ask.Write k block until) bytes (answer.Missed last) ∷ done) (ends (reply.Lost (lease_name s.geometry (extent_lease s.geometry e)) until last) (nothing_known claims)) n
   write-missed done k block bytes e until last claims n on counted =
       let x = exchange (ask.Write k block until) bytes (answer.Missed last) in
-      loses (x ∷ done) (extent_lease s.geometry e) e until last claims n refl
-      (let none = written-none s.geometry (lease.Extent (record { 0 = e })) until last x (after_work first done) refl in omega (arith, none, counted))
-      (replies.missed k block bytes (done, refl) on)
+      subst (λ (name : LeaseName). Keeping (x ∷ done) (ends (reply.Lost name until last) (nothing_known claims)) n) (sym (extent-name s.geometry e))
+      (loses (x ∷ done) (lease.Extent (record { 0 = e })) until last claims n
+      counted
+      (replies.missed k block bytes (after_work first done, refl) on))
 
   -- a write failed
   pub write-failed : (done : List Exchange) (k : WriteKind) (block : BlockNo) (guard : ℕ) (bytes : List ℕ) (claims n : ℕ) →
@@ -355,27 +329,17 @@ module _ (s : Setting) (geometry : IsGeometry s.geometry) (first : CommandLog) (
       Keeping (exchange (ask.Write k block guard) bytes answer.Fault ∷ done) (ends (reply.WriteFault block) (nothing_known claims)) n
   write-failed done k block guard bytes claims n counted =
       let x = exchange (ask.Write k block guard) bytes answer.Fault in
-      subst (λ c. Keeping (x ∷ done) (ends (reply.WriteFault block) (nothing_known c)) n) (sym counted) (work.fails (x ∷ done) _ (takes.unwritten k block guard bytes (done, refl)))
-
-  -- a lease that was claimed is in use
-  pub claimed-use : (done : List Exchange) (one : InUse) → (c : Claimed done one) → IsExtentInUse s (log done) done c.extent one.until
-  claimed-use done one c = going c.claim c.below c.wrote (holdings.held c.claim c.held)
+      subst (λ c. Keeping (x ∷ done) (ends (reply.WriteFault block) (nothing_known c)) n) (sym counted) (work.fails (x ∷ done) _ (takes.unwritten k block guard bytes (after_work first done, refl)))
 
   -- a reading has reached leases in use
-  pub lost-reading : (done : List Exchange) (last : ℕ) (k : Known) (uses : List InUse) (due : InUse) (n : ℕ) → IsLastReading done last →
-      ((e : ℕ) → k.claims ≡ claims_in s.geometry (after_work first done) + lost_claim s.geometry (reply.Lost (lease.Extent (record { 0 = e })) due.until last) (after_work first done) + claims_begun s.geometry first.before) →
-      ((one : InUse) → IsUse one uses → (e : ℕ) × (one.lease ≡ extent_lease s.geometry e) × IsExtentInUse s (log done) done e one.until) →
-      ((e until : ℕ) → IsExtentInUse s (log done) done e until → IsUse (extent_use s.geometry e until) uses) → first_reached uses last ≡ Some due →
+  pub lost-reading : (done : List Exchange) (last : ℕ) (k : Known) (uses' : List InUse) (due : InUse) (n : ℕ) → IsLastReading (after_work first done) last →
+      k.claims ≡ claims_in s.geometry (after_work first done) + claims_begun s.geometry first.before →
+      ((one : InUse) → IsUse one uses' → IsInUse s (log done) one) → ((one : InUse) → IsInUse s (log done) one → IsUse one uses') → first_reached uses' last ≡ Some due →
       Keeping done (lost_part s k due last) n
-  lost-reading done last k uses due n is counted sound complete reached =
-      let f : IsFirstDue uses last due = subst (TellsFirstDue uses last) reached (first-tells uses last) in
-      let own = sound due f.among in
-      loses done due.lease own.0 due.until last k.claims n own.1 (counted own.0)
-      (replies.reached_extent (record { 0 = own.0 }) is own.2 f.past (λ other until' used le. order own.0 own.1 other until' (f.first (extent_use s.geometry other until') (complete other until' used) le)))
-    where
-      order : (e : ℕ) → due.lease ≡ extent_lease s.geometry e → (other until' : ℕ) → NotAfter due (extent_use s.geometry other until') → IsNamedFirst e due.until other until'
-      order e at other until' (inl less) = inl less
-      order e at other until' (inr same) = inr (same.0, (let l = same.1 in omega (arith, at)))
+  lost-reading done last k uses' due n is counted sound complete reached =
+      let f : IsFirstDue uses' last due = subst (TellsFirstDue uses' last) reached (first-tells uses' last) in
+      loses done (lease_name s.geometry due.lease) due.until last k.claims n counted
+      (replies.reached due refl refl is (sound due f.among) f.past (λ other its le. f.first other (complete other its) le))
 
   -- a take goes on rightly from there
   abbrev pub MeetsTaking : (M : ℕ → Type 0) → (tried : ℕ) → (Taking → Part End) → (n : ℕ) → Type 0
@@ -398,45 +362,40 @@ module _ (s : Setting) (geometry : IsGeometry s.geometry) (first : CommandLog) (
       Keeping (exchange (ask.Read (record { 0 = map_at s.geometry e })) [] answer.Fault ∷ done) (ends (reply.ReadFault (record { 0 = map_at s.geometry e })) t.known) n
   read-failed M tried done t e n r =
       let x = exchange (ask.Read (record { 0 = map_at s.geometry e })) [] answer.Fault in
-      let begun = claims-more s.geometry (after_work first done) x r.has (map-no-lease s.geometry e) in
+      let begun = claims-more s.geometry (after_work first done) x (reads-no-claim s.geometry (map_at s.geometry e) (after_work first done) (map-no-lease s.geometry e)) in
       refuses (x ∷ done) t.known (reply.ReadFault (record { 0 = map_at s.geometry e })) n r.sessions (let c = r.claims in omega (arith, begun))
       (λ l below apart. ap (λ (h : ℕ → Hold). h (lease_at l)) (along-more s.geometry (is_attached first.before) (holds_after s.geometry first.before) x (after_work first done) r.has) ∙ r.others l below apart)
-      (takes.unread (record { 0 = map_at s.geometry e }) (done, refl))
+      (takes.unread (record { 0 = map_at s.geometry e }) (after_work first done, refl))
 
   -- bytes that are no map end the take after one more reading
-  pub right-damaged : (M : ℕ → Type 0) (tried : ℕ) (d : List Exchange) (t : Taking) (e n : ℕ) (bytes : List ℕ) (uses : List InUse) → HasTaken M tried (read_of (map_at s.geometry e) bytes ∷ d) t →
+  pub right-damaged : (M : ℕ → Type 0) (tried : ℕ) (d : List Exchange) (t : Taking) (e n : ℕ) (bytes : List ℕ) (uses' : List InUse) → HasTaken M tried (read_of (map_at s.geometry e) bytes ∷ d) t →
       read_map s.geometry.extent_blocks bytes ≡ None →
-      ((last : ℕ) (one : InUse) → IsUse one uses →
-      (e' : ℕ) × (one.lease ≡ extent_lease s.geometry e') × IsExtentInUse s (log (clock last ∷ read_of (map_at s.geometry e) bytes ∷ d)) (clock last ∷ read_of (map_at s.geometry e) bytes ∷ d) e' one.until) →
-      ((one : InUse) → IsUse one t.claimed → IsUse one uses) →
-      ((last : ℕ) (claim : Claim) (until : ℕ) → hold_by_log s first.before (after_work first (clock last ∷ read_of (map_at s.geometry e) bytes ∷ d)) (extent_lease s.geometry e) ≡ Held claim until → IsUse (extent_use s.geometry e until) uses) →
-      Keeping (read_of (map_at s.geometry e) bytes ∷ d) (damaged_part s t.known uses (map_at s.geometry e)) (suc n)
-  right-damaged M tried d t e n bytes uses r none sound wider own = (work.may (read_of (map_at s.geometry e) bytes ∷ d) _ _ (r.went, tt) tt (λ outside. refl), λ last small. go last (first_reached uses last) refl)
+      ((last : ℕ) (one : InUse) → IsUse one uses' → IsInUse s (log (clock last ∷ read_of (map_at s.geometry e) bytes ∷ d)) one) →
+      ((one : InUse) → IsUse one t.uses → IsUse one uses') →
+      ((last : ℕ) (claim : Claim) (until : ℕ) → hold_by_log s first.before (after_work first (clock last ∷ read_of (map_at s.geometry e) bytes ∷ d)) (extent_lease s.geometry e) ≡ Held claim until → IsUse (extent_use s.geometry e until) uses') →
+      Keeping (read_of (map_at s.geometry e) bytes ∷ d) (damaged_part s t.known uses' (map_at s.geometry e)) (suc n)
+  right-damaged M tried d t e n bytes uses' r none sound wider own = (work.may (read_of (map_at s.geometry e) bytes ∷ d) _ _ (r.went, tt) tt (λ outside. refl), λ last small. go last (first_reached uses' last) refl)
     where
       done : List Exchange
       done = read_of (map_at s.geometry e) bytes ∷ d
 
-      complete : (last e' until : ℕ) → IsExtentInUse s (log (clock last ∷ done)) (clock last ∷ done) e' until → IsUse (extent_use s.geometry e' until) uses
-      complete last e' until (going claim below was is) = wider (extent_use s.geometry e' until) ((clock-taken M tried done t last r).all e' until claim below was is)
-      complete last e' until (unread claim bytes' last' older' below is waited none') =
-          absurd (lease-map s.geometry (extent_lease s.geometry e') e (extent-below s.geometry e' below) (sym (ap block_second is)))
-      complete last e' until (rested claim bytes' last' older' below is none' held) =
-          let same : e ≡ e' = map-map s.geometry e e' some-blocks (ap block_second is) in
-          subst (λ n'. IsUse (extent_use s.geometry n' until) uses) same
-          (own last claim until (subst (λ n'. hold_by_log s first.before (after_work first (clock last ∷ done)) (extent_lease s.geometry n') ≡ Held claim until) (sym same) held))
+      complete : (last : ℕ) (one : InUse) → IsInUse s (log (clock last ∷ done)) one → IsUse one uses'
+      complete last one (uses.used u) = wider one ((clock-taken M tried done t last (bad-map s.geometry (map_at s.geometry e) bytes none) r).used.complete one u)
+      complete last one (uses.unread claim bytes' last' older' below is waited none' gone) = absurd (lease-map s.geometry one.lease e below (sym (ap block_second is)))
+      complete last one (uses.rested e' claim bytes' last' older' below at is none' held) =
+          let same : extent_lease s.geometry e ≡ one.lease = ap (extent_lease s.geometry) (map-map s.geometry e e' some-blocks (ap block_second is)) ∙ sym at in
+          subst (λ l. IsUse (record { lease = l; until = one.until }) uses') same
+          (own last claim one.until (ap (hold_by_log s first.before (after_work first (clock last ∷ done))) same ∙ held))
 
-      go : (last : ℕ) (found : Option InUse) → first_reached uses last ≡ found →
+      go : (last : ℕ) (found : Option InUse) → first_reached uses' last ≡ found →
           Keeping (clock last ∷ done) (unless_reached found (λ due. lost_part s t.known due last) (ends (reply.Damaged (record { 0 = map_at s.geometry e })) t.known)) n
       go last (Some due) is =
-          let r2 = clock-taken M tried done t last r in
-          lost-reading (clock last ∷ done) last t.known uses due n (of_clock (done, refl))
-          (λ e'. (
-          let none' = unfound-none s.geometry (lease.Extent (record { 0 = e' })) due.until last (clock last) (after_work first done) (bad-map s.geometry (map_at s.geometry e) bytes none) in
-          let c = r2.claims in
-          omega (arith, none')))
+          let r2 = clock-taken M tried done t last (bad-map s.geometry (map_at s.geometry e) bytes none) r in
+          lost-reading (clock last ∷ done) last t.known uses' due n (of_clock (after_work first done, refl))
+          r2.claims
           (sound last) (complete last) is
       go last None is =
-          let r2 = clock-taken M tried done t last r in
+          let r2 = clock-taken M tried done t last (bad-map s.geometry (map_at s.geometry e) bytes none) r in
           refuses-taken M tried (clock last ∷ done) t (reply.Damaged (record { 0 = map_at s.geometry e })) n r2
           (takes.map_damaged (record { 0 = map_at s.geometry e }) (record {
             extent = e;
@@ -445,8 +404,8 @@ module _ (s : Setting) (geometry : IsGeometry s.geometry) (first : CommandLog) (
             reading = last;
             read = inr (inl refl);
             outside = none;
-            last = (done, refl);
-            below = λ claim until held. (subst (TellsFirstDue uses last) is (first-tells uses last)) (extent_use s.geometry e until) (own last claim until held);
+            last = (after_work first done, refl);
+            below = λ claim until held. (subst (TellsFirstDue uses' last) is (first-tells uses' last)) (extent_use s.geometry e until) (own last claim until held);
           }))
 
   -- blocks are taken of an extent whose lease is held
@@ -484,7 +443,7 @@ module _ (s : Setting) (geometry : IsGeometry s.geometry) (first : CommandLog) (
           let x = exchange (ask.Write kind.Take (record { 0 = place }) until) out answer.Done in
           let k = count - length t.hand in
           let sum : (y : Exchange) → y.ask ≡ ask.Write kind.Take (record { 0 = place }) until → t.known.claims ≡ claims_in s.geometry (after_work first (y ∷ done1)) + claims_begun s.geometry first.before =
-          λ y is'. (let m' : claims_in s.geometry (after_work first (y ∷ done1)) ≡ claims_in s.geometry (after_work first done1) = claims-more s.geometry (after_work first done1) y r1.has (rw is' refl) in let c = r1.claims in omega (arith, m')) in (
+          λ y is'. (let m' : claims_in s.geometry (after_work first (y ∷ done1)) ≡ claims_in s.geometry (after_work first done1) = claims-more s.geometry (after_work first done1) y (rw is' refl) in let c = r1.claims in omega (arith, m')) in (
             work.may done1 _ _ (
               r1.went,
               take_of_blocks e claim bytes bits (block ∷ blocks) below refl (now bytes) (after_work first done, refl) is
@@ -507,17 +466,15 @@ module _ (s : Setting) (geometry : IsGeometry s.geometry) (first : CommandLog) (
           let r1 = map-taken M tried done t e bytes new r in
           let still : (last : ℕ) → hold_by_log s first.before (after_work first (clock last ∷ read_of place bytes ∷ done)) (extent_lease s.geometry e) ≡ Held claim until =
           λ last. hold-stays s first.before (after_work first (read_of place bytes ∷ done)) (clock last) (extent_lease s.geometry e) claim until tt tt (now bytes) in
-          right-damaged M tried done t e m bytes (extent_use s.geometry e until ∷ t.claimed) r1 is (sound r1 still) (λ one there. inr there)
+          right-damaged M tried done t e m bytes (extent_use s.geometry e until ∷ t.uses) r1 is (sound r1 still) (λ one there. inr there)
           (λ last claim' until' held'. (
           let q : Held claim until ≡ Held claim' until' = sym (still last) ∙ held' in
           let u : until ≡ until' = cc in
           inl (ap (extent_use s.geometry e) (sym u))))
         where
           sound : HasTaken M tried (read_of place bytes ∷ done) t → ((last : ℕ) → hold_by_log s first.before (after_work first (clock last ∷ read_of place bytes ∷ done)) (extent_lease s.geometry e) ≡ Held claim until) →
-              (last : ℕ) (one : InUse) → IsUse one (extent_use s.geometry e until ∷ t.claimed) →
-              (e' : ℕ) × (one.lease ≡ extent_lease s.geometry e') × IsExtentInUse s (log (clock last ∷ read_of place bytes ∷ done)) (clock last ∷ read_of place bytes ∷ done) e' one.until
+              (last : ℕ) (one : InUse) → IsUse one (extent_use s.geometry e until ∷ t.uses) → IsInUse s (log (clock last ∷ read_of place bytes ∷ done)) one
           sound r1 still last one (inl same) =
-              (e, ap (λ (u : InUse). u.lease) same, rested claim bytes last done below refl is (still last ∙ ap (λ (u : InUse). Held claim u.until) (sym same)))
-          sound r1 still last one (inr there) =
-              let r2 = clock-taken M tried (read_of place bytes ∷ done) t last r1 in
-              let c = r2.claimed one there in (c.extent, c.is, claimed-use (clock last ∷ read_of place bytes ∷ done) one c)
+              subst (λ (u : InUse). IsInUse s (log (clock last ∷ read_of place bytes ∷ done)) u) (sym same)
+              (uses.rested e claim bytes last (after_work first done) below refl refl is (still last))
+          sound r1 still last one (inr there) = uses.used ((clock-taken M tried (read_of place bytes ∷ done) t last (bad-map s.geometry place bytes is) r1).used.sound one there)

@@ -46,7 +46,8 @@ use Rattle.law_run.proofs.Meets.{exchange}
 use Rattle.law_run.proofs.OnImage.{OnImage, names-own, names-other, still, on-image, Ready}
 use Rattle.law_run.proofs.Passed.{Passed, passed-at-most}
 use Rattle.law_run.proofs.Rests.{rests-by}
-use Rattle.law_run.proofs.Right.{clock, FitsSession, FitsAt, Rests, finish, log_on, May, Right}
+use Rattle.law_run.proofs.Uses.{quiet-none}
+use Rattle.law_run.proofs.Right.{clock, FitsSession, FitsAt, Rests, finish, log_on, Right, May}
 use Rattle.law_run.proofs.Runs.{start, hand_start}
 use Rattle.law_run.proofs.Slots.{slot-below}
 use Rattle.law_run.proofs.Unwritten.{unwritten-quiet}
@@ -146,8 +147,8 @@ module _ (s : Setting) (some : 1 ≤ s.geometry.slots) (before : List Finished) 
       let done1 = x1 ∷ done0 in
       let done2 = x2 ∷ done1 in
       let going0 = going-first s before slot.0 claim until reading ready.now in
-      let going1 = going-more s before done0 x1 slot.0 c tt (λ other apart. tt) refl tt going0 in
-      let going2 = going-more s before done1 x2 slot.0 c tt (λ other apart. tt) refl tt going1 in
+      let going1 = going-more s before done0 x1 slot.0 c tt (λ other apart. tt) refl tt refl (quiet-none s.geometry slot.0 (x1 ∷ done0) refl) going0 in
+      let going2 = going-more s before done1 x2 slot.0 c tt (λ other apart. tt) refl tt refl (quiet-none s.geometry slot.0 (x2 ∷ done1) refl) going1 in
       let given1 = given_with given block bytes in
       let given2 = given_with given1 commit (descriptor_bytes d) in
       let known0 : known_in g (log_on before command done0) slot.0 ≡ given = rw (names-own command slot.0 on.named, ready.attached) refl in

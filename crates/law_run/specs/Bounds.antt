@@ -5,7 +5,7 @@ use Rattle.plx_commands.specs.declared.command.Command.TheVariants.{Attach, Deta
 use Rattle.plx_geom.specs.Geometry.{Geometry, lease_count, lease_at}
 use Rattle.plx_rules.specs.Holds.{Hold, Nothing, Seen, Wrote, Waited, Held}
 use Rattle.plx_rules.specs.Settings.{Setting}
-use Rattle.law_run.specs.CommandLogs.{Finished}
+use Rattle.law_run.specs.CommandLogs.{Exchange, Finished, CommandLog}
 use Rattle.law_run.specs.Holdings.{holds_after}
 
 -- 1 for a lease that is held
@@ -25,16 +25,21 @@ count_held holds (suc left) lease = one_held (holds (lease_at lease)) + count_he
 abbrev pub held_after : Geometry → List Finished → ℕ
 held_after g before = count_held (holds_after g before) (lease_count g) 0
 
--- the bound of a command that begins after those; a command that isn't built asks for its first reading alone
-abbrev pub bound : Setting → List Finished → Command → ℕ
-bound s before (Attach slot) = 9 + 2 * s.geometry.slots
-bound s before (Detach slot) = 2
-bound s before (Create slot size label) = 3
-bound s before (Delete slot) = 3
-bound s before (Read slot vblock) = 2
-bound s before (Write slot vblock payload) = 4
-bound s before (Flush slot) = 1
-bound s before (Reserve count) = 1 + 8 * s.geometry.extents
-bound s before Renew = 1 + held_after s.geometry before
-bound s before Retire = 2 + 3 * s.geometry.extents + s.geometry.images
-bound s before Reclaim = 1
+-- the bound of a command, by what was done before it and by what it has met so far; one that isn't
+-- built asks for its first reading alone
+abbrev pub bound_of : Setting → List Finished → Command → List Exchange → ℕ
+bound_of s before (Attach slot) exchanges = 9 + 2 * s.geometry.slots
+bound_of s before (Detach slot) exchanges = 2
+bound_of s before (Create slot size label) exchanges = 3
+bound_of s before (Delete slot) exchanges = 3
+bound_of s before (Read slot vblock) exchanges = 2
+bound_of s before (Write slot vblock payload) exchanges = 4
+bound_of s before (Flush slot) exchanges = 1
+bound_of s before (Reserve count) exchanges = 1 + 8 * s.geometry.extents
+bound_of s before Renew exchanges = 1 + held_after s.geometry before
+bound_of s before Retire exchanges = 2 + 3 * s.geometry.extents + s.geometry.images
+bound_of s before Reclaim exchanges = 1
+
+-- that of the command of a log
+abbrev pub bound : Setting → CommandLog → ℕ
+bound s log = bound_of s log.before log.command log.exchanges

@@ -12,6 +12,7 @@ use Rattle.plx_disk.specs.declared.ask.Answer.{Answer}
 use Rattle.plx_disk.specs.declared.ask.Answer.TheVariants as answer
 use Rattle.plx_gate.specs.Leases.{read_lease}
 use Rattle.plx_geom.specs.Geometry.{Geometry, lease_count, image_lease, lease_at, record_at, map_at}
+use Rattle.plx_rules.specs.InUse.{InUse}
 use Rattle.plx_rules.specs.Settings.{Setting}
 use Rattle.plx_rules.specs.Space.{read_map}
 use Rattle.plx_rules.specs.Stored.{Given}
@@ -20,9 +21,8 @@ use Rattle.law_run.specs.CommandLogs.{Exchange, Finished, CommandLog, LastAnswer
 use Rattle.law_run.specs.KnownBytes.{known_in}
 use Rattle.law_run.specs.Outside.{IsOutside}
 use Rattle.law_run.specs.Refusals.{Refuses}
-use Rattle.law_run.specs.Replies.{IsInUse}
 use Rattle.law_run.specs.Sessions.{names}
-use Rattle.law_run.specs.Space.{IsExtentInUse}
+use Rattle.law_run.specs.Uses.{IsInUse}
 
 -- what is given of the record of an image, and of no other block
 abbrev pub record_alone : Geometry → Given → (image : ℕ) → Given
@@ -48,11 +48,10 @@ pub data HasReadOutside (s : Setting) (log : CommandLog) : Type 0 where
       IsOutside s.geometry (record_by_now s log image) image block.0 bytes → HasReadOutside s log
 
 -- a reading has reached the end of a lease in use
-pub data HasReached (s : Setting) (log : CommandLog) (reading : ℕ) : Type 0 where
-  of_image_lease : (image until : ℕ) → IsInUse s log image until → until ≤ reading →
-      HasReached s log reading
-  of_extent_lease : (extent until : ℕ) → IsExtentInUse s log log.exchanges extent until →
-      until ≤ reading → HasReached s log reading
+pub record HasReached (s : Setting) (log : CommandLog) (reading : ℕ) : Type 0 where
+  pub due : InUse
+  pub used : IsInUse s log due
+  pub past : due.until ≤ reading
 
 -- the claim of an attach has ended Busy with the newest exchange
 pub record WasAttachBusy (s : Setting) (log : CommandLog) : Type 0 where

@@ -1,9 +1,6 @@
 -- What a boot holds of each lease, what it has in hand, and how many claims it began, by its commands.
-use Rattle.std.specs.Prelude.{◌≡◌, ◌+◌, ◌-◌, ℕ, List, [], ◌∷◌, Bool, true, false, ◌&&◌, nat_le, nat_lt, if◌then◌else◌, ◌==◌, Option, Some, None, is_some}
+use Rattle.std.specs.Prelude.{◌≡◌, ◌+◌, ◌-◌, ℕ, List, [], ◌∷◌, Bool, true, false, ◌&&◌, nat_le, nat_lt, if◌then◌else◌, ◌==◌, Option, Some, None, is_some, not}
 use Rattle.plx_base.specs.declared.lease.Claim.{Claim}
-use Rattle.plx_base.specs.declared.lease.LeaseName.TheVariants as lease
-use Rattle.plx_commands.specs.declared.reply.Reply.{Reply}
-use Rattle.plx_commands.specs.declared.reply.Reply.TheVariants as reply
 use Rattle.plx_disk.specs.declared.ask.Ask.{Ask}
 use Rattle.plx_disk.specs.declared.ask.Ask.TheVariants as ask
 use Rattle.plx_disk.specs.declared.ask.Answer.{Answer}
@@ -132,25 +129,31 @@ is_clock (ask.Write kind block guard) = false
 is_clock ask.Clock = true
 is_clock (ask.Until from) = false
 
--- how many claims began in some exchanges: each asks the clock and then reads its lease
-abbrev pub claims_in : Geometry → List Exchange → ℕ
-claims_in g [] = 0
-claims_in g (exchange ∷ []) = 0
-claims_in g (exchange ∷ last ∷ older) =
-    (if is_lease_read g exchange.ask && is_clock last.ask then 1 else 0) + claims_in g (last ∷ older)
-
 -- whether what was found at a block is the map of an extent
 abbrev pub is_map_found : Geometry → Option (ℕ × List ℕ) → Bool
 is_map_found g None = false
 is_map_found g (Some found) = (map_at g (extent_of g found.0) == found.0) && is_some (read_map g.extent_blocks found.1)
 
--- 1 for a claim that a command began last and that read no lease: once a map was read its clock was asked, and the reading has reached the end of
--- another extent's lease
-abbrev pub lost_claim : Geometry → Reply → List Exchange → ℕ
-lost_claim g (reply.Lost (lease.Extent extent) until reading) (exchange ∷ older) = if is_clock exchange.ask && is_map_found g (last_found older) then 1 else 0
-lost_claim g reply exchanges = 0
+-- whether the newest of some exchanges asked for the clock, where no map was read before that
+abbrev pub is_clock_alone : Geometry → List Exchange → Bool
+is_clock_alone g [] = false
+is_clock_alone g (last ∷ older) = is_clock last.ask && not (is_map_found g (last_found older))
+
+-- whether an ask begins a claim, by the exchanges before it: the clock directly after a map was
+-- read, as in a take; or else, as in an attach, the read of a lease directly after the clock
+abbrev pub begins_claim : Geometry → Ask → List Exchange → Bool
+begins_claim g (ask.Read block) older = is_lease_read g (ask.Read block) && is_clock_alone g older
+begins_claim g (ask.Write kind block guard) older = false
+begins_claim g ask.Clock older = is_map_found g (last_found older)
+begins_claim g (ask.Until from) older = false
+
+-- how many claims began in some exchanges
+abbrev pub claims_in : Geometry → List Exchange → ℕ
+claims_in g [] = 0
+claims_in g (exchange ∷ older) =
+    (if begins_claim g exchange.ask older then 1 else 0) + claims_in g older
 
 -- how many claims a boot has begun in its commands
 abbrev pub claims_begun : Geometry → List Finished → ℕ
 claims_begun g [] = 0
-claims_begun g (finished ∷ before) = claims_in g finished.exchanges + lost_claim g finished.reply finished.exchanges + claims_begun g before
+claims_begun g (finished ∷ before) = claims_in g finished.exchanges + claims_begun g before

@@ -23,3 +23,4 @@ pub mod Releases
 pub mod Takes
 pub mod OnHand
 pub mod RetireRules
+pub mod Uses

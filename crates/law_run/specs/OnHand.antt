@@ -1,11 +1,9 @@
 -- Work on all blocks in hand and on the leases of all extents, within a command: when it may begin, and why it ends.
-use Rattle.std.specs.Prelude.{◌≡◌, ◌≢◌, ◌≤◌, ◌<◌, ◌⊎◌, ℕ, List, [], ◌∷◌, Bool, Some, None, true}
+use Rattle.std.specs.Prelude.{◌≡◌, ◌<◌, ◌⊎◌, ℕ, List, [], ◌∷◌, Bool, Some, None, true, ◌≢◌}
 use Rattle.plx_base.specs.declared.lease.Claim.{Claim}
 use Rattle.plx_base.specs.declared.lease.LeaseName.TheVariants as lease
 use Rattle.plx_base.specs.declared.numbers.BlockNo.{BlockNo}
-use Rattle.plx_base.specs.declared.numbers.ExtentNo.{ExtentNo}
 use Rattle.plx_base.specs.declared.write_kind.WriteKind.{WriteKind}
-use Rattle.plx_base.specs.declared.write_kind.WriteKind.TheVariants as kind
 use Rattle.plx_commands.specs.Replies.{is_in}
 use Rattle.plx_commands.specs.declared.reply.Reply.TheVariants as reply
 use Rattle.plx_disk.specs.declared.ask.Ask.{Ask}
@@ -14,16 +12,18 @@ use Rattle.plx_disk.specs.declared.ask.Answer.TheVariants as answer
 use Rattle.plx_geom.specs.Geometry.{Geometry, extent_lease, lease_at, map_at}
 use Rattle.plx_rules.specs.Ends.{End}
 use Rattle.plx_rules.specs.Holds.{Hold}
+use Rattle.plx_rules.specs.InUse.{InUse, first_reached, lease_name}
 use Rattle.plx_rules.specs.Rests.{extent_of}
 use Rattle.plx_rules.specs.Session.{Known, nothing_known}
 use Rattle.plx_rules.specs.Settings.{Setting}
-use Rattle.plx_rules.specs.Space.{read_map, with_clear}
+use Rattle.plx_rules.specs.Space.{extent_use, read_map, with_clear}
 use Rattle.law_run.specs.AllowedAsks.{WentOn}
-use Rattle.law_run.specs.CommandLogs.{Exchange, CommandLog, IsIn, WasAnswered, LastAnswered}
+use Rattle.law_run.specs.CommandLogs.{Exchange, CommandLog, IsIn, LastAnswered}
 use Rattle.law_run.specs.Holdings.{hold_by_log, hand_by_log, Holds}
 use Rattle.law_run.specs.Machines.{IsOfBlock}
 use Rattle.law_run.specs.Replies.{RestsOn, Comes}
 use Rattle.law_run.specs.Space.{IsMapDamaged}
+use Rattle.law_run.specs.Uses.{AreUsed}
 
 -- ---- its asks
 
@@ -61,28 +61,49 @@ pub record WasClear (g : Geometry) (own : List Exchange) (block : ℕ) : Type 0 
   pub spells : read_map g.extent_blocks bytes ≡ Some bits
   pub clear : with_clear (block ∷ []) (map_at g (extent_of g block)) bits ≡ bits
 
--- the lease of an extent is lost: a write that rests on it came too late for its guard; or it is held, its map was read as bytes that are no map, and the
--- reading after that has reached its end
-pub data IsExtentLost (s : Setting) (log : CommandLog) (extent : ExtentNo) (until reading : ℕ) : Type 0 where
-  missed : (k : WriteKind) (block : BlockNo) (bytes : List ℕ) → LastAnswered log (ask.Write k block until) bytes (answer.Missed reading) →
-      RestsOn s.geometry k block.0 (lease.Extent extent) → IsExtentLost s log extent until reading
-  reached : (claim : Claim) (bytes : List ℕ) (older : List Exchange) → extent.0 < s.geometry.extents →
+-- a lease is lost: a write that rests on that of an extent came too late for its guard; or an
+-- extent's lease is held, its map was read as bytes that are no map, and of that lease and those
+-- that the command hands in it is the one to be named where the reading after that has reached them
+pub data IsLostOnHand (s : Setting) (log : CommandLog) (uses : List InUse) (due : InUse)
+    (reading : ℕ) : Type 0 where
+  missed : (k : WriteKind) (block : BlockNo) (extent : ℕ) (bytes : List ℕ) →
+      LastAnswered log (ask.Write k block due.until) bytes (answer.Missed reading) →
+      due.lease ≡ extent_lease s.geometry extent →
+      RestsOn s.geometry k block.0 (lease.Extent (record { 0 = extent })) →
+      IsLostOnHand s log uses due reading
+  reached : (extent until : ℕ) (claim : Claim) (bytes : List ℕ) (older : List Exchange) →
+      extent < s.geometry.extents →
       log.exchanges ≡ (record { ask = ask.Clock; bytes = []; answer = answer.Reading reading })
-      ∷ (record { ask = ask.Read (record { 0 = map_at s.geometry extent.0 }); bytes = []; answer = answer.Bytes bytes }) ∷ older →
-      read_map s.geometry.extent_blocks bytes ≡ None → Holds s log (extent_lease s.geometry extent.0) claim until → until ≤ reading →
-      IsExtentLost s log extent until reading
+      ∷ (record {
+        ask = ask.Read (record { 0 = map_at s.geometry extent });
+        bytes = [];
+        answer = answer.Bytes bytes;
+      }) ∷ older →
+      read_map s.geometry.extent_blocks bytes ≡ None →
+      Holds s log (extent_lease s.geometry extent) claim until →
+      first_reached (extent_use s.geometry extent until ∷ uses) reading ≡ Some due →
+      IsLostOnHand s log uses due reading
 
--- no claim was written in the command
-abbrev pub WroteNoClaim : CommandLog → Type 0
-WroteNoClaim log = (block guard : ℕ) (bytes : List ℕ) → ¬ WasAnswered log (ask.Write kind.Claim (record { 0 = block }) guard) bytes answer.Done
-
--- why it ends so: it is done, and the command goes on; the lease of an extent is lost, of the cause that a command has where it has written no claim, which
--- may leave other leases in use; a map was not read; a map or a lease was not written; or a map was read as bytes that are no map
-pub data ShowsOnHand (s : Setting) (known : Known) (follows : End) (IsDone : CommandLog → Type 0) (log : CommandLog) : End → Type 0 where
-  done : IsDone log → ShowsOnHand s known follows IsDone log follows
-  lost : (extent : ExtentNo) (until reading : ℕ) → IsExtentLost s log extent until reading → (WroteNoClaim log → Comes s log (reply.Lost (lease.Extent extent) until reading)) →
-      ShowsOnHand s known follows IsDone log (record { reply = reply.Lost (lease.Extent extent) until reading; known = nothing_known known.claims })
-  unread : (block : BlockNo) → Comes s log (reply.ReadFault block) → ShowsOnHand s known follows IsDone log (record { reply = reply.ReadFault block; known = known })
+-- why it ends so: it is done, and the command goes on; a lease is lost, of the cause that a command
+-- has where those that it hands in are those that it uses; a map was not read; a map or a lease was
+-- not written; or a map was read as bytes that are no map
+pub data ShowsOnHand (s : Setting) (known : Known) (uses : List InUse) (follows : End)
+    (IsDone : CommandLog → Type 0) (log : CommandLog) : End → Type 0 where
+  done : IsDone log → ShowsOnHand s known uses follows IsDone log follows
+  lost : (due : InUse) (reading : ℕ) → IsLostOnHand s log uses due reading →
+      (AreUsed s log uses → Comes s log (reply.Lost
+      (lease_name s.geometry due.lease) due.until reading)) →
+      ShowsOnHand s known uses follows IsDone log
+      (record {
+        reply = reply.Lost (lease_name s.geometry due.lease) due.until reading;
+        known = nothing_known known.claims;
+      })
+  unread : (block : BlockNo) → Comes s log (reply.ReadFault block) →
+      ShowsOnHand s known uses follows IsDone log
+      (record { reply = reply.ReadFault block; known = known })
   unwritten : (block : BlockNo) → Comes s log (reply.WriteFault block) →
-      ShowsOnHand s known follows IsDone log (record { reply = reply.WriteFault block; known = nothing_known known.claims })
-  damaged : (block : BlockNo) → IsMapDamaged s log log.exchanges block → ShowsOnHand s known follows IsDone log (record { reply = reply.Damaged block; known = known })
+      ShowsOnHand s known uses follows IsDone log
+      (record { reply = reply.WriteFault block; known = nothing_known known.claims })
+  damaged : (block : BlockNo) → IsMapDamaged s log block →
+      ShowsOnHand s known uses follows IsDone log
+      (record { reply = reply.Damaged block; known = known })

@@ -1,5 +1,5 @@
 -- The refusals that rest on a fact, in their order.
-use Rattle.std.specs.Prelude.{◌≡◌, ◌≤◌, ◌<◌, ◌+◌, ◌⊎◌, ℕ, Some, true, false}
+use Rattle.std.specs.Prelude.{◌≡◌, ◌≤◌, ◌+◌, ℕ, Some, true, false}
 use Rattle.plx_base.specs.declared.label.Label.{Label}
 use Rattle.plx_base.specs.declared.lease.Claim.{Claim}
 use Rattle.plx_base.specs.declared.lease.LeaseName.TheVariants as lease
@@ -14,6 +14,7 @@ use Rattle.plx_commands.specs.declared.reply.Reply.TheVariants as reply
 use Rattle.plx_gate.specs.declared.image.ImageRecord.{ImageRecord}
 use Rattle.plx_geom.specs.Geometry.{image_lease, lease_at}
 use Rattle.plx_rules.specs.Holds.{Held}
+use Rattle.plx_rules.specs.InUse.{InUse, IsNamedFirst}
 use Rattle.plx_rules.specs.Records.{is_live, generation_of, size_of, applied_of}
 use Rattle.plx_rules.specs.Settings.{Setting}
 use Rattle.plx_rules.specs.Stored.{IsWriteCount}
@@ -23,17 +24,15 @@ use Rattle.law_run.specs.KnownBytes.{known_from, record_known}
 use Rattle.law_run.specs.Sessions.{uses, needs, is_attached}
 
 -- the first reading of a command has reached the end of a lease that it uses, that of an attached image
-pub record IsExpired (s : Setting) (log : CommandLog) (image until reading : ℕ) : Type 0 where
+pub record IsExpired (s : Setting) (log : CommandLog) (one : InUse) (reading : ℕ) : Type 0 where
+  pub image : ℕ
+  pub is : one.lease ≡ image_lease image
   pub used : uses log.command image ≡ true
   pub attached : is_attached log.before image ≡ true
   pub claim : Claim
-  pub held : holds_after s.geometry log.before (lease_at (image_lease image)) ≡ Held claim until
+  pub held : holds_after s.geometry log.before (lease_at one.lease) ≡ Held claim one.until
   pub first : first_reading log.exchanges ≡ Some reading
-  pub reached : until ≤ reading
-
--- of two leases one is named: the one that ends first, of two that end together the first in order
-abbrev pub IsNamedFirst : (lease until other other_until : ℕ) → Type 0
-IsNamedFirst lease until other other_until = (until < other_until) ⊎ ((until ≡ other_until) × (lease ≤ other))
+  pub reached : one.until ≤ reading
 
 -- an attach needs a claim: after its first reading the lease of its image isn't held
 abbrev pub NeedsClaim : Setting → CommandLog → (image : ℕ) → Type 0
@@ -57,8 +56,10 @@ pub data NeedsImage : Command → (image : ℕ) → Type 0 where
 pub data Refuses (s : Setting) (log : CommandLog) : (place : ℕ) → Reply → Type 0 where
   not_attached : (image : ℕ) → needs log.command image ≡ true → is_attached log.before image ≡ false → Refuses s log 1 reply.NotAttached
   already_attached : (slot : SlotNo) → log.command ≡ Attach slot → is_attached log.before slot.0 ≡ true → Refuses s log 2 reply.AlreadyAttached
-  expired : {until reading : ℕ} (slot : SlotNo) → IsExpired s log slot.0 until reading →
-      ((other other_until : ℕ) → IsExpired s log other other_until reading → IsNamedFirst slot.0 until other other_until) →
+  expired : {until reading : ℕ} (slot : SlotNo) →
+      IsExpired s log (record { lease = image_lease slot.0; until = until }) reading →
+      ((other : InUse) → IsExpired s log other reading →
+      IsNamedFirst (record { lease = image_lease slot.0; until = until }) other) →
       Refuses s log 3 (reply.Lost (lease.Image slot) until reading)
   no_slot : (slot : SlotNo) → log.command ≡ Attach slot → s.geometry.images ≤ slot.0 → Refuses s log 4 reply.NoImage
   no_image : (image : ℕ) (kept : ImageRecord) → NeedsImage log.command image → record_known s.geometry log image ≡ Some kept → is_live kept ≡ false →

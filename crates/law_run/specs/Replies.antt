@@ -1,5 +1,5 @@
 -- What the log of a command shows where its reply comes.
-use Rattle.std.specs.Prelude.{◌≡◌, ◌≤◌, ◌<◌, ◌+◌, ℕ, List, [], ◌∷◌, true, false, Some, None}
+use Rattle.std.specs.Prelude.{◌≡◌, ◌≤◌, ◌<◌, ◌+◌, ℕ, List, [], true, false, Some}
 use Rattle.plx_base.specs.Payload.{bytes_of}
 use Rattle.plx_base.specs.declared.label.Label.{Label}
 use Rattle.plx_base.specs.declared.lease.Claim.{Claim}
@@ -19,10 +19,10 @@ use Rattle.plx_commands.specs.declared.reply.Reply.{Reply}
 use Rattle.plx_commands.specs.declared.reply.Reply.TheVariants as reply
 use Rattle.plx_disk.specs.declared.ask.Ask.TheVariants as ask
 use Rattle.plx_disk.specs.declared.ask.Answer.TheVariants as answer
-use Rattle.plx_gate.specs.Leases.{lease_bytes, read_lease}
+use Rattle.plx_gate.specs.Leases.{lease_bytes}
 use Rattle.plx_gate.specs.declared.image.ImageRecord.{ImageRecord}
 use Rattle.plx_geom.specs.Geometry.{Geometry, lease_count, lease_number, image_lease, lease_at, record_at, log_at, descriptor_at, data_at}
-use Rattle.plx_rules.specs.Holds.{Nothing, Waited}
+use Rattle.plx_rules.specs.InUse.{InUse, IsNamedFirst, lease_name}
 use Rattle.plx_rules.specs.Owners.{Needs}
 use Rattle.plx_rules.specs.Settings.{Setting}
 use Rattle.plx_rules.specs.Stored.{Holds, StoredImage, record_on, IsContent, Stores}
@@ -30,12 +30,13 @@ use Rattle.law_run.specs.Busy.{IsBusy}
 use Rattle.law_run.specs.Changes.{written_on, created_on, deleted_on, report_on}
 use Rattle.law_run.specs.CommandLogs.{Exchange, CommandLog, WasAnswered, NewestIs, LastAnsweredIn, LastAnswered}
 use Rattle.law_run.specs.Holdings as holdings
-use Rattle.law_run.specs.Holdings.{hold_by_log, HoldsImage, IsUntil}
+use Rattle.law_run.specs.Holdings.{HoldsImage}
 use Rattle.law_run.specs.KnownBytes.{known_in, known_before}
 use Rattle.law_run.specs.Outside.{IsOutside}
-use Rattle.law_run.specs.Refusals.{Refuses, IsNamedFirst}
+use Rattle.law_run.specs.Refusals.{Refuses}
 use Rattle.law_run.specs.Sessions.{names}
-use Rattle.law_run.specs.Space.{IsExtentInUse, WasBusyForSpace, IsFull, IsWornOut, IsMapDamaged, IsLeaseDamaged, OfReserve, ShowsReserve, ShowsRetire}
+use Rattle.law_run.specs.Space.{OfTake, WasBusyForSpace, IsFull, IsWornOut, IsMapDamaged, IsLeaseDamaged, ShowsReserve, ShowsRetire}
+use Rattle.law_run.specs.Uses.{IsInUse}
 
 -- ---- leases
 
@@ -52,38 +53,28 @@ pub data RestsOn (g : Geometry) : WriteKind → (block : ℕ) → LeaseName → 
   of_need : {kind : WriteKind} {block : ℕ} {name : LeaseName} → Needs g kind block (lease_number g name) → RestsOn g kind block name
   of_claim : {block : ℕ} {name : LeaseName} → block ≡ lease_at (lease_number g name) → RestsOn g kind.Claim block name
 
--- a lease is in use until that moment: it is that of an image which the command names, and it is held, or its claim was written and goes on;
--- or the claim has waited, and its reread showed bytes that are no lease, after which the clock was asked
-pub data IsInUse (s : Setting) (log : CommandLog) (image until : ℕ) : Type 0 where
-  going : names log.command image ≡ true → IsUntil until (hold_by_log s log.before log.exchanges (image_lease image)) → IsInUse s log image until
-  unread : (claim : Claim) (bytes : List ℕ) (reading : ℕ) (older : List Exchange) → names log.command image ≡ true →
-      log.exchanges ≡ (record { ask = ask.Clock; bytes = []; answer = answer.Reading reading })
-      ∷ (record { ask = ask.Read (record { 0 = lease_at (image_lease image) }); bytes = []; answer = answer.Bytes bytes }) ∷ older →
-      hold_by_log s log.before older (image_lease image) ≡ Waited claim until → read_lease bytes ≡ None →
-      hold_by_log s log.before log.exchanges (image_lease image) ≡ Nothing → IsInUse s log image until
-
 -- the last answer in these exchanges was this reading
 pub data IsLastReading (exchanges : List Exchange) (reading : ℕ) : Type 0 where
   of_clock : LastAnsweredIn exchanges ask.Clock [] (answer.Reading reading) → IsLastReading exchanges reading
   of_wait : (from : ℕ) → LastAnsweredIn exchanges (ask.Until from) [] (answer.Reading reading) → IsLastReading exchanges reading
 
--- a lease is lost: a write that rests on it came too late for its guard; or a reading has reached its end while it was in use,
--- and of several such leases it is the one to be named; a command uses the leases of images or those of extents. The exchanges `own` tell of it, the newest
--- ones of the log: all those of a command, or those of work within it
-pub data WasLost (s : Setting) (log : CommandLog) (own : List Exchange) : LeaseName → (until reading : ℕ) → Type 0 where
+-- a lease is lost: a write that rests on it came too late for its guard; or the last reading has
+-- reached its end while it was in use, and of several such leases it is the one to be named
+pub data WasLost (s : Setting) (log : CommandLog) : LeaseName → (until reading : ℕ) → Type 0 where
   missed : {name : LeaseName} {until reading : ℕ} (kind : WriteKind) (block : BlockNo) (bytes : List ℕ) →
-      LastAnsweredIn own (ask.Write kind block until) bytes (answer.Missed reading) → RestsOn s.geometry kind block.0 name → WasLost s log own name until reading
-  reached : {until reading : ℕ} (slot : SlotNo) → IsLastReading own reading → IsInUse s log slot.0 until → until ≤ reading →
-      ((other other_until : ℕ) → IsInUse s log other other_until → other_until ≤ reading → IsNamedFirst slot.0 until other other_until) →
-      WasLost s log own (lease.Image slot) until reading
-  reached_extent : {until reading : ℕ} (extent : ExtentNo) → IsLastReading own reading → IsExtentInUse s log own extent.0 until → until ≤ reading →
-      ((other other_until : ℕ) → IsExtentInUse s log own other other_until → other_until ≤ reading → IsNamedFirst extent.0 until other other_until) →
-      WasLost s log own (lease.Extent extent) until reading
+      LastAnswered log (ask.Write kind block until) bytes (answer.Missed reading) →
+      RestsOn s.geometry kind block.0 name → WasLost s log name until reading
+  reached : {name : LeaseName} {until reading : ℕ} (due : InUse) →
+      name ≡ lease_name s.geometry due.lease → until ≡ due.until →
+      IsLastReading log.exchanges reading → IsInUse s log due → due.until ≤ reading →
+      ((other : InUse) → IsInUse s log other → other.until ≤ reading → IsNamedFirst due other) →
+      WasLost s log name until reading
 
 -- a claim of this command ended Busy with this record: that of the lease of an image which the command names; or that of an extent's lease, for space
 pub data WasBusy (s : Setting) (log : CommandLog) : LeaseName → LeaseRecord → Type 0 where
   of_image : {seen : LeaseRecord} (slot : SlotNo) → names log.command slot.0 ≡ true → IsBusy s log (image_lease slot.0) seen → WasBusy s log (lease.Image slot) seen
-  for_space : {seen : LeaseRecord} (extent : ExtentNo) → OfReserve log (λ count. WasBusyForSpace s log log.exchanges count extent.0 seen) →
+  for_space : {seen : LeaseRecord} (extent : ExtentNo) →
+      OfTake log (λ own count. WasBusyForSpace s log own count extent.0 seen) →
       WasBusy s log (lease.Extent extent) seen
 
 -- ---- bytes outside the format
@@ -110,8 +101,8 @@ pub record IsImageDamaged (s : Setting) (log : CommandLog) (block : BlockNo) : T
 -- bytes outside the format were read at a block: of an image that the command names; of a map; or of an extent's lease
 pub data WasDamaged (s : Setting) (log : CommandLog) (block : BlockNo) : Type 0 where
   in_image : IsImageDamaged s log block → WasDamaged s log block
-  in_map : IsMapDamaged s log log.exchanges block → WasDamaged s log block
-  in_lease : IsLeaseDamaged s log log.exchanges block → WasDamaged s log block
+  in_map : IsMapDamaged s log block → WasDamaged s log block
+  in_lease : IsLeaseDamaged s log block → WasDamaged s log block
 
 -- ---- the Ok of each command
 
@@ -205,12 +196,12 @@ Comes s log reply.NoImage = ⊥
 Comes s log reply.Exists = ⊥
 Comes s log (reply.OutOfRange size) = ⊥
 Comes s log (reply.Busy lease seen) = WasBusy s log lease seen
-Comes s log (reply.Lost lease until reading) = WasLost s log log.exchanges lease until reading
+Comes s log (reply.Lost lease until reading) = WasLost s log lease until reading
 Comes s log (reply.ReadFault block) = LastAnswered log (ask.Read block) [] answer.Fault
 Comes s log (reply.WriteFault block) = (kind : WriteKind) × (guard : ℕ) × (bytes : List ℕ) × LastAnswered log (ask.Write kind block guard) bytes answer.Fault
-Comes s log reply.Full = OfReserve log (IsFull s log log.exchanges)
+Comes s log reply.Full = OfTake log (IsFull s log)
 Comes s log (reply.Damaged block) = WasDamaged s log block
-Comes s log (reply.WornOut last) = OfReserve log (λ count. IsWornOut s log log.exchanges count last)
+Comes s log (reply.WornOut last) = OfTake log (λ own count. IsWornOut s log own count last)
 
 -- a command was asked for its first reading alone
 abbrev pub IsAtFirst : CommandLog → Type 0

@@ -4,6 +4,7 @@ use Rattle.plx_disk.specs.declared.ask.Ask.{Ask}
 use Rattle.plx_geom.specs.Geometry.{Geometry, IsGeometry, extent_lease}
 use Rattle.plx_rules.specs.Ends.{End}
 use Rattle.plx_rules.specs.Holds.{Hold}
+use Rattle.plx_rules.specs.InUse.{InUse}
 use Rattle.plx_rules.specs.Part.{Part, Ends, bytes_out}
 use Rattle.plx_rules.specs.Session.{Known}
 use Rattle.plx_rules.specs.Settings.{Setting}
@@ -14,8 +15,10 @@ use Rattle.law_run.specs.Machines.{HasCome, IsRightAsk, IsRightEnd, Keeps}
 use Rattle.law_run.specs.OnHand.{IsOfOneExtent, MayBeginOnHand, ShowsOnHand}
 
 -- what is asked until all extents are given up; then the command ends so
-abbrev pub retire_work : Setting → Known → (holds : ℕ → Hold) → (hand : List ℕ) → (follows : End) → Part End
-retire_work s known holds hand follows = retire_extents s known holds hand s.geometry.extents 0 (Ends follows)
+abbrev pub retire_work : Setting → Known → (uses : List InUse) → (holds : ℕ → Hold) →
+    (hand : List ℕ) → (follows : End) → Part End
+retire_work s known uses holds hand follows =
+    retire_extents s known uses holds hand s.geometry.extents 0 (Ends follows)
 
 -- how many of its asks are answered at most
 abbrev pub retire_bound : Geometry → ℕ
@@ -30,18 +33,26 @@ pub record AreGivenUp (s : Setting) (start log : CommandLog) : Type 0 where
 
 -- an ask of it that has come to this rest keeps the rules, by each log that leads there, within any command in which it may begin
 abbrev pub IsRetireAsk : (rest : Part End) → Ask → Type 0
-IsRetireAsk rest ask = (s : Setting) (log : CommandLog) (known : Known) (holds : ℕ → Hold) (hand : List ℕ) (follows : End) (own : List Exchange) →
-    IsGeometry s.geometry → MayBeginOnHand s log holds hand → HasCome (retire_work s known holds hand follows) own rest →
+IsRetireAsk rest ask = (s : Setting) (log : CommandLog) (known : Known) (uses : List InUse)
+    (holds : ℕ → Hold) (hand : List ℕ) (follows : End) (own : List Exchange) →
+    IsGeometry s.geometry → MayBeginOnHand s log holds hand →
+    HasCome (retire_work s known uses holds hand follows) own rest →
     IsRightAsk s log (IsOfOneExtent s.geometry) (retire_bound s.geometry) own ask (bytes_out rest)
 
 -- the same of its end
 abbrev pub IsRetireEnd : (rest : Part End) → End → Type 0
-IsRetireEnd rest end = (s : Setting) (log : CommandLog) (known : Known) (holds : ℕ → Hold) (hand : List ℕ) (follows : End) (own : List Exchange) →
-    IsGeometry s.geometry → MayBeginOnHand s log holds hand → HasCome (retire_work s known holds hand follows) own rest →
-    IsRightEnd s log (retire_bound s.geometry) (ShowsOnHand s known follows (AreGivenUp s log)) own end
+IsRetireEnd rest end = (s : Setting) (log : CommandLog) (known : Known) (uses : List InUse)
+    (holds : ℕ → Hold) (hand : List ℕ) (follows : End) (own : List Exchange) →
+    IsGeometry s.geometry → MayBeginOnHand s log holds hand →
+    HasCome (retire_work s known uses holds hand follows) own rest →
+    IsRightEnd s log (retire_bound s.geometry)
+    (ShowsOnHand s known uses follows (AreGivenUp s log)) own end
 
 -- it keeps the rules, whatever its answers are: its asks are allowed and of one extent each, at most three for each extent are answered, and its end has its cause
 abbrev pub RetiresKeepRules : Type 0
-RetiresKeepRules = (s : Setting) (log : CommandLog) (known : Known) (holds : ℕ → Hold) (hand : List ℕ) (follows : End) →
+RetiresKeepRules = (s : Setting) (log : CommandLog) (known : Known) (uses : List InUse)
+    (holds : ℕ → Hold) (hand : List ℕ) (follows : End) →
     IsGeometry s.geometry → MayBeginOnHand s log holds hand →
-    Keeps s log (IsOfOneExtent s.geometry) (retire_bound s.geometry) (ShowsOnHand s known follows (AreGivenUp s log)) (retire_work s known holds hand follows)
+    Keeps s log (IsOfOneExtent s.geometry) (retire_bound s.geometry)
+    (ShowsOnHand s known uses follows (AreGivenUp s log))
+    (retire_work s known uses holds hand follows)

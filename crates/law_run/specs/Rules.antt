@@ -22,7 +22,7 @@ pub record IsKept (s : Setting) (finished : Finished) (before : List Finished) :
   pub allowed : AllAllowed s before finished.command finished.exchanges
   pub at_once : AllFollow s before finished.command finished.exchanges
   pub replied : IsReplied s (log_of finished before) finished.reply
-  pub bounded : length finished.exchanges ≤ bound s before finished.command
+  pub bounded : length finished.exchanges ≤ bound s (log_of finished before)
 
 -- all commands that have their replies did
 abbrev pub AllKept : Setting → List Finished → Type 0
@@ -37,7 +37,7 @@ pub record IsKeptSoFar (s : Setting) (log : CommandLog) (standing : Option Ask) 
   pub at_once : AllFollow s log.before log.command log.exchanges
   pub stands : (ask : Ask) → standing ≡ Some ask → MayAsk s log ask bytes
   pub follows : (ask : Ask) → standing ≡ Some ask → MayFollow s log ask
-  pub bounded : (ask : Ask) → standing ≡ Some ask → length log.exchanges < bound s log.before log.command
+  pub bounded : (ask : Ask) → standing ≡ Some ask → length log.exchanges < bound s log
 
 -- a boot log keeps the rules
 abbrev pub KeepsRules : Setting → Commands → (standing : Option Ask) → (bytes : List ℕ) → Type 0

@@ -1,48 +1,46 @@
--- What the log of a reserve and of a retire shows, and that of a take within any command.
+-- What the log of a take within any command shows, and that of a reserve and of a retire.
 --
--- `own` are the exchanges of which it is told, the newest ones of the log: all those of a command, or those of work within it.
-use Rattle.std.specs.Prelude.{◌≡◌, ◌≢◌, ◌+◌, ◌≤◌, ◌<◌, ℕ, List, [], ◌∷◌, length, Some, None, true}
+-- `own` are the exchanges of the take, the newest ones of the log.
+use Rattle.std.specs.Prelude.{◌≡◌, ◌≢◌, ◌+◌, ◌≤◌, ◌<◌, ℕ, List, [], ◌∷◌, ◌++◌, length, Some, None, true}
 use Rattle.plx_base.specs.declared.lease.Claim.{Claim}
 use Rattle.plx_base.specs.declared.lease.LeaseRecord.{LeaseRecord}
-use Rattle.plx_base.specs.declared.lease.LeaseRecord.TheVariants as lease_is
 use Rattle.plx_base.specs.declared.numbers.BlockNo.{BlockNo}
-use Rattle.plx_base.specs.declared.write_kind.WriteKind.TheVariants as kind
 use Rattle.plx_commands.specs.Limits.{last_claim}
+use Rattle.plx_commands.specs.declared.command.Command.{Command}
 use Rattle.plx_commands.specs.declared.command.Command.TheVariants.{Reserve, Retire}
 use Rattle.plx_disk.specs.declared.ask.Ask.TheVariants as ask
 use Rattle.plx_disk.specs.declared.ask.Answer.TheVariants as answer
 use Rattle.plx_extent.specs.Maps.{bits_of}
-use Rattle.plx_gate.specs.Leases.{lease_bytes, read_lease}
+use Rattle.plx_gate.specs.Leases.{read_lease}
 use Rattle.plx_geom.specs.Geometry.{lease_count, image_lease, extent_lease, lease_at, map_at}
-use Rattle.plx_rules.specs.Holds.{Waited}
 use Rattle.plx_rules.specs.Settings.{Setting}
 use Rattle.plx_rules.specs.Space.{read_map, free_from}
-use Rattle.plx_rules.specs.Times.{window, term}
 use Rattle.law_run.specs.Busy.{NoneBusy, FirstBusy}
-use Rattle.law_run.specs.CommandLogs.{Exchange, CommandLog, WasAnsweredIn, LastAnsweredIn, older_than}
-use Rattle.law_run.specs.Holdings.{hold_by_log, hand_by_log, Holds, IsUntil, IsNotHeld, claims_in, claims_begun}
+use Rattle.law_run.specs.CommandLogs.{Exchange, CommandLog, WasAnsweredIn, WasAnswered, LastAnsweredIn, LastAnswered}
+use Rattle.law_run.specs.Holdings.{hold_by_log, hand_by_log, Holds, IsNotHeld, claims_in, claims_begun}
 use Rattle.law_run.specs.KnownBytes.{nothing_given, given_after_exchanges}
 use Rattle.law_run.specs.Sessions.{is_attached}
 
--- ---- leases of extents
+-- ---- takes
 
--- the lease of an extent is in use until that moment: its claim was written, which goes on, or it is held since; or the claim has waited, and
--- its reread showed bytes that are no lease, after which the clock was asked; or it is held, and the clock was asked because its map was read as bytes
--- that are no map
-pub data IsExtentInUse (s : Setting) (log : CommandLog) (own : List Exchange) (extent until : ℕ) : Type 0 where
-  going : (claim : Claim) → extent < s.geometry.extents →
-      WasAnsweredIn own (ask.Write kind.Claim (record { 0 = lease_at (extent_lease s.geometry extent) }) (claim.sample + window))
-      (lease_bytes (lease_is.Claimed claim (claim.sample + term))) answer.Done →
-      IsUntil until (hold_by_log s log.before log.exchanges (extent_lease s.geometry extent)) → IsExtentInUse s log own extent until
-  unread : (claim : Claim) (bytes : List ℕ) (reading : ℕ) (older : List Exchange) → extent < s.geometry.extents →
-      own ≡ (record { ask = ask.Clock; bytes = []; answer = answer.Reading reading })
-      ∷ (record { ask = ask.Read (record { 0 = lease_at (extent_lease s.geometry extent) }); bytes = []; answer = answer.Bytes bytes }) ∷ older →
-      hold_by_log s log.before (older_than (older_than log.exchanges)) (extent_lease s.geometry extent) ≡ Waited claim until →
-      read_lease bytes ≡ None → IsExtentInUse s log own extent until
-  rested : (claim : Claim) (bytes : List ℕ) (reading : ℕ) (older : List Exchange) → extent < s.geometry.extents →
-      own ≡ (record { ask = ask.Clock; bytes = []; answer = answer.Reading reading })
-      ∷ (record { ask = ask.Read (record { 0 = map_at s.geometry extent }); bytes = []; answer = answer.Bytes bytes }) ∷ older →
-      read_map s.geometry.extent_blocks bytes ≡ None → Holds s log (extent_lease s.geometry extent) claim until → IsExtentInUse s log own extent until
+-- a command takes so many blocks after these exchanges of it: a reserve as many as are asked for,
+-- after its first reading; no other one takes any yet
+pub data TakesAfter : Command → (begun : List Exchange) → (count : ℕ) → Type 0 where
+  of_reserve : {command : Command} {begun : List Exchange} {count : ℕ} (reading : ℕ) →
+      command ≡ Reserve count →
+      begun ≡ (record { ask = ask.Clock; bytes = []; answer = answer.Reading reading }) ∷ [] →
+      TakesAfter command begun count
+
+-- a take of so many blocks was begun in a log, and these are its exchanges, the newest ones of the
+-- log
+pub record IsTake (log : CommandLog) (own : List Exchange) (count : ℕ) : Type 0 where
+  pub begun : List Exchange
+  pub takes : TakesAfter log.command begun count
+  pub since : log.exchanges ≡ own ++ begun
+
+-- there is such a take in a log, and this holds of it
+abbrev pub OfTake : CommandLog → (Fact : (own : List Exchange) → (count : ℕ) → Type 0) → Type 0
+OfTake log Fact = (own : List Exchange) × (count : ℕ) × IsTake log own count × Fact own count
 
 -- ---- maps
 
@@ -86,32 +84,28 @@ pub record IsWornOut (s : Setting) (log : CommandLog) (own : List Exchange) (cou
   pub read : LastAnsweredIn own (ask.Read (record { 0 = map_at s.geometry extent })) [] (answer.Bytes bytes)
   pub free : free_from (hand_by_log s log.before log.exchanges) (map_at s.geometry extent) (bits_of s.geometry.extent_blocks bytes) ≢ []
 
+-- ---- bytes outside the format
+
 -- a map was read as bytes that are no map, and a later reading, the last ask, is below the end of its extent's lease, where that is held
-pub record IsMapDamaged (s : Setting) (log : CommandLog) (own : List Exchange) (block : BlockNo) : Type 0 where
+pub record IsMapDamaged (s : Setting) (log : CommandLog) (block : BlockNo) : Type 0 where
   pub extent : ℕ
   pub here : block.0 ≡ map_at s.geometry extent
   pub bytes : List ℕ
   pub reading : ℕ
-  pub read : WasAnsweredIn own (ask.Read block) [] (answer.Bytes bytes)
+  pub read : WasAnswered log (ask.Read block) [] (answer.Bytes bytes)
   pub outside : read_map s.geometry.extent_blocks bytes ≡ None
-  pub last : LastAnsweredIn own ask.Clock [] (answer.Reading reading)
+  pub last : LastAnswered log ask.Clock [] (answer.Reading reading)
   pub below : (claim : Claim) (until : ℕ) → Holds s log (extent_lease s.geometry extent) claim until → reading < until
 
 -- the lease of an extent was read as bytes that are no lease, and the clock was asked once more; such a read rests on no lease
-pub record IsLeaseDamaged (s : Setting) (log : CommandLog) (own : List Exchange) (block : BlockNo) : Type 0 where
+pub record IsLeaseDamaged (s : Setting) (log : CommandLog) (block : BlockNo) : Type 0 where
   pub extent : ℕ
   pub here : block.0 ≡ lease_at (extent_lease s.geometry extent)
   pub bytes : List ℕ
   pub reading : ℕ
-  pub read : WasAnsweredIn own (ask.Read block) [] (answer.Bytes bytes)
+  pub read : WasAnswered log (ask.Read block) [] (answer.Bytes bytes)
   pub outside : read_lease bytes ≡ None
-  pub last : LastAnsweredIn own ask.Clock [] (answer.Reading reading)
-
--- ---- a reserve
-
--- the command is a reserve, and this holds of its count
-abbrev pub OfReserve : CommandLog → (Fact : (count : ℕ) → Type 0) → Type 0
-OfReserve log Fact = (count : ℕ) × (log.command ≡ Reserve count) × Fact count
+  pub last : LastAnswered log ask.Clock [] (answer.Reading reading)
 
 -- ---- the Oks
 

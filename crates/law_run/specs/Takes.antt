@@ -1,20 +1,18 @@
 -- The taking of fresh blocks, as work within a command: what it asks, and the rules that it keeps.
-use Rattle.std.specs.Prelude.{◌≡◌, ◌≢◌, ◌⊎◌, ◌+◌, ◌*◌, ◌≤◌, ◌<◌, ℕ, List, [], ◌∷◌, ◌++◌, length, All, true}
+use Rattle.std.specs.Prelude.{◌≡◌, ◌≢◌, ◌⊎◌, ◌+◌, ◌*◌, ◌≤◌, ◌<◌, ℕ, List, [], ◌∷◌, ◌++◌, length, true}
 use Rattle.plx_base.specs.declared.lease.Claim.{Claim}
+use Rattle.plx_base.specs.declared.lease.LeaseName.{LeaseName}
 use Rattle.plx_base.specs.declared.lease.LeaseName.TheVariants as lease
 use Rattle.plx_base.specs.declared.lease.LeaseRecord.{LeaseRecord}
-use Rattle.plx_base.specs.declared.lease.LeaseRecord.TheVariants as lease_is
 use Rattle.plx_base.specs.declared.numbers.BlockNo.{BlockNo}
 use Rattle.plx_base.specs.declared.numbers.ExtentNo.{ExtentNo}
 use Rattle.plx_base.specs.declared.write_kind.WriteKind.{WriteKind}
-use Rattle.plx_base.specs.declared.write_kind.WriteKind.TheVariants as kind
 use Rattle.plx_commands.specs.Replies.{is_in}
 use Rattle.plx_commands.specs.declared.reply.Reply.{Reply}
 use Rattle.plx_commands.specs.declared.reply.Reply.TheVariants as reply
 use Rattle.plx_disk.specs.declared.ask.Ask.{Ask}
 use Rattle.plx_disk.specs.declared.ask.Ask.TheVariants as ask
 use Rattle.plx_disk.specs.declared.ask.Answer.TheVariants as answer
-use Rattle.plx_gate.specs.Leases.{lease_bytes}
 use Rattle.plx_geom.specs.Geometry.{Geometry, lease_count, extent_lease, lease_at, map_at}
 use Rattle.plx_rules.specs.Ends.{End}
 use Rattle.plx_rules.specs.Holds.{Hold, Nothing, Held}
@@ -24,18 +22,20 @@ use Rattle.plx_rules.specs.Rests.{extent_of}
 use Rattle.plx_rules.specs.Session.{Known, nothing_known}
 use Rattle.plx_rules.specs.Settings.{Setting}
 use Rattle.plx_rules.specs.Space.{Taking, first_taking, take_part}
-use Rattle.plx_rules.specs.Times.{window, term}
 use Rattle.law_run.specs.AllowedAsks.{WentOn}
-use Rattle.law_run.specs.CommandLogs.{Exchange, CommandLog, WasAnsweredIn, LastAnsweredIn}
-use Rattle.law_run.specs.Holdings.{hold_by_log, hand_by_log, Holds, claims_in, lost_claim, claims_begun}
+use Rattle.law_run.specs.CommandLogs.{Exchange, CommandLog, LastAnswered}
+use Rattle.law_run.specs.Holdings.{hold_by_log, hand_by_log, claims_in, claims_begun}
 use Rattle.law_run.specs.Machines.{HasCome, IsRightAsk, IsRightEnd, Keeps}
 use Rattle.law_run.specs.Replies.{WasLost}
 use Rattle.law_run.specs.Rules.{IsSetting}
 use Rattle.law_run.specs.Space.{WasBusyForSpace, IsFull, IsWornOut, IsMapDamaged, IsLeaseDamaged}
+use Rattle.law_run.specs.Uses.{AreUsed}
 
 -- what is asked until so many fresh blocks are in hand, where the leases are held so as it begins; the command ends so after that
-abbrev pub take_work : Setting → (holds : ℕ → Hold) → (count : ℕ) → (follows : Taking → End) → Known → (hand : List ℕ) → Part End
-take_work s holds count follows known hand = take_part s holds count (λ t. Ends (follows t)) (first_taking known hand)
+abbrev pub take_work : Setting → (holds : ℕ → Hold) → (count : ℕ) → (follows : Taking → End) →
+    (uses : List InUse) → Known → (hand : List ℕ) → Part End
+take_work s holds count follows uses known hand =
+    take_part s holds count (λ t. Ends (follows t)) (first_taking uses known hand)
 
 -- ---- where it may begin
 
@@ -43,9 +43,12 @@ take_work s holds count follows known hand = take_part s holds count (λ t. Ends
 abbrev pub IsAtRest : Hold → Type 0
 IsAtRest hold = (hold ≡ Nothing) ⊎ ((claim : Claim) × (until : ℕ) × (hold ≡ Held claim until))
 
--- it may begin: the holds are those of the log, no claim goes on, the hand is that of the log, its blocks lie in extents, the claims are counted,
--- and the command has had its first reading and goes on
-pub record MayBeginTake (s : Setting) (log : CommandLog) (holds : ℕ → Hold) (known : Known) (hand : List ℕ) : Type 0 where
+-- it may begin: the leases that the command hands in are those that it uses, the holds are those of
+-- the log, no claim goes on, the hand is that of the log, its blocks lie in extents, the claims are
+-- counted, and the command has had its first reading and goes on
+pub record MayBeginTake (s : Setting) (log : CommandLog) (holds : ℕ → Hold) (uses : List InUse)
+    (known : Known) (hand : List ℕ) : Type 0 where
+  pub used : AreUsed s log uses
   pub extents : (extent : ℕ) → extent < s.geometry.extents →
       holds (lease_at (extent_lease s.geometry extent)) ≡ hold_by_log s log.before log.exchanges (extent_lease s.geometry extent)
   pub at_rest : (lease : ℕ) → lease < lease_count s.geometry → IsAtRest (hold_by_log s log.before log.exchanges lease)
@@ -59,27 +62,17 @@ pub record MayBeginTake (s : Setting) (log : CommandLog) (holds : ℕ → Hold) 
 
 -- ---- what its end shows
 
--- a lease is that of an extent, whose claim was written in these exchanges, and is held by that claim
-pub record IsClaimedHere (s : Setting) (log : CommandLog) (own : List Exchange) (one : InUse) : Type 0 where
-  pub extent : ℕ
-  pub below : extent < s.geometry.extents
-  pub is : one.lease ≡ extent_lease s.geometry extent
-  pub claim : Claim
-  pub wrote : WasAnsweredIn own (ask.Write kind.Claim (record { 0 = lease_at (extent_lease s.geometry extent) }) (claim.sample + window))
-      (lease_bytes (lease_is.Claimed claim (claim.sample + term))) answer.Done
-  pub held : Holds s log (extent_lease s.geometry extent) claim one.until
-
 -- what was known, with the claims that the log has begun by now
 abbrev pub counted_by_log : Setting → CommandLog → Known → Known
 counted_by_log s log known = record known { claims = claims_in s.geometry log.exchanges + claims_begun s.geometry log.before }
 
--- how far it has come is what the log shows: what is known, what is in hand, and the leases that it claimed, which are held; no claim goes on, and the
--- command does
-pub record IsByLog (s : Setting) (log : CommandLog) (own : List Exchange) (known : Known) (t : Taking) : Type 0 where
+-- how far it has come is what the log shows: what is known, what is in hand, and the leases in use,
+-- those that the command uses; no claim goes on, and the command does
+pub record IsByLog (s : Setting) (log : CommandLog) (known : Known) (t : Taking) : Type 0 where
   pub knows : t.known ≡ counted_by_log s log known
   pub hand : hand_by_log s log.before log.exchanges ≡ t.hand
   pub within : (block : ℕ) → is_in block t.hand ≡ true → extent_of s.geometry block < s.geometry.extents
-  pub claimed : All (IsClaimedHere s log own) t.claimed
+  pub uses : AreUsed s log t.uses
   pub at_rest : (lease : ℕ) → lease < lease_count s.geometry → IsAtRest (hold_by_log s log.before log.exchanges lease)
   pub went : WentOn log.exchanges
 
@@ -98,35 +91,41 @@ pub data RefusesTake (s : Setting) (log : CommandLog) (own : List Exchange) (cou
   full : IsFull s log own count → RefusesTake s log own count reply.Full
   busy : (extent : ExtentNo) (seen : LeaseRecord) → WasBusyForSpace s log own count extent.0 seen → RefusesTake s log own count (reply.Busy (lease.Extent extent) seen)
   worn_out : (last : ℕ) → IsWornOut s log own count last → RefusesTake s log own count (reply.WornOut last)
-  unread : (block : BlockNo) → LastAnsweredIn own (ask.Read block) [] answer.Fault → RefusesTake s log own count (reply.ReadFault block)
-  map_damaged : (block : BlockNo) → IsMapDamaged s log own block → RefusesTake s log own count (reply.Damaged block)
-  lease_damaged : (block : BlockNo) → IsLeaseDamaged s log own block → RefusesTake s log own count (reply.Damaged block)
+  unread : (block : BlockNo) → LastAnswered log (ask.Read block) [] answer.Fault →
+      RefusesTake s log own count (reply.ReadFault block)
+  map_damaged : (block : BlockNo) → IsMapDamaged s log block →
+      RefusesTake s log own count (reply.Damaged block)
+  lease_damaged : (block : BlockNo) → IsLeaseDamaged s log block →
+      RefusesTake s log own count (reply.Damaged block)
 
 -- why it ends the command: it is refused; or a lease is lost or a write failed, and no session is left
 pub data FailsTake (s : Setting) (first log : CommandLog) (own : List Exchange) (known : Known) (count : ℕ) : End → Type 0 where
   refused : (reply : Reply) → RefusesTake s log own count reply → HoldsOthers s first log →
       FailsTake s first log own known count (record { reply = reply; known = counted_by_log s log known })
-  lost : (extent : ExtentNo) (until reading : ℕ) → WasLost s log own (lease.Extent extent) until reading →
+  lost : (name : LeaseName) (until reading : ℕ) → WasLost s log name until reading →
       FailsTake s first log own known count (record {
-        reply = reply.Lost (lease.Extent extent) until reading;
-        known = nothing_known (claims_in s.geometry log.exchanges + lost_claim s.geometry (reply.Lost (lease.Extent extent) until reading) log.exchanges
+        reply = reply.Lost name until reading;
+        known = nothing_known (claims_in s.geometry log.exchanges
             + claims_begun s.geometry log.before);
       })
-  unwritten : (kind : WriteKind) (block : BlockNo) (guard : ℕ) (bytes : List ℕ) → LastAnsweredIn own (ask.Write kind block guard) bytes answer.Fault →
+  unwritten : (kind : WriteKind) (block : BlockNo) (guard : ℕ) (bytes : List ℕ) →
+      LastAnswered log (ask.Write kind block guard) bytes answer.Fault →
       FailsTake s first log own known count (record {
         reply = reply.WriteFault block;
         known = nothing_known (claims_in s.geometry log.exchanges + claims_begun s.geometry log.before);
       })
 
 -- enough blocks are in hand, and the command goes on
-pub record HasEnough (s : Setting) (first log : CommandLog) (own : List Exchange) (known : Known) (count : ℕ) (t : Taking) : Type 0 where
-  pub told : IsByLog s log own known t
+pub record HasEnough (s : Setting) (first log : CommandLog) (known : Known) (count : ℕ)
+    (t : Taking) : Type 0 where
+  pub told : IsByLog s log known t
   pub enough : count ≤ length t.hand
   pub others : HoldsOthers s first log
 
 -- why it ends so
 pub data EndsTake (s : Setting) (first log : CommandLog) (own : List Exchange) (known : Known) (count : ℕ) (follows : Taking → End) : End → Type 0 where
-  taken : (t : Taking) → HasEnough s first log own known count t → EndsTake s first log own known count follows (follows t)
+  taken : (t : Taking) → HasEnough s first log known count t →
+      EndsTake s first log own known count follows (follows t)
   failed : {end : End} → FailsTake s first log own known count end → EndsTake s first log own known count follows end
 
 -- why it ends so, where it began after the exchanges of the first log: its own exchanges tell
@@ -153,18 +152,26 @@ take_bound g = 8 * g.extents
 -- it keeps the rules, whatever its answers are: its asks are allowed and of maps and leases of extents alone, at most eight for each extent are answered,
 -- and its end has its cause
 abbrev pub TakesKeepRules : Type 0
-TakesKeepRules = (s : Setting) (log : CommandLog) (holds : ℕ → Hold) (count : ℕ) (follows : Taking → End) (known : Known) (hand : List ℕ) → IsSetting s →
-    MayBeginTake s log holds known hand →
-    Keeps s log (IsOfExtents s.geometry) (take_bound s.geometry) (ShowsTake s log known count follows) (take_work s holds count follows known hand)
+TakesKeepRules = (s : Setting) (log : CommandLog) (holds : ℕ → Hold) (count : ℕ)
+    (follows : Taking → End) (uses : List InUse) (known : Known) (hand : List ℕ) → IsSetting s →
+    MayBeginTake s log holds uses known hand →
+    Keeps s log (IsOfExtents s.geometry) (take_bound s.geometry)
+    (ShowsTake s log known count follows) (take_work s holds count follows uses known hand)
 
 -- an ask of it that has come to this rest keeps the rules, by each log that leads there, within any command in which it may begin
 abbrev pub IsTakeAsk : (rest : Part End) → Ask → Type 0
-IsTakeAsk rest ask = (s : Setting) (log : CommandLog) (holds : ℕ → Hold) (count : ℕ) (follows : Taking → End) (known : Known) (hand : List ℕ) (own : List Exchange) →
-    IsSetting s → MayBeginTake s log holds known hand → HasCome (take_work s holds count follows known hand) own rest →
+IsTakeAsk rest ask = (s : Setting) (log : CommandLog) (holds : ℕ → Hold) (count : ℕ)
+    (follows : Taking → End) (uses : List InUse) (known : Known) (hand : List ℕ)
+    (own : List Exchange) →
+    IsSetting s → MayBeginTake s log holds uses known hand →
+    HasCome (take_work s holds count follows uses known hand) own rest →
     IsRightAsk s log (IsOfExtents s.geometry) (take_bound s.geometry) own ask (bytes_out rest)
 
 -- the same of its end
 abbrev pub IsTakeEnd : (rest : Part End) → End → Type 0
-IsTakeEnd rest end = (s : Setting) (log : CommandLog) (holds : ℕ → Hold) (count : ℕ) (follows : Taking → End) (known : Known) (hand : List ℕ) (own : List Exchange) →
-    IsSetting s → MayBeginTake s log holds known hand → HasCome (take_work s holds count follows known hand) own rest →
+IsTakeEnd rest end = (s : Setting) (log : CommandLog) (holds : ℕ → Hold) (count : ℕ)
+    (follows : Taking → End) (uses : List InUse) (known : Known) (hand : List ℕ)
+    (own : List Exchange) →
+    IsSetting s → MayBeginTake s log holds uses known hand →
+    HasCome (take_work s holds count follows uses known hand) own rest →
     IsRightEnd s log (take_bound s.geometry) (ShowsTake s log known count follows) own end

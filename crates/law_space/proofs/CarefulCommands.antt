@@ -262,7 +262,7 @@ module _ (s : Setting) where
       where
         by_map : (bytes : List ℕ) (seen : Option (List Bool)) → read_map s.geometry.extent_blocks bytes ≡ seen →
             Careful (Some (map_at s.geometry extent, bytes)) (take_found s count extent until seen rest t)
-        by_map bytes None is = careful-ends t.known (extent_use s.geometry extent until ∷ t.claimed) (reply.Damaged (record { 0 = map_at s.geometry extent })) t.known (Some (map_at s.geometry extent, bytes))
+        by_map bytes None is = careful-ends t.known (extent_use s.geometry extent until ∷ t.uses) (reply.Damaged (record { 0 = map_at s.geometry extent })) t.known (Some (map_at s.geometry extent, bytes))
         by_map bytes (Some bits) is = careful-set extent until bytes bits (take (count - length t.hand) (free_from t.hand (map_at s.geometry extent) bits)) rest t is careful
 
     careful-if_held : (count extent : ℕ) (hold : Hold) (rest : Taking → Part End) → GoesCarefully rest → GoesCarefully (take_if_held s count extent hold rest)
@@ -289,8 +289,8 @@ module _ (s : Setting) where
     careful-claim_extent : (enough : Bool) (count extent : ℕ) (rest : Taking → Part End) → GoesCarefully rest → GoesCarefully (claim_extent enough s count extent rest)
     careful-claim_extent false count extent rest careful t found = tt
     careful-claim_extent true count extent rest careful t found =
-        careful-followed (claim_part s.boot t.claimed (extent_lease s.geometry extent) t.known.claims) (after_extent_claim s count extent rest (with_claim_begun t)) found
-        (careful-claim s.boot t.claimed (extent_lease s.geometry extent) t.known.claims found) (λ end last. careful-after_claim count extent rest (with_claim_begun t) end last careful)
+        careful-followed (claim_part s.boot t.uses (extent_lease s.geometry extent) t.known.claims) (after_extent_claim s count extent rest (with_claim_begun t)) found
+        (careful-claim s.boot t.uses (extent_lease s.geometry extent) t.known.claims found) (λ end last. careful-after_claim count extent rest (with_claim_begun t) end last careful)
 
     careful-if_free : (count extent : ℕ) (free : List ℕ) (rest : Taking → Part End) → GoesCarefully rest → GoesCarefully (claim_if_free s count extent free rest)
     careful-if_free count extent [] rest careful t found = careful t found
@@ -301,7 +301,7 @@ module _ (s : Setting) where
     careful-seen_free count extent rest careful t found = (λ bytes. by_map (read_map s.geometry.extent_blocks bytes) _, tt)
       where
         by_map : (seen : Option (List Bool)) (last : Found) → Careful last (other_found s count extent seen rest t)
-        by_map None last = careful-ends t.known t.claimed (reply.Damaged (record { 0 = map_at s.geometry extent })) t.known last
+        by_map None last = careful-ends t.known t.uses (reply.Damaged (record { 0 = map_at s.geometry extent })) t.known last
         by_map (Some bits) last = careful-if_free count extent (free_from t.hand (map_at s.geometry extent) bits) rest careful t last
 
     careful-if_other : (count extent : ℕ) (hold : Hold) (rest : Taking → Part End) → GoesCarefully rest → GoesCarefully (take_if_other s count extent hold rest)
@@ -330,7 +330,7 @@ module _ (s : Setting) where
 
     careful-reserve : (known : Known) (holds : ℕ → Hold) (hand : List ℕ) (count : ℕ) (found : Found) → Careful found (reserve_part s known holds hand count)
     careful-reserve known holds hand count found =
-        careful-take_held count holds s.geometry.extents 0 _ (careful-take_others count holds s.geometry.extents 0 _ (careful-taken count _ (λ t last. tt))) (first_taking known hand) found
+        careful-take_held count holds s.geometry.extents 0 _ (careful-take_others count holds s.geometry.extents 0 _ (careful-taken count _ (λ t last. tt))) (first_taking [] known hand) found
 
   -- ---- a retire
 
@@ -342,14 +342,14 @@ module _ (s : Setting) where
     careful-release : (known : Known) (due : InUse) (rest : Part End) → IsCareful rest → IsCareful (release_then s known due rest)
     careful-release known due rest careful found = (tt, careful None, tt, λ r. tt)
 
-    careful-give : (known : Known) (extent until : ℕ) (blocks : List ℕ) (rest : Part End) → IsCareful rest → IsCareful (give_part s known extent until blocks rest)
-    careful-give known extent until [] rest careful found = careful found
-    careful-give known extent until (block ∷ blocks) rest careful found = (λ bytes. by_map bytes (read_map s.geometry.extent_blocks bytes) refl, tt)
+    careful-give : (known : Known) (uses : List InUse) (extent until : ℕ) (blocks : List ℕ) (rest : Part End) → IsCareful rest → IsCareful (give_part s known uses extent until blocks rest)
+    careful-give known uses extent until [] rest careful found = careful found
+    careful-give known uses extent until (block ∷ blocks) rest careful found = (λ bytes. by_map bytes (read_map s.geometry.extent_blocks bytes) refl, tt)
       where
         by_map : (bytes : List ℕ) (seen : Option (List Bool)) → read_map s.geometry.extent_blocks bytes ≡ seen →
-            Careful (Some (map_at s.geometry extent, bytes)) (give_found s known extent until (block ∷ blocks) seen rest)
+            Careful (Some (map_at s.geometry extent, bytes)) (give_found s known uses extent until (block ∷ blocks) seen rest)
         by_map bytes None is =
-            careful-ends known (extent_use s.geometry extent until ∷ []) (reply.Damaged (record { 0 = map_at s.geometry extent })) known (Some (map_at s.geometry extent, bytes))
+            careful-ends known (extent_use s.geometry extent until ∷ uses) (reply.Damaged (record { 0 = map_at s.geometry extent })) known (Some (map_at s.geometry extent, bytes))
         by_map bytes (Some bits) is = (
           (bytes, refl, give-had s.geometry.extent_blocks bytes bits (block ∷ blocks) (map_at s.geometry extent) most is),
           careful None,
@@ -357,18 +357,18 @@ module _ (s : Setting) where
           λ reading. tt,
         )
 
-    careful-given_up : (known : Known) (hand : List ℕ) (extent : ℕ) (hold : Hold) (rest : Part End) → IsCareful rest → IsCareful (retire_extent s known hand extent hold rest)
-    careful-given_up known hand extent (Held claim until) rest careful =
-        careful-give known extent until (in_extent s.geometry extent hand) _ (careful-release known (extent_use s.geometry extent until) rest careful)
-    careful-given_up known hand extent Nothing rest careful = careful
-    careful-given_up known hand extent (Seen l) rest careful = careful
-    careful-given_up known hand extent (Wrote claim until) rest careful = careful
-    careful-given_up known hand extent (Waited claim until) rest careful = careful
+    careful-given_up : (known : Known) (uses : List InUse) (hand : List ℕ) (extent : ℕ) (hold : Hold) (rest : Part End) → IsCareful rest → IsCareful (retire_extent s known uses hand extent hold rest)
+    careful-given_up known uses hand extent (Held claim until) rest careful =
+        careful-give known uses extent until (in_extent s.geometry extent hand) _ (careful-release known (extent_use s.geometry extent until) rest careful)
+    careful-given_up known uses hand extent Nothing rest careful = careful
+    careful-given_up known uses hand extent (Seen l) rest careful = careful
+    careful-given_up known uses hand extent (Wrote claim until) rest careful = careful
+    careful-given_up known uses hand extent (Waited claim until) rest careful = careful
 
-    careful-extents : (known : Known) (holds : ℕ → Hold) (hand : List ℕ) (left extent : ℕ) (rest : Part End) → IsCareful rest → IsCareful (retire_extents s known holds hand left extent rest)
-    careful-extents known holds hand zero extent rest careful = careful
-    careful-extents known holds hand (suc left) extent rest careful =
-        careful-given_up known hand extent (holds (lease_at (extent_lease s.geometry extent))) _ (careful-extents known holds hand left (extent + 1) rest careful)
+    careful-extents : (known : Known) (uses : List InUse) (holds : ℕ → Hold) (hand : List ℕ) (left extent : ℕ) (rest : Part End) → IsCareful rest → IsCareful (retire_extents s known uses holds hand left extent rest)
+    careful-extents known uses holds hand zero extent rest careful = careful
+    careful-extents known uses holds hand (suc left) extent rest careful =
+        careful-given_up known uses hand extent (holds (lease_at (extent_lease s.geometry extent))) _ (careful-extents known uses holds hand left (extent + 1) rest careful)
 
     careful-lease : (known : Known) (lease : ℕ) (session : Option Session) (hold : Hold) (rest : Part End) → IsCareful rest → IsCareful (retire_lease s known lease session hold rest)
     careful-lease known lease None (Held claim until) rest careful = careful-release known (record { lease = lease; until = until }) rest careful
@@ -385,7 +385,7 @@ module _ (s : Setting) where
 
     careful-retire : (known : Known) (holds : ℕ → Hold) (hand : List ℕ) → IsCareful (retire_part s known holds hand)
     careful-retire known holds hand =
-        careful-extents known holds hand s.geometry.extents 0 _
+        careful-extents known [] holds hand s.geometry.extents 0 _
         (careful-images known holds s.geometry.images 0 _
         (careful-lease known root_lease None (holds (lease_at root_lease)) _ (λ found. tt)))
 

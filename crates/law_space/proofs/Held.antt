@@ -33,7 +33,7 @@ abbrev pub HandHeld : Geometry → Position → Type 0
 HandHeld g p = (block : ℕ) → is_in block p.hand ≡ true → is_held (p.holds (lease_at (extent_lease g (extent_of g block)))) ≡ true
 
 hand-goes : (g : Geometry) (known : Known) (command : Command) (holds : ℕ → Hold) (hand : List ℕ) (filled : List (ℕ × List ℕ)) (sample : Option ℕ) (found : Option (ℕ × List ℕ)) (part : Part End) →
-    HandHeld g (goes_to g known command holds hand filled sample found part)
+    HandHeld g (goes_to g known command holds hand filled sample found 0 part)
 hand-goes g known command holds hand filled sample found part block is =
     (in-filter (λ block. is_held (after_part part holds (lease_at (extent_lease g (extent_of g block))))) block hand is).1
 

@@ -92,12 +92,12 @@ module _ (w : World) (leased : Leased w) (spaced : Spaced w) (a : ℕ) (below : 
   }
 
   -- an ask was answered
-  went-spaced : (log : List Happening) (known : Known) (command : Command) (holds : ℕ → Hold) (hand : List ℕ) (filled : List (ℕ × List ℕ)) (sample : Option ℕ) (found : Option (ℕ × List ℕ)) (part : Part End) →
-      position setting log ≡ goes_to g known command holds hand filled sample found part → Careful found part →
+  went-spaced : (log : List Happening) (known : Known) (command : Command) (holds : ℕ → Hold) (hand : List ℕ) (filled : List (ℕ × List ℕ)) (sample : Option ℕ) (found : Option (ℕ × List ℕ)) {latest : ℕ} (part : Part End) →
+      position setting log ≡ goes_to g known command holds hand filled sample found latest part → Careful found part →
       ((extent : ℕ) → extent < g.extents → (claim : Claim) (until : ℕ) → holds (lease_block g extent) ≡ Held claim until → time ≤ until + 50 → MapKept g extent (map_now extent) None hand found) →
       Spaced (with-log log)
-  went-spaced log known command holds hand filled sample found part leads careful kept =
-      log-spaced log (goes_to g known command holds hand filled sample found part) leads (careful-placed found known command part careful)
+  went-spaced log known command holds hand filled sample found {latest} part leads careful kept =
+      log-spaced log (goes_to g known command holds hand filled sample found latest part) leads (careful-placed found known command part careful)
       (λ extent within claim until e live.
       let lease = lease_block g extent in
       let held : holds lease ≡ Held claim until =

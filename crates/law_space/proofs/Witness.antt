@@ -75,7 +75,7 @@ then_taken = taken_part s0 1 (λ t. ends reply.Reserved t.known)
 
 -- the take as it begins
 abbrev none_taken : Taking
-none_taken = first_taking k0 []
+none_taken = first_taking [] k0 []
 
 -- the take once it has begun its claim
 abbrev begun_taken : Taking
@@ -258,7 +258,7 @@ after-reached =
 -- where the appliance stands then
 abbrev q_after : Position
 q_after =
-    goes_to small_geometry k0 reserve (after_write kind.Take 10 taken_bytes q.holds) (hand_from small_geometry q.found kind.Take 10 taken_bytes q.hand) q.filled None None reserve_end
+    goes_to small_geometry k0 reserve (after_write kind.Take 10 taken_bytes q.holds) (hand_from small_geometry q.found kind.Take 10 taken_bytes q.hand) q.filled None None q.latest reserve_end
 
 stands-after : stands after 0 ≡ q_after
 stands-after = ap (went_on (setting_at small_geometry 0 (write-stage.seats 0).boots) (ask.Write kind.Take (record { 0 = 10 }) 11000) taken_bytes answer.Done q) writes-there

@@ -106,11 +106,11 @@ module _ (names : ℕ → ℕ → Type 0) (w : World) (leased : Leased w) (treed
       let Q : Position → Type 0 = λ r. grip_at r.place None (lease_of c) (r.holds (lease_of c)) ≡ Held claim until in
       free c (subst P leads is) claim until (subst Q leads grips.0) grips.1))
 
-  went-treed : (log : List Happening) (known : Known) (command : Command) (holds : ℕ → Hold) (hand : List ℕ) (filled : List (ℕ × List ℕ)) (sample : Option ℕ) (found : Option (ℕ × List ℕ)) (part : Part End) →
-      position setting log ≡ goes_to g known command holds hand filled sample found part →
+  went-treed : (log : List Happening) (known : Known) (command : Command) (holds : ℕ → Hold) (hand : List ℕ) (filled : List (ℕ × List ℕ)) (sample : Option ℕ) (found : Option (ℕ × List ℕ)) {latest : ℕ} (part : Part End) →
+      position setting log ≡ goes_to g known command holds hand filled sample found latest part →
       ((c : ℕ) → is_in c hand ≡ true → (claim : Claim) (until : ℕ) → holds (lease_of c) ≡ Held claim until → time ≤ until + 50 → IsFree g w.surface.device c) → Treed names (with-seat (with-log log))
-  went-treed log known command holds hand filled sample found part leads free =
-      log-treed log (goes_to g known command holds hand filled sample found part) leads
+  went-treed log known command holds hand filled sample found {latest} part leads free =
+      log-treed log (goes_to g known command holds hand filled sample found latest part) leads
       (λ c is claim until e live. free c (in-filter (λ b. is_held (after_part part holds (lease_at (extent_lease g (extent_of g b))))) c hand is).0 claim until
       (part-held part holds (lease_of c) claim until (sym (grip-open (place_of known command part) None (lease_of c) (after_part part holds (lease_of c)) refl) ∙ e)) live)
 

@@ -6,6 +6,7 @@ use Rattle.plx_geom.specs.Geometry.{IsGeometry, extent_lease, lease_at, map_at}
 use Rattle.plx_rules.specs.Ends.{End}
 use Rattle.plx_rules.specs.Hands.{is_held}
 use Rattle.plx_rules.specs.Holds.{Hold, Nothing, Seen, Wrote, Waited, Held}
+use Rattle.plx_rules.specs.InUse.{InUse}
 use Rattle.plx_rules.specs.Part.{Part, Ends, standing}
 use Rattle.plx_rules.specs.Rests.{extent_of}
 use Rattle.plx_rules.specs.Session.{Known}
@@ -38,7 +39,7 @@ give-asks-are (suc left) = let e = give-asks-are left in omega arith
 abbrev NoLease : ℕ → Type 0
 NoLease lease = ⊥
 
-module _ (s : Setting) (geometry : IsGeometry s.geometry) (log : CommandLog) (known : Known) (holds : ℕ → Hold) (hand : List ℕ) (follows : End) (may : MayBeginOnHand s log holds hand) where
+module _ (s : Setting) (geometry : IsGeometry s.geometry) (log : CommandLog) (known : Known) (uses : List InUse) (holds : ℕ → Hold) (hand : List ℕ) (follows : End) (may : MayBeginOnHand s log holds hand) where
   inside : (b : ℕ) → HasBlock (hand_by_log s log.before log.exchanges) b → extent_of s.geometry b < s.geometry.extents
   inside b has = may.inside b (subst (λ (l : List ℕ). HasBlock l b) (sym may.fresh) has)
 
@@ -49,19 +50,19 @@ module _ (s : Setting) (geometry : IsGeometry s.geometry) (log : CommandLog) (kn
   Work K own = Retiring s log.before log.exchanges NoLease NoLease K own
 
   abbrev MeetsGivingBack : List Exchange → Part End → ℕ → Type 0
-  MeetsGivingBack own part n = MeetsWork s log (IsOfOneMap s.geometry) (ShowsOnHand s known follows (IsGivenBack s log)) (own ++ log.exchanges) part n
+  MeetsGivingBack own part n = MeetsWork s log (IsOfOneMap s.geometry) (ShowsOnHand s known uses follows (IsGivenBack s log)) (own ++ log.exchanges) part n
 
   abbrev MayGive : List Exchange → Ask → List ℕ → Type 0
   MayGive done a bytes = MayAsk s (with_exchanges log done) a bytes × IsOfOneMap s.geometry a
 
   abbrev ShowsGiven : List Exchange → End → Type 0
-  ShowsGiven done end = ShowsOnHand s known follows (IsGivenBack s log) (with_exchanges log done) end
+  ShowsGiven done end = ShowsOnHand s known uses follows (IsGivenBack s log) (with_exchanges log done) end
 
   may-give : (done : List Exchange) (a : Ask) (bytes : List ℕ) → MayAsk s (with_exchanges log done) a bytes → IsOfOneMap s.geometry a → MayGive done a bytes
   may-give done a bytes may' place = (may', place)
 
-  endings : Endings s log.before log.exchanges NoLease known ShowsGiven
-  endings = ends-shown s geometry log NoLease known follows (IsGivenBack s log)
+  endings : Endings s log.before log.exchanges NoLease uses known ShowsGiven
+  endings = ends-shown s geometry log NoLease uses known follows (IsGivenBack s log)
 
   -- all are given back
   given-back : (own : List Exchange) → Work (GivenBack s.geometry.extents) own → IsGivenBack s log (with_exchanges log (own ++ log.exchanges))
@@ -75,7 +76,7 @@ module _ (s : Setting) (geometry : IsGeometry s.geometry) (log : CommandLog) (kn
 
   -- the extents from one on
   extents-given : (left extent : ℕ) (own : List Exchange) → left + extent ≡ s.geometry.extents → Work (GivenBack extent) own →
-      MeetsGivingBack own (give_extents s known holds hand left extent (Ends follows)) (give_asks left)
+      MeetsGivingBack own (give_extents s known uses holds hand left extent (Ends follows)) (give_asks left)
   extents-given zero extent own all r = on_hand.done (given-back own (subst (λ e. Work (GivenBack e) own) (let e : extent ≡ s.geometry.extents = omega arith in e) r))
   extents-given (suc left) extent own all r =
       by-hold (holds (lease_at (extent_lease s.geometry extent)))
@@ -83,7 +84,7 @@ module _ (s : Setting) (geometry : IsGeometry s.geometry) (log : CommandLog) (kn
       (λ own' r'. extents-given left (extent + 1) own' (omega arith) r')
     where
       tail : Part End
-      tail = give_extents s known holds hand left (extent + 1) (Ends follows)
+      tail = give_extents s known uses holds hand left (extent + 1) (Ends follows)
 
       m : ℕ
       m = give_asks left
@@ -92,33 +93,33 @@ module _ (s : Setting) (geometry : IsGeometry s.geometry) (log : CommandLog) (kn
           ((own' : List Exchange) → Work (GivenBack (extent + 1)) own' → MeetsGivingBack own' tail m) → MeetsGivingBack own tail (suc (suc m))
       unheld none next =
           let one = next own (given-more s log.before log.exchanges NoLease inside NoLease own extent r (none-unheld s log.before log.exchanges NoLease inside own extent r.along.has none)) in
-          let one-more = more s log.before log.exchanges NoLease inside geometry.blocks_high log.command known MayGive ShowsGiven in-pool may-give endings in
+          let one-more = more s log.before log.exchanges NoLease inside geometry.blocks_high log.command uses known MayGive ShowsGiven in-pool may-give endings in
           one-more (suc m) tail own (one-more m tail own one)
 
       by-hold : (hold : Hold) → hold_by_log s log.before (own ++ log.exchanges) (extent_lease s.geometry extent) ≡ hold →
-          ((own' : List Exchange) → Work (GivenBack (extent + 1)) own' → MeetsGivingBack own' tail m) → MeetsGivingBack own (give_extent s known hand extent hold tail) (suc (suc m))
+          ((own' : List Exchange) → Work (GivenBack (extent + 1)) own' → MeetsGivingBack own' tail m) → MeetsGivingBack own (give_extent s known uses hand extent hold tail) (suc (suc m))
       by-hold (Held claim until) is next =
-          gives s log.before log.exchanges NoLease inside geometry.blocks_high log.command known MayGive ShowsGiven in-pool may-give endings NoLease own extent until m claim
+          gives s log.before log.exchanges NoLease inside geometry.blocks_high log.command uses known MayGive ShowsGiven in-pool may-give endings NoLease own extent until m claim
           (in_extent s.geometry extent hand) tail (omega arith) (λ p. p) r is (ap (in_extent s.geometry extent) (sym may.fresh)) (λ own' r' held'. next own' r')
       by-hold Nothing is next = unheld (ap is_held is) next
       by-hold (Seen sample) is next = unheld (ap is_held is) next
       by-hold (Wrote c u) is next = unheld (ap is_held is) next
       by-hold (Waited c u) is next = unheld (ap is_held is) next
 
-  give-back-meets : MeetsGivingBack [] (give_back_work s known holds hand follows) (give_back_bound s.geometry)
+  give-back-meets : MeetsGivingBack [] (give_back_work s known uses holds hand follows) (give_back_bound s.geometry)
   give-back-meets =
-      subst (λ n. MeetsGivingBack [] (give_back_work s known holds hand follows) n) (give-asks-are s.geometry.extents)
+      subst (λ n. MeetsGivingBack [] (give_back_work s known uses holds hand follows) n) (give-asks-are s.geometry.extents)
       (extents-given s.geometry.extents 0 [] (omega arith)
       (retires-none s log.before log.exchanges NoLease inside (begun-first log.exchanges may.others may.first may.begun) may.went NoLease (GivenBack 0) (λ l below p. p) (λ e k. omega (arith, k))))
 
 pub give-backs-keep-rules : GiveBacksKeepRules
-give-backs-keep-rules s log known holds hand follows geometry may =
-    meets-keeps s log (IsOfOneMap s.geometry) (ShowsOnHand s known follows (IsGivenBack s log)) (give_back_work s known holds hand follows) (give_back_bound s.geometry)
-    (give-back-meets s geometry log known holds hand follows may)
+give-backs-keep-rules s log known uses holds hand follows geometry may =
+    meets-keeps s log (IsOfOneMap s.geometry) (ShowsOnHand s known uses follows (IsGivenBack s log)) (give_back_work s known uses holds hand follows) (give_back_bound s.geometry)
+    (give-back-meets s geometry log known uses holds hand follows may)
 
 -- so does it by where it stands
 pub give-back-ask : (rest : Part End) (ask : Ask) → Some ask ≡ standing rest → IsGiveBackAsk rest ask
-give-back-ask rest ask stands s log known holds hand follows own geometry may leads = (give-backs-keep-rules s log known holds hand follows geometry may).asks leads ask (sym stands)
+give-back-ask rest ask stands s log known uses holds hand follows own geometry may leads = (give-backs-keep-rules s log known uses holds hand follows geometry may).asks leads ask (sym stands)
 
 pub give-back-end : (rest : Part End) (end : End) → rest ≡ Ends end → IsGiveBackEnd rest end
-give-back-end rest end over s log known holds hand follows own geometry may leads = (give-backs-keep-rules s log known holds hand follows geometry may).ends leads end over
+give-back-end rest end over s log known uses holds hand follows own geometry may leads = (give-backs-keep-rules s log known uses holds hand follows geometry may).ends leads end over

@@ -4,6 +4,7 @@ use Rattle.plx_disk.specs.declared.ask.Ask.{Ask}
 use Rattle.plx_extent.specs.Maps.{map_bytes}
 use Rattle.plx_geom.specs.Geometry.{map_at}
 use Rattle.plx_rules.specs.Ends.{End}
+use Rattle.plx_rules.specs.InUse.{InUse}
 use Rattle.plx_rules.specs.Part.{Part, Ends, standing}
 use Rattle.plx_rules.specs.Session.{Known}
 use Rattle.plx_rules.specs.Settings.{Setting}
@@ -23,7 +24,7 @@ use Rattle.plx_alloc.specs.declared.giving.GivingAt.{GivingAt}
 use Rattle.plx_alloc.specs.declared.giving.GivingAt.TheVariants as at
 use Rattle.plx_alloc.specs.GiveRules.{ExtentGivesKeepRules, IsGiveAsk, MayBeginGive, ShowsGive, cleared, damaged, give_bound, give_work, missed, reached, unread, unwritten}
 
-module _ (s : Setting) (log : CommandLog) (known : Known) (extent until : ℕ) (blocks : List ℕ) (follows : End) (may : MayBeginGive s log extent until blocks) where
+module _ (s : Setting) (log : CommandLog) (known : Known) (uses : List InUse) (extent until : ℕ) (blocks : List ℕ) (follows : End) (may : MayBeginGive s log extent until blocks) where
   abbrev place : ℕ
   place = map_at s.geometry extent
 
@@ -31,7 +32,7 @@ module _ (s : Setting) (log : CommandLog) (known : Known) (extent until : ℕ) (
   MayGive done a bytes = MayAsk s (with_exchanges log done) a bytes × IsOfBlock place a
 
   abbrev ShowsGiven : List Exchange → End → Type 0
-  ShowsGiven done end = ShowsGive s extent until blocks known follows (with_exchanges log done) end
+  ShowsGiven done end = ShowsGive s uses extent until blocks known follows (with_exchanges log done) end
 
   can : CanGive s log.before log.exchanges extent until may.claim blocks
   can = record {
@@ -44,28 +45,28 @@ module _ (s : Setting) (log : CommandLog) (known : Known) (extent until : ℕ) (
     went = may.went;
   }
 
-  endings : GiveEndings s log.before log.exchanges extent until may.claim blocks known ShowsGiven
+  endings : GiveEndings s log.before log.exchanges extent until may.claim blocks uses known ShowsGiven
   endings = record {
     unread = unread (log.exchanges, refl);
     unwritten = λ read bits is. unwritten (map_bytes (with_clear blocks place bits)) (read_of place read ∷ log.exchanges, refl);
     missed = λ read bits last is. missed (map_bytes (with_clear blocks place bits)) last (read_of place read ∷ log.exchanges, refl);
-    reached = λ read last none held past. reached last (read_of place read ∷ log.exchanges, refl) past;
+    reached = λ read last due none held found. reached due last (read_of place read ∷ log.exchanges, refl) found;
     damaged = λ read last none held early. damaged read last (inr (inl refl)) none (read_of place read ∷ log.exchanges, refl) early;
   }
 
-  give-meets : MeetsWork s log (IsOfBlock place) (ShowsGive s extent until blocks known follows) log.exchanges (give_work s known extent until blocks follows) give_bound
+  give-meets : MeetsWork s log (IsOfBlock place) (ShowsGive s uses extent until blocks known follows) log.exchanges (give_work s known uses extent until blocks follows) give_bound
   give-meets =
-      one-gives s log.before log.command known MayGive ShowsGiven log.exchanges extent until may.claim blocks can (λ done a bytes may' here. (may', here)) endings
+      one-gives s log.before log.command uses known MayGive ShowsGiven log.exchanges extent until may.claim blocks can (λ done a bytes may' here. (may', here)) endings
       (Ends follows) 0 (λ read bits is. cleared bits (read_of place read ∷ log.exchanges, refl))
 
 pub extent-gives-keep-rules : ExtentGivesKeepRules
-extent-gives-keep-rules s log known extent until blocks follows may =
-    meets-keeps s log (IsOfBlock (map_at s.geometry extent)) (ShowsGive s extent until blocks known follows) (give_work s known extent until blocks follows) give_bound
-    (give-meets s log known extent until blocks follows may)
+extent-gives-keep-rules s log known uses extent until blocks follows may =
+    meets-keeps s log (IsOfBlock (map_at s.geometry extent)) (ShowsGive s uses extent until blocks known follows) (give_work s known uses extent until blocks follows) give_bound
+    (give-meets s log known uses extent until blocks follows may)
 
 -- so does each of its asks, by where it stands
 give-ask : (rest : Part End) (ask : Ask) → Some ask ≡ standing rest → IsGiveAsk rest ask
-give-ask rest ask stands s log known extent until blocks follows own may leads = (extent-gives-keep-rules s log known extent until blocks follows may).asks leads ask (sym stands)
+give-ask rest ask stands s log known uses extent until blocks follows own may leads = (extent-gives-keep-rules s log known uses extent until blocks follows may).asks leads ask (sym stands)
 
 give-asks : (place : GivingAt) (o : Around) (a : Allocator) (m : Giving) → IsGiveAsk (giving_at place o a m) (giving_ask_at place m)
 give-asks at.Map o a m = give-ask (giving_at at.Map o a m) (giving_ask_at at.Map m) refl

@@ -3,6 +3,7 @@ use Rattle.std.proofs.Common.{◌≡◌, ◌≤◌, ◌+◌, ◌-◌, ◌∙◌,
 use Rattle.std.specs.Prelude.{if◌then◌else◌}
 use Rattle.plx_geom.specs.Geometry.{Geometry, extent_lease, map_at}
 use Rattle.plx_base.specs.declared.numbers.ExtentNo.{ExtentNo}
+use Rattle.plx_lease.specs.Uses.{uses_of}
 use Rattle.plx_rules.specs.Ends.{End, read_then}
 use Rattle.plx_rules.specs.InUse.{InUse}
 use Rattle.plx_rules.specs.Holds.{Hold, Nothing, Seen, Wrote, Waited, Held}
@@ -20,17 +21,17 @@ use Rattle.plx_alloc.proofs.Taking.{hold-here}
 use Rattle.plx_alloc.proofs.Passes.{extent_hold_at}
 
 -- blocks of the extent are in hand
-pub give-some : (s : Setting) (known : Known) (extent until : ℕ) (blocks : List ℕ) (rest : Part End) → has_any blocks ≡ true →
-    give_part s known extent until blocks rest
-    ≡ read_then (map_at s.geometry extent) known (λ bytes. give_found s known extent until blocks (read_map s.geometry.extent_blocks bytes) rest)
-give-some s known extent until [] rest z = let P : ⊥ = cc in absurd P
-give-some s known extent until (block ∷ blocks) rest some = refl
+pub give-some : (s : Setting) (known : Known) (uses : List InUse) (extent until : ℕ) (blocks : List ℕ) (rest : Part End) → has_any blocks ≡ true →
+    give_part s known uses extent until blocks rest
+    ≡ read_then (map_at s.geometry extent) known (λ bytes. give_found s known uses extent until blocks (read_map s.geometry.extent_blocks bytes) rest)
+give-some s known uses extent until [] rest z = let P : ⊥ = cc in absurd P
+give-some s known uses extent until (block ∷ blocks) rest some = refl
 
 -- or none
-pub give-none : (s : Setting) (known : Known) (extent until : ℕ) (blocks : List ℕ) (rest : Part End) → has_any blocks ≡ false →
-    give_part s known extent until blocks rest ≡ rest
-give-none s known extent until [] rest none' = refl
-give-none s known extent until (block ∷ blocks) rest z = let P : ⊥ = cc in absurd P
+pub give-none : (s : Setting) (known : Known) (uses : List InUse) (extent until : ℕ) (blocks : List ℕ) (rest : Part End) → has_any blocks ≡ false →
+    give_part s known uses extent until blocks rest ≡ rest
+give-none s known uses extent until [] rest none' = refl
+give-none s known uses extent until (block ∷ blocks) rest z = let P : ⊥ = cc in absurd P
 
 -- ---- the blocks of one extent
 
@@ -44,89 +45,91 @@ kept-use g m lease = ap (λ n. due_of n m.until) lease
 -- blocks of the extent are in hand
 pub giving-first : (o : Around) (a : Allocator) (m : Giving) → m.at ≡ at.Map → m.map.0 ≡ map_at a.geometry m.extent.0 →
     has_any (in_extent a.geometry m.extent.0 (hand_numbers a)) ≡ true →
-    giving_rest o a m ≡ give_part (allocator_setting o.appliance a) (around_known o a) m.extent.0 m.until (in_extent a.geometry m.extent.0 (hand_numbers a)) o.rest
+    giving_rest o a m ≡ give_part (allocator_setting o.appliance a) (around_known o a) (uses_of m.uses) m.extent.0 m.until (in_extent a.geometry m.extent.0 (hand_numbers a)) o.rest
 giving-first o a m here map some =
     let s = allocator_setting o.appliance a in
     let known = around_known o a in
     let e = m.extent.0 in
     let mine = in_extent a.geometry e (hand_numbers a) in
+    let uses = uses_of m.uses in
     ap (λ place. giving_at place o a m) here
-    ∙ (ap (λ block. read_then block known (λ bytes. give_found s known e m.until mine (read_map a.geometry.extent_blocks bytes) o.rest)) map
-    ∙ sym (give-some s known e m.until mine o.rest some))
+    ∙ (ap (λ block. read_then block known (λ bytes. give_found s known uses e m.until mine (read_map a.geometry.extent_blocks bytes) o.rest)) map
+    ∙ sym (give-some s known uses e m.until mine o.rest some))
 
 -- ---- all of them
 
 -- what is asked at the first extent of which blocks are in hand
-abbrev pub give_first : Setting → Known → (holds : ℕ → Hold) → (hand : List ℕ) → Option ℕ → (rest : Part End) → Part End
-give_first s known holds hand None rest = rest
-give_first s known holds hand (Some extent) rest =
-    give_extent s known hand extent (extent_hold_at s.geometry holds extent) (give_extents s known holds hand (s.geometry.extents - (extent + 1)) (extent + 1) rest)
+abbrev pub give_first : Setting → Known → (uses : List InUse) → (holds : ℕ → Hold) → (hand : List ℕ) → Option ℕ → (rest : Part End) → Part End
+give_first s known uses holds hand None rest = rest
+give_first s known uses holds hand (Some extent) rest =
+    give_extent s known uses hand extent (extent_hold_at s.geometry holds extent) (give_extents s known uses holds hand (s.geometry.extents - (extent + 1)) (extent + 1) rest)
 
-none-of-map : (s : Setting) (known : Known) (hand : List ℕ) (extent : ℕ) (hold : Hold) (rest : Part End) → has_any (in_extent s.geometry extent hand) ≡ false →
-    give_extent s known hand extent hold rest ≡ rest
-none-of-map s known hand extent Nothing rest none' = refl
-none-of-map s known hand extent (Seen sample) rest none' = refl
-none-of-map s known hand extent (Wrote claim until) rest none' = refl
-none-of-map s known hand extent (Waited claim until) rest none' = refl
-none-of-map s known hand extent (Held claim until) rest none' = give-none s known extent until (in_extent s.geometry extent hand) rest none'
+none-of-map : (s : Setting) (known : Known) (uses : List InUse) (hand : List ℕ) (extent : ℕ) (hold : Hold) (rest : Part End) → has_any (in_extent s.geometry extent hand) ≡ false →
+    give_extent s known uses hand extent hold rest ≡ rest
+none-of-map s known uses hand extent Nothing rest none' = refl
+none-of-map s known uses hand extent (Seen sample) rest none' = refl
+none-of-map s known uses hand extent (Wrote claim until) rest none' = refl
+none-of-map s known uses hand extent (Waited claim until) rest none' = refl
+none-of-map s known uses hand extent (Held claim until) rest none' = give-none s known uses extent until (in_extent s.geometry extent hand) rest none'
 
-pub give-first : (s : Setting) (known : Known) (holds : ℕ → Hold) (hand : List ℕ) (left from : ℕ) (rest : Part End) → from + left ≡ s.geometry.extents →
-    give_extents s known holds hand left from rest ≡ give_first s known holds hand (first_extent (λ extent. has_any (in_extent s.geometry extent hand)) left from) rest
-give-first s known holds hand zero from rest sum = refl
-give-first s known holds hand (suc left) from rest sum =
-    go (give-first s known holds hand left (from + 1) rest (omega (arith, sum))) (has_any (in_extent s.geometry from hand)) refl
+pub give-first : (s : Setting) (known : Known) (uses : List InUse) (holds : ℕ → Hold) (hand : List ℕ) (left from : ℕ) (rest : Part End) → from + left ≡ s.geometry.extents →
+    give_extents s known uses holds hand left from rest ≡ give_first s known uses holds hand (first_extent (λ extent. has_any (in_extent s.geometry extent hand)) left from) rest
+give-first s known uses holds hand zero from rest sum = refl
+give-first s known uses holds hand (suc left) from rest sum =
+    go (give-first s known uses holds hand left (from + 1) rest (omega (arith, sum))) (has_any (in_extent s.geometry from hand)) refl
   where
     next : Part End
-    next = give_extents s known holds hand left (from + 1) rest
+    next = give_extents s known uses holds hand left (from + 1) rest
 
-    go : next ≡ give_first s known holds hand (first_extent (λ extent. has_any (in_extent s.geometry extent hand)) left (from + 1)) rest →
-        (b : Bool) → has_any (in_extent s.geometry from hand) ≡ b → give_extent s known hand from (extent_hold_at s.geometry holds from) next
-        ≡ give_first s known holds hand (if b then Some from else first_extent (λ extent. has_any (in_extent s.geometry extent hand)) left (from + 1)) rest
+    go : next ≡ give_first s known uses holds hand (first_extent (λ extent. has_any (in_extent s.geometry extent hand)) left (from + 1)) rest →
+        (b : Bool) → has_any (in_extent s.geometry from hand) ≡ b → give_extent s known uses hand from (extent_hold_at s.geometry holds from) next
+        ≡ give_first s known uses holds hand (if b then Some from else first_extent (λ extent. has_any (in_extent s.geometry extent hand)) left (from + 1)) rest
     go later true some =
         let e : left ≡ s.geometry.extents - (from + 1) = omega (arith, sum) in
-        ap (λ k. give_extent s known hand from (extent_hold_at s.geometry holds from) (give_extents s known holds hand k (from + 1) rest)) e
-    go later false none' = none-of-map s known hand from (extent_hold_at s.geometry holds from) next none' ∙ later
+        ap (λ k. give_extent s known uses hand from (extent_hold_at s.geometry holds from) (give_extents s known uses holds hand k (from + 1) rest)) e
+    go later false none' = none-of-map s known uses hand from (extent_hold_at s.geometry holds from) next none' ∙ later
 
 -- from an extent on
-pub give-next : (o : Around) (a : Allocator) (from : ℕ) (found : Option ℕ) → from ≤ a.geometry.extents →
+pub give-next : (o : Around) (a : Allocator) (uses : List InUse) (from : ℕ) (found : Option ℕ) → from ≤ a.geometry.extents →
     found ≡ first_extent (λ extent. has_any (in_extent a.geometry extent (hand_numbers a))) (a.geometry.extents - from) from →
-    give_from o a from ≡ give_first (allocator_setting o.appliance a) (around_known o a) (holds_of a) (hand_numbers a) found o.rest
-give-next o a from found low is =
-    give-first (allocator_setting o.appliance a) (around_known o a) (holds_of a) (hand_numbers a) (a.geometry.extents - from) from o.rest (omega (arith, low))
-    ∙ ap (λ found. give_first (allocator_setting o.appliance a) (around_known o a) (holds_of a) (hand_numbers a) found o.rest) (sym is)
+    give_from o a uses from ≡ give_first (allocator_setting o.appliance a) (around_known o a) uses (holds_of a) (hand_numbers a) found o.rest
+give-next o a uses from found low is =
+    give-first (allocator_setting o.appliance a) (around_known o a) uses (holds_of a) (hand_numbers a) (a.geometry.extents - from) from o.rest (omega (arith, low))
+    ∙ ap (λ found. give_first (allocator_setting o.appliance a) (around_known o a) uses (holds_of a) (hand_numbers a) found o.rest) (sym is)
 
 -- at that extent
 pub give-here : (o : Around) (a : Allocator) (m : Giving) (extent : ExtentNo) → m.at ≡ at.Map → m.extent ≡ extent → SuitsGiving a m → IsHeldUntil a extent.0 m.until →
     has_any (in_extent a.geometry extent.0 (hand_numbers a)) ≡ true →
-    giving_rest (record o { rest = give_from o a (m.extent.0 + 1) }) a m
-    ≡ give_first (allocator_setting o.appliance a) (around_known o a) (holds_of a) (hand_numbers a) (Some extent.0) o.rest
+    giving_rest (record o { rest = give_from o a (uses_of m.uses) (m.extent.0 + 1) }) a m
+    ≡ give_first (allocator_setting o.appliance a) (around_known o a) (uses_of m.uses) (holds_of a) (hand_numbers a) (Some extent.0) o.rest
 give-here o a m extent here is suits held some =
     let s = allocator_setting o.appliance a in
     let known = around_known o a in
     let e = m.extent.0 in
-    let next = give_from o a (e + 1) in
+    let uses = uses_of m.uses in
+    let next = give_from o a uses (e + 1) in
     let mine : has_any (in_extent a.geometry e (hand_numbers a)) ≡ true = ap (λ (x : ExtentNo). has_any (in_extent a.geometry x.0 (hand_numbers a))) is ∙ some in
     let hold : extent_leases a e ≡ Held held.claim m.until = ap (λ (x : ExtentNo). extent_leases a x.0) is ∙ held.is in
     giving-first (record o { rest = next }) a m here suits.map mine
-    ∙ (ap (λ hold. give_extent s known (hand_numbers a) e hold next) (sym (hold-here a e ∙ hold))
-    ∙ ap (λ (x : ExtentNo). give_first s known (holds_of a) (hand_numbers a) (Some x.0) o.rest) is)
+    ∙ (ap (λ hold. give_extent s known uses (hand_numbers a) e hold next) (sym (hold-here a e ∙ hold))
+    ∙ ap (λ (x : ExtentNo). give_first s known uses (holds_of a) (hand_numbers a) (Some x.0) o.rest) is)
 
 -- it goes by what is held and in hand of the extents from there on
-pub give-same : (s : Setting) (known : Known) (holds others : ℕ → Hold) (hand blocks : List ℕ) (left from : ℕ) (rest : Part End) →
+pub give-same : (s : Setting) (known : Known) (uses : List InUse) (holds others : ℕ → Hold) (hand blocks : List ℕ) (left from : ℕ) (rest : Part End) →
     ((extent : ℕ) → from ≤ extent → extent_hold_at s.geometry holds extent ≡ extent_hold_at s.geometry others extent) →
     ((extent : ℕ) → from ≤ extent → in_extent s.geometry extent hand ≡ in_extent s.geometry extent blocks) →
-    give_extents s known holds hand left from rest ≡ give_extents s known others blocks left from rest
-give-same s known holds others hand blocks zero from rest held same = refl
-give-same s known holds others hand blocks (suc left) from rest held same =
-    ap (give_extent s known hand from (extent_hold_at s.geometry holds from))
-    (give-same s known holds others hand blocks left (from + 1) rest (λ extent less. held extent (omega (arith, less))) (λ extent less. same extent (omega (arith, less))))
-    ∙ (ap (λ hold. give_extent s known hand from hold (give_extents s known others blocks left (from + 1) rest)) (held from (omega arith))
+    give_extents s known uses holds hand left from rest ≡ give_extents s known uses others blocks left from rest
+give-same s known uses holds others hand blocks zero from rest held same = refl
+give-same s known uses holds others hand blocks (suc left) from rest held same =
+    ap (give_extent s known uses hand from (extent_hold_at s.geometry holds from))
+    (give-same s known uses holds others hand blocks left (from + 1) rest (λ extent less. held extent (omega (arith, less))) (λ extent less. same extent (omega (arith, less))))
+    ∙ (ap (λ hold. give_extent s known uses hand from hold (give_extents s known uses others blocks left (from + 1) rest)) (held from (omega arith))
     ∙ by-hand (extent_hold_at s.geometry others from))
   where
-    by-hand : (hold : Hold) → give_extent s known hand from hold (give_extents s known others blocks left (from + 1) rest)
-        ≡ give_extent s known blocks from hold (give_extents s known others blocks left (from + 1) rest)
+    by-hand : (hold : Hold) → give_extent s known uses hand from hold (give_extents s known uses others blocks left (from + 1) rest)
+        ≡ give_extent s known uses blocks from hold (give_extents s known uses others blocks left (from + 1) rest)
     by-hand Nothing = refl
     by-hand (Seen sample) = refl
     by-hand (Wrote claim until) = refl
     by-hand (Waited claim until) = refl
-    by-hand (Held claim until) = ap (λ mine. give_part s known from until mine (give_extents s known others blocks left (from + 1) rest)) (same from (omega arith))
+    by-hand (Held claim until) = ap (λ mine. give_part s known uses from until mine (give_extents s known uses others blocks left (from + 1) rest)) (same from (omega arith))

@@ -1,4 +1,4 @@
--- The parts of a take go by the leases that it claimed only as far as readings reach them.
+-- The parts of a take go by the leases in use only as far as readings reach them.
 use Rattle.std.proofs.Common.{◌≡◌, ◌∙◌, ap, refl, ℕ, zero, suc, List, [], ◌∷◌, length, Bool, true, false, Option, Some, None}
 use Rattle.std.specs.Prelude.{◌+◌, ◌-◌, nat_le, nat_lt, if◌then◌else◌, take}
 use Rattle.std.specs.Str.{bytes_eq}
@@ -84,7 +84,7 @@ claim-same uses others same boot lease number = ap ClockThen (fun_ext (λ sample
 
 -- the same take, with its leases listed so
 abbrev with_uses : Taking → List InUse → Taking
-with_uses t others = record t { claimed = others }
+with_uses t others = record t { uses = others }
 
 pub damaged-same : (s : Setting) (known : Known) (uses others : List InUse) → AreReachedAs uses others → (block : ℕ) →
     damaged_part s known uses block ≡ damaged_part s known others block
@@ -92,7 +92,7 @@ damaged-same s known uses others same block =
     ap ClockThen (fun_ext (λ reading. ap (λ due. unless_reached due (λ due. lost_part s known due reading) (ends (reply.Damaged (record { 0 = block })) known)) (same reading)))
 
 if-goes : (enough : Bool) (here rest : Taking → Part End) → GoesByReached here → GoesByReached rest → (t : Taking) (others : List InUse) →
-    AreReachedAs t.claimed others → (if enough then rest t else here t) ≡ (if enough then rest (with_uses t others) else here (with_uses t others))
+    AreReachedAs t.uses others → (if enough then rest t else here t) ≡ (if enough then rest (with_uses t others) else here (with_uses t others))
 if-goes true here rest first last t others same = last t others same
 if-goes false here rest first last t others same = first t others same
 
@@ -110,7 +110,7 @@ take_found-goes : (s : Setting) (count extent until : ℕ) (found : Option (List
     GoesByReached (take_found s count extent until found rest)
 take_found-goes s count extent until None rest goes t others same =
     let own = extent_use s.geometry extent until in
-    damaged-same s t.known (own ∷ t.claimed) (own ∷ others) (reached-more own t.claimed others same) (map_at s.geometry extent)
+    damaged-same s t.known (own ∷ t.uses) (own ∷ others) (reached-more own t.uses others same) (map_at s.geometry extent)
 take_found-goes s count extent until (Some bits) rest goes t others same =
     set_part-goes s extent until bits (take (count - length t.hand) (free_from t.hand (map_at s.geometry extent) bits)) rest goes t others same
 
@@ -137,10 +137,10 @@ take_held-goes s count holds (suc left) extent rest goes t others same =
     (take_if_held-goes s count extent (holds (lease_at (extent_lease s.geometry extent))) (take_held s count holds left (extent + 1) rest) next) next t others same
 
 pub after_extent_claim-goes : (s : Setting) (count extent : ℕ) (rest : Taking → Part End) → GoesByReached rest → (t : Taking) (others : List InUse) →
-    AreReachedAs t.claimed others → (end : ClaimEnd) → after_extent_claim s count extent rest t end ≡ after_extent_claim s count extent rest (with_uses t others) end
+    AreReachedAs t.uses others → (end : ClaimEnd) → after_extent_claim s count extent rest t end ≡ after_extent_claim s count extent rest (with_uses t others) end
 after_extent_claim-goes s count extent rest goes t others same (ClaimHeld claim until) =
     let own = extent_use s.geometry extent until in
-    take_here-goes s count extent until rest goes (with_claimed t own) (own ∷ others) (reached-more own t.claimed others same)
+    take_here-goes s count extent until rest goes (with_claimed t own) (own ∷ others) (reached-more own t.uses others same)
 after_extent_claim-goes s count extent rest goes t others same (ClaimBusy seen) = goes (with_busy t (extent_lease s.geometry extent) seen) others same
 after_extent_claim-goes s count extent rest goes t others same (ClaimLost due reading) = refl
 after_extent_claim-goes s count extent rest goes t others same ClaimReadFault = refl
@@ -151,7 +151,7 @@ claim_extent-goes : (may : Bool) (s : Setting) (count extent : ℕ) (rest : Taki
 claim_extent-goes false s count extent rest goes t others same = refl
 claim_extent-goes true s count extent rest goes t others same =
     ap (λ part. followed_by part (after_extent_claim s count extent rest (with_claim_begun t)))
-    (claim-same t.claimed others same s.boot (extent_lease s.geometry extent) t.known.claims)
+    (claim-same t.uses others same s.boot (extent_lease s.geometry extent) t.known.claims)
     ∙ ap (λ (next : ClaimEnd → Part End). followed_by (claim_part s.boot others (extent_lease s.geometry extent) t.known.claims) next)
     (fun_ext (λ end. after_extent_claim-goes s count extent rest goes (with_claim_begun t) others same end))
 
@@ -163,7 +163,7 @@ claim_if_free-goes s count extent (block ∷ blocks) rest goes t others same =
 
 other_found-goes : (s : Setting) (count extent : ℕ) (found : Option (List Bool)) (rest : Taking → Part End) → GoesByReached rest →
     GoesByReached (other_found s count extent found rest)
-other_found-goes s count extent None rest goes t others same = damaged-same s t.known t.claimed others same (map_at s.geometry extent)
+other_found-goes s count extent None rest goes t others same = damaged-same s t.known t.uses others same (map_at s.geometry extent)
 other_found-goes s count extent (Some bits) rest goes t others same =
     claim_if_free-goes s count extent (free_from t.hand (map_at s.geometry extent) bits) rest goes t others same
 

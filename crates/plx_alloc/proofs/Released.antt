@@ -9,6 +9,8 @@ use Rattle.plx_commands.specs.Replies.{is_in}
 use Rattle.plx_base.specs.declared.numbers.ExtentNo.{ExtentNo}
 use Rattle.plx_base.specs.declared.write_kind.WriteKind.TheVariants as kind
 use Rattle.plx_geom.specs.Geometry.{Geometry}
+use Rattle.plx_lease.specs.Uses.{uses_of}
+use Rattle.plx_rules.specs.InUse.{InUse}
 use Rattle.plx_rules.specs.Hands.{hand_from, is_held, blocks_without}
 use Rattle.plx_rules.specs.Holds.{Hold, Nothing}
 use Rattle.plx_rules.specs.Rests.{extent_of}
@@ -68,15 +70,15 @@ abbrev known_around : Around → ℕ → Known
 known_around o claims = record { sessions = o.sessions; claims = claims }
 
 -- what is asked of the extents past the released one stays as it was
-pub released-next : (o : Around) (a b : Allocator) (extent : ℕ) → IsSame a b → b.claims ≡ a.claims → extent_leases b ≡ with_hold (extent_leases a) extent Nothing →
-    hand_numbers b ≡ held_hand a.geometry (extent_leases b) (hand_numbers a) → HoldsHand a → retire_extents_from o b (extent + 1) ≡ retire_extents_from o a (extent + 1)
-released-next o a b extent same claims leases hand held =
+pub released-next : (o : Around) (a b : Allocator) (uses : List InUse) (extent : ℕ) → IsSame a b → b.claims ≡ a.claims → extent_leases b ≡ with_hold (extent_leases a) extent Nothing →
+    hand_numbers b ≡ held_hand a.geometry (extent_leases b) (hand_numbers a) → HoldsHand a → retire_extents_from o b uses (extent + 1) ≡ retire_extents_from o a uses (extent + 1)
+released-next o a b uses extent same claims leases hand held =
     let s = allocator_setting o.appliance a in
     let known = around_known o a in
-    ap (λ s. retire_extents s (around_known o b) (holds_of b) (hand_numbers b) (b.geometry.extents - (extent + 1)) (extent + 1) o.rest) (given-same o.appliance a b same)
-    ∙ (ap (λ n. retire_extents s (known_around o n) (holds_of b) (hand_numbers b) (b.geometry.extents - (extent + 1)) (extent + 1) o.rest) claims
-    ∙ (ap (λ g. retire_extents s known (holds_of b) (hand_numbers b) (g.extents - (extent + 1)) (extent + 1) o.rest) same.geometry
-    ∙ retire-same s known (holds_of b) (holds_of a) (hand_numbers b) (hand_numbers a) (a.geometry.extents - (extent + 1)) (extent + 1) o.rest there mine))
+    ap (λ s. retire_extents s (around_known o b) uses (holds_of b) (hand_numbers b) (b.geometry.extents - (extent + 1)) (extent + 1) o.rest) (given-same o.appliance a b same)
+    ∙ (ap (λ n. retire_extents s (known_around o n) uses (holds_of b) (hand_numbers b) (b.geometry.extents - (extent + 1)) (extent + 1) o.rest) claims
+    ∙ (ap (λ g. retire_extents s known uses (holds_of b) (hand_numbers b) (g.extents - (extent + 1)) (extent + 1) o.rest) same.geometry
+    ∙ retire-same s known uses (holds_of b) (holds_of a) (hand_numbers b) (hand_numbers a) (a.geometry.extents - (extent + 1)) (extent + 1) o.rest there mine))
   where
     lease : (other : ℕ) → extent + 1 ≤ other → extent_leases b other ≡ extent_leases a other
     lease other less = ap (λ (table : ℕ → Hold). table other) leases ∙ at-other (extent_leases a) extent other Nothing (λ e. absurd (omega (arith, e, less)))
@@ -155,28 +157,28 @@ holds-past a b same leases other =
     ∙ (hold-here b other ∙ (ap (λ (table : ℕ → Hold). table other) leases ∙ sym (hold-here a other)))
 
 -- what is asked of the extents past it stays as it was
-pub gives-past : (o : Around) (a b : Allocator) (extent : ℕ) → IsSame a b → b.claims ≡ a.claims → extent_leases b ≡ extent_leases a →
+pub gives-past : (o : Around) (a b : Allocator) (uses : List InUse) (extent : ℕ) → IsSame a b → b.claims ≡ a.claims → extent_leases b ≡ extent_leases a →
     ((other : ℕ) → other ≢ extent → in_extent a.geometry other (hand_numbers b) ≡ in_extent a.geometry other (hand_numbers a)) →
-    give_from o b (extent + 1) ≡ give_from o a (extent + 1)
-gives-past o a b extent same claims leases others =
+    give_from o b uses (extent + 1) ≡ give_from o a uses (extent + 1)
+gives-past o a b uses extent same claims leases others =
     let s = allocator_setting o.appliance a in
     let known = around_known o a in
-    ap (λ s. give_extents s (around_known o b) (holds_of b) (hand_numbers b) (b.geometry.extents - (extent + 1)) (extent + 1) o.rest) (given-same o.appliance a b same)
-    ∙ (ap (λ n. give_extents s (known_around o n) (holds_of b) (hand_numbers b) (b.geometry.extents - (extent + 1)) (extent + 1) o.rest) claims
-    ∙ (ap (λ g. give_extents s known (holds_of b) (hand_numbers b) (g.extents - (extent + 1)) (extent + 1) o.rest) same.geometry
-    ∙ give-same s known (holds_of b) (holds_of a) (hand_numbers b) (hand_numbers a) (a.geometry.extents - (extent + 1)) (extent + 1) o.rest
+    ap (λ s. give_extents s (around_known o b) uses (holds_of b) (hand_numbers b) (b.geometry.extents - (extent + 1)) (extent + 1) o.rest) (given-same o.appliance a b same)
+    ∙ (ap (λ n. give_extents s (known_around o n) uses (holds_of b) (hand_numbers b) (b.geometry.extents - (extent + 1)) (extent + 1) o.rest) claims
+    ∙ (ap (λ g. give_extents s known uses (holds_of b) (hand_numbers b) (g.extents - (extent + 1)) (extent + 1) o.rest) same.geometry
+    ∙ give-same s known uses (holds_of b) (holds_of a) (hand_numbers b) (hand_numbers a) (a.geometry.extents - (extent + 1)) (extent + 1) o.rest
     (λ other less. holds-past a b same leases other) (λ other less. others other (λ e. absurd (omega (arith, e, less))))))
 
-retires-past : (o : Around) (a b : Allocator) (extent : ℕ) → IsSame a b → b.claims ≡ a.claims → extent_leases b ≡ extent_leases a →
+retires-past : (o : Around) (a b : Allocator) (uses : List InUse) (extent : ℕ) → IsSame a b → b.claims ≡ a.claims → extent_leases b ≡ extent_leases a →
     ((other : ℕ) → other ≢ extent → in_extent a.geometry other (hand_numbers b) ≡ in_extent a.geometry other (hand_numbers a)) →
-    retire_extents_from o b (extent + 1) ≡ retire_extents_from o a (extent + 1)
-retires-past o a b extent same claims leases others =
+    retire_extents_from o b uses (extent + 1) ≡ retire_extents_from o a uses (extent + 1)
+retires-past o a b uses extent same claims leases others =
     let s = allocator_setting o.appliance a in
     let known = around_known o a in
-    ap (λ s. retire_extents s (around_known o b) (holds_of b) (hand_numbers b) (b.geometry.extents - (extent + 1)) (extent + 1) o.rest) (given-same o.appliance a b same)
-    ∙ (ap (λ n. retire_extents s (known_around o n) (holds_of b) (hand_numbers b) (b.geometry.extents - (extent + 1)) (extent + 1) o.rest) claims
-    ∙ (ap (λ g. retire_extents s known (holds_of b) (hand_numbers b) (g.extents - (extent + 1)) (extent + 1) o.rest) same.geometry
-    ∙ retire-same s known (holds_of b) (holds_of a) (hand_numbers b) (hand_numbers a) (a.geometry.extents - (extent + 1)) (extent + 1) o.rest
+    ap (λ s. retire_extents s (around_known o b) uses (holds_of b) (hand_numbers b) (b.geometry.extents - (extent + 1)) (extent + 1) o.rest) (given-same o.appliance a b same)
+    ∙ (ap (λ n. retire_extents s (known_around o n) uses (holds_of b) (hand_numbers b) (b.geometry.extents - (extent + 1)) (extent + 1) o.rest) claims
+    ∙ (ap (λ g. retire_extents s known uses (holds_of b) (hand_numbers b) (g.extents - (extent + 1)) (extent + 1) o.rest) same.geometry
+    ∙ retire-same s known uses (holds_of b) (holds_of a) (hand_numbers b) (hand_numbers a) (a.geometry.extents - (extent + 1)) (extent + 1) o.rest
     (λ other less. holds-past a b same leases other) (λ other less. others other (λ e. absurd (omega (arith, e, less))))))
 
 -- so is its release, and what follows that
@@ -186,9 +188,10 @@ pub release-past : (o : Around) (a b : Allocator) (m new : Giving) → KeepsExte
 release-past o a b m new keeps same claims leases others =
     let s = allocator_setting o.appliance a in
     let known = around_known o a in
-    ap (λ s. release_then s (around_known o b) (retire_use new) (retire_extents_from o b (new.extent.0 + 1))) (given-same o.appliance a b same)
-    ∙ (ap (λ n. release_then s (known_around o n) (retire_use new) (retire_extents_from o b (new.extent.0 + 1))) claims
-    ∙ (ap (λ n. release_then s known (due_of n new.until) (retire_extents_from o b (new.extent.0 + 1))) keeps.lease
-    ∙ (ap (λ n. release_then s known (due_of m.lease n) (retire_extents_from o b (new.extent.0 + 1))) keeps.until
-    ∙ (ap (λ (x : ExtentNo). release_then s known (retire_use m) (retire_extents_from o b (x.0 + 1))) keeps.extent
-    ∙ ap (λ next. release_then s known (retire_use m) next) (retires-past o a b m.extent.0 same claims leases others)))))
+    ap (λ s. release_then s (around_known o b) (retire_use new) (retire_extents_from o b (uses_of new.uses) (new.extent.0 + 1))) (given-same o.appliance a b same)
+    ∙ (ap (λ n. release_then s (known_around o n) (retire_use new) (retire_extents_from o b (uses_of new.uses) (new.extent.0 + 1))) claims
+    ∙ (ap (λ n. release_then s known (due_of n new.until) (retire_extents_from o b (uses_of new.uses) (new.extent.0 + 1))) keeps.lease
+    ∙ (ap (λ n. release_then s known (due_of m.lease n) (retire_extents_from o b (uses_of new.uses) (new.extent.0 + 1))) keeps.until
+    ∙ (ap (λ beside. release_then s known (retire_use m) (retire_extents_from o b (uses_of beside) (new.extent.0 + 1))) keeps.uses
+    ∙ (ap (λ (x : ExtentNo). release_then s known (retire_use m) (retire_extents_from o b (uses_of m.uses) (x.0 + 1))) keeps.extent
+    ∙ ap (λ next. release_then s known (retire_use m) next) (retires-past o a b (uses_of m.uses) m.extent.0 same claims leases others))))))

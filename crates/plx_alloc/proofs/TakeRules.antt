@@ -68,7 +68,7 @@ module _ (s : Setting) (log : CommandLog) (count extent until : ℕ) (t : Taking
       (has-take (count - length t.hand) (free_from t.hand place bits) b (subst (λ (l : List ℕ). HasBlock l b) (sym same) among))
 
   abbrev uses : List InUse
-  uses = extent_use s.geometry extent until ∷ t.claimed
+  uses = extent_use s.geometry extent until ∷ t.uses
 
   -- the reading after bytes that are no map
   by-reading : (bytes : List ℕ) (last : ℕ) (found : Option InUse) → read_map s.geometry.extent_blocks bytes ≡ None → first_reached uses last ≡ found →

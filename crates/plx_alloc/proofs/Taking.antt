@@ -18,7 +18,8 @@ use Rattle.plx_lease.specs.declared.in_use.InUse.{InUse as Use}
 use Rattle.plx_lease.specs.Claiming.{claim_rest}
 use Rattle.plx_rules.specs.Claims.{ClaimHeld, claim_part}
 use Rattle.plx_rules.specs.Parts.{followed_by}
-use Rattle.plx_rules.specs.InUse.{InUse, earlier, first_reached, is_before}
+use Rattle.plx_rules.proofs.InUse.{reached-earlier}
+use Rattle.plx_rules.specs.InUse.{InUse, earlier, first_reached}
 use Rattle.plx_rules.specs.Ends.{End, read_then, write_then}
 use Rattle.plx_rules.specs.Hands.{is_held}
 use Rattle.plx_rules.specs.Holds.{Hold, Nothing, Seen, Wrote, Waited, Held}
@@ -165,7 +166,7 @@ pub set_part-none : (s : Setting) (extent until : ℕ) (bits : List Bool) (block
 set_part-none s extent until bits [] rest t none' = refl
 set_part-none s extent until bits (block ∷ blocks) rest t z = let P : ⊥ = cc in absurd P
 
--- ---- what follows goes by the leases that were claimed as readings reach them
+-- ---- what follows goes by the leases in use as readings reach them
 
 pub pass-goes : (o : Outer) (a : Allocator) (p : Pass) (count from : ℕ) → GoesByReached (pass_rest p (allocator_setting o.appliance a) (holds_of a) count from o.rest)
 pass-goes o a pass.Held count from t others same =
@@ -179,7 +180,7 @@ pass-goes o a pass.Others count from t others same =
 -- ---- another allocator of the same boot
 
 abbrev taking_with : Known → List InUse → List ℕ → Option (ℕ × LeaseRecord) → Taking
-taking_with known claimed hand busy = record { known = known; claimed = claimed; hand = hand; busy = busy }
+taking_with known uses' hand busy = record { known = known; uses = uses'; hand = hand; busy = busy }
 
 abbrev pub known_outside : Outer → ℕ → Known
 known_outside o claims = record { sessions = o.sessions; claims = claims }
@@ -208,59 +209,14 @@ pub written-rest : (o : Outer) (a b : Allocator) (m : Reserve) → IsSame a b �
     ≡ next_rest o a m (with_taken (taking_of o a m) (numbers m.taken.value.items))
 written-rest o a b m same leases claims hand =
     ap (λ (next : Taking → Part End). next (taking_of o b m)) (pass-same o a b m.pass m.count (m.extent.0 + 1) same leases)
-    ∙ (ap (λ n. next_rest o a m (taking_with (known_outside o n) (uses_of m.claimed) (hand_numbers b) (busy_of m.busy))) claims
-    ∙ ap (λ blocks. next_rest o a m (taking_with (outer_known o a) (uses_of m.claimed) blocks (busy_of m.busy))) hand)
-
-before-le : (one other : InUse) → is_before other one ≡ true → other.until ≤ one.until
-before-le one other e = elim (leb_tells (suc other.until) one.until) [
-  | inl less ↦ let h = less.1 in omega (arith, h)
-  | inr more ↦ elim (eqb_tells other.until one.until) [
-    | inl same ↦ let h = same.1 in omega (arith, h)
-    | inr apart ↦ absurd (let P : Bool → Type 0 = λ b. (b || ((other.until == one.until) && nat_lt other.lease one.lease)) ≡ true in
-        let Q : Bool → Type 0 = λ b. (b && nat_lt other.lease one.lease) ≡ true in
-        let f : false ≡ true = subst Q apart.0 (subst P more.0 e) in let R : ⊥ = cc in R)
-  ]
-]
-
-not-before-le : (one other : InUse) → is_before other one ≡ false → one.until ≤ other.until
-not-before-le one other e = elim (leb_tells (suc other.until) one.until) [
-  | inl less ↦ absurd (let P : Bool → Type 0 = λ b. (b || ((other.until == one.until) && nat_lt other.lease one.lease)) ≡ false in
-      let f : true ≡ false = subst P less.0 e in let R : ⊥ = cc in R)
-  | inr more ↦ let h = more.1 in omega (arith, h)
-]
-
-abbrev reached-by : (one other : InUse) (mine its : Bool) → Option InUse
-reached-by one other mine its = if mine then Some (earlier one (if its then Some other else None)) else (if its then Some other else None)
-
-by-first : (one other : InUse) (reading : ℕ) (first mine its : Bool) → is_before other one ≡ first → nat_le one.until reading ≡ mine → nat_le other.until reading ≡ its →
-    (if first then (if its then Some other else None) else (if mine then Some one else None)) ≡ reached-by one other mine its
-by-first one other reading true true true before a b = ap (λ c. Some (if c then other else one)) (sym before)
-by-first one other reading true true false before a b =
-    let h = before-le one other before in
-    let p = nat_le-tells one.until reading a in
-    let q = nat_le-past other.until reading b in
-    absurd (omega (arith, h, p, q))
-by-first one other reading true false true before a b = refl
-by-first one other reading true false false before a b = refl
-by-first one other reading false true true before a b = ap (λ c. Some (if c then other else one)) (sym before)
-by-first one other reading false true false before a b = refl
-by-first one other reading false false true before a b =
-    let h = not-before-le one other before in
-    let p = nat_le-past one.until reading a in
-    let q = nat_le-tells other.until reading b in
-    absurd (omega (arith, h, p, q))
-by-first one other reading false false false before a b = refl
-
-by-before : (one other : InUse) (first : Bool) → is_before other one ≡ first → (reading : ℕ) →
-    first_reached ((if first then other else one) ∷ []) reading ≡ first_reached (one ∷ other ∷ []) reading
-by-before one other true before reading = by-first one other reading true (nat_le one.until reading) (nat_le other.until reading) before refl refl
-by-before one other false before reading = by-first one other reading false (nat_le one.until reading) (nat_le other.until reading) before refl refl
+    ∙ (ap (λ n. next_rest o a m (taking_with (known_outside o n) (uses_of m.uses) (hand_numbers b) (busy_of m.busy))) claims
+    ∙ ap (λ blocks. next_rest o a m (taking_with (outer_known o a) (uses_of m.uses) blocks (busy_of m.busy))) hand)
 
 pub earlier-reached : (one : InUse) (claimed : Option Use) (new : Use) → use_of new ≡ earlier one (use_if claimed) →
     AreReachedAs (one ∷ uses_of claimed) (uses_of (Some new))
 earlier-reached one None new is reading = ap (λ use'. first_reached (use' ∷ []) reading) (sym is)
 earlier-reached one (Some other) new is reading =
-    sym (ap (λ use'. first_reached (use' ∷ []) reading) is ∙ by-before one (use_of other) (is_before (use_of other) one) refl reading)
+    reached-earlier one (use_of other) reading ∙ ap (λ use'. first_reached (use' ∷ []) reading) (sym is)
 
 -- the lease of the extent was claimed: what follows goes by what is held of the extents past it
 pub claimed-next : (o : Outer) (a b : Allocator) (count extent : ℕ) (hold : Hold) → IsSame a b → extent_leases b ≡ with_hold (extent_leases a) extent hold →
@@ -282,7 +238,7 @@ claimed-next o a b count extent hold same leases =
 pub claimed-rest : (o : Outer) (a b : Allocator) (old new : Reserve) (claim : Claim) → IsSame a b → b.claims ≡ a.claims → hand_numbers b ≡ hand_numbers a →
     extent_leases b ≡ with_hold (extent_leases a) old.extent.0 (Held claim new.until) →
     old.pass ≡ pass.Others → new.pass ≡ old.pass → new.at ≡ at.Map → new.extent ≡ old.extent → new.count ≡ old.count → new.map.0 ≡ map_at b.geometry new.extent.0 →
-    new.busy ≡ old.busy → AreReachedAs (extent_use a.geometry old.extent.0 new.until ∷ uses_of old.claimed) (uses_of new.claimed) →
+    new.busy ≡ old.busy → AreReachedAs (extent_use a.geometry old.extent.0 new.until ∷ uses_of old.uses) (uses_of new.uses) →
     reserve_rest o b new ≡ after_extent_claim (allocator_setting o.appliance a) old.count old.extent.0 (next_rest o a old) (taking_of o a old) (ClaimHeld claim new.until)
 claimed-rest o a b old new claim same claims hand leases others pass' here extent count map busy reached =
     let s = allocator_setting o.appliance a in
@@ -295,10 +251,10 @@ claimed-rest o a b old new claim same claims hand leases others pass' here exten
     ∙ (ap (λ (e : ExtentNo). pass_rest pass.Others sb (holds_of b) old.count (e.0 + 1) o.rest) extent
     ∙ (claimed-next o a b old.count old.extent.0 (Held claim new.until) same leases
     ∙ ap (λ p. pass_rest p s (holds_of a) old.count (old.extent.0 + 1) o.rest) (sym others)))) in
-    let is-taking : taking_of o b new ≡ taking_with (outer_known o a) (uses_of new.claimed) (hand_numbers a) (busy_of old.busy) =
-    ap (λ n. taking_with (known_outside o n) (uses_of new.claimed) (hand_numbers b) (busy_of new.busy)) claims
-    ∙ (ap (λ blocks. taking_with (outer_known o a) (uses_of new.claimed) blocks (busy_of new.busy)) hand
-    ∙ ap (λ met. taking_with (outer_known o a) (uses_of new.claimed) (hand_numbers a) (busy_of met)) busy) in
+    let is-taking : taking_of o b new ≡ taking_with (outer_known o a) (uses_of new.uses) (hand_numbers a) (busy_of old.busy) =
+    ap (λ n. taking_with (known_outside o n) (uses_of new.uses) (hand_numbers b) (busy_of new.busy)) claims
+    ∙ (ap (λ blocks. taking_with (outer_known o a) (uses_of new.uses) blocks (busy_of new.busy)) hand
+    ∙ ap (λ met. taking_with (outer_known o a) (uses_of new.uses) (hand_numbers a) (busy_of met)) busy) in
     map-rest o b new here map
     ∙ (ap (λ n. take_here sb n new.extent.0 new.until (next_rest o b new) (taking_of o b new)) count
     ∙ (ap (λ (e : ExtentNo). take_here sb old.count e.0 new.until (next_rest o b new) (taking_of o b new)) extent
@@ -306,7 +262,7 @@ claimed-rest o a b old new claim same claims hand leases others pass' here exten
     ∙ (ap (λ (n : Taking → Part End). take_here s old.count old.extent.0 new.until n (taking_of o b new)) is-next
     ∙ (ap (take_here s old.count old.extent.0 new.until next) is-taking
     ∙ sym (take_here-goes s old.count old.extent.0 new.until next (pass-goes o a old.pass old.count (old.extent.0 + 1))
-    (taking_with (outer_known o a) (own ∷ uses_of old.claimed) (hand_numbers a) (busy_of old.busy)) (uses_of new.claimed) reached))))))
+    (taking_with (outer_known o a) (own ∷ uses_of old.uses) (hand_numbers a) (busy_of old.busy)) (uses_of new.uses) reached))))))
 
 -- ---- the map of an extent whose lease isn't held was read
 
@@ -323,23 +279,23 @@ free-some s count extent (block ∷ blocks) rest t e = refl
 -- the claim begins
 pub looked-rest : (o : Outer) (a b : Allocator) (old new : Reserve) → IsSame a b → extent_leases b ≡ extent_leases a → hand_numbers b ≡ hand_numbers a →
     b.claims ≡ a.claims + 1 → a.claims < last_claim →
-    new.at ≡ at.Claim → new.pass ≡ old.pass → new.extent ≡ old.extent → new.count ≡ old.count → new.claimed ≡ old.claimed → new.busy ≡ old.busy →
-    claim_rest new.claim ≡ claim_part a.boot.0 (uses_of old.claimed) (extent_lease a.geometry old.extent.0) a.claims →
+    new.at ≡ at.Claim → new.pass ≡ old.pass → new.extent ≡ old.extent → new.count ≡ old.count → new.uses ≡ old.uses → new.busy ≡ old.busy →
+    claim_rest new.claim ≡ claim_part a.boot.0 (uses_of old.uses) (extent_lease a.geometry old.extent.0) a.claims →
     reserve_rest o b new ≡ claim_extent (nat_lt a.claims last_claim) (allocator_setting o.appliance a) old.count old.extent.0 (next_rest o a old) (taking_of o a old)
-looked-rest o a b old new same leases hand claims less here pass' extent count claimed busy claim =
+looked-rest o a b old new same leases hand claims less here pass' extent count uses' busy claim =
     let s = allocator_setting o.appliance a in
     let sb = allocator_setting o.appliance b in
-    let part = claim_part a.boot.0 (uses_of old.claimed) (extent_lease a.geometry old.extent.0) a.claims in
+    let part = claim_part a.boot.0 (uses_of old.uses) (extent_lease a.geometry old.extent.0) a.claims in
     let is-next : next_rest o b new ≡ next_rest o a old =
     ap (λ p. pass_rest p sb (holds_of b) new.count (new.extent.0 + 1) o.rest) pass'
     ∙ (ap (λ n. pass_rest old.pass sb (holds_of b) n (new.extent.0 + 1) o.rest) count
     ∙ (ap (λ (e : ExtentNo). pass_rest old.pass sb (holds_of b) old.count (e.0 + 1) o.rest) extent
     ∙ pass-same o a b old.pass old.count (old.extent.0 + 1) same leases)) in
     let is-taking : taking_of o b new ≡ with_claim_begun (taking_of o a old) =
-    ap (λ n. taking_with (known_outside o n) (uses_of new.claimed) (hand_numbers b) (busy_of new.busy)) claims
-    ∙ (ap (λ due. taking_with (known_outside o (a.claims + 1)) (uses_of due) (hand_numbers b) (busy_of new.busy)) claimed
-    ∙ (ap (λ blocks. taking_with (known_outside o (a.claims + 1)) (uses_of old.claimed) blocks (busy_of new.busy)) hand
-    ∙ ap (λ met. taking_with (known_outside o (a.claims + 1)) (uses_of old.claimed) (hand_numbers a) (busy_of met)) busy)) in
+    ap (λ n. taking_with (known_outside o n) (uses_of new.uses) (hand_numbers b) (busy_of new.busy)) claims
+    ∙ (ap (λ due. taking_with (known_outside o (a.claims + 1)) (uses_of due) (hand_numbers b) (busy_of new.busy)) uses'
+    ∙ (ap (λ blocks. taking_with (known_outside o (a.claims + 1)) (uses_of old.uses) blocks (busy_of new.busy)) hand
+    ∙ ap (λ met. taking_with (known_outside o (a.claims + 1)) (uses_of old.uses) (hand_numbers a) (busy_of met)) busy)) in
     ap (λ place. reserve_at place o b new) here
     ∙ (ap (λ part. followed_by part (after_extent_claim sb new.count new.extent.0 (next_rest o b new) (taking_of o b new))) claim
     ∙ (ap (λ s. followed_by part (after_extent_claim s new.count new.extent.0 (next_rest o b new) (taking_of o b new))) (given-same o.appliance a b same)

@@ -5,6 +5,7 @@ use Rattle.plx_disk.specs.declared.ask.Ask.{Ask}
 use Rattle.plx_geom.specs.Geometry.{Geometry, IsGeometry, lease_count}
 use Rattle.plx_rules.specs.Ends.{End}
 use Rattle.plx_rules.specs.Holds.{Hold}
+use Rattle.plx_rules.specs.InUse.{InUse}
 use Rattle.plx_rules.specs.Part.{Part, Ends, bytes_out}
 use Rattle.plx_rules.specs.Session.{Known}
 use Rattle.plx_rules.specs.Settings.{Setting}
@@ -15,8 +16,10 @@ use Rattle.law_run.specs.OnHand.{IsOfOneMap, MayBeginOnHand, ShowsOnHand, WasCle
 use Rattle.plx_alloc.specs.Gives.{give_extents}
 
 -- what is asked until all blocks in hand are given back; then the command ends so
-abbrev pub give_back_work : Setting → Known → (holds : ℕ → Hold) → (hand : List ℕ) → (follows : End) → Part End
-give_back_work s known holds hand follows = give_extents s known holds hand s.geometry.extents 0 (Ends follows)
+abbrev pub give_back_work : Setting → Known → (uses : List InUse) → (holds : ℕ → Hold) →
+    (hand : List ℕ) → (follows : End) → Part End
+give_back_work s known uses holds hand follows =
+    give_extents s known uses holds hand s.geometry.extents 0 (Ends follows)
 
 -- how many of its asks are answered at most
 abbrev pub give_back_bound : Geometry → ℕ
@@ -33,18 +36,26 @@ pub record IsGivenBack (s : Setting) (start log : CommandLog) : Type 0 where
 
 -- an ask of it that has come to this rest keeps the rules, by each log that leads there, within any command in which it may begin
 abbrev pub IsGiveBackAsk : (rest : Part End) → Ask → Type 0
-IsGiveBackAsk rest ask = (s : Setting) (log : CommandLog) (known : Known) (holds : ℕ → Hold) (hand : List ℕ) (follows : End) (own : List Exchange) →
-    IsGeometry s.geometry → MayBeginOnHand s log holds hand → HasCome (give_back_work s known holds hand follows) own rest →
+IsGiveBackAsk rest ask = (s : Setting) (log : CommandLog) (known : Known) (uses : List InUse)
+    (holds : ℕ → Hold) (hand : List ℕ) (follows : End) (own : List Exchange) →
+    IsGeometry s.geometry → MayBeginOnHand s log holds hand →
+    HasCome (give_back_work s known uses holds hand follows) own rest →
     IsRightAsk s log (IsOfOneMap s.geometry) (give_back_bound s.geometry) own ask (bytes_out rest)
 
 -- the same of its end
 abbrev pub IsGiveBackEnd : (rest : Part End) → End → Type 0
-IsGiveBackEnd rest end = (s : Setting) (log : CommandLog) (known : Known) (holds : ℕ → Hold) (hand : List ℕ) (follows : End) (own : List Exchange) →
-    IsGeometry s.geometry → MayBeginOnHand s log holds hand → HasCome (give_back_work s known holds hand follows) own rest →
-    IsRightEnd s log (give_back_bound s.geometry) (ShowsOnHand s known follows (IsGivenBack s log)) own end
+IsGiveBackEnd rest end = (s : Setting) (log : CommandLog) (known : Known) (uses : List InUse)
+    (holds : ℕ → Hold) (hand : List ℕ) (follows : End) (own : List Exchange) →
+    IsGeometry s.geometry → MayBeginOnHand s log holds hand →
+    HasCome (give_back_work s known uses holds hand follows) own rest →
+    IsRightEnd s log (give_back_bound s.geometry)
+    (ShowsOnHand s known uses follows (IsGivenBack s log)) own end
 
 -- it keeps the rules, whatever its answers are: its asks are allowed and of one map each, at most two for each extent are answered, and its end has its cause
 abbrev pub GiveBacksKeepRules : Type 0
-GiveBacksKeepRules = (s : Setting) (log : CommandLog) (known : Known) (holds : ℕ → Hold) (hand : List ℕ) (follows : End) →
+GiveBacksKeepRules = (s : Setting) (log : CommandLog) (known : Known) (uses : List InUse)
+    (holds : ℕ → Hold) (hand : List ℕ) (follows : End) →
     IsGeometry s.geometry → MayBeginOnHand s log holds hand →
-    Keeps s log (IsOfOneMap s.geometry) (give_back_bound s.geometry) (ShowsOnHand s known follows (IsGivenBack s log)) (give_back_work s known holds hand follows)
+    Keeps s log (IsOfOneMap s.geometry) (give_back_bound s.geometry)
+    (ShowsOnHand s known uses follows (IsGivenBack s log))
+    (give_back_work s known uses holds hand follows)

@@ -2,6 +2,7 @@
 use Rattle.std.specs.Prelude.{◌+◌, ◌-◌, ℕ, zero, suc, List, [], ◌∷◌, Option}
 use Rattle.plx_base.specs.declared.write_kind.WriteKind.TheVariants as kind
 use Rattle.plx_geom.specs.Geometry.{extent_lease, lease_at}
+use Rattle.plx_lease.specs.Uses.{uses_of}
 use Rattle.plx_rules.specs.Ends.{End, damaged_part, read_then, write_then}
 use Rattle.plx_rules.specs.Holds.{Hold, Held}
 use Rattle.plx_rules.specs.InUse.{InUse}
@@ -30,17 +31,19 @@ around_known o a = known_beside o.sessions a
 
 -- ---- the blocks of one extent
 
--- its lease, which is in use
+-- its lease, which is in use beside those of the command
 abbrev pub retire_use : Giving → InUse
 retire_use m = record { lease = m.lease; until = m.until }
 
 -- what is asked until they are given back
 abbrev pub giving_at : GivingAt → Around → Allocator → Giving → Part End
 giving_at at.Map o a m =
-    read_then m.map.0 (around_known o a) (λ bytes. give_found (allocator_setting o.appliance a) (around_known o a) m.extent.0 m.until
+    read_then m.map.0 (around_known o a) (λ bytes. give_found (allocator_setting o.appliance a)
+    (around_known o a) (uses_of m.uses) m.extent.0 m.until
     (in_extent a.geometry m.extent.0 (hand_numbers a)) (read_map a.geometry.extent_blocks bytes) o.rest)
 giving_at at.Write o a m = write_then (allocator_setting o.appliance a) (around_known o a) (retire_use m) kind.Give m.map.0 m.out o.rest
-giving_at at.Damaged o a m = damaged_part (allocator_setting o.appliance a) (around_known o a) (retire_use m ∷ []) m.map.0
+giving_at at.Damaged o a m = damaged_part (allocator_setting o.appliance a) (around_known o a)
+    (retire_use m ∷ uses_of m.uses) m.map.0
 
 -- what is left of giving back the blocks of an extent
 abbrev pub giving_rest : Around → Allocator → Giving → Part End
@@ -49,23 +52,29 @@ giving_rest o a m = giving_at m.at o a m
 -- ---- all blocks in hand
 
 -- the blocks in hand of an extent are given back, where its lease is held
-abbrev pub give_extent : Setting → Known → (hand : List ℕ) → (extent : ℕ) → Hold → (rest : Part End) → Part End
-give_extent s known hand extent (Held claim until) rest = give_part s known extent until (in_extent s.geometry extent hand) rest
-give_extent s known hand extent other rest = rest
+abbrev pub give_extent : Setting → Known → (uses : List InUse) → (hand : List ℕ) → (extent : ℕ) →
+    Hold → (rest : Part End) → Part End
+give_extent s known uses hand extent (Held claim until) rest =
+    give_part s known uses extent until (in_extent s.geometry extent hand) rest
+give_extent s known uses hand extent other rest = rest
 
 -- those of all extents, ascending: of `left` extents from this one on
-abbrev pub give_extents : Setting → Known → (holds : ℕ → Hold) → (hand : List ℕ) → (left extent : ℕ) → (rest : Part End) → Part End
-give_extents s known holds hand zero extent rest = rest
-give_extents s known holds hand (suc left) extent rest =
-    give_extent s known hand extent (holds (lease_at (extent_lease s.geometry extent))) (give_extents s known holds hand left (extent + 1) rest)
+abbrev pub give_extents : Setting → Known → (uses : List InUse) → (holds : ℕ → Hold) →
+    (hand : List ℕ) → (left extent : ℕ) → (rest : Part End) → Part End
+give_extents s known uses holds hand zero extent rest = rest
+give_extents s known uses holds hand (suc left) extent rest =
+    give_extent s known uses hand extent (holds (lease_at (extent_lease s.geometry extent)))
+    (give_extents s known uses holds hand left (extent + 1) rest)
 
 -- what is asked of the extents from one on
-abbrev pub give_from : Around → Allocator → (from : ℕ) → Part End
-give_from o a from = give_extents (allocator_setting o.appliance a) (around_known o a) (holds_of a) (hand_numbers a) (a.geometry.extents - from) from o.rest
+abbrev pub give_from : Around → Allocator → (uses : List InUse) → (from : ℕ) → Part End
+give_from o a uses from = give_extents (allocator_setting o.appliance a) (around_known o a) uses
+    (holds_of a) (hand_numbers a) (a.geometry.extents - from) from o.rest
 
 -- what is still asked until all blocks are given back
 abbrev pub give_back_rest : Around → Allocator → GiveBack → Part End
-give_back_rest o a m = giving_rest (record o { rest = give_from o a (m.giving.extent.0 + 1) }) a m.giving
+give_back_rest o a m = giving_rest (record o
+    { rest = give_from o a (uses_of m.giving.uses) (m.giving.extent.0 + 1) }) a m.giving
 
 -- and once it was answered
 abbrev pub give_back_after : Around → Allocator → GiveBack → Option SpaceEnd → Part End

@@ -158,6 +158,7 @@ pub record KeepsExtent (old new : Giving) : Type 0 where
   pub map : new.map ≡ old.map
   pub lease : new.lease ≡ old.lease
   pub until : new.until ≡ old.until
+  pub uses : new.uses ≡ old.uses
 
 -- the ask of a retire
 abbrev pub retire_ask_at : RetireAt → Giving → Ask

@@ -1,5 +1,7 @@
 -- What the extents' part of a retire still asks, by where its machine stands and by what is lent to it.
-use Rattle.std.specs.Prelude.{◌+◌, ◌-◌, ℕ, Option}
+use Rattle.std.specs.Prelude.{◌+◌, ◌-◌, ℕ, List, Option}
+use Rattle.plx_lease.specs.Uses.{uses_of}
+use Rattle.plx_rules.specs.InUse.{InUse}
 use Rattle.plx_rules.specs.Ends.{End}
 use Rattle.plx_rules.specs.Part.{Part}
 use Rattle.plx_rules.specs.Space.{release_then, retire_extents}
@@ -14,13 +16,15 @@ use Rattle.plx_alloc.specs.declared.retire.RetireAt.TheVariants as at
 use Rattle.plx_alloc.specs.declared.space_end.SpaceEnd.{SpaceEnd}
 
 -- what is asked of the extents from one on
-abbrev pub retire_extents_from : Around → Allocator → (from : ℕ) → Part End
-retire_extents_from o a from =
-    retire_extents (allocator_setting o.appliance a) (around_known o a) (holds_of a) (hand_numbers a) (a.geometry.extents - from) from o.rest
+abbrev pub retire_extents_from : Around → Allocator → (uses : List InUse) → (from : ℕ) → Part End
+retire_extents_from o a uses from =
+    retire_extents (allocator_setting o.appliance a) (around_known o a) uses (holds_of a)
+    (hand_numbers a) (a.geometry.extents - from) from o.rest
 
 -- the lease of the extent is released, and the retire goes on past it
 abbrev pub release_next : Around → Allocator → Giving → Part End
-release_next o a m = release_then (allocator_setting o.appliance a) (around_known o a) (retire_use m) (retire_extents_from o a (m.extent.0 + 1))
+release_next o a m = release_then (allocator_setting o.appliance a) (around_known o a)
+    (retire_use m) (retire_extents_from o a (uses_of m.uses) (m.extent.0 + 1))
 
 -- what a retire still asks
 abbrev pub retire_at : RetireAt → Around → Allocator → Giving → Part End

@@ -1,6 +1,8 @@
 -- How a take begins, goes on and ends by its rules.
 use Rattle.std.specs.Prelude.{◌≡◌, ℕ, [], Option, Result}
 use Rattle.plx_disk.specs.declared.ask.Answer.{Answer}
+use Rattle.plx_lease.specs.Uses.{uses_of}
+use Rattle.plx_lease.specs.declared.in_use.InUse.{InUse as Use}
 use Rattle.plx_rules.specs.Ends.{End}
 use Rattle.plx_rules.specs.Part.{Part, Ends}
 use Rattle.law_run.specs.Machines.{HasCome, MovesOn}
@@ -13,13 +15,18 @@ use Rattle.plx_alloc.specs.declared.allocator.Allocator.{Allocator}
 use Rattle.plx_alloc.specs.declared.reserve.Reserve.{Reserve}
 use Rattle.plx_alloc.specs.declared.space_end.SpaceEnd.{SpaceEnd}
 
--- the take of so many blocks that is asked of an allocator
-abbrev pub take_asked : Outer → Allocator → (count : ℕ) → Part End
-take_asked o a count = take_part (allocator_setting o.appliance a) (holds_of a) count o.rest (first_taking (outer_known o a) (hand_numbers a))
+-- the take of so many blocks that is asked of an allocator, beside these leases in use
+abbrev pub take_asked : Outer → Allocator → (uses : Option Use) → (count : ℕ) → Part End
+take_asked o a uses count =
+    take_part (allocator_setting o.appliance a) (holds_of a) count o.rest
+    (first_taking (uses_of uses) (outer_known o a) (hand_numbers a))
 
 -- what is left to ask of a take that was begun: its rest, or what is asked once it has ended
-abbrev pub reserve_begun : Outer → Allocator → Result Reserve SpaceEnd → Part End
-reserve_begun o a begun = space_part (reserve_rest o a) (o.rest (first_taking (outer_known o a) (hand_numbers a))) (outer_known o a) begun
+abbrev pub reserve_begun : Outer → Allocator → (uses : Option Use) → Result Reserve SpaceEnd →
+    Part End
+reserve_begun o a uses begun =
+    space_part (reserve_rest o a) (o.rest
+    (first_taking (uses_of uses) (outer_known o a) (hand_numbers a))) (outer_known o a) begun
 
 -- what is left to ask of a take that was answered: its rest, or what is asked once it has ended
 abbrev pub reserve_after : Outer → Allocator → Reserve → Option SpaceEnd → Part End

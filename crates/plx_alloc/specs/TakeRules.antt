@@ -62,10 +62,11 @@ pub data ShowsExtentTake (s : Setting) (count extent until : ℕ) (t : Taking) (
   missed : (bytes : List ℕ) (reading : ℕ) → TakeAnswered s log extent until bytes (answer.Missed reading) →
       ShowsExtentTake s count extent until t follows log (take_lost s t (extent_use s.geometry extent until) reading)
   reached : (due : InUse) (reading : ℕ) → LastAnswered log ask.Clock [] (answer.Reading reading) →
-      first_reached (extent_use s.geometry extent until ∷ t.claimed) reading ≡ Some due → ShowsExtentTake s count extent until t follows log (take_lost s t due reading)
+      first_reached (extent_use s.geometry extent until ∷ t.uses) reading ≡ Some due →
+      ShowsExtentTake s count extent until t follows log (take_lost s t due reading)
   damaged : (bytes : List ℕ) (reading : ℕ) → WasAnswered log (ask.Read (record { 0 = map_at s.geometry extent })) [] (answer.Bytes bytes) →
       read_map s.geometry.extent_blocks bytes ≡ None → LastAnswered log ask.Clock [] (answer.Reading reading) →
-      first_reached (extent_use s.geometry extent until ∷ t.claimed) reading ≡ None →
+      first_reached (extent_use s.geometry extent until ∷ t.uses) reading ≡ None →
       ShowsExtentTake s count extent until t follows log (record { reply = reply.Damaged (record { 0 = map_at s.geometry extent }); known = t.known })
 
 -- how many of its asks are answered at most

@@ -25,9 +25,10 @@ use Rattle.plx_alloc.specs.declared.reserve.ReserveAt.TheVariants as at
 abbrev pub AreReachedAs : (uses others : List InUse) → Type 0
 AreReachedAs uses others = (reading : ℕ) → first_reached uses reading ≡ first_reached others reading
 
--- what is asked after a take goes by the leases that it claimed only as far as readings reach them
+-- what is asked after a take goes by the leases in use only as far as readings reach them
 abbrev pub GoesByReached : (Taking → Part End) → Type 0
-GoesByReached rest = (t : Taking) (others : List InUse) → AreReachedAs t.claimed others → rest t ≡ rest (record t { claimed = others })
+GoesByReached rest = (t : Taking) (others : List InUse) → AreReachedAs t.uses others →
+    rest t ≡ rest (record t { uses = others })
 
 -- what a take is a part of: a command of this appliance, with these sessions, which goes on so once enough blocks are in hand
 pub record Outer : Type 0 where
@@ -47,7 +48,12 @@ busy_of (Some met) = Some (met.lease, met.seen)
 
 -- how far a take has come
 abbrev pub taking_of : Outer → Allocator → Reserve → Taking
-taking_of o a m = record { known = outer_known o a; claimed = uses_of m.claimed; hand = hand_numbers a; busy = busy_of m.busy }
+taking_of o a m = record {
+  known = outer_known o a;
+  uses = uses_of m.uses;
+  hand = hand_numbers a;
+  busy = busy_of m.busy;
+}
 
 -- what is asked of the extents from one on, in this pass and those after it
 abbrev pub pass_rest : Pass → Setting → (holds : ℕ → Hold) → (count from : ℕ) → (rest : Taking → Part End) → Taking → Part End
@@ -72,7 +78,8 @@ reserve_at at.Look o a m =
     (read_map a.geometry.extent_blocks bytes) (next_rest o a m) (taking_of o a m))
 reserve_at at.Claim o a m =
     followed_by (claim_rest m.claim) (after_extent_claim (allocator_setting o.appliance a) m.count m.extent.0 (next_rest o a m) (taking_of o a m))
-reserve_at at.Damaged o a m = damaged_part (allocator_setting o.appliance a) (outer_known o a) (uses_of m.claimed) m.map.0
+reserve_at at.Damaged o a m = damaged_part (allocator_setting o.appliance a) (outer_known o a)
+    (uses_of m.uses) m.map.0
 
 -- in the claim what is known counts it already
 abbrev pub reserve_rest : Outer → Allocator → Reserve → Part End

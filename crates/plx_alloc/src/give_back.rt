@@ -6,6 +6,7 @@ use crate::giving::Giving;
 use crate::room::MapRoom;
 use crate::space_end::SpaceEnd;
 use plx_disk::{Answer, Ask};
+use plx_lease::InUse;
 
 /// The giving back of all blocks in hand, at one of its asks.
 #[derive(Drop)]
@@ -16,6 +17,7 @@ pub struct GiveBack {
 impl GiveBack {
     ghost use Rattle.plx_disk.specs.declared.ask.Answer.{Answer};
     ghost use Rattle.plx_geom.specs.Geometry.{Geometry};
+    ghost use Rattle.plx_lease.specs.Uses.{uses_of};
     ghost use Rattle.plx_rules.specs.Boot.{Fits};
     ghost use Rattle.plx_rules.specs.Ends.{End};
     ghost use Rattle.plx_rules.specs.Hands.{found_by, hand_answered};
@@ -31,15 +33,20 @@ impl GiveBack {
     ghost use Rattle.plx_alloc.specs.Tables.{HoldsHand, IsSame, allocator_setting, hand_numbers, holds_of, extent_leases};
 
     /// All blocks in hand are to be given back: it begins, with the memory of its writes, or is
-    /// over at once.
-    pub fn begin(room: MapRoom, space: &Allocator) -> Result<GiveBack, SpaceEnd>
+    /// over at once. Of the leases that its command has in use the one to be named stands for all.
+    pub fn begin(
+        room: MapRoom,
+        uses: Option<InUse>,
+        space: &Allocator,
+    ) -> Result<GiveBack, SpaceEnd>
         requires held { HoldsHand space.now }
         ensures rest { (o : Around) → space_part (give_back_rest o space.now) o.rest
             (around_known o space.now) result
             ≡ give_extents (allocator_setting o.appliance space.now) (around_known o space.now)
-            (holds_of space.now) (hand_numbers space.now) space.now.geometry.extents 0 o.rest }
+            (uses_of uses) (holds_of space.now) (hand_numbers space.now)
+            space.now.geometry.extents 0 o.rest }
         ensures log { (o : Around) → HasCome (give_extents (allocator_setting o.appliance space.now)
-            (around_known o space.now) (holds_of space.now) (hand_numbers space.now)
+            (around_known o space.now) (uses_of uses) (holds_of space.now) (hand_numbers space.now)
             space.now.geometry.extents 0 o.rest) [] (space_part (give_back_rest o space.now) o.rest
             (around_known o space.now) result) }
         ensures suits { IfOk result (λ m. SuitsGiveBack space.now m) }
@@ -47,7 +54,7 @@ impl GiveBack {
             → IfOk result (λ m. TellsGiven g m.giving found) }
     {
         let mut back = GiveBack {
-            giving: Giving::idle(room),
+            giving: Giving::idle(room, uses),
         };
         match back.go_on(space, 0) {
             None => Ok(back),
@@ -119,7 +126,8 @@ impl GiveBack {
         requires from { from ≤ space.now.geometry.extents }
         requires held { HoldsHand space.now }
         ensures rest { (o : Around) → after_space (give_back_rest o space.now self.new) o.rest
-            (around_known o space.now) result ≡ give_from o space.now from }
+            (around_known o space.now) result
+            ≡ give_from o space.now (uses_of self.old.giving.uses) from }
         ensures suits { result ≡ None → SuitsGiveBack space.now self.new }
         ensures tells { (g : Geometry) (found : Option (ℕ × List ℕ)) → result ≡ None
             → TellsGiven g self.new.giving found }

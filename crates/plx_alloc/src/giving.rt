@@ -32,6 +32,7 @@ pub struct Giving {
     map: BlockNo,
     lease: u32,
     until: u64,
+    uses: Option<InUse>,
     given: Box<ArrayVec<BlockNo, HAND_LEN>>,
     out: Block,
     ghost guard: { until < 2 ^ 49 },
@@ -40,7 +41,7 @@ pub struct Giving {
 impl Giving {
     ghost use Rattle.plx_commands.specs.declared.reply.Reply.TheVariants as reply;
     ghost use Rattle.plx_disk.specs.declared.ask.Answer.{Answer};
-    ghost use Rattle.plx_lease.specs.Uses.{use_of};
+    ghost use Rattle.plx_lease.specs.Uses.{use_of, uses_of};
     ghost use Rattle.plx_rules.specs.Boot.{Fits};
     ghost use Rattle.plx_rules.specs.Ends.{ends, in_time};
     ghost use Rattle.plx_rules.specs.Hands.{found_by, hand_answered};
@@ -55,14 +56,18 @@ impl Giving {
     ghost use Rattle.plx_alloc.specs.Suiting.{IsHeldUntil, SuitsGiving};
     ghost use Rattle.plx_alloc.specs.Tables.{HoldsHand, IsSame, allocator_setting, hand_numbers, held_of, extent_leases};
 
-    /// A giving back of nothing yet, with the memory of its writes.
-    pub fn idle(room: MapRoom) -> Giving {
+    /// A giving back of nothing yet, with the memory of its writes. Of the leases that its command
+    /// has in use the one to be named stands for all.
+    pub fn idle(room: MapRoom, uses: Option<InUse>) -> Giving
+        ensures { result.uses ≡ uses }
+    {
         Giving {
             at: GivingAt::Map,
             extent: ExtentNo(0),
             map: BlockNo(0),
             lease: 0,
             until: 0,
+            uses,
             given: room.moved,
             out: room.map,
         }
@@ -76,6 +81,7 @@ impl Giving {
         ensures at { self.new.at ≡ GivingAt.Map }
         ensures extent { self.new.extent ≡ extent }
         ensures until { IsHeldUntil space.now extent.0 self.new.until }
+        ensures uses { self.new.uses ≡ self.old.uses }
         ensures suits { SuitsGiving space.now self.new }
     {
         self.until = space.held(extent).unwrap().until();
@@ -187,7 +193,7 @@ impl Giving {
         requires at { self.old.at ≡ GivingAt.Map }
         ensures rest { (o : Around) → giving_rest o space.now self.new
             ≡ give_found (allocator_setting o.appliance space.now)
-            (around_known o space.now) self.old.extent.0
+            (around_known o space.now) (uses_of self.old.uses) self.old.extent.0
             self.old.until (in_extent space.now.geometry self.old.extent.0 (hand_numbers space.now))
             (read_map space.now.geometry.extent_blocks bytes.now) o.rest }
         ensures suits { SuitsGiving space.now self.new }
@@ -204,14 +210,15 @@ impl Giving {
         self.at = GivingAt::Write;
     }
 
-    // The end after bytes outside the format, unless the reading has reached the lease.
+    // The end after bytes outside the format, unless the reading has reached a lease in use.
     fn damaged(&self, space: &Allocator, reading: u64) -> SpaceEnd
         ensures { (o : Around) → space_end o.rest (around_known o space.now) result
             ≡ in_time (allocator_setting o.appliance space.now) (around_known o space.now)
-            (retire_use self.now ∷ []) reading (ends (reply.Damaged self.now.map)
+            (retire_use self.now ∷ uses_of self.now.uses) reading (ends (reply.Damaged self.now.map)
             (around_known o space.now)) }
     {
-        match first_reached(Some(self.own_use()), reading) {
+        let beside = first_reached(self.uses, reading);
+        match self.own_use().reached(beside, reading) {
             Some(due) => lost(&space.geometry(), due, reading),
             None => SpaceEnd::Refused(Reply::Damaged { block: self.map }),
         }

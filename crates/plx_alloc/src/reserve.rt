@@ -58,7 +58,7 @@ pub struct Reserve {
     map: BlockNo,
     until: u64,
     claim: LeaseClaim<Extent>,
-    claimed: Option<InUse>,
+    uses: Option<InUse>,
     busy: Option<Met>,
     taken: Box<ArrayVec<BlockNo, HAND_LEN>>,
     out: Block,
@@ -89,9 +89,11 @@ impl Reserve {
     ghost use Rattle.plx_alloc.specs.Takes.{Outer, busy_of, next_rest, outer_known, pass_rest, reserve_follows, reserve_rest, taking_of};
 
     /// So many blocks are to be in hand, at most 256: the take begins, with the memory of its
-    /// writes and a block for its claims, or is over at once.
+    /// writes and a block for its claims, or is over at once. Of the leases that its command has in
+    /// use the one to be named stands for all.
     pub fn begin(
         count: u16,
+        uses: Option<InUse>,
         room: MapRoom,
         lease: Block,
         space: &Allocator,
@@ -99,12 +101,13 @@ impl Reserve {
         requires most { count ≤ 256 }
         requires held { HoldsHand space.now }
         ensures rest { (o : Outer) → space_part (reserve_rest o space.now)
-            (o.rest (first_taking (outer_known o space.now) (hand_numbers space.now)))
+            (o.rest (first_taking (uses_of uses) (outer_known o space.now)
+            (hand_numbers space.now)))
             (outer_known o space.now) result ≡ take_part (allocator_setting o.appliance space.now)
             (holds_of space.now) count o.rest
-            (first_taking (outer_known o space.now) (hand_numbers space.now)) }
-        ensures rules { (o : Outer) → BeginsRightly (take_asked o space.now count)
-            (reserve_begun o space.now result) }
+            (first_taking (uses_of uses) (outer_known o space.now) (hand_numbers space.now)) }
+        ensures rules { (o : Outer) → BeginsRightly (take_asked o space.now uses count)
+            (reserve_begun o space.now uses result) }
         ensures suits { IfOk result (λ m. SuitsReserve space.now m) }
         ensures reads { IfOk result (λ m. ReadsFirst m.at) }
     {
@@ -118,7 +121,7 @@ impl Reserve {
             map: space.map_block(extent),
             until: 0,
             claim: LeaseClaim::begin(Extent(extent), block, space.boot(), 0, None, lease),
-            claimed: None,
+            uses,
             busy: None,
             taken: room.moved,
             out: room.map,
@@ -225,7 +228,7 @@ impl Reserve {
     {
         let blocks = space.geometry().extent_blocks;
         let Some(mut bits) = ExtentMap::read(bytes.as_slice(), blocks) else {
-            self.claimed = Some(self.own_use(space).earlier(self.claimed));
+            self.uses = Some(self.own_use(space).earlier(self.uses));
             self.at = ReserveAt::Damaged;
             return None;
         };
@@ -290,13 +293,7 @@ impl Reserve {
             return Some(SpaceEnd::Refused(Reply::WornOut { count: LAST_CLAIM }));
         };
         let lease = BlockNo(1 + u64::from(space.lease_number(self.extent)));
-        self.claim.begin_next(
-            Extent(self.extent),
-            lease,
-            space.boot(),
-            number,
-            self.claimed,
-        );
+        self.claim.begin_next(Extent(self.extent), lease, space.boot(), number, self.uses);
         self.at = ReserveAt::Claim;
         None
     }
@@ -327,7 +324,7 @@ impl Reserve {
         match end {
             ClaimEnd::Held(held) => {
                 self.until = held.until();
-                self.claimed = Some(self.own_use(space).earlier(self.claimed));
+                self.uses = Some(self.own_use(space).earlier(self.uses));
                 self.at = ReserveAt::Map;
                 space.put_held(held);
                 None
@@ -347,10 +344,10 @@ impl Reserve {
     fn damaged(&self, space: &Allocator, reading: u64) -> SpaceEnd
         ensures { (o : Outer) → space_end (reserve_follows o space.now self.now)
             (outer_known o space.now) result ≡ in_time (allocator_setting o.appliance space.now)
-            (outer_known o space.now) (uses_of self.now.claimed) reading
+            (outer_known o space.now) (uses_of self.now.uses) reading
             (ends (reply.Damaged self.now.map) (outer_known o space.now)) }
     {
-        match first_reached(self.claimed, reading) {
+        match first_reached(self.uses, reading) {
             Some(due) => lost(&space.geometry(), due, reading),
             None => SpaceEnd::Refused(Reply::Damaged { block: self.map }),
         }

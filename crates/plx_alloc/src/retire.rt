@@ -37,6 +37,7 @@ impl Retire {
     ghost use Rattle.plx_rules.specs.Boot.{Fits};
     ghost use Rattle.plx_rules.specs.Ends.{End};
     ghost use Rattle.plx_rules.specs.Hands.{found_by, hand_answered};
+    ghost use Rattle.plx_lease.specs.Uses.{uses_of};
     ghost use Rattle.plx_rules.specs.Holds.{Nothing};
     ghost use Rattle.plx_rules.specs.Machines.{AreWhole};
     ghost use Rattle.plx_rules.specs.Part.{Ends, answered, standing, bytes_out};
@@ -58,9 +59,9 @@ impl Retire {
         ensures rest { (o : Around) → space_part (retire_extents_rest o space.now) o.rest
             (around_known o space.now) result
             ≡ retire_extents (allocator_setting o.appliance space.now) (around_known o space.now)
-            (holds_of space.now) (hand_numbers space.now) space.now.geometry.extents 0 o.rest }
+            [] (holds_of space.now) (hand_numbers space.now) space.now.geometry.extents 0 o.rest }
         ensures log { (o : Around) → HasCome (retire_extents
-            (allocator_setting o.appliance space.now) (around_known o space.now)
+            (allocator_setting o.appliance space.now) (around_known o space.now) []
             (holds_of space.now) (hand_numbers space.now) space.now.geometry.extents 0 o.rest) []
             (space_part (retire_extents_rest o space.now) o.rest (around_known o space.now)
             result) }
@@ -72,7 +73,7 @@ impl Retire {
         spell_lease(&LeaseRecord::Free, &mut free);
         let mut retire = Retire {
             at: RetireAt::Give,
-            giving: Giving::idle(room),
+            giving: Giving::idle(room, None),
             free,
         };
         match retire.go_on(space, 0) {
@@ -167,7 +168,8 @@ impl Retire {
         requires suits { SuitsRetire space.old self.old }
         ensures rest { (o : Around) → after_space (retire_extents_rest o space.new self.new) o.rest
             (around_known o space.new) result
-            ≡ retire_extents_from o space.old (self.old.giving.extent.0 + 1) }
+            ≡ retire_extents_from o space.old (uses_of self.old.giving.uses)
+            (self.old.giving.extent.0 + 1) }
         ensures suits { result ≡ None → SuitsRetire space.new self.new }
         ensures held { HoldsHand space.new }
         ensures same { IsSame space.old space.new }
@@ -190,7 +192,8 @@ impl Retire {
         requires from { from ≤ space.now.geometry.extents }
         requires held { HoldsHand space.now }
         ensures rest { (o : Around) → after_space (retire_extents_rest o space.now self.new) o.rest
-            (around_known o space.now) result ≡ retire_extents_from o space.now from }
+            (around_known o space.now) result
+            ≡ retire_extents_from o space.now (uses_of self.old.giving.uses) from }
         ensures suits { result ≡ None → SuitsRetire space.now self.new }
         ensures tells { (g : Geometry) (found : Option (ℕ × List ℕ)) → result ≡ None
             → TellsRetired g self.new found }

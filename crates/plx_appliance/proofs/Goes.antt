@@ -122,7 +122,7 @@ reply-holds g leases extents holds (reply.WornOut count) h = h
 -- the position after the first reading of a command
 abbrev first_moves : (s : Setting) (known : Known) (b : Begun) (log : List Happening) (reading : ℕ) → HasBegun s known b (position s log) → Position
 first_moves s known b log reading h =
-    goes_to s.geometry known h.command (after_first s.geometry known reading (position s log).holds) (position s log).hand [] (Some reading) None
+    goes_to s.geometry known h.command (after_first s.geometry known reading (position s log).holds) (position s log).hand [] (Some reading) None reading
     (first_asks s known reading h.command (position s log))
 
 first-moved : (s : Setting) (known : Known) (b : Begun) (log : List Happening) (reading : ℕ) (h : HasBegun s known b (position s log)) →

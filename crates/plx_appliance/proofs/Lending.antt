@@ -1,5 +1,5 @@
 -- What is lent of space, as its machines see it, is what the definitions ask of.
-use Rattle.std.proofs.Common.{◌≡◌, ℕ, ◌+◌, ◌-◌, sym, ap, ◌∙◌, subst, arith}
+use Rattle.std.proofs.Common.{◌≡◌, ℕ, ◌+◌, ◌-◌, [], sym, ap, ◌∙◌, subst, arith}
 use Rattle.plx_base.specs.declared.numbers.Boot.{Boot}
 use Rattle.plx_geom.specs.Geometry.{Geometry, extent_lease, lease_at}
 use Rattle.plx_rules.specs.Ends.{End}
@@ -49,9 +49,9 @@ reserve-lent h count =
 
 -- the extents of a retire
 pub retire-lent : (h : Holdings) (rest : Part End) →
-    retire_extents (space_given h.setting.appliance.0 h.space) (known_of h) (holds_of h.space) (hand_numbers h.space) h.space.geometry.extents 0 rest
-    ≡ retire_extents (rules_setting h.setting) (known_of h) (holds_in h) (hand_in h) h.setting.geometry.extents 0 rest
+    retire_extents (space_given h.setting.appliance.0 h.space) (known_of h) [] (holds_of h.space) (hand_numbers h.space) h.space.geometry.extents 0 rest
+    ≡ retire_extents (rules_setting h.setting) (known_of h) [] (holds_in h) (hand_in h) h.setting.geometry.extents 0 rest
 retire-lent h rest =
-    ap (λ (s : Setting). retire_extents s (known_of h) (holds_of h.space) (hand_numbers h.space) h.space.geometry.extents 0 rest) (same-given h)
-    ∙ ap (λ (g : Geometry). retire_extents (rules_setting h.setting) (known_of h) (holds_of h.space) (hand_numbers h.space) g.extents 0 rest) h.geometry
-    ∙ extents-agree (rules_setting h.setting) (known_of h) (holds_of h.space) (holds_in h) (hand_in h) h.setting.geometry.extents 0 rest (same-holds h) (omega arith)
+    ap (λ (s : Setting). retire_extents s (known_of h) [] (holds_of h.space) (hand_numbers h.space) h.space.geometry.extents 0 rest) (same-given h)
+    ∙ ap (λ (g : Geometry). retire_extents (rules_setting h.setting) (known_of h) [] (holds_of h.space) (hand_numbers h.space) g.extents 0 rest) h.geometry
+    ∙ extents-agree (rules_setting h.setting) (known_of h) [] (holds_of h.space) (holds_in h) (hand_in h) h.setting.geometry.extents 0 rest (same-holds h) (omega arith)

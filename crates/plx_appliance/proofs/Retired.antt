@@ -1,5 +1,5 @@
 -- A retire, by what is kept of leases.
-use Rattle.std.proofs.Common.{◌≡◌, ℕ, suc, ◌+◌, ◌-◌, ◌<◌, ◌≤◌, sym, ap, ◌∙◌, arith}
+use Rattle.std.proofs.Common.{◌≡◌, ℕ, suc, ◌+◌, ◌-◌, ◌<◌, ◌≤◌, [], sym, ap, ◌∙◌, arith}
 use Rattle.std.specs.Prelude.{None}
 use Rattle.plx_commands.specs.declared.reply.Reply.TheVariants as reply
 use Rattle.plx_geom.specs.Geometry.{image_lease, root_lease, lease_at}
@@ -57,10 +57,10 @@ retire-all s known leases extents =
 
 -- a whole retire
 pub retire-whole : (h : Holdings) →
-    retire_extents (space_given h.setting.appliance.0 h.space) (known_of h) (holds_of h.space) (hand_numbers h.space) h.space.geometry.extents 0
+    retire_extents (space_given h.setting.appliance.0 h.space) (known_of h) [] (holds_of h.space) (hand_numbers h.space) h.space.geometry.extents 0
     (images_from (rules_setting h.setting) (known_of h) (leases_in h) 0)
     ≡ retire_part (rules_setting h.setting) (known_of h) (holds_in h) (hand_in h)
 retire-whole h =
     retire-lent h (images_from (rules_setting h.setting) (known_of h) (leases_in h) 0)
-    ∙ ap (retire_extents (rules_setting h.setting) (known_of h) (holds_in h) (hand_in h) h.setting.geometry.extents 0)
+    ∙ ap (retire_extents (rules_setting h.setting) (known_of h) [] (holds_in h) (hand_in h) h.setting.geometry.extents 0)
     (retire-all (rules_setting h.setting) (known_of h) (leases_in h) (extents_in h))

@@ -1,9 +1,10 @@
 -- A reserve and a retire at their first reading go by the leases alone.
-use Rattle.std.proofs.Common.{◌≡◌, ℕ, zero, suc, ◌+◌, ◌<◌, ◌≤◌, List, refl, ap, ◌∙◌, arith}
+use Rattle.std.proofs.Common.{◌≡◌, ℕ, zero, suc, ◌+◌, ◌<◌, ◌≤◌, List, [], refl, ap, ◌∙◌, arith}
 use Rattle.std.specs.Prelude.{None}
 use Rattle.std.proofs.Math.Path.{fun_ext}
 use Rattle.plx_commands.specs.declared.reply.Reply.TheVariants as reply
 use Rattle.plx_geom.specs.Geometry.{Geometry, extent_lease, image_lease, root_lease, lease_at, lease_count}
+use Rattle.plx_rules.specs.InUse.{InUse}
 use Rattle.plx_rules.specs.Part.{Part}
 use Rattle.plx_rules.specs.Ends.{End, ends}
 use Rattle.plx_rules.specs.Holds.{Hold}
@@ -56,15 +57,15 @@ take-agrees s holds others count rest t h =
 pub reserve-agrees : (s : Setting) (known : Known) (holds others : ℕ → Hold) (hand : List ℕ) (count : ℕ) → AreSameExtents s.geometry holds others →
     reserve_part s known holds hand count ≡ reserve_part s known others hand count
 reserve-agrees s known holds others hand count h =
-    take-agrees s holds others count (λ t. ends reply.Reserved t.known) (first_taking known hand) h
+    take-agrees s holds others count (λ t. ends reply.Reserved t.known) (first_taking [] known hand) h
 
-pub extents-agree : (s : Setting) (known : Known) (holds others : ℕ → Hold) (hand : List ℕ) (left extent : ℕ) (rest : Part End) → AreSameExtents s.geometry holds others →
-    extent + left ≤ s.geometry.extents → retire_extents s known holds hand left extent rest ≡ retire_extents s known others hand left extent rest
-extents-agree s known holds others hand zero extent rest h within = refl
-extents-agree s known holds others hand (suc left) extent rest h within =
+pub extents-agree : (s : Setting) (known : Known) (uses : List InUse) (holds others : ℕ → Hold) (hand : List ℕ) (left extent : ℕ) (rest : Part End) → AreSameExtents s.geometry holds others →
+    extent + left ≤ s.geometry.extents → retire_extents s known uses holds hand left extent rest ≡ retire_extents s known uses others hand left extent rest
+extents-agree s known uses holds others hand zero extent rest h within = refl
+extents-agree s known uses holds others hand (suc left) extent rest h within =
     let lease = lease_at (extent_lease s.geometry extent) in
-    ap (λ (hold : Hold). retire_extent s known hand extent hold (retire_extents s known holds hand left (extent + 1) rest)) (h extent (omega (arith, within)))
-    ∙ ap (retire_extent s known hand extent (others lease)) (extents-agree s known holds others hand left (extent + 1) rest h (omega (arith, within)))
+    ap (λ (hold : Hold). retire_extent s known uses hand extent hold (retire_extents s known uses holds hand left (extent + 1) rest)) (h extent (omega (arith, within)))
+    ∙ ap (retire_extent s known uses hand extent (others lease)) (extents-agree s known uses holds others hand left (extent + 1) rest h (omega (arith, within)))
 
 pub images-agree : (s : Setting) (known : Known) (holds others : ℕ → Hold) (left image : ℕ) (rest : Part End) →
     ((place : ℕ) → image ≤ place → place < image + left → holds (lease_at (image_lease place)) ≡ others (lease_at (image_lease place))) → retire_images s known holds left image rest ≡ retire_images s known others left image rest
@@ -80,6 +81,6 @@ retire-agrees s known holds others hand h =
     let g = s.geometry in
     let root = λ (hold : Hold). retire_lease s known root_lease None hold (ends reply.Retired known) in
     let last = h root_lease (omega arith) in
-    ap (λ (hold : Hold). retire_extents s known holds hand g.extents 0 (retire_images s known holds g.images 0 (root hold))) last
-    ∙ ap (retire_extents s known holds hand g.extents 0) (images-agree s known holds others g.images 0 (root (others (lease_at root_lease))) (λ place low high. h (image_lease place) (omega (arith, high))))
-    ∙ extents-agree s known holds others hand g.extents 0 (retire_images s known others g.images 0 (root (others (lease_at root_lease)))) (same-extents g holds others h) (omega arith)
+    ap (λ (hold : Hold). retire_extents s known [] holds hand g.extents 0 (retire_images s known holds g.images 0 (root hold))) last
+    ∙ ap (retire_extents s known [] holds hand g.extents 0) (images-agree s known holds others g.images 0 (root (others (lease_at root_lease))) (λ place low high. h (image_lease place) (omega (arith, high))))
+    ∙ extents-agree s known [] holds others hand g.extents 0 (retire_images s known others g.images 0 (root (others (lease_at root_lease)))) (same-extents g holds others h) (omega arith)

@@ -8,7 +8,7 @@ use Rattle.plx_rules.specs.Part.{Part, answered, bytes_out, standing}
 use Rattle.plx_rules.specs.Boot.{Asked, Fits, Happening, Idle, Place, Position, after_part, asks, goes_to, place_of, position, replies, replies_at, reply_of, went_on, writes_out}
 use Rattle.plx_rules.specs.Ends.{End, ends}
 use Rattle.plx_rules.specs.Hands.{filled_answered, filled_held, found_by, hand_answered, hand_held, hand_left}
-use Rattle.plx_rules.specs.Holds.{Hold, after_answer, holds_after_reply, sample_of}
+use Rattle.plx_rules.specs.Holds.{Hold, after_answer, holds_after_reply, sample_of, latest_after}
 use Rattle.plx_geom.specs.Geometry.{Geometry}
 use Rattle.plx_rules.specs.Session.{Known}
 use Rattle.plx_rules.specs.Settings.{Setting}
@@ -58,7 +58,8 @@ pub record WorkIsAnswered (s : Setting) (lent later : Lent) (w new : Work) (log 
 position-after : (s : Setting) (lent : Lent) (w : Work) (log : List Happening) (q : Ask) (bytes : List ℕ) (a : Answer) → (i : IsInWork lent w (position s log)) →
     position s (Asked q bytes a ∷ log)
     ≡ goes_to s.geometry i.before i.command (after_answer (position s log).sample q bytes a (position s log).holds)
-    (hand_left q (position s log).filled (hand_answered s.geometry (position s log).found q bytes a (position s log).hand)) (filled_answered q bytes a (position s log).filled) (sample_of a) (found_by q a) (answered (work_rest lent w) a)
+    (hand_left q (position s log).filled (hand_answered s.geometry (position s log).found q bytes a (position s log).hand)) (filled_answered q bytes a (position s log).filled) (sample_of a) (found_by q a)
+    (latest_after a (position s log).latest) (answered (work_rest lent w) a)
 position-after s lent w log q bytes a i = ap (λ (place : Place). went_on s q bytes a (position s log) place) i.place_is
 
 replies-in-work : (s : Setting) (lent : Lent) (w : Work) (log : List Happening) (a : Answer) → IsInWork lent w (position s log) →

@@ -219,7 +219,7 @@ fn enter_reserve(
         (reserve_part (rules_setting holdings.now.setting) (known_of holdings.now)
         (holds_in holdings.now) (hand_in holdings.now) need.count) result }
 {
-    match Take::begin(need.count, room, lease, &holdings.space) {
+    match Take::begin(need.count, None, room, lease, &holdings.space) {
         Ok(work) => Ok(Work::Reserve(Reserve {
             setting: holdings.setting,
             work,

@@ -1,3 +1,4 @@
 pub mod Holds
 pub mod Maps
 pub mod Nested
+pub mod InUse

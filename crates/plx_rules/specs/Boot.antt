@@ -11,7 +11,7 @@ use Rattle.plx_rules.specs.Part.{Part, Ends, ReadThen, WriteThen, ClockThen, Unt
 use Rattle.plx_rules.specs.Commands.{IsBuilt, IsWellFormed, command_part}
 use Rattle.plx_rules.specs.Ends.{End}
 use Rattle.plx_rules.specs.Hands.{found_by, filled_answered, filled_held, hand_answered, hand_held, hand_left}
-use Rattle.plx_rules.specs.Holds.{Hold, no_holds, after_answer, sample_of, holds_after_reply, after_first}
+use Rattle.plx_rules.specs.Holds.{Hold, no_holds, after_answer, sample_of, latest_after, holds_after_reply, after_first}
 use Rattle.plx_rules.specs.Session.{Known, nothing_known}
 use Rattle.plx_rules.specs.Settings.{Setting}
 
@@ -28,13 +28,15 @@ pub data Place : Type 0 where
 
 -- what a boot holds, by the block of each lease; the blocks in its hand, in the order in which they were taken; those that
 -- it filled since its last link, with their bytes; its last answer, where that was a
--- reading; the block that it read last, with the bytes, where its last ask was a read; and where it stands
+-- reading; the block that it read last, with the bytes, where its last ask was a read; the last
+-- reading of any command, 0 before the first; and where it stands
 pub record Position : Type 0 where
   pub holds : ℕ → Hold
   pub hand : List ℕ
   pub filled : List (ℕ × List ℕ)
   pub sample : Option ℕ
   pub found : Option (ℕ × List ℕ)
+  pub latest : ℕ
   pub place : Place
 
 -- the place of a boot that is in a command of which this is the rest: where that is over, in none
@@ -51,13 +53,15 @@ after_part (Ends end) holds = holds_after_reply end.reply holds
 after_part other holds = holds
 
 -- the position at which this is the rest of a command: of the hand that stays whose extents are held
-abbrev pub goes_to : Geometry → Known → Command → (ℕ → Hold) → List ℕ → List (ℕ × List ℕ) → Option ℕ → Option (ℕ × List ℕ) → Part End → Position
-goes_to g known command holds hand filled sample found part = record {
+abbrev pub goes_to : Geometry → Known → Command → (ℕ → Hold) → List ℕ → List (ℕ × List ℕ) →
+    Option ℕ → Option (ℕ × List ℕ) → (latest : ℕ) → Part End → Position
+goes_to g known command holds hand filled sample found latest part = record {
   holds = after_part part holds;
   hand = hand_held g (after_part part holds) hand;
   filled = filled_held g (after_part part holds) filled;
   sample = sample;
   found = found;
+  latest = latest;
   place = place_of known command part;
 }
 
@@ -74,7 +78,7 @@ first_part s known reading command p =
 -- the first reading of a command drops expired leases, and then the command asks
 abbrev pub first_read : Setting → Known → Command → Answer → Position → Position
 first_read s known command (answer.Reading reading) p =
-    goes_to s.geometry known command (after_first s.geometry known reading p.holds) p.hand [] (Some reading) None
+    goes_to s.geometry known command (after_first s.geometry known reading p.holds) p.hand [] (Some reading) None reading
     (first_part s known reading command p)
 first_read s known command other p = p
 
@@ -85,11 +89,11 @@ went_on s ask bytes answer p (Begins known command) = first_read s known command
 went_on s ask bytes answer p (In known command part) =
     goes_to s.geometry known command (after_answer p.sample ask bytes answer p.holds)
     (hand_left ask p.filled (hand_answered s.geometry p.found ask bytes answer p.hand)) (filled_answered ask bytes answer p.filled)
-    (sample_of answer) (found_by ask answer) (answered part answer)
+    (sample_of answer) (found_by ask answer) (latest_after answer p.latest) (answered part answer)
 
 -- where a boot stands after its log, whose newest happening stands first
 abbrev pub position : Setting → List Happening → Position
-position s [] = record { holds = no_holds; hand = []; filled = []; sample = None; found = None; place = Idle (nothing_known 0) }
+position s [] = record { holds = no_holds; hand = []; filled = []; sample = None; found = None; latest = 0; place = Idle (nothing_known 0) }
 position s (Began command ∷ older) = record (position s older) { sample = None; found = None; place = place_after_begin command (position s older).place }
 position s (Asked ask bytes answer ∷ older) = went_on s ask bytes answer (position s older) (position s older).place
 

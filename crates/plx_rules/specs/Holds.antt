@@ -88,6 +88,11 @@ abbrev pub sample_of : Answer → Option ℕ
 sample_of (answer.Reading reading) = Some reading
 sample_of other = None
 
+-- the last reading once an ask is answered so: where the answer is none, the one before
+abbrev pub latest_after : Answer → (latest : ℕ) → ℕ
+latest_after (answer.Reading reading) latest = reading
+latest_after other latest = latest
+
 -- what is held after a reply: after Lost nothing
 abbrev pub holds_after_reply : Reply → (ℕ → Hold) → ℕ → Hold
 holds_after_reply (reply.Lost lease until reading) holds = no_holds

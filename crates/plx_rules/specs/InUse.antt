@@ -1,5 +1,5 @@
 -- The leases that a command uses, and which of them a reading has reached.
-use Rattle.std.specs.Prelude.{◌-◌, ℕ, zero, suc, List, [], ◌∷◌, Bool, ◌&&◌, ◌||◌, nat_lt, nat_le, ◌==◌, if◌then◌else◌, Option, Some, None}
+use Rattle.std.specs.Prelude.{◌≡◌, ◌⊎◌, ◌-◌, ℕ, zero, suc, List, [], ◌∷◌, Bool, false, ◌&&◌, ◌||◌, nat_lt, nat_le, ◌==◌, if◌then◌else◌, Option, Some, None}
 use Rattle.plx_base.specs.declared.lease.LeaseName.{LeaseName}
 use Rattle.plx_base.specs.declared.lease.LeaseName.TheVariants.{Root, Image, Extent}
 use Rattle.plx_geom.specs.Geometry.{Geometry}
@@ -18,6 +18,15 @@ lease_name g (suc number) = if nat_lt number g.images then Image (record { 0 = n
 -- whether one lease is to be named before another: its `until` is less, or is the same and the lease comes first
 abbrev pub is_before : InUse → InUse → Bool
 is_before one other = nat_lt one.until other.until || ((one.until == other.until) && nat_lt one.lease other.lease)
+
+-- a lease in use is to be named, of it and another: the other isn't to be named before it
+abbrev pub IsNamedFirst : InUse → InUse → Type 0
+IsNamedFirst one other = is_before other one ≡ false
+
+-- a lease in use is among those
+abbrev pub IsUse : InUse → List InUse → Type 0
+IsUse one [] = ⊥
+IsUse one (other ∷ others) = (one ≡ other) ⊎ IsUse one others
 
 -- the one of them that is to be named
 abbrev pub earlier : InUse → Option InUse → InUse

@@ -48,17 +48,18 @@ with_clear blocks block (bit ∷ bits) = (bit && not (is_in block blocks)) ∷ w
 
 -- ---- a take
 
--- how far a take has come: what is known, with the claims that it began; the leases that it claimed; what is in hand; and the first lease that was busy,
+-- how far a take has come: what is known, with the claims that it began; the leases in use, those
+-- of its command and those that it claimed; what is in hand; and the first lease that was busy,
 -- with the record that stood there
 pub record Taking : Type 0 where
   pub known : Known
-  pub claimed : List InUse
+  pub uses : List InUse
   pub hand : List ℕ
   pub busy : Option (ℕ × LeaseRecord)
 
--- a take that begins
-abbrev pub first_taking : Known → (hand : List ℕ) → Taking
-first_taking known hand = record { known = known; claimed = []; hand = hand; busy = None }
+-- a take that begins, with the leases that its command has in use
+abbrev pub first_taking : (uses : List InUse) → Known → (hand : List ℕ) → Taking
+first_taking uses known hand = record { known = known; uses = uses; hand = hand; busy = None }
 
 -- a take with more blocks in hand
 abbrev pub with_taken : Taking → List ℕ → Taking
@@ -70,7 +71,7 @@ with_claim_begun t = record t { known = with_claim t.known }
 
 -- a take that has claimed one more lease
 abbrev pub with_claimed : Taking → InUse → Taking
-with_claimed t due = record t { claimed = due ∷ t.claimed }
+with_claimed t due = record t { uses = due ∷ t.uses }
 
 -- the first lease that was busy stays
 abbrev pub first_busy : Option (ℕ × LeaseRecord) → (lease : ℕ) → LeaseRecord → Option (ℕ × LeaseRecord)
@@ -98,7 +99,8 @@ set_part s extent until bits (block ∷ blocks) rest t =
 
 -- the map of a held extent was read: as many of its free blocks are taken as are needed, the lowest first
 abbrev pub take_found : Setting → (count extent until : ℕ) → Option (List Bool) → (rest : Taking → Part End) → Taking → Part End
-take_found s count extent until None rest t = damaged_part s t.known (extent_use s.geometry extent until ∷ t.claimed) (map_at s.geometry extent)
+take_found s count extent until None rest t =
+    damaged_part s t.known (extent_use s.geometry extent until ∷ t.uses) (map_at s.geometry extent)
 take_found s count extent until (Some bits) rest t =
     set_part s extent until bits (take (count - length t.hand) (free_from t.hand (map_at s.geometry extent) bits)) rest t
 
@@ -132,7 +134,8 @@ after_extent_claim s count extent rest t ClaimDamaged = ends (reply.Damaged (rec
 abbrev pub claim_extent : Bool → Setting → (count extent : ℕ) → (rest : Taking → Part End) → Taking → Part End
 claim_extent false s count extent rest t = ends (reply.WornOut last_claim) t.known
 claim_extent true s count extent rest t =
-    followed_by (claim_part s.boot t.claimed (extent_lease s.geometry extent) t.known.claims) (after_extent_claim s count extent rest (with_claim_begun t))
+    followed_by (claim_part s.boot t.uses (extent_lease s.geometry extent) t.known.claims)
+    (after_extent_claim s count extent rest (with_claim_begun t))
 
 -- of an extent whose lease isn't held, a block is free: then the lease is claimed
 abbrev pub claim_if_free : Setting → (count extent : ℕ) → (free : List ℕ) → (rest : Taking → Part End) → Taking → Part End
@@ -141,7 +144,7 @@ claim_if_free s count extent (block ∷ blocks) rest t = claim_extent (nat_lt t.
 
 -- its map was read, under no lease of its own
 abbrev pub other_found : Setting → (count extent : ℕ) → Option (List Bool) → (rest : Taking → Part End) → Taking → Part End
-other_found s count extent None rest t = damaged_part s t.known t.claimed (map_at s.geometry extent)
+other_found s count extent None rest t = damaged_part s t.known t.uses (map_at s.geometry extent)
 other_found s count extent (Some bits) rest t = claim_if_free s count extent (free_from t.hand (map_at s.geometry extent) bits) rest t
 
 -- blocks of an extent are taken if its lease wasn't held as the take began
@@ -173,7 +176,8 @@ take_part s holds count rest t =
 
 -- a reserve
 abbrev pub reserve_part : Setting → Known → (holds : ℕ → Hold) → (hand : List ℕ) → (count : ℕ) → Part End
-reserve_part s known holds hand count = take_part s holds count (λ t. ends reply.Reserved t.known) (first_taking known hand)
+reserve_part s known holds hand count = take_part s holds count (λ t. ends reply.Reserved t.known)
+    (first_taking [] known hand)
 
 -- ---- a retire
 
@@ -186,29 +190,39 @@ abbrev pub in_extent : Geometry → (extent : ℕ) → List ℕ → List ℕ
 in_extent g extent blocks = filter (λ block. extent_of g block == extent) blocks
 
 -- the map of a held extent was read: the bits of these blocks are cleared
-abbrev pub give_found : Setting → Known → (extent until : ℕ) → (blocks : List ℕ) → Option (List Bool) → (rest : Part End) → Part End
-give_found s known extent until blocks None rest = damaged_part s known (extent_use s.geometry extent until ∷ []) (map_at s.geometry extent)
-give_found s known extent until blocks (Some bits) rest =
+abbrev pub give_found : Setting → Known → (uses : List InUse) → (extent until : ℕ) →
+    (blocks : List ℕ) → Option (List Bool) → (rest : Part End) → Part End
+give_found s known uses extent until blocks None rest =
+    damaged_part s known (extent_use s.geometry extent until ∷ uses) (map_at s.geometry extent)
+give_found s known uses extent until blocks (Some bits) rest =
     write_then s known (extent_use s.geometry extent until) kind.Give (map_at s.geometry extent)
     (map_bytes (with_clear blocks (map_at s.geometry extent) bits)) rest
 
--- blocks in hand of a held extent, if there are any, are given back
-abbrev pub give_part : Setting → Known → (extent until : ℕ) → (blocks : List ℕ) → (rest : Part End) → Part End
-give_part s known extent until [] rest = rest
-give_part s known extent until (block ∷ blocks) rest =
-    read_then (map_at s.geometry extent) known (λ bytes. give_found s known extent until (block ∷ blocks) (read_map s.geometry.extent_blocks bytes) rest)
+-- blocks in hand of a held extent, if there are any, are given back; its lease is in use beside
+-- those of the command
+abbrev pub give_part : Setting → Known → (uses : List InUse) → (extent until : ℕ) →
+    (blocks : List ℕ) → (rest : Part End) → Part End
+give_part s known uses extent until [] rest = rest
+give_part s known uses extent until (block ∷ blocks) rest =
+    read_then (map_at s.geometry extent) known
+    (λ bytes. give_found s known uses extent until (block ∷ blocks)
+    (read_map s.geometry.extent_blocks bytes) rest)
 
 -- an extent whose lease is held is given up: its blocks in hand first
-abbrev pub retire_extent : Setting → Known → (hand : List ℕ) → (extent : ℕ) → Hold → (rest : Part End) → Part End
-retire_extent s known hand extent (Held claim until) rest =
-    give_part s known extent until (in_extent s.geometry extent hand) (release_then s known (extent_use s.geometry extent until) rest)
-retire_extent s known hand extent other rest = rest
+abbrev pub retire_extent : Setting → Known → (uses : List InUse) → (hand : List ℕ) → (extent : ℕ) →
+    Hold → (rest : Part End) → Part End
+retire_extent s known uses hand extent (Held claim until) rest =
+    give_part s known uses extent until (in_extent s.geometry extent hand)
+    (release_then s known (extent_use s.geometry extent until) rest)
+retire_extent s known uses hand extent other rest = rest
 
 -- all of them, of `left` extents from this one on
-abbrev pub retire_extents : Setting → Known → (holds : ℕ → Hold) → (hand : List ℕ) → (left extent : ℕ) → (rest : Part End) → Part End
-retire_extents s known holds hand zero extent rest = rest
-retire_extents s known holds hand (suc left) extent rest =
-    retire_extent s known hand extent (holds (lease_at (extent_lease s.geometry extent))) (retire_extents s known holds hand left (extent + 1) rest)
+abbrev pub retire_extents : Setting → Known → (uses : List InUse) → (holds : ℕ → Hold) →
+    (hand : List ℕ) → (left extent : ℕ) → (rest : Part End) → Part End
+retire_extents s known uses holds hand zero extent rest = rest
+retire_extents s known uses holds hand (suc left) extent rest =
+    retire_extent s known uses hand extent (holds (lease_at (extent_lease s.geometry extent)))
+    (retire_extents s known uses holds hand left (extent + 1) rest)
 
 -- a lease that is held and has no session is released
 abbrev pub retire_lease : Setting → Known → (lease : ℕ) → Option Session → Hold → (rest : Part End) → Part End
@@ -224,6 +238,6 @@ retire_images s known holds (suc left) image rest =
 -- a retire: the extents, then the images without a session, then the root
 abbrev pub retire_part : Setting → Known → (holds : ℕ → Hold) → (hand : List ℕ) → Part End
 retire_part s known holds hand =
-    retire_extents s known holds hand s.geometry.extents 0
+    retire_extents s known [] holds hand s.geometry.extents 0
     (retire_images s known holds s.geometry.images 0
     (retire_lease s known root_lease None (holds (lease_at root_lease)) (ends reply.Retired known)))

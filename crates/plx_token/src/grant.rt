@@ -1,6 +1,6 @@
 //! The leases on which a write rests.
-ghost use Rattle.std.specs.Prelude.{◌≡◌, if◌then◌else◌};
-ghost use Rattle.plx_token.specs.Order.{comes_before as is_first};
+ghost use Rattle.std.specs.Prelude.{◌≡◌, nat_lt};
+ghost use Rattle.plx_geom.specs.Geometry.{Geometry, IsLeaseName, lease_number};
 
 use crate::held::Held;
 use crate::kind::{Extent, Image, LeaseKind, Root};
@@ -16,7 +16,9 @@ pub struct Grant {
 }
 
 impl Grant {
-    ghost use Rattle.plx_token.specs.Grants.{is_sooner};
+    ghost use Rattle.std.specs.Prelude.{Some};
+    ghost use Rattle.plx_rules.specs.InUse.{earlier, is_before};
+    ghost use Rattle.plx_token.specs.Grants.{grant_use};
 
     /// The root's lease alone.
     pub fn root(held: &Held<Root>) -> Grant
@@ -51,9 +53,10 @@ impl Grant {
         }
     }
 
-    /// The leases of both.
+    /// The leases of both: in a geometry that has both, the one to be named stands for them.
     pub fn and(self, other: Grant) -> Grant
-        ensures { result ≡ if is_sooner other self then other else self }
+        ensures { (g : Geometry) → IsLeaseName g self.lease → IsLeaseName g other.lease
+            → grant_use g result ≡ earlier (grant_use g self) (Some (grant_use g other)) }
     {
         if other.is_sooner_than(&self) {
             other
@@ -78,7 +81,8 @@ impl Grant {
 
     // Whether this lease is to be named before another.
     fn is_sooner_than(&self, other: &Grant) -> bool
-        ensures { result ≡ is_sooner self.now other.now }
+        ensures { (g : Geometry) → IsLeaseName g self.now.lease → IsLeaseName g other.now.lease
+            → result ≡ is_before (grant_use g self.now) (grant_use g other.now) }
     {
         self.until < other.until
             || (self.until == other.until && comes_before(self.lease, other.lease))
@@ -87,7 +91,8 @@ impl Grant {
 
 // Whether one lease comes before another: the root's, then those of images, then those of extents.
 fn comes_before(one: LeaseName, other: LeaseName) -> bool
-    ensures { result ≡ is_first one other }
+    ensures { (g : Geometry) → IsLeaseName g one → IsLeaseName g other
+        → result ≡ nat_lt (lease_number g one) (lease_number g other) }
 {
     match (one, other) {
         (_, LeaseName::Root) => false,

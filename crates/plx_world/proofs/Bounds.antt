@@ -332,7 +332,7 @@ set-most s most extent until bits (block ∷ blocks) rest few t = (few (with_tak
 
 map_found-most : (s : Setting) (most count extent until : ℕ) (found : Option (List Bool)) (rest : Taking → Part End) → GoesMost most rest → GoesMost (suc most) (take_found s count extent until found rest)
 map_found-most s most count extent until None rest few t =
-    ends-most most s t.known (extent_use s.geometry extent until ∷ t.claimed) (reply.Damaged (record { 0 = map_at s.geometry extent })) t.known
+    ends-most most s t.known (extent_use s.geometry extent until ∷ t.uses) (reply.Damaged (record { 0 = map_at s.geometry extent })) t.known
 map_found-most s most count extent until (Some bits) rest few t =
     set-most s most extent until bits (take (count - length t.hand) (free_from t.hand (map_at s.geometry extent) bits)) rest few t
 
@@ -376,8 +376,8 @@ extent_claimed-most s most count extent rest few t ClaimDamaged = tt
 claim_extent-most : (s : Setting) (most count extent : ℕ) (enough : Bool) (rest : Taking → Part End) → GoesMost most rest → GoesMost (most + 8) (claim_extent enough s count extent rest)
 claim_extent-most s most count extent false rest few t = tt
 claim_extent-most s most count extent true rest few t =
-    at-most-followed (most + 8) 6 (suc (suc most)) (claim_part s.boot t.claimed (extent_lease s.geometry extent) t.known.claims) (after_extent_claim s count extent rest (with_claim_begun t)) (omega arith)
-    (claim-most s.boot t.claimed (extent_lease s.geometry extent) t.known.claims) (extent_claimed-most s most count extent rest few (with_claim_begun t))
+    at-most-followed (most + 8) 6 (suc (suc most)) (claim_part s.boot t.uses (extent_lease s.geometry extent) t.known.claims) (after_extent_claim s count extent rest (with_claim_begun t)) (omega arith)
+    (claim-most s.boot t.uses (extent_lease s.geometry extent) t.known.claims) (extent_claimed-most s most count extent rest few (with_claim_begun t))
 
 if_free-most : (s : Setting) (most count extent : ℕ) (free : List ℕ) (rest : Taking → Part End) → GoesMost most rest → GoesMost (most + 8) (claim_if_free s count extent free rest)
 if_free-most s most count extent [] rest few t = at-most-more most (most + 8) (rest t) (omega arith) (few t)
@@ -385,8 +385,8 @@ if_free-most s most count extent (block ∷ blocks) rest few t = claim_extent-mo
 
 other_found-most : (s : Setting) (most count extent : ℕ) (found : Option (List Bool)) (rest : Taking → Part End) → GoesMost most rest → GoesMost (most + 8) (other_found s count extent found rest)
 other_found-most s most count extent None rest few t =
-    at-most-more (suc most) (most + 8) (damaged_part s t.known t.claimed (map_at s.geometry extent)) (omega arith)
-    (ends-most most s t.known t.claimed (reply.Damaged (record { 0 = map_at s.geometry extent })) t.known)
+    at-most-more (suc most) (most + 8) (damaged_part s t.known t.uses (map_at s.geometry extent)) (omega arith)
+    (ends-most most s t.known t.uses (reply.Damaged (record { 0 = map_at s.geometry extent })) t.known)
 other_found-most s most count extent (Some bits) rest few t = if_free-most s most count extent (free_from t.hand (map_at s.geometry extent) bits) rest few t
 
 if_other-most : (s : Setting) (most count extent : ℕ) (hold : Hold) (rest : Taking → Part End) → GoesMost most rest → GoesMost (suc (most + 8)) (take_if_other s count extent hold rest)
@@ -418,38 +418,38 @@ reserve-most s geometry known holds hand count =
     let x = s.geometry.extents in
     let few = geometry.extents_high in
     at-most-more (2 * x + (9 * x + 0)) most_asks (reserve_part s known holds hand count) (omega (arith, few))
-    (held-take-most s (9 * x + 0) count holds x 0 _ (others-most s 0 count holds x 0 _ (taken-most s count (λ t. ends reply.Reserved t.known) (λ t. tt))) (first_taking known hand))
+    (held-take-most s (9 * x + 0) count holds x 0 _ (others-most s 0 count holds x 0 _ (taken-most s count (λ t. ends reply.Reserved t.known) (λ t. tt))) (first_taking [] known hand))
 
 -- ---- retire
 
 release-most : (s : Setting) (most : ℕ) (known : Known) (due : InUse) (rest : Part End) → AtMost most rest → AtMost (suc most) (release_then s known due rest)
 release-most s most known due rest few = (few, tt, λ reading. tt)
 
-given-most : (s : Setting) (most : ℕ) (known : Known) (extent until : ℕ) (blocks : List ℕ) (found : Option (List Bool)) (rest : Part End) → AtMost most rest → AtMost (suc most) (give_found s known extent until blocks found rest)
-given-most s most known extent until blocks None rest few =
-    ends-most most s known (extent_use s.geometry extent until ∷ []) (reply.Damaged (record { 0 = map_at s.geometry extent })) known
-given-most s most known extent until blocks (Some bits) rest few = (few, tt, λ reading. tt)
+given-most : (s : Setting) (most : ℕ) (known : Known) (uses : List InUse) (extent until : ℕ) (blocks : List ℕ) (found : Option (List Bool)) (rest : Part End) → AtMost most rest → AtMost (suc most) (give_found s known uses extent until blocks found rest)
+given-most s most known uses extent until blocks None rest few =
+    ends-most most s known (extent_use s.geometry extent until ∷ uses) (reply.Damaged (record { 0 = map_at s.geometry extent })) known
+given-most s most known uses extent until blocks (Some bits) rest few = (few, tt, λ reading. tt)
 
-give-most : (s : Setting) (most : ℕ) (known : Known) (extent until : ℕ) (blocks : List ℕ) (rest : Part End) → AtMost most rest → AtMost (suc (suc most)) (give_part s known extent until blocks rest)
-give-most s most known extent until [] rest few = at-most-more most (suc (suc most)) rest (omega arith) few
-give-most s most known extent until (block ∷ blocks) rest few =
-    ((λ bytes. given-most s most known extent until (block ∷ blocks) (read_map s.geometry.extent_blocks bytes) rest few), tt)
+give-most : (s : Setting) (most : ℕ) (known : Known) (uses : List InUse) (extent until : ℕ) (blocks : List ℕ) (rest : Part End) → AtMost most rest → AtMost (suc (suc most)) (give_part s known uses extent until blocks rest)
+give-most s most known uses extent until [] rest few = at-most-more most (suc (suc most)) rest (omega arith) few
+give-most s most known uses extent until (block ∷ blocks) rest few =
+    ((λ bytes. given-most s most known uses extent until (block ∷ blocks) (read_map s.geometry.extent_blocks bytes) rest few), tt)
 
-retire_extent-most : (s : Setting) (most : ℕ) (known : Known) (hand : List ℕ) (extent : ℕ) (hold : Hold) (rest : Part End) → AtMost most rest → AtMost (suc (suc (suc most))) (retire_extent s known hand extent hold rest)
-retire_extent-most s most known hand extent (Held claim until) rest few =
-    give-most s (suc most) known extent until (in_extent s.geometry extent hand) _ (release-most s most known (extent_use s.geometry extent until) rest few)
-retire_extent-most s most known hand extent Nothing rest few = at-most-more most (suc (suc (suc most))) rest (omega arith) few
-retire_extent-most s most known hand extent (Seen sample) rest few = at-most-more most (suc (suc (suc most))) rest (omega arith) few
-retire_extent-most s most known hand extent (Wrote claim until) rest few = at-most-more most (suc (suc (suc most))) rest (omega arith) few
-retire_extent-most s most known hand extent (Waited claim until) rest few = at-most-more most (suc (suc (suc most))) rest (omega arith) few
+retire_extent-most : (s : Setting) (most : ℕ) (known : Known) (uses : List InUse) (hand : List ℕ) (extent : ℕ) (hold : Hold) (rest : Part End) → AtMost most rest → AtMost (suc (suc (suc most))) (retire_extent s known uses hand extent hold rest)
+retire_extent-most s most known uses hand extent (Held claim until) rest few =
+    give-most s (suc most) known uses extent until (in_extent s.geometry extent hand) _ (release-most s most known (extent_use s.geometry extent until) rest few)
+retire_extent-most s most known uses hand extent Nothing rest few = at-most-more most (suc (suc (suc most))) rest (omega arith) few
+retire_extent-most s most known uses hand extent (Seen sample) rest few = at-most-more most (suc (suc (suc most))) rest (omega arith) few
+retire_extent-most s most known uses hand extent (Wrote claim until) rest few = at-most-more most (suc (suc (suc most))) rest (omega arith) few
+retire_extent-most s most known uses hand extent (Waited claim until) rest few = at-most-more most (suc (suc (suc most))) rest (omega arith) few
 
 -- three asks for each extent
-retire_extents-most : (s : Setting) (most : ℕ) (known : Known) (holds : ℕ → Hold) (hand : List ℕ) (left extent : ℕ) (rest : Part End) → AtMost most rest →
-    AtMost (3 * left + most) (retire_extents s known holds hand left extent rest)
-retire_extents-most s most known holds hand zero extent rest few = at-most-more most (3 * 0 + most) rest (omega arith) few
-retire_extents-most s most known holds hand (suc left) extent rest few =
-    at-most-more (suc (suc (suc (3 * left + most)))) (3 * suc left + most) (retire_extents s known holds hand (suc left) extent rest) (omega arith)
-    (retire_extent-most s (3 * left + most) known hand extent (holds (lease_at (extent_lease s.geometry extent))) _ (retire_extents-most s most known holds hand left (extent + 1) rest few))
+retire_extents-most : (s : Setting) (most : ℕ) (known : Known) (uses : List InUse) (holds : ℕ → Hold) (hand : List ℕ) (left extent : ℕ) (rest : Part End) → AtMost most rest →
+    AtMost (3 * left + most) (retire_extents s known uses holds hand left extent rest)
+retire_extents-most s most known uses holds hand zero extent rest few = at-most-more most (3 * 0 + most) rest (omega arith) few
+retire_extents-most s most known uses holds hand (suc left) extent rest few =
+    at-most-more (suc (suc (suc (3 * left + most)))) (3 * suc left + most) (retire_extents s known uses holds hand (suc left) extent rest) (omega arith)
+    (retire_extent-most s (3 * left + most) known uses hand extent (holds (lease_at (extent_lease s.geometry extent))) _ (retire_extents-most s most known uses holds hand left (extent + 1) rest few))
 
 retire_lease-most : (s : Setting) (most : ℕ) (known : Known) (lease : ℕ) (session : Option Session) (hold : Hold) (rest : Part End) → AtMost most rest → AtMost (suc most) (retire_lease s known lease session hold rest)
 retire_lease-most s most known lease None (Held claim until) rest few = release-most s most known (record { lease = lease; until = until }) rest few
@@ -473,7 +473,7 @@ retire-most s geometry known holds hand =
     let few = geometry.extents_high in
     let some = geometry.images_high in
     at-most-more (3 * x + (i + 1)) most_asks (retire_part s known holds hand) (omega (arith, few, some))
-    (retire_extents-most s (i + 1) known holds hand x 0 _ (retire_images-most s 1 known holds i 0 _ (retire_lease-most s 0 known root_lease None (holds (lease_at root_lease)) (ends reply.Retired known) tt)))
+    (retire_extents-most s (i + 1) known [] holds hand x 0 _ (retire_images-most s 1 known holds i 0 _ (retire_lease-most s 0 known root_lease None (holds (lease_at root_lease)) (ends reply.Retired known) tt)))
 
 -- ---- all commands
 

@@ -4,6 +4,7 @@ use Rattle.plx_base.specs.declared.write_kind.WriteKind.TheVariants as kind
 use Rattle.plx_commands.specs.Replies.{is_in}
 use Rattle.plx_extent.specs.Maps.{IsMap, map_bytes}
 use Rattle.plx_geom.specs.Geometry.{map_at}
+use Rattle.plx_lease.specs.Uses.{uses_of}
 use Rattle.plx_rules.specs.Ends.{damaged_part, write_then}
 use Rattle.plx_rules.specs.Space.{give_found, in_extent, read_map, with_clear}
 use Rattle.plx_alloc.specs.Gives.{around_known, retire_use}
@@ -28,9 +29,9 @@ returns-in_default-clause-rest c = λ o.
     let reading : IsReading (IsMap a.geometry.extent_blocks) map_bytes c.args.bytes.now None =
     subst (λ n. IsReading (IsMap n) map_bytes c.args.bytes.now None) blocks (subst (λ b. IsReading (IsMap c.blocks-2.inside.extent_blocks) map_bytes b None) bytes c.in_default.ensures) in
     let read : read_map a.geometry.extent_blocks c.args.bytes.now ≡ None = map-read-found a.geometry.extent_blocks c.args.bytes.now None a.limits.blocks_high reading in
-    sym (ap (λ found. give_found s known m.extent.0 m.until mine found o.rest) read
-    ∙ (ap (λ due. damaged_part s known (due ∷ []) (map_at a.geometry m.extent.0)) (sym (kept-use a.geometry m c.requires.suits.lease))
-    ∙ ap (λ block. damaged_part s known (retire_use m ∷ []) block) (sym c.requires.suits.map)))
+    sym (ap (λ found. give_found s known (uses_of m.uses) m.extent.0 m.until mine found o.rest) read
+    ∙ (ap (λ due. damaged_part s known (due ∷ uses_of m.uses) (map_at a.geometry m.extent.0)) (sym (kept-use a.geometry m c.requires.suits.lease))
+    ∙ ap (λ block. damaged_part s known (retire_use m ∷ uses_of m.uses) block) (sym c.requires.suits.map)))
 
 pub clear-requires-clause-apart : goal.clear-requires-clause-apart
 clear-requires-clause-apart c =
@@ -68,7 +69,7 @@ returns-clause-rest c = λ o.
     ap (λ bytes. write_then s known (retire_use m) kind.Give m.map.0 bytes o.rest) out
     ∙ (ap (λ block. write_then s known (retire_use m) kind.Give block (map_bytes (with_clear mine (map_at g e) bits)) o.rest) c.requires.suits.map
     ∙ (ap (λ due. write_then s known due kind.Give (map_at g e) (map_bytes (with_clear mine (map_at g e) bits)) o.rest) (kept-use g m c.requires.suits.lease)
-    ∙ sym (ap (λ found. give_found s known e m.until mine found o.rest) read)))
+    ∙ sym (ap (λ found. give_found s known (uses_of m.uses) e m.until mine found o.rest) read)))
 
 pub returns-clause-suits : goal.returns-clause-suits
 returns-clause-suits c =

@@ -1,4 +1,5 @@
 use Rattle.std.proofs.Common.{rules, ◌≡◌, ◌-◌, ◌∙◌, ap, sym, arith}
+use Rattle.plx_lease.specs.Uses.{uses_of}
 use Rattle.plx_rules.specs.Part.{Part}
 use Rattle.plx_rules.specs.Ends.{End}
 use Rattle.plx_rules.specs.Space.{first_taking, take_held, take_others, taken_part}
@@ -16,7 +17,7 @@ returns-in-Some-clause-rest c = λ o.
     ap (λ (follows : Part End). space_end follows (outer_known o a) c.in-Some.end) (sym (c.go_on.ensures.follows o a))
     ∙ (c.in-Some.ensures.rest o
     ∙ ap (λ left. take_held s c.args.count (holds_of a) left 0 (take_others s c.args.count (holds_of a) a.geometry.extents 0 (taken_part s c.args.count o.rest))
-    (first_taking (outer_known o a) (hand_numbers a))) all)
+    (first_taking (uses_of c.args.uses) (outer_known o a) (hand_numbers a))) all)
 
 pub returns-in-Some-clause-rules : goal.returns-in-Some-clause-rules
 returns-in-Some-clause-rules c = λ o. begins-rightly _ _ (returns-in-Some-clause-rest c o)

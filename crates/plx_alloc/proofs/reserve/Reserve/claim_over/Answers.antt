@@ -46,15 +46,15 @@ returns-in-Held-clause-rest c = λ o.
     let mine : held.lease ≡ m.claim.lease = search rules in
     let extent : held.lease.0.0 ≡ m.extent.0 = ap (λ (k : Extent). k.0.0) mine ∙ ap (λ (e : ExtentNo). e.0) stands.lease in
     let high : c.until-self.result < 562949953421312 = subst (λ n. n < 562949953421312) (sym c.until-self.ensures) held.high in
-    let new : Reserve = record m { at = at.Map; until = c.until-self.result; claimed = Some c.earlier.result; guard = high } in
+    let new : Reserve = record m { at = at.Map; until = c.until-self.result; uses = Some c.earlier.result; guard = high } in
     let leases : extent_leases b ≡ with_hold (extent_leases a) m.extent.0 (Held held.claim c.until-self.result) =
     c.put_held.ensures.leases ∙ (ap (λ e. with_hold (extent_leases a) e (Held held.claim held.until)) extent
     ∙ ap (λ n. with_hold (extent_leases a) m.extent.0 (Held held.claim n)) (sym c.until-self.ensures)) in
-    let first : use_of c.earlier.result ≡ earlier (extent_use a.geometry m.extent.0 c.until-self.result) (use_if m.claimed) =
-    c.earlier.ensures ∙ ap (λ use'. earlier use' (use_if m.claimed)) c.own_use.ensures in
+    let first : use_of c.earlier.result ≡ earlier (extent_use a.geometry m.extent.0 c.until-self.result) (use_if m.uses) =
+    c.earlier.ensures ∙ ap (λ use'. earlier use' (use_if m.uses)) c.own_use.ensures in
     let map : m.map.0 ≡ map_at b.geometry m.extent.0 = c.requires.suits.map ∙ ap (λ g. map_at g m.extent.0) (sym c.put_held.ensures.same.geometry) in
     claimed-rest o a b m new held.claim c.put_held.ensures.same c.put_held.ensures.claims c.put_held.ensures.hand leases stands.other.pass refl refl refl refl map refl
-    (earlier-reached (extent_use a.geometry m.extent.0 c.until-self.result) m.claimed c.earlier.result first)
+    (earlier-reached (extent_use a.geometry m.extent.0 c.until-self.result) m.uses c.earlier.result first)
     ∙ (ap (λ n. after_extent_claim (allocator_setting o.appliance a) m.count m.extent.0 (next_rest o a m) (taking_of o a m) (ClaimHeld held.claim n)) c.until-self.ensures
     ∙ ap (λ end. after_extent_claim (allocator_setting o.appliance a) m.count m.extent.0 (next_rest o a m) (taking_of o a m) (claim_end end)) (sym c.in-Held.is))
 

@@ -12,6 +12,6 @@ returns-in-Some c = λ o.
     let a = c.args.space.now in
     let s = allocator_setting o.appliance a in
     let known = outer_known o a in
-    let e : Some (use_of c.in-Some.due) ≡ first_reached (uses_of c.args.self.now.claimed) c.args.reading = search rules in
+    let e : Some (use_of c.in-Some.due) ≡ first_reached (uses_of c.args.self.now.uses) c.args.reading = search rules in
     c.lost.ensures s (reserve_follows o a c.args.self.now) known (sym c.geometry.ensures)
     ∙ ap (λ due. unless_reached due (λ due. lost_part s known due c.args.reading) (ends (reply.Damaged c.args.self.now.map) known)) e

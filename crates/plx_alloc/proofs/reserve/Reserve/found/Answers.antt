@@ -29,9 +29,9 @@ returns-in_default-clause-rest c = λ o.
     let reading : IsReading (IsMap a.geometry.extent_blocks) map_bytes c.args.bytes.now None =
     subst (λ n. IsReading (IsMap n) map_bytes c.args.bytes.now None) blocks (subst (λ b. IsReading (IsMap c.blocks-2.inside.extent_blocks) map_bytes b None) bytes c.in_default.ensures) in
     let read : read_map a.geometry.extent_blocks c.args.bytes.now ≡ None = map-read-found a.geometry.extent_blocks c.args.bytes.now None a.limits.blocks_high reading in
-    let first : use_of c.earlier.result ≡ earlier own (use_if m.claimed) = c.earlier.ensures ∙ ap (λ use'. earlier use' (use_if m.claimed)) c.own_use.ensures in
+    let first : use_of c.earlier.result ≡ earlier own (use_if m.uses) = c.earlier.ensures ∙ ap (λ use'. earlier use' (use_if m.uses)) c.own_use.ensures in
     sym (ap (λ found. take_found s m.count m.extent.0 m.until found (next_rest o a m) (taking_of o a m)) read
-    ∙ (damaged-same s known (own ∷ uses_of m.claimed) (use_of c.earlier.result ∷ []) (earlier-reached own m.claimed c.earlier.result first) (map_at a.geometry m.extent.0)
+    ∙ (damaged-same s known (own ∷ uses_of m.uses) (use_of c.earlier.result ∷ []) (earlier-reached own m.uses c.earlier.result first) (map_at a.geometry m.extent.0)
     ∙ ap (λ block. damaged_part s known (use_of c.earlier.result ∷ []) block) (sym c.requires.suits.map)))
 
 found-empty : (c : goal.After-go_on) → read_map c.args.space.now.geometry.extent_blocks c.args.bytes.now ≡ Some c.in-Some.bits

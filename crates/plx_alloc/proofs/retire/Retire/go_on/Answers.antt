@@ -1,12 +1,13 @@
-use Rattle.std.proofs.Common.{◌-◌, ◌∙◌, true, sym, Some, None, arith}
+use Rattle.std.proofs.Common.{◌-◌, ◌∙◌, ap, true, sym, Some, None, arith}
 use Rattle.plx_alloc.specs.Tables.{held_of, is_as, extent_leases}
+use Rattle.plx_lease.specs.Uses.{uses_of}
 use Rattle.plx_alloc.proofs.Hands.{held-some}
 use Rattle.plx_alloc.proofs.Passes.{first-extent-is}
-use Rattle.plx_alloc.proofs.Retiring.{gives-first, releases-first, retire-extent-next}
+use Rattle.plx_alloc.proofs.Retiring.{gives_up, gives-first, releases-first, retire-extent-next}
 use Rattle.plx_alloc.proofs.retire.Retire.go_on.Goals as goal
 
 pub returns-in_default-clause-rest : goal.returns-in_default-clause-rest
-returns-in_default-clause-rest c = λ o. sym (retire-extent-next o c.args.space.now c.args.from None c.requires.from c.in_default.ensures)
+returns-in_default-clause-rest c = λ o. sym (retire-extent-next o c.args.space.now (uses_of c.args.self.now.giving.uses) c.args.from None c.requires.from c.in_default.ensures)
 
 pub begin-requires-clause-inside : goal.begin-requires-clause-inside
 begin-requires-clause-inside c =
@@ -27,11 +28,13 @@ returns-then-has_in_hand-clause-rest c = λ o.
     let a = c.args.space.now in
     let e = c.begin.ensures in
     gives-first o a c.begin.new.self c.in-Some.extent e.at e.extent e.suits e.until (sym c.has_in_hand.ensures ∙ c.if-has_in_hand.true)
-    ∙ sym (retire-extent-next o a c.args.from (Some c.in-Some.extent.0) c.requires.from c.in-Some.ensures)
+    ∙ (ap (λ beside. gives_up o a (uses_of beside) c.in-Some.extent.0) e.uses
+    ∙ sym (retire-extent-next o a (uses_of c.args.self.now.giving.uses) c.args.from (Some c.in-Some.extent.0) c.requires.from c.in-Some.ensures))
 
 pub returns-clause-rest : goal.returns-clause-rest
 returns-clause-rest c = λ o.
     let a = c.args.space.now in
     let e = c.begin.ensures in
     releases-first o a c.begin.new.self c.in-Some.extent e.extent e.suits e.until (sym c.has_in_hand.ensures ∙ c.if-has_in_hand.false)
-    ∙ sym (retire-extent-next o a c.args.from (Some c.in-Some.extent.0) c.requires.from c.in-Some.ensures)
+    ∙ (ap (λ beside. gives_up o a (uses_of beside) c.in-Some.extent.0) e.uses
+    ∙ sym (retire-extent-next o a (uses_of c.args.self.now.giving.uses) c.args.from (Some c.in-Some.extent.0) c.requires.from c.in-Some.ensures))
