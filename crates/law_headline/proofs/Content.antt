@@ -31,7 +31,7 @@ use Rattle.law_headline.proofs.HeldFrames.{missing_of}
 use Rattle.law_headline.proofs.Journals.{IsJournal, IsShown, HoldsSlot}
 use Rattle.law_headline.proofs.MapFacts.{IsMapSpelled}
 use Rattle.law_headline.proofs.PlacedByKind.{PlacedBy}
-use Rattle.law_headline.proofs.Replied.{Names}
+use Rattle.law_model.proofs.Replied.{Names}
 use Rattle.law_headline.proofs.WaitsByKind.{WaitsOn}
 
 -- a write of an image's record or journal

@@ -66,8 +66,9 @@ use Rattle.law_headline.proofs.HeldCommands.{slot_no}
 use Rattle.law_headline.proofs.HeldFrames.{missing_of, held-part-same}
 use Rattle.law_headline.proofs.ImageWrites.{held-image-write, held-or, placed-cases}
 use Rattle.law_headline.proofs.Journals.{Same}
-use Rattle.law_headline.proofs.ModelFacts.{Sound, sound-all}
-use Rattle.law_headline.proofs.Replied.{IsDropping, IsAmongSlots, Names}
+use Rattle.law_model.proofs.ModelFacts.{sound-all}
+use Rattle.law_model.specs.Sound.{Sound}
+use Rattle.law_model.proofs.Replied.{IsDropping, IsAmongSlots, Names}
 use Rattle.plx_rules.proofs.Holds.{first-held, part-held, timed-held}
 
 -- ---- how a lease comes to be held

@@ -31,16 +31,17 @@ use Rattle.law_lease.proofs.Leased.{grip_at, Leased}
 use Rattle.law_lease.proofs.Open.{IsOpen, open-elsewhere, open-later}
 use Rattle.law_headline.proofs.Content.{appliance_no, stands_at, PlaceFits, HasContent, OwnedAt, Minds, Whose, SeatFits, SeatHand, SeatOwns, Placed, WaitsAreMet, KeepsContent}
 use Rattle.law_headline.proofs.ContentFrames.{place-unmoved, owned-foreign}
-use Rattle.law_headline.proofs.Foreign.{Foreign, foreign-start, foreign-back}
+use Rattle.law_model.proofs.Foreign.{Foreign, foreign-start, foreign-back}
 use Rattle.law_headline.proofs.Held.{ModelRuns, HasImage, IsOf}
 use Rattle.law_headline.proofs.HeldBegins.{IsBegunChange}
 use Rattle.law_headline.proofs.HeldCommands.{slot_no}
 use Rattle.law_headline.proofs.HeldFrames.{keeps-foreign}
 use Rattle.law_headline.proofs.Journals.{HoldsSlot}
-use Rattle.law_headline.proofs.ModelFacts.{Sound, sound-all, counts-all}
-use Rattle.law_headline.proofs.Owners.{owns-own, disowned-not}
+use Rattle.law_model.proofs.ModelFacts.{sound-all, counts-all}
+use Rattle.law_model.specs.Sound.{Sound}
+use Rattle.law_model.proofs.Owners.{owns-own, disowned-not}
 use Rattle.law_headline.proofs.PlacedByKind.{placed-moves}
-use Rattle.law_headline.proofs.Replied.{Names, changed-named, named-one, Unmoved, unmoved-started, unmoved-forgotten}
+use Rattle.law_model.proofs.Replied.{Names, changed-named, named-one, Unmoved, unmoved-started, unmoved-forgotten}
 
 -- ---- time passes
 

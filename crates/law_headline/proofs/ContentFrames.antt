@@ -16,14 +16,14 @@ use Rattle.plx_rules.specs.World.{World}
 use Rattle.law_lease.proofs.Leased.{Leased}
 use Rattle.law_lease.proofs.Open.{IsOpen, grips-one, grips-only}
 use Rattle.law_headline.proofs.Content.{IsJournalled, PlaceFits, IsServing, HasContent, OwnedAt, Grips}
-use Rattle.law_headline.proofs.Foreign.{Foreign}
+use Rattle.law_model.proofs.Foreign.{Foreign}
 use Rattle.law_headline.proofs.Held.{Regime, Without, With, ModelRuns, Looks, IsOf, IsOn, HeldPart}
 use Rattle.law_headline.proofs.HeldFrames.{missing_of, same-at, held-part-same, has-same, has-foreign, looks-foreign}
 use Rattle.law_headline.proofs.JournalFacts.{IsJournal-same}
 use Rattle.law_headline.proofs.JournalOne.{shows-one}
 use Rattle.law_headline.proofs.Journals.{Same, HoldsSlot}
-use Rattle.law_headline.proofs.ModelFacts.{Differs}
-use Rattle.law_headline.proofs.Replied.{Names, Unmoved}
+use Rattle.law_model.specs.Sound.{Differs}
+use Rattle.law_model.proofs.Replied.{Names, Unmoved}
 
 -- ---- the model
 

@@ -33,17 +33,18 @@ use Rattle.law_lease.proofs.Leased.{Leased}
 use Rattle.law_lease.proofs.Open.{IsOpen, open-elsewhere}
 use Rattle.law_headline.proofs.Content.{appliance_no, stands_at, PlaceFits, HasContent, OwnedAt, Grips, Minds, Whose, SeatFits, SeatHand, SeatOwns, Placed, WaitsAreMet, KeepsContent}
 use Rattle.law_headline.proofs.ContentFrames.{place-unmoved, owned-foreign, owned-taken, one-grip, grip-only}
-use Rattle.law_headline.proofs.Foreign.{Foreign}
+use Rattle.law_model.proofs.Foreign.{Foreign}
 use Rattle.law_headline.proofs.HandFacts.{NoMap, FoundMap, HandFits, no-map-filter}
 use Rattle.law_headline.proofs.Harmless.{Harmless, Yields, harmless-answers, harmless-foreign, yields-answers, yields-stays, yields-foreign}
 use Rattle.law_headline.proofs.Held.{attached_of, Regime, Without, With, ModelRuns, Looks, HasImage, IsOf, IsOn, HeldPart, IsDrop, IsFairEnd, Fair}
 use Rattle.law_headline.proofs.HeldCommands.{slot_no}
 use Rattle.law_headline.proofs.HeldFrames.{keeps-foreign}
 use Rattle.law_headline.proofs.Journals.{HoldsSlot}
-use Rattle.law_headline.proofs.ModelFacts.{Sound, sound-all}
-use Rattle.law_headline.proofs.Owners.{owner-cases}
+use Rattle.law_model.proofs.ModelFacts.{sound-all}
+use Rattle.law_model.specs.Sound.{Sound}
+use Rattle.law_model.proofs.Owners.{owner-cases}
 use Rattle.law_headline.proofs.PlacedByKind.{placed-moves}
-use Rattle.law_headline.proofs.Replied.{IsAmongSlots, Names, IsDropping, sessions_after, sessions_sorted, not-own, ending-refusal, sessions-replied, running-replied, unmoved-replied, away-same, away-foreign, replied-others, dropping-disowned, attach-left}
+use Rattle.law_model.proofs.Replied.{IsAmongSlots, Names, IsDropping, sessions_after, sessions_sorted, not-own, ending-refusal, sessions-replied, running-replied, unmoved-replied, away-same, away-foreign, replied-others, dropping-disowned, attach-left}
 
 -- a command names an image, or doesn't
 names-among : (i : ℕ) (slots : List ℕ) → (IsAmongSlots i slots) ⊎ (IsAmongSlots i slots → ⊥)

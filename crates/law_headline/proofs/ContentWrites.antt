@@ -48,7 +48,7 @@ use Rattle.law_headline.proofs.Journals.{HoldsSlot, Same}
 use Rattle.law_headline.proofs.BytesByKind.{OnlyBytes, only-lands}
 use Rattle.law_headline.proofs.MapFacts.{IsMapSpelled, map-write}
 use Rattle.law_headline.proofs.PlacedByKind.{KeepsAll, PlacedBy, placed-moves}
-use Rattle.law_headline.proofs.Replied.{Names}
+use Rattle.law_model.proofs.Replied.{Names}
 use Rattle.law_headline.proofs.WaitsByKind.{WaitsOn, waits-asked, waits-lands, waits-others}
 
 -- a journal's write that is waited for is one of the named image

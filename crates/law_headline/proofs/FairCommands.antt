@@ -48,7 +48,7 @@ use Rattle.law_headline.proofs.Held.{attached_of, Backs, is_below, just_at, Fair
 use Rattle.law_headline.proofs.HeldCommands.{slot_no, size-tells}
 use Rattle.plx_gate.proofs.Leases.{lease-back, length-lease}
 use Rattle.law_lease.proofs.LawfulCommands.{IsRest, length-labelled}
-use Rattle.law_headline.proofs.Replied.{Names, sessions_after}
+use Rattle.law_model.proofs.Replied.{Names, sessions_after}
 
 -- ---- a command of an attached image
 

@@ -24,7 +24,7 @@ use Rattle.law_headline.proofs.Harmless.{Harmless}
 use Rattle.law_headline.proofs.Harmless as harmless
 use Rattle.law_headline.proofs.Held.{attached_of, IsBacking, Backs, is_below, are_below, is_some_slot, just_at, Fair}
 use Rattle.law_headline.proofs.HeldCommands.{lost-listed}
-use Rattle.law_headline.proofs.Replied.{IsAmongSlots, Names, IsDropping, sessions_after}
+use Rattle.law_model.proofs.Replied.{IsAmongSlots, Names, IsDropping, sessions_after}
 use Rattle.std.proofs.Math.Bool.{and-true}
 
 -- ---- what is held

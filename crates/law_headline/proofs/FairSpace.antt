@@ -36,7 +36,7 @@ use Rattle.law_headline.proofs.Harmless.{Harmless}
 use Rattle.law_headline.proofs.Harmless as harmless
 use Rattle.law_headline.proofs.Held.{IsSpelled, attached_of, Backs, IsDrop, just_at}
 use Rattle.law_headline.proofs.MapFacts.{map-read, set-spelled, clear-spelled}
-use Rattle.law_headline.proofs.Replied.{not-own, sessions_after, sessions_sorted}
+use Rattle.law_model.proofs.Replied.{not-own, sessions_after, sessions_sorted}
 
 -- after a refusal that ends no sessions the sessions are those before
 refused-sessions : (command : Command) (r : Reply) (f : ℕ → Bool) (k : ℕ) → (number_of r == 0) ≡ false → ends_sessions (number_of r) ≡ false → sessions_after command r f k ≡ f k

@@ -14,10 +14,10 @@ use Rattle.plx_commands.specs.declared.reply.Reply.{Reply}
 use Rattle.plx_commands.specs.declared.reply.Reply.TheVariants.{Detached, Reserved, Renewed, Retired, Reclaimed, NotAttached, AlreadyAttached, NoImage, WornOut}
 use Rattle.plx_commands.proofs.Accepted.{Answers, ok-answers, other-answers, founded-answers, among-more, among-later}
 use Rattle.plx_base.proofs.Tests.{nat_le-true}
-use Rattle.law_headline.proofs.Foreign.{Foreign, foreign-same, foreign-back, refused-foreign, back-at}
-use Rattle.law_headline.proofs.ModelFacts.{Sound}
-use Rattle.law_headline.proofs.Owners.{owns-is}
-use Rattle.law_headline.proofs.Replied.{ending-refusal, refused-given, dropping-forgotten, IsDropping}
+use Rattle.law_model.proofs.Foreign.{Foreign, foreign-same, foreign-back, refused-foreign, back-at}
+use Rattle.law_model.specs.Sound.{Sound}
+use Rattle.law_model.proofs.Owners.{owns-is}
+use Rattle.law_model.proofs.Replied.{ending-refusal, refused-given, dropping-forgotten, IsDropping}
 
 -- a refusal that rests on no fact of the model, and ends no sessions: it gives the command's change up
 pub data Yields : Command → Reply → Type 0 where

@@ -29,9 +29,9 @@ use Rattle.plx_rules.specs.Session.{Session, Known}
 use Rattle.law_headline.proofs.Harmless.{Harmless, Yields}
 use Rattle.law_headline.proofs.Journals.{IsJournal, IsShown, ShowEither, HoldsSlot}
 use Rattle.law_headline.proofs.MapFacts.{IsMapSpelled}
-use Rattle.law_headline.proofs.ModelFacts.{Differs}
+use Rattle.law_model.specs.Sound.{Differs}
 use Rattle.law_headline.proofs.BytesByKind.{OnlyBytes}
-use Rattle.law_headline.proofs.Replied.{Names, IsDropping, sessions_after}
+use Rattle.law_model.proofs.Replied.{Names, IsDropping, sessions_after}
 
 -- of which slots there is a session
 abbrev pub attached_of : Known → ℕ → Bool

@@ -24,7 +24,7 @@ use Rattle.law_headline.proofs.Held.{Without, With, HeldPart}
 use Rattle.law_headline.proofs.HeldCommands.{slot_no, held-in-time, load-attaches}
 use Rattle.law_headline.proofs.HeldSessions.{keeps-with, held-detach, held-attach, held-read, held-write, held-create, held-delete}
 use Rattle.law_headline.proofs.Journals.{IsJournal, IsShown}
-use Rattle.law_headline.proofs.Replied.{Names}
+use Rattle.law_model.proofs.Replied.{Names}
 
 -- the change that an owner's command puts under way
 abbrev pub IsBegunChange : Command → Image → Option Image → Type 0

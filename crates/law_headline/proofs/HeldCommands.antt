@@ -40,7 +40,7 @@ use Rattle.law_headline.proofs.Held.{Regime, Without, Looks, HasImage, HeldPart}
 use Rattle.plx_gate.proofs.Images.{image-back}
 use Rattle.law_headline.proofs.JournalFacts.{finding-commit}
 use Rattle.law_headline.proofs.Journals.{IsJournal, IsShown, ShowEither, HoldsSlot}
-use Rattle.law_headline.proofs.ModelFacts.{Differs}
+use Rattle.law_model.specs.Sound.{Differs}
 use Rattle.law_lease.proofs.Latest.{latest-push}
 use Rattle.law_headline.proofs.StoredFacts.{plain-taken}
 

@@ -17,11 +17,11 @@ use Rattle.plx_rules.specs.Journaled.{Journaled}
 use Rattle.plx_rules.specs.Ends.{End}
 use Rattle.plx_rules.specs.Session.{Session, Known}
 use Rattle.law_headline.proofs.BytesByKind.{OnlyBytes}
-use Rattle.law_headline.proofs.Foreign.{Foreign}
+use Rattle.law_model.proofs.Foreign.{Foreign}
 use Rattle.law_headline.proofs.Held.{Regime, Without, With, LooksSlot, Looks, HasImage, IsOf, HeldPart}
 use Rattle.law_headline.proofs.JournalFacts.{IsJournal-same, Keeps-same}
 use Rattle.law_headline.proofs.Journals.{IsShown, ShowEither, HoldsSlot, Same}
-use Rattle.law_headline.proofs.ModelFacts.{Differs}
+use Rattle.law_model.specs.Sound.{Differs}
 
 -- ---- what a journal shows of a slot that another appliance's entry left
 

@@ -49,8 +49,8 @@ use Rattle.law_headline.proofs.HeldFrames.{same-all}
 use Rattle.law_headline.proofs.ImageFacts.{image-drop}
 use Rattle.law_headline.proofs.JournalFacts.{IsJournal-data, IsJournal-same, IsJournal-more, IsJournal-made, kept-limits}
 use Rattle.law_headline.proofs.Journals.{IsJournal, IsShown, HoldsSlot}
-use Rattle.law_headline.proofs.Owners.{owns-own}
-use Rattle.law_headline.proofs.Replied.{refused-given}
+use Rattle.law_model.proofs.Owners.{owns-own}
+use Rattle.law_model.proofs.Replied.{refused-given}
 use Rattle.law_headline.proofs.HeldCommands.{slot_no, held-ends, shown-more, size-tells}
 
 -- the change that a command gives up is this slot's, or it has none

@@ -25,7 +25,7 @@ use Rattle.law_headline.proofs.Held.{Regime, IsWith, Looks, IsOf, HeldPart, IsNa
 use Rattle.law_headline.proofs.Journals.{HoldsSlot, Same}
 use Rattle.law_headline.proofs.BytesByKind.{OnlyBytes}
 use Rattle.law_headline.proofs.PlacedByKind.{KeepsImage, PlacedBy}
-use Rattle.law_headline.proofs.Replied.{Names}
+use Rattle.law_model.proofs.Replied.{Names}
 use Rattle.plx_base.proofs.Tests.{same-some}
 
 -- ---- by kind

@@ -10,7 +10,6 @@ pub mod FairAttach
 pub mod FairCommands
 pub mod FairParts
 pub mod FairSpace
-pub mod Foreign
 pub mod HandFacts
 pub mod Harmless
 pub mod HeadlineProved
@@ -25,10 +24,7 @@ pub mod JournalFacts
 pub mod JournalOne
 pub mod Journals
 pub mod MapFacts
-pub mod ModelFacts
-pub mod Owners
 pub mod PlacedByKind
-pub mod Replied
 pub mod StoredFacts
 pub mod WaitsByKind
 pub mod TreeRules

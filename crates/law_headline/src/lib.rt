@@ -20,8 +20,8 @@ pub fn never_damaged()
     ensures { NeverDamaged }
 {}
 
-/// A crash leaves exactly the fresh appliance of the next boot, and changes no other appliance and no
-/// write.
+/// A crash leaves the fresh appliance of the next boot, whose number is new, and changes no other
+/// appliance and no write.
 pub fn crash_leaves_a_fresh_boot()
     ensures { CrashesLeaveFreshBoots }
 {}

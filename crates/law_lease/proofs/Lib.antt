@@ -1,3 +1,4 @@
+pub mod Boots
 pub mod Covers
 pub mod Homes
 pub mod Latest

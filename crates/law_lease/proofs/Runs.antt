@@ -16,13 +16,14 @@ use Rattle.plx_disk.specs.Writes.{Issued, all_sectors}
 use Rattle.plx_rules.specs.Part.{Part, Ends, ReadThen, WriteThen, ClockThen, UntilThen}
 use Rattle.plx_rules.specs.Boot as boot
 use Rattle.plx_rules.specs.Boot.{Happening, Place, Idle, Begins, In, asks, writes_out, IsRun}
+use Rattle.plx_rules.specs.Boots.{BootsRun}
 use Rattle.plx_rules.specs.Ends.{End}
 use Rattle.plx_rules.specs.Sequences as play
 use Rattle.plx_rules.specs.Sequences.{missing_sector, next_sector, next_of_sector, next_landing, next_of_write, next_of_part, next_at, next_event, stops, Runs, RunsPartly, Makes, IsPlayed, Plays, MakesPartly, PlaysPartly, RunsGoOn, PlayedIsReached}
 use Rattle.plx_rules.specs.Session.{Known}
 use Rattle.plx_rules.specs.Settings.{boot_number}
 use Rattle.plx_rules.specs.World as world
-use Rattle.plx_rules.specs.World.{World, Seat, Step, Reached, BootsRun, IsReadingAt, IsBack, setting_at, setting_of, stands, is_boot_of, issued_by}
+use Rattle.plx_rules.specs.World.{World, Seat, Step, Reached, IsReadingAt, IsBack, setting_at, setting_of, stands, is_boot_of, issued_by}
 use Rattle.law_lease.proofs.LeaseSteps.{reached-leased}
 use Rattle.law_lease.proofs.Leased.{IsAskedAt, Leased}
 use Rattle.plx_base.proofs.Tests.{nat_le-past, nat_le-tells, same-some}

@@ -6,10 +6,10 @@
 
 ghost use Rattle.law_lease.specs.FirstDevice.{HasFormatted};
 ghost use Rattle.law_lease.specs.TakenOver.{TakenOver};
+ghost use Rattle.plx_rules.specs.Boots.{BootsHaveNumbers, BootsRun};
 ghost use Rattle.plx_rules.specs.Homes.{RestsAsNeeded, WritesHaveHomes};
 ghost use Rattle.plx_rules.specs.Owners.{Exclusion, Guarding};
 ghost use Rattle.plx_rules.specs.Sequences.{PlayedIsReached, RunsGoOn};
-ghost use Rattle.plx_rules.specs.World.{BootsRun};
 
 /// At most one boot owns a lease, the root's, an image's or an extent's.
 pub fn exclusion()
@@ -35,6 +35,11 @@ pub fn guarding()
 /// The log of each boot is a run: each answer was to the ask that stood.
 pub fn boots_run()
     ensures { BootsRun }
+{}
+
+/// Each boot has a number of its own, and the owner of each issued write is the number of a boot.
+pub fn boots_have_numbers()
+    ensures { BootsHaveNumbers }
 {}
 
 /// A run of an appliance is never stuck: its next event is possible.

@@ -5,7 +5,16 @@ use Rattle.plx_rules.specs.World.{World, Reached, setting_of, stands}
 use Rattle.law_run.specs.CommandLogs.{commands}
 use Rattle.law_run.specs.Rules.{KeepsRules}
 
--- in every world that events lead to, the log of each appliance's boot keeps the rules
+-- the log of an appliance's boot keeps the rules
+abbrev pub BootKeepsRules : World → (appliance : ℕ) → Type 0
+BootKeepsRules w appliance =
+    KeepsRules (setting_of w appliance) (commands (setting_of w appliance) (w.seats appliance).log)
+    (asks (stands w appliance).place) (writes_out (stands w appliance).place)
+
+-- the log of each appliance's boot does
+abbrev pub AllKeepRules : World → Type 0
+AllKeepRules w = (appliance : ℕ) → appliance < w.appliances → BootKeepsRules w appliance
+
+-- they do in every world that events lead to
 abbrev pub BootsKeepRules : Type 0
-BootsKeepRules = (w : World) → Reached w → (appliance : ℕ) → appliance < w.appliances →
-    KeepsRules (setting_of w appliance) (commands (setting_of w appliance) (w.seats appliance).log) (asks (stands w appliance).place) (writes_out (stands w appliance).place)
+BootsKeepRules = (w : World) → Reached w → AllKeepRules w

@@ -7,9 +7,11 @@ ghost use Rattle.plx_commands.specs.declared.event.Event.{Event};
 ghost use Rattle.plx_port.specs.Faults.{Rose};
 ghost use Rattle.plx_port.specs.Streams.{TakesCount};
 ghost use Rattle.plx_geom.specs.Geometry.{Geometry};
+ghost use Rattle.plx_rules.specs.Boots.{BootsHaveNumbers, BootsRun};
 ghost use Rattle.plx_rules.specs.Headline.{HeadlineOfAll, NeverDamaged};
 ghost use Rattle.plx_rules.specs.Owners.{Exclusion, Guarding};
 ghost use Rattle.plx_rules.specs.Pools.{GivesClear, HandsAllocated, HandsApart, TakesSet};
+ghost use Rattle.plx_rules.specs.Reachable.{OneLevel, OnePath, ReachableAllocated};
 ghost use Rattle.plx_text.specs.Once.{ScheduleOnce, TraceOnce};
 ghost use Rattle.plx_text.specs.Schedules.{IsSchedule, schedule_grammar};
 ghost use Rattle.plx_words.specs.Files.{IsFirstBad};
@@ -18,8 +20,10 @@ use crate::once::told_once;
 use crate::replay::replay;
 use crate::status::Status;
 use crate::words::is_replay;
-use law_headline::{crash_leaves_a_fresh_boot, headline, never_damaged};
-use law_lease::{exclusion, guarding};
+use law_headline::{
+    crash_leaves_a_fresh_boot, headline, never_damaged, reachable_blocks_are_allocated,
+};
+use law_lease::{boots_have_numbers, boots_run, exclusion, guarding};
 use law_run::boots_keep_rules;
 use law_space::{gives_clear, hands_are_allocated, hands_are_apart, takes_set};
 use plx_port::{Failed, ReadError, Sink, Source, read_all, write_all};
@@ -50,8 +54,13 @@ pub fn run<S: Source, K: Sink>(
     ensures apart { HandsApart }
     ensures takes { TakesSet }
     ensures gives { GivesClear }
-    ensures crash { CrashesLeaveFreshBoots }
+    ensures reachable { ReachableAllocated }
+    ensures levels { OneLevel }
+    ensures paths { OnePath }
+    ensures logs { BootsRun }
     ensures rules { BootsKeepRules }
+    ensures numbers { BootsHaveNumbers }
+    ensures crash { CrashesLeaveFreshBoots }
     ensures once { TraceOnce }
     ensures told { ToldOnce }
     ensures schedule { ScheduleOnce }
@@ -101,8 +110,11 @@ pub fn run<S: Source, K: Sink>(
     hands_are_apart();
     takes_set();
     gives_clear();
-    crash_leaves_a_fresh_boot();
+    reachable_blocks_are_allocated();
+    boots_run();
     boots_keep_rules();
+    boots_have_numbers();
+    crash_leaves_a_fresh_boot();
     trace_once();
     schedule_once();
     told_once();

@@ -8,7 +8,7 @@ use plx_base::NoMemory;
 use plx_commands::Event;
 use plx_geom::Geometry;
 use plx_text::{Text, TextError, print_bad_line, print_trace, read_schedule};
-use plx_world::{World, laws};
+use plx_world::World;
 use std::alloc::{AllocError, Global};
 
 /// What is to be written, and the status once it is.
@@ -58,7 +58,6 @@ fn play(
     requires high { appliances ≤ 8 }
     ensures { IfOk result (λ text. IsTold (geometry, appliances) events.now text) }
 {
-    laws();
     let mut world = World::new(alloc, geometry, appliances)?;
     world.play(events)?;
     let reachable = world.reachable()?;

@@ -23,6 +23,7 @@ pub mod Pools
 pub mod Formatted
 pub mod Owners
 pub mod World
+pub mod Boots
 pub mod Headline
 pub mod Sequences
 pub mod Stored

@@ -16,7 +16,7 @@ use Rattle.plx_disk.specs.declared.ask.Answer.TheVariants as answer
 use Rattle.plx_geom.specs.Geometry.{Geometry, IsGeometry, block_count}
 use Rattle.plx_commands.specs.Places.{at}
 use Rattle.plx_rules.specs.Part.{Part, Ends, ReadThen, WriteThen, ClockThen, UntilThen}
-use Rattle.plx_rules.specs.Boot.{Happening, Began, Asked, Idle, Begins, In, Position, position, first_part, IsRun}
+use Rattle.plx_rules.specs.Boot.{Happening, Began, Asked, Idle, Begins, In, Position, position, first_part}
 use Rattle.plx_rules.specs.Commands.{IsBuilt, IsWellFormed}
 use Rattle.plx_rules.specs.Ends.{End}
 use Rattle.plx_rules.specs.Formatted.{IsFormatted}
@@ -204,7 +204,3 @@ pub data Reached : World → Type 0 where
   first : {g : Geometry} {appliances : ℕ} {device : Device} → IsGeometry g → 1 ≤ appliances → appliances ≤ 8 → IsFormatted g device →
       Reached (first_world g appliances device)
   later : {w v : World} {event : Event} → Reached w → Step w event v → Reached v
-
--- in every world that events lead to, the log of each appliance's boot is a run
-abbrev pub BootsRun : Type 0
-BootsRun = (w : World) → Reached w → (appliance : ℕ) → appliance < w.appliances → IsRun (setting_of w appliance) (w.seats appliance).log

@@ -9,9 +9,9 @@ use Rattle.plx_rules.specs.Sequences.{Runs, ends, goes, RunsPartly, none_yet, mo
 use Rattle.plx_rules.specs.Sequences as sequences
 use Rattle.plx_rules.specs.World as rules
 use Rattle.plx_rules.specs.World.{Reached, Step, setting_of}
-use Rattle.law_lease.proofs.Runs.{played-reached}
+use Rattle.law_lease.proofs.Runs.{played-reached, reached-plays}
 use Rattle.plx_world.specs.Bounds.{most_asks}
-use Rattle.plx_world.specs.Playing.{Leads, LeadsPartly, PlaysAll, PlaysSome}
+use Rattle.plx_world.specs.Playing.{IsLawful, LawsHold, Leads, LeadsPartly, LeadsTo, LeavesFreshBoot, PlaysAll, PlaysSome}
 use Rattle.plx_world.specs.Running.{RunGoesOn, IsFewer, IsOver, MakesRun, RunsSome, RunsWhole}
 use Rattle.plx_world.specs.Standing.{WorldStands, StandsOn, Steps}
 use Rattle.plx_world.specs.declared.world.World.{World}
@@ -31,12 +31,64 @@ plain-step p (plain step) = step
 plain-step p (runs appliance one next step rest) = cc
 plain-step p (runs_upto appliance stop one next step rest) = cc
 
-pub leads-plain : (old new : World) (one : Event) (possible : Bool) → is_plain_event one ≡ true → Steps old new one possible → Leads old new one possible
-leads-plain old new one true p steps w h = let found = steps w h in (found.0, plain found.1, found.2)
-leads-plain old new one false p steps w h = let found = steps w h in ((λ v makes. found.0 v (plain-step p makes)), found.1)
+-- ---- what is reached
 
-pub partly-plain : (old new : World) (one : Event) → StandsOn old new → LeadsPartly old new one
-partly-plain old new one stays w h = (w, nothing, stays w h)
+reached-makes : {w v : rules.World} {one : Event} → Reached w → Makes w one v → Reached v
+reached-makes {w} {v} {one} reached makes = played-reached w v (one ∷ []) reached (sequences.PlaysPartly.next (made makes) sequences.PlaysPartly.over)
+
+reached-partly : {w v : rules.World} {one : Event} → Reached w → MakesPartly w one v → Reached v
+reached-partly {w} {v} {one} reached makes = played-reached w v (one ∷ []) reached (sequences.PlaysPartly.within makes)
+
+-- ---- the laws of what a call leads to
+
+-- they hold of a world that events lead to
+lawful : LawsHold → {w : rules.World} → Reached w → IsLawful w
+lawful laws {w} reached = record {
+  reached = reached;
+  headline = laws.headline w reached;
+  undamaged = laws.undamaged w reached;
+  exclusion = laws.exclusion w reached;
+  guarding = laws.guarding w reached;
+  allocated = laws.allocated w reached;
+  apart = laws.apart w reached;
+  takes = laws.takes w reached;
+  gives = laws.gives w reached;
+  reachable = laws.reachable w reached;
+  levels = laws.levels w reached;
+  paths = laws.paths w reached;
+  logs = laws.logs w reached;
+  rules = laws.rules w reached;
+  numbers = laws.numbers w reached;
+}
+
+leads-to : LawsHold → {new : World} {w v : rules.World} → WorldStands new v → (Reached w → Reached v) → LeadsTo new w v
+leads-to laws h on = record { stands = h; lawful = λ reached. lawful laws (on reached) }
+
+-- a call that has changed nothing
+leads-nowhere : LawsHold → {new : World} {w : rules.World} → WorldStands new w → LeadsTo new w w
+leads-nowhere laws h = leads-to laws h (λ reached. reached)
+
+leaves-fresh : LawsHold → (w v : rules.World) (one : Event) → Makes w one v → LeavesFreshBoot one w v
+leaves-fresh laws w v (event.Crash a) makes = λ reached. laws.crash w v reached a (plain-step refl makes)
+leaves-fresh laws w v other makes = tt
+
+-- an event that was made
+abbrev IsMade : World → Event → (w v : rules.World) → Type 0
+IsMade new one w v = Makes w one v × LeavesFreshBoot one w v × LeadsTo new w v
+
+is-made : LawsHold → (new : World) (one : Event) (w v : rules.World) → Makes w one v → WorldStands new v → IsMade new one w v
+is-made laws new one w v makes h = (makes, leaves-fresh laws w v one makes, leads-to laws h (λ reached. reached-makes reached makes))
+
+-- ---- what an event leads to
+
+pub leads-plain : LawsHold → (old new : World) (one : Event) (possible : Bool) → is_plain_event one ≡ true → Steps old new one possible → Leads old new one possible
+leads-plain laws old new one true p steps w h =
+    let found = steps w h in
+    let is = is-made laws new one w found.0 (plain found.1) found.2 in (found.0, is.0, is.1, is.2)
+leads-plain laws old new one false p steps w h = let found = steps w h in ((λ v makes. found.0 v (plain-step p makes)), leads-nowhere laws found.1)
+
+pub partly-plain : LawsHold → (old new : World) (one : Event) → StandsOn old new → LeadsPartly old new one
+partly-plain laws old new one stays w h = (w, nothing, leads-nowhere laws (stays w h))
 
 -- ---- runs
 
@@ -56,44 +108,43 @@ upto-over : (w v : rules.World) (a : ApplianceNo) (stop : Stop) → IsOver a (So
 upto-over w v a stop over (plain step) = step-upto step
 upto-over w v a stop over (runs_upto appliance s one next step rest) = let both = sym (over (run-there w a (Some stop) one next step)) ∙ next in cc
 
-pub leads-run : (old new : World) (a : ApplianceNo) (possible : Bool) → MakesRun a None old new possible → Leads old new (event.Run a) possible
-leads-run old new a true makes w h =
-    let found = (makes w h).1 in ((makes w h).0, runs a found.one found.next found.step found.rest, found.stands)
-leads-run old new a false makes w h = let found = makes w h in ((λ v m. run-over w v a found.0 m), found.1)
+pub leads-run : LawsHold → (old new : World) (a : ApplianceNo) (possible : Bool) → MakesRun a None old new possible → Leads old new (event.Run a) possible
+leads-run laws old new a true makes w h =
+    let v = (makes w h).0 in
+    let found = (makes w h).1 in
+    let is = is-made laws new (event.Run a) w v (runs a found.one found.next found.step found.rest) found.stands in (v, is.0, is.1, is.2)
+leads-run laws old new a false makes w h = let found = makes w h in ((λ v m. run-over w v a found.0 m), leads-nowhere laws found.1)
 
-pub leads-upto : (old new : World) (a : ApplianceNo) (stop : Stop) (possible : Bool) → MakesRun a (Some stop) old new possible → Leads old new (event.Upto a stop) possible
-leads-upto old new a stop true makes w h =
-    let found = (makes w h).1 in ((makes w h).0, runs_upto a stop found.one found.next found.step found.rest, found.stands)
-leads-upto old new a stop false makes w h = let found = makes w h in ((λ v m. upto-over w v a stop found.0 m), found.1)
+pub leads-upto : LawsHold → (old new : World) (a : ApplianceNo) (stop : Stop) (possible : Bool) → MakesRun a (Some stop) old new possible → Leads old new (event.Upto a stop) possible
+leads-upto laws old new a stop true makes w h =
+    let v = (makes w h).0 in
+    let found = (makes w h).1 in
+    let is = is-made laws new (event.Upto a stop) w v (runs_upto a stop found.one found.next found.step found.rest) found.stands in (v, is.0, is.1, is.2)
+leads-upto laws old new a stop false makes w h = let found = makes w h in ((λ v m. upto-over w v a stop found.0 m), leads-nowhere laws found.1)
 
-pub partly-run : (old new : World) (a : ApplianceNo) → RunsSome a None old new → LeadsPartly old new (event.Run a)
-partly-run old new a some w h = let found = some w h in (found.0, of_run a found.1, found.2)
+-- some events of a run
+leads-part : LawsHold → (new : World) (one : Event) (w v : rules.World) → MakesPartly w one v → WorldStands new v → LeadsTo new w v
+leads-part laws new one w v partly h = leads-to laws h (λ reached. reached-partly reached partly)
 
-pub partly-upto : (old new : World) (a : ApplianceNo) (stop : Stop) → RunsSome a (Some stop) old new → LeadsPartly old new (event.Upto a stop)
-partly-upto old new a stop some w h = let found = some w h in (found.0, of_upto a stop found.1, found.2)
+pub partly-run : LawsHold → (old new : World) (a : ApplianceNo) → RunsSome a None old new → LeadsPartly old new (event.Run a)
+partly-run laws old new a some w h =
+    let found = some w h in (found.0, of_run a found.1, leads-part laws new (event.Run a) w found.0 (of_run a found.1) found.2)
 
--- ---- what is reached
-
-pub reached-makes : {w v : rules.World} {one : Event} → Reached w → Makes w one v → Reached v
-reached-makes {w} {v} {one} reached makes = played-reached w v (one ∷ []) reached (sequences.PlaysPartly.next (made makes) sequences.PlaysPartly.over)
-
-pub reached-partly : {w v : rules.World} {one : Event} → Reached w → MakesPartly w one v → Reached v
-reached-partly {w} {v} {one} reached makes = played-reached w v (one ∷ []) reached (sequences.PlaysPartly.within makes)
-
-partly-of-plays : {w v : rules.World} (events : List Event) → Plays w events v → PlaysPartly w events v
-partly-of-plays [] sequences.Plays.over = sequences.PlaysPartly.over
-partly-of-plays (e ∷ events) (sequences.Plays.next first rest) = sequences.PlaysPartly.next first (partly-of-plays events rest)
-
-pub plays-to-reached : {w v : rules.World} (events : List Event) → Reached w → Plays w events v → Reached v
-plays-to-reached {w} {v} events reached plays = played-reached w v events reached (partly-of-plays events plays)
+pub partly-upto : LawsHold → (old new : World) (a : ApplianceNo) (stop : Stop) → RunsSome a (Some stop) old new → LeadsPartly old new (event.Upto a stop)
+partly-upto laws old new a stop some w h =
+    let found = some w h in (found.0, of_upto a stop found.1, leads-part laws new (event.Upto a stop) w found.0 (of_upto a stop found.1) found.2)
 
 -- ---- schedules
 
 -- one more event
 leads-on : (old new : World) (one : Event) (possible : Bool) → Leads old new one possible → (w : rules.World) → WorldStands old w →
-    (v : rules.World) × IsPlayed w one v × WorldStands new v
-leads-on old new one true leads w h = let found = leads w h in (found.0, made found.1, found.2)
+    (v : rules.World) × IsPlayed w one v × LeadsTo new w v
+leads-on old new one true leads w h = let found = leads w h in (found.0, made found.1, found.3)
 leads-on old new one false leads w h = let found = leads w h in (w, skipped found.0, found.1)
+
+-- what is led to from a world that events lead to, and on from there
+leads-along : (old new : World) (w u v : rules.World) → (Reached w → Reached u) → LeadsTo new u v → LeadsTo new w v
+leads-along old new w u v on last = record { stands = last.stands; lawful = λ reached. last.lawful (on reached) }
 
 plays-append : {w u v : rules.World} (events : List Event) (one : Event) → Plays w events u → IsPlayed u one v → Plays w (events ++ one ∷ []) v
 plays-append [] one sequences.Plays.over p = sequences.Plays.next p sequences.Plays.over
@@ -103,8 +154,8 @@ pub plays-more : (first old new : World) (events : List Event) (one : Event) (po
     PlaysAll first new (events ++ one ∷ [])
 plays-more first old new events one possible plays leads w h =
     let so_far = plays w h in
-    let last = leads-on old new one possible leads so_far.0 so_far.2 in
-    (last.0, plays-append events one so_far.1 last.1, last.2)
+    let last = leads-on old new one possible leads so_far.0 so_far.2.stands in
+    (last.0, plays-append events one so_far.1 last.1, leads-along old new w so_far.0 last.0 (λ reached. reached-plays so_far.1 reached) last.2)
 
 some-append : {w u v : rules.World} (events others : List Event) (one : Event) → Plays w events u → MakesPartly u one v → PlaysPartly w (events ++ one ∷ others) v
 some-append [] others one sequences.Plays.over p = sequences.PlaysPartly.within p
@@ -114,12 +165,12 @@ pub plays-some : (first old new : World) (events others : List Event) (one : Eve
     PlaysSome first new (events ++ one ∷ others)
 plays-some first old new events others one plays leads w h =
     let so_far = plays w h in
-    let partly = leads so_far.0 so_far.2 in
-    (partly.0, some-append events others one so_far.1 partly.1, partly.2)
+    let partly = leads so_far.0 so_far.2.stands in
+    (partly.0, some-append events others one so_far.1 partly.1, leads-along old new w so_far.0 partly.0 (λ reached. reached-plays so_far.1 reached) partly.2)
 
 -- none yet
-pub plays-none : (world : World) → PlaysAll world world []
-plays-none world w h = (w, sequences.Plays.over, h)
+pub plays-none : LawsHold → (world : World) → PlaysAll world world []
+plays-none laws world w h = (w, sequences.Plays.over, leads-nowhere laws h)
 
 -- ---- a run, event by event
 

@@ -9,5 +9,4 @@ mod run;
 mod seat;
 mod world;
 
-pub use play::laws;
 pub use world::World;

@@ -2,8 +2,11 @@
 ghost use Rattle.plx_world.specs.Playing.{LawsHold};
 
 use crate::world::World;
-use law_headline::{headline, never_damaged};
-use law_lease::{exclusion, guarding};
+use law_headline::{
+    crash_leaves_a_fresh_boot, headline, never_damaged, reachable_blocks_are_allocated,
+};
+use law_lease::{boots_have_numbers, boots_run, exclusion, guarding};
+use law_run::boots_keep_rules;
 use law_space::{gives_clear, hands_are_allocated, hands_are_apart, takes_set};
 use plx_base::NoMemory;
 use plx_commands::Event;
@@ -11,14 +14,13 @@ use plx_disk::Answer;
 
 impl World {
     ghost use Rattle.std.specs.Prelude.{IfOk, OnOk, OnErr};
-    ghost use Rattle.plx_world.specs.Playing.{KeepsLaws, Leads, LeadsPartly, PlaysAll, PlaysSome};
+    ghost use Rattle.plx_world.specs.Playing.{Leads, LeadsPartly, PlaysAll, PlaysSome};
 
     /// One event. False, and nothing changes, exactly where it isn't possible. Without memory a plain event changes nothing,
     /// and the plain events of a `run` or an `upto` that were made before stand.
     pub fn step(&mut self, event: &Event) -> Result<bool, NoMemory>
         ensures ok { IfOk result (Leads self.old self.new event.now) }
         ensures err { OnErr result (LeadsPartly self.old self.new event.now) }
-        ensures laws { KeepsLaws self.old self.new }
     {
         laws();
         self.make(event, &mut Answer::Done)
@@ -29,7 +31,6 @@ impl World {
     pub fn play(&mut self, events: &[Event]) -> Result<(), NoMemory>
         ensures ok { OnOk result (PlaysAll self.old self.new events.now) }
         ensures err { OnErr result (PlaysSome self.old self.new events.now) }
-        ensures laws { KeepsLaws self.old self.new }
     {
         laws();
         // One block serves all reads.
@@ -40,8 +41,9 @@ impl World {
         Ok(())
     }
 
-    // One event.
+    // One event, where the laws hold.
     fn make(&mut self, event: &Event, buffer: &mut Answer) -> Result<bool, NoMemory>
+        requires { LawsHold }
         ensures ok { IfOk result (Leads self.old self.new event.now) }
         ensures err { OnErr result (LeadsPartly self.old self.new event.now) }
     {
@@ -66,9 +68,11 @@ impl World {
     }
 }
 
-/// What holds of all worlds that events lead to: the headline, no reply of bytes outside the format, one owner a
-/// lease, no late write that disturbs an owner, and blocks in hand that are allocated and in one hand each.
-pub fn laws()
+// What holds of all worlds that events lead to: the headline, no reply of bytes outside the format, one owner a
+// lease, no late write that disturbs an owner, blocks in hand that are allocated and in one hand each, trees on
+// allocated blocks, boots whose logs are runs that keep the rules and whose numbers are their own, and crashes
+// that leave fresh boots.
+fn laws()
     ensures { LawsHold }
 {
     headline();
@@ -79,4 +83,9 @@ pub fn laws()
     hands_are_apart();
     takes_set();
     gives_clear();
+    reachable_blocks_are_allocated();
+    boots_run();
+    boots_keep_rules();
+    boots_have_numbers();
+    crash_leaves_a_fresh_boot();
 }

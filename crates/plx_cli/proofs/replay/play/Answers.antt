@@ -1,6 +1,4 @@
 use Rattle.std.proofs.Common.{List, ℕ, Result, Ok, Err, IfOk}
-use Rattle.plx_rules.specs.World as rules
-use Rattle.plx_world.proofs.Made.{lawful}
 use Rattle.plx_cli.proofs.Told.{world-told}
 use Rattle.plx_cli.proofs.replay.play.Goals as goal
 
@@ -13,6 +11,6 @@ pub returns : goal.returns
 returns c =
     let made = c.in_ok-world.ensures in
     text-if-ok _ _ _ c.print_trace.result
-    (λ text is tells. world-told (λ (w : rules.World) reached. lawful c.laws.ensures reached) _ made.0 _ text _ _ _ c.in_ok-world.world c.play.new.self
+    (λ text is tells. world-told _ made.0 _ text _ _ _ c.in_ok-world.world c.play.new.self
     c.requires.geometry c.requires.low c.requires.high made.1 made.2 c.in_ok-play.ensures.ok c.trace.ensures c.in_ok-reachable.ensures c.allocated-allocated.ensures is tells)
     c.print_trace.ensures.text c.print_trace.ensures.tells

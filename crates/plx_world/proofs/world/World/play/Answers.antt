@@ -3,12 +3,12 @@ use Rattle.std.proofs.lemmas.List.{take_more}
 use Rattle.plx_commands.specs.declared.event.Event.{Event}
 use Rattle.plx_world.specs.Playing.{PlaysSome}
 use Rattle.plx_world.proofs.Answered.{on-err}
-use Rattle.plx_world.proofs.Made.{laws-plays, laws-some, parts-around}
+use Rattle.plx_world.proofs.Made.{parts-around}
 use Rattle.plx_world.proofs.Sequences.{plays-more, plays-none, plays-some}
 use Rattle.plx_world.proofs.world.World.play.Goals as goal
 
 pub loop-event-init : goal.loop-event-init
-loop-event-init c = plays-none c.args.self.now
+loop-event-init c = plays-none c.laws.ensures c.args.self.now
 
 pub loop-event-preserved : goal.loop-event-preserved
 loop-event-preserved c =
@@ -27,15 +27,3 @@ returns-in_err-make-clause-err c =
     let P : List Event → Type 0 = λ xs. PlaysSome c.args.self.now c.make.new.self xs in
     on-err _ _ (subst P (parts-around events i event (omega arith) c.event-item.is)
     (plays-some c.args.self.now c.loop-event.self c.make.new.self (take i events) (drop (suc i) events) event c.loop-event.invariant c.in_err-make.ensures.err))
-
-pub returns-in_err-make-clause-laws : goal.returns-in_err-make-clause-laws
-returns-in_err-make-clause-laws c =
-    let events = c.args.events.now in
-    let i = c.loop-event.event-index in
-    let event = c.event-item.result in
-    laws-some c.laws.ensures c.args.self.now c.make.new.self _
-    (plays-some c.args.self.now c.loop-event.self c.make.new.self (take i events) (drop (suc i) events) event c.loop-event.invariant c.in_err-make.ensures.err)
-
-pub returns-clause-laws : goal.returns-clause-laws
-returns-clause-laws c =
-    laws-plays c.laws.ensures c.args.self.now c.loop-event.self (take c.loop-event.event-index c.args.events.now) c.loop-event.invariant

@@ -5,7 +5,7 @@ use Rattle.std.proofs.lemmas.Bool.Decides.{eqb_tells}
 use Rattle.plx_base.specs.declared.numbers.SlotNo.{SlotNo}
 use Rattle.plx_commands.specs.Facts.{refusals, where_holds, where_is, of_none, is_none}
 use Rattle.plx_commands.specs.Images.{Image, report_of, count_dropped}
-use Rattle.plx_commands.specs.Judge.{Accepts, Permitted}
+use Rattle.plx_commands.specs.Judge.{Accepts}
 use Rattle.plx_commands.specs.Model.{Model, Slot, first_model, images_in, owns_all, has_all}
 use Rattle.plx_commands.specs.Moves.{under_way, slot_after_change, given_up, slot_after_attach, slot_without_owner, where_owned, begins_change, started_at, refused_at, done_at, model_at_rest, model_without_sessions, model_after_attach, model_after_detach, model_without_change, model_after_change, model_after_ok, model_after_sort, model_after_reply, replied_in, model_after_start, model_after, model_of}
 use Rattle.plx_commands.specs.Places.{at}
@@ -22,18 +22,8 @@ use Rattle.plx_commands.specs.declared.entry.Entry.TheVariants as entry
 use Rattle.plx_commands.proofs.Accepted.{Answers, answers-of}
 use Rattle.plx_commands.proofs.Places.{at-same, at-other, at-all}
 use Rattle.plx_base.proofs.Tests.{eqb-false, nat_lt-true, and-no, and-parts}
-use Rattle.law_headline.proofs.Owners.{owner-cases, disowned-not, disowned-other, changed-owned}
-
--- a change under way is reported otherwise than its image
-abbrev pub Differs : Slot → Type 0
-Differs slot = (i : Image) → slot.change ≡ Some i → same_report (report_of i) (report_of slot.image) ≡ false
-
--- an owned slot is one of the world's, its owner has a session, and a change of it is that of its owner's running command
-pub record Sound (m : Model) : Type 0 where
-  pub differs : (j : ℕ) → Differs (m.slots j)
-  pub within : (a j : ℕ) → (m.slots j).owner ≡ Some a → j < m.images
-  pub session : (a j : ℕ) → (m.slots j).owner ≡ Some a → m.sessions a j ≡ true
-  pub decided : (a j : ℕ) (i : Image) → (m.slots j).owner ≡ Some a → (m.slots j).change ≡ Some i → (c : Command) × (m.running a ≡ Some c) × (changed_slot c ≡ Some j)
+use Rattle.law_model.specs.Sound.{Differs, ModelsAreSound, Sound}
+use Rattle.law_model.proofs.Owners.{owner-cases, disowned-not, disowned-other, changed-owned}
 
 -- a slot after a reply to appliance a, whose session of it is this flag
 record After (a : ℕ) (flag inside : Type 0) (s t : Slot) : Type 0 where
@@ -282,7 +272,7 @@ sound-moved m (entry.Reply a reply) sound accepts = by_running (m.running a.0) r
     by_running None e = sound
     by_running (Some command) e = sound-replied m a.0 command reply sound e (answers-of m a command reply e accepts)
 
-pub sound-all : (images appliances : ℕ) (trace : List Entry) → Permitted (first_model images appliances) trace → Sound (model_of (first_model images appliances) trace)
+pub sound-all : ModelsAreSound
 sound-all images appliances [] permitted = record {
   differs = λ j i e. absurd (let P : ⊥ = cc in P);
   within = λ a j e. absurd (let P : ⊥ = cc in P);

@@ -15,8 +15,8 @@ use Rattle.plx_commands.specs.declared.reply.Reply.{Reply}
 use Rattle.plx_commands.specs.declared.reply.Reply.TheVariants.{Attached}
 use Rattle.plx_commands.proofs.OwnReplies.{own-zero}
 use Rattle.plx_commands.proofs.Places.{at-same, at-other, at-all}
-use Rattle.law_headline.proofs.Foreign.{Foreign, foreign-same, foreign-equal, foreign-back}
-use Rattle.law_headline.proofs.Owners.{disowned-not, disowned-other}
+use Rattle.law_model.proofs.Foreign.{Foreign, foreign-same, foreign-equal, foreign-back}
+use Rattle.law_model.proofs.Owners.{disowned-not, disowned-other}
 
 -- ---- numbers of replies
 

@@ -9,8 +9,8 @@ use Rattle.plx_commands.specs.Places.{at}
 use Rattle.plx_commands.specs.Slots.{named_slots, changed_slot, image_after}
 use Rattle.plx_commands.specs.declared.command.Command.{Command}
 use Rattle.plx_commands.proofs.Places.{at-all}
-use Rattle.law_headline.proofs.ModelFacts.{Sound}
-use Rattle.law_headline.proofs.Owners.{owner-cases, disowned-other, disowned-stranger, changed-owned}
+use Rattle.law_model.specs.Sound.{Sound}
+use Rattle.law_model.proofs.Owners.{owner-cases, disowned-other, disowned-stranger, changed-owned}
 
 -- the image stays, a change may come where there was none, what another appliance owns stays whole, and no other appliance becomes the owner
 pub record Foreign (a : ℕ) (s t : Slot) : Type 0 where

@@ -1,0 +1,5 @@
+pub mod Foreign
+pub mod Images
+pub mod ModelFacts
+pub mod Owners
+pub mod Replied

@@ -1,0 +1,2 @@
+pub mod ImagesStay
+pub mod Sound
