@@ -170,7 +170,7 @@ module _ (names : ℕ → ℕ → Type 0) (w : World) (reached : Reached w) (con
 
 rules : (w : World) → Reached w → KeepsContent w → (names : ℕ → ℕ → Type 0) → Treed names w → SparesHands names w → RulesOfTrees names w
 rules w reached content names treed spares = record {
-  meets = λ a known command k block bytes guard done fault missed below here none. meets names w reached content treed a below known command block bytes guard done fault missed none k here;
+  meets = λ a known command k block bytes guard done fault missed below here none linked. meets names w reached content treed a below known command block bytes guard done fault missed none k here;
   spared = spares;
 }
 

@@ -21,4 +21,5 @@ pub mod Runs
 pub mod Stages
 pub mod ClaimStages
 pub mod FirstDevice
+pub mod Waits
 pub mod Witness

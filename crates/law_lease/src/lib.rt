@@ -8,7 +8,7 @@ ghost use Rattle.law_lease.specs.FirstDevice.{HasFormatted};
 ghost use Rattle.law_lease.specs.TakenOver.{TakenOver};
 ghost use Rattle.plx_rules.specs.Boots.{BootsHaveNumbers, BootsRun};
 ghost use Rattle.plx_rules.specs.Homes.{RestsAsNeeded, WritesHaveHomes};
-ghost use Rattle.plx_rules.specs.Owners.{Exclusion, Guarding};
+ghost use Rattle.plx_rules.specs.Owners.{Exclusion, Guarding, WaitsRestAsAsked};
 ghost use Rattle.plx_rules.specs.Sequences.{PlayedIsReached, RunsGoOn};
 
 /// At most one boot owns a lease, the root's, an image's or an extent's.
@@ -25,6 +25,12 @@ pub fn writes_rest_as_needed()
 /// Whatever its kind, each issued write but a claim has a home, under which its block lies.
 pub fn writes_have_homes()
     ensures { WritesHaveHomes }
+{}
+
+/// The write that a boot waits for rests on what its command, what the boot holds and what it has
+/// filled since its last link give.
+pub fn waits_rest_as_asked()
+    ensures { WaitsRestAsAsked }
 {}
 
 /// No landing of a write that rests on a lease changes a byte while another boot owns that lease.

@@ -1,5 +1,5 @@
 -- The rest of a command of one image by its next ask.
-use Rattle.std.proofs.Common.{◌≡◌, ℕ, zero, suc, ◌+◌, ◌≤◌, ◌<◌, List, ◌∷◌, Some, refl, ap, sym, subst, ◌∙◌, arith, inl, inr}
+use Rattle.std.proofs.Common.{◌≡◌, ℕ, zero, suc, ◌+◌, ◌≤◌, ◌<◌, List, ◌∷◌, Some, refl, ap, sym, subst, ◌∙◌, arith, inl, inr, true}
 use Rattle.plx_base.specs.declared.lease.Claim.{Claim}
 use Rattle.plx_base.specs.declared.lease.LeaseName.{LeaseName}
 use Rattle.plx_base.specs.declared.lease.LeaseName.TheVariants as lease
@@ -18,14 +18,13 @@ use Rattle.plx_rules.specs.Ends.{End, ends, lost_part, write_then, ends_in_time}
 use Rattle.plx_rules.specs.Holds.{Hold, Nothing, Held}
 use Rattle.plx_rules.proofs.InUse.{same-first}
 use Rattle.plx_rules.specs.InUse.{InUse, IsNamedFirst, lease_name}
-use Rattle.plx_rules.specs.Owners.{Needs}
 use Rattle.plx_rules.specs.Session.{Known, nothing_known}
 use Rattle.plx_rules.specs.Settings.{Setting}
 use Rattle.law_run.specs.CommandLogs.{Exchange, Finished, first_reading, older_than}
 use Rattle.law_run.specs.Causes.{MayFollow}
 use Rattle.law_run.specs.Holdings as holdings
 use Rattle.law_run.specs.Holdings.{hold_by_log, last_found, IsUntil, claims_in, claims_begun}
-use Rattle.law_run.specs.Replies.{IsConfirmed, of_clock, WasLost, RestsOn, of_need, Comes, IsReplied, worked}
+use Rattle.law_run.specs.Replies.{IsConfirmed, of_clock, WasLost, of_list, rests_by_log, Comes, IsReplied, worked}
 use Rattle.law_run.specs.Replies as replies
 use Rattle.law_run.specs.Uses as uses
 use Rattle.law_run.specs.Uses.{IsInUse, IsOfCommand}
@@ -37,6 +36,7 @@ use Rattle.law_run.proofs.Rests.{rests-lost, rests-failed}
 use Rattle.law_run.proofs.Uses.{of-one}
 use Rattle.law_run.proofs.Right.{clock, Rests, finish, log_on, Shows, Right}
 use Rattle.plx_base.proofs.Tests.{lt-cases}
+use Rattle.plx_commands.specs.Replies.{is_in}
 
 -- a lease has one end
 pub one-until : (claim : Claim) (until other : ℕ) (hold : Hold) → hold ≡ Held claim until → IsUntil other hold → until ≡ other
@@ -76,14 +76,14 @@ unwritten-shows s before known command reading fine done until k block bytes fir
 pub missed-shows : (s : Setting) (before : List Finished) (known : Known) (command : Command) (reading : ℕ) → IsFine s before command reading →
     (done : List Exchange) (lease until : ℕ) (k : WriteKind) (block : ℕ) (bytes : List ℕ) (last : ℕ) → first_reading done ≡ Some reading →
     known.claims ≡ claims_in s.geometry (exchange (ask.Write k (record { 0 = block }) until) bytes (answer.Missed last) ∷ done) + claims_begun s.geometry before →
-    lease < lease_count s.geometry → Needs s.geometry k block lease →
+    lease < lease_count s.geometry → is_in lease (rests_by_log s before command done k block bytes) ≡ true →
     Shows s before command (exchange (ask.Write k (record { 0 = block }) until) bytes (answer.Missed last) ∷ done)
     (record { reply = reply.Lost (lease_name s.geometry lease) until last; known = nothing_known known.claims })
 missed-shows s before known command reading fine done lease until k block bytes last first claims within needs =
     let x = exchange (ask.Write k (record { 0 = block }) until) bytes (answer.Missed last) in (
       replied-fine s before command reading fine (x ∷ done) (rw first refl) (reply.Lost (lease_name s.geometry lease) until last)
           (replies.missed k (record { 0 = block }) bytes (done, refl)
-          (of_need (subst (λ l. Needs s.geometry k block l) (sym (number-name s.geometry lease within)) needs))),
+          (of_list (subst (λ l. is_in l (rests_by_log s before command done k block bytes) ≡ true) (sym (number-name s.geometry lease within)) needs))),
       rests-lost s before command (x ∷ done) (lease_name s.geometry lease) until last known.claims claims,
     )
 
@@ -92,7 +92,7 @@ pub asks-write : (May : List Exchange → Ask → List ℕ → Type 0) (s : Sett
     (done : List Exchange) (lease until : ℕ) (k : WriteKind) (block : ℕ) (bytes : List ℕ) (then_done : Part End) (n : ℕ) →
     first_reading done ≡ Some reading → known.claims ≡ claims_in s.geometry done + claims_begun s.geometry before →
     ((x : Exchange) → x.ask ≡ ask.Write k (record { 0 = block }) until → claims_in s.geometry (x ∷ done) ≡ claims_in s.geometry done) →
-    lease < lease_count s.geometry → Needs s.geometry k block lease → May done (ask.Write k (record { 0 = block }) until) bytes →
+    lease < lease_count s.geometry → is_in lease (rests_by_log s before command done k block bytes) ≡ true → May done (ask.Write k (record { 0 = block }) until) bytes →
     Meets May (Shows s before command) (exchange (ask.Write k (record { 0 = block }) until) bytes answer.Done ∷ done) then_done n →
     Meets May (Shows s before command) done (write_then s known (record { lease = lease; until = until }) k block bytes then_done) (suc n)
 asks-write May s before known command reading fine done lease until k block bytes then_done n first claims more within needs may right = (

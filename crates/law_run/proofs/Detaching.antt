@@ -27,6 +27,7 @@ use Rattle.law_run.proofs.Rests.{rests-by}
 use Rattle.law_run.proofs.Right.{clock, FitsAt, Rests, finish, May, Right}
 use Rattle.law_run.proofs.Runs.{start, hand_start}
 use Rattle.plx_commands.proofs.Places.{at-other, at-same}
+use Rattle.law_lease.proofs.Rests.{in-one, lease-place-found}
 
 on-detach : (slot : SlotNo) → OnImage (Detach slot) slot.0
 on-detach slot = record { named = λ other. refl; used = λ other. refl; needed = λ other. refl; no_attach = λ other is. (let P : ⊥ = cc in P) }
@@ -66,7 +67,7 @@ right-detach s before known slot reading rests session claim until ready =
     let x = exchange (ask.Write kind.Release (record { 0 = lease_at lease }) until) (lease_bytes lease_is.Free) answer.Done in
     let next = with_session known slot.0 None in
     asks-write (May s before command) s before known command reading fine (clock reading ∷ []) lease until kind.Release (lease_at lease) (lease_bytes lease_is.Free) (ends reply.Detached next) 0
-    refl (let a = rests.claims in omega arith) (λ y is. rw is refl) within refl
+    refl (let a = rests.claims in omega arith) (λ y is. rw is refl) within (in-one lease _ (sym (lease-place-found lease)))
     (((tt, tt), release_of_lease lease claim within refl ready.now refl), ready-follows s before known command slot reading on rests session claim until ready fine ask.Clock) (
       replied-fine s before command reading fine (x ∷ clock reading ∷ []) refl reply.Detached (record { slot = slot; command = refl; guard = until; released = (clock reading ∷ [], refl) }),
       rests-by s before command (x ∷ clock reading ∷ []) reply.Detached known next slot.0 (names-other command slot.0 on.named)

@@ -1,5 +1,5 @@
 -- All blocks in hand of an extent, and all extents, are given up, after any exchanges of a command.
-use Rattle.std.proofs.Common.{◌≡◌, ℕ, zero, suc, ◌+◌, ◌*◌, ◌≤◌, ◌<◌, List, [], ◌∷◌, ◌++◌, false, Some, None, refl, ap, sym, subst, ◌∙◌, arith, inl, inr, ◌⊎◌, ◌≢◌}
+use Rattle.std.proofs.Common.{◌≡◌, ℕ, zero, suc, ◌+◌, ◌*◌, ◌≤◌, ◌<◌, List, [], ◌∷◌, ◌++◌, false, Some, None, refl, ap, sym, subst, ◌∙◌, arith, inl, inr, ◌⊎◌, ◌≢◌, true}
 use Rattle.std.specs.Prelude.{◌==◌}
 use Rattle.std.proofs.lemmas.Bool.Decides.{leb_tells}
 use Rattle.plx_base.specs.declared.lease.Claim.{Claim}
@@ -19,7 +19,6 @@ use Rattle.plx_rules.specs.Ends.{End}
 use Rattle.plx_rules.specs.Hands.{is_held}
 use Rattle.plx_rules.specs.Holds.{Hold, Nothing, Seen, Wrote, Waited, Held}
 use Rattle.plx_rules.specs.InUse.{InUse, lease_name, first_reached}
-use Rattle.plx_rules.specs.Owners.{Needs}
 use Rattle.plx_rules.specs.Part.{Part}
 use Rattle.plx_rules.specs.Rests.{extent_of}
 use Rattle.plx_rules.specs.Session.{Known, nothing_known}
@@ -37,6 +36,9 @@ use Rattle.law_run.proofs.OnHand.{Along, GivenBack, PastExtent, Retiring, given-
 use Rattle.law_run.proofs.OneGive.{give_ask, one-gives}
 use Rattle.law_run.proofs.Right.{clock, read_of, log_on}
 use Rattle.plx_base.proofs.Tests.{clash, eqb-is}
+use Rattle.plx_commands.specs.Replies.{is_in}
+use Rattle.law_run.specs.Replies.{rests_by_log}
+use Rattle.law_lease.proofs.Rests.{in-one, lease-place-found, map-found}
 
 -- so many answers for each extent
 abbrev pub retire_asks : (left n : ℕ) → ℕ
@@ -54,7 +56,7 @@ pub record Endings (s : Setting) (before : List Finished) (from : List Exchange)
   pub unwritten : (own : List Exchange) (k : WriteKind) (block until : ℕ) (bytes : List ℕ) → Along s before from spares own →
       Shows (exchange (ask.Write k (record { 0 = block }) until) bytes answer.Fault ∷ own ++ from) (record { reply = reply.WriteFault (record { 0 = block }); known = nothing_known known.claims })
   pub missed : (own : List Exchange) (k : WriteKind) (extent block until : ℕ) (bytes : List ℕ) (last : ℕ) → Along s before from spares own → extent < s.geometry.extents →
-      Needs s.geometry k block (extent_lease s.geometry extent) →
+      ((command : Command) → is_in (extent_lease s.geometry extent) (rests_by_log s before command (own ++ from) k block bytes) ≡ true) →
       Shows (exchange (ask.Write k (record { 0 = block }) until) bytes (answer.Missed last) ∷ own ++ from)
       (record { reply = reply.Lost (lease_name s.geometry (extent_lease s.geometry extent)) until last; known = nothing_known known.claims })
   pub reached : (own : List Exchange) (extent until last : ℕ) (claim : Claim) (bytes : List ℕ) (due : InUse) → Along s before from spares (read_of (map_at s.geometry extent) bytes ∷ own) → extent < s.geometry.extents →
@@ -71,7 +73,7 @@ module _ (s : Setting) (before : List Finished) (from : List Exchange) (spares :
   abbrev Work : (P K : ℕ → Type 0) → (own : List Exchange) → Type 0
   Work P K own = Retiring s before from spares P K own
 
-  module _ (high : s.geometry.extent_blocks ≤ 32768) (command : Command) (uses : List InUse) (known : Known) (May : List Exchange → Ask → List ℕ → Type 0) (Shows : List Exchange → End → Type 0)
+  module _ (high : s.geometry.extent_blocks ≤ 32768) (some : 1 ≤ s.geometry.extent_blocks) (command : Command) (uses : List InUse) (known : Known) (May : List Exchange → Ask → List ℕ → Type 0) (Shows : List Exchange → End → Type 0)
       (pool : (b : ℕ) → HasBlock (hand_by_log s before from) b → (extent : ℕ) → b ≢ map_at s.geometry extent)
       (allowed : (done : List Exchange) (a : Ask) (bytes : List ℕ) → MayAsk s (log_on before command done) a bytes → IsOfOneMap s.geometry a → May done a bytes)
       (endings : Endings s before from spares uses known Shows) where
@@ -103,7 +105,8 @@ module _ (s : Setting) (before : List Finished) (from : List Exchange) (spares :
         (λ done a bytes may place. allowed done a bytes may (extent, below, place)) (record {
           unread = endings.unread own extent r.along below;
           unwritten = λ read bits is. endings.unwritten (read_of (map_at s.geometry extent) read ∷ own) kind.Give (map_at s.geometry extent) until _ (now read).along;
-          missed = λ read bits last is. endings.missed (read_of (map_at s.geometry extent) read ∷ own) kind.Give extent (map_at s.geometry extent) until _ last (now read).along below (extent, below, refl, refl);
+          missed = λ read bits last is. endings.missed (read_of (map_at s.geometry extent) read ∷ own) kind.Give extent (map_at s.geometry extent) until _ last (now read).along below
+              (λ c. in-one (extent_lease s.geometry extent) _ (sym (ap (extent_lease s.geometry) (map-found s.geometry extent some))));
           reached = λ read last due none held' found. endings.reached own extent until last claim read due (now read).along below none held' found;
           damaged = λ read last none held' found. endings.damaged own extent until last claim read (now read).along below none held' found;
         })
@@ -147,7 +150,8 @@ module _ (s : Setting) (before : List Finished) (from : List Exchange) (spares :
             right _ (released s before from spares inside (PastExtent s extent) (PastExtent s (extent + 1)) (GivenBack (extent + 1)) own l until r (λ other p. (p.0, omega (arith, p.1))) (split-extent extent) (omega arith, omega arith)
                 (λ image less spare e. omega (arith, less, e))),
             endings.unwritten own kind.Release (lease_at l) until (lease_bytes lease_is.Free) r.along,
-            λ last past small. endings.missed own kind.Release extent (lease_at l) until (lease_bytes lease_is.Free) last r.along below refl,
+            λ last past small. endings.missed own kind.Release extent (lease_at l) until (lease_bytes lease_is.Free) last r.along below
+                (λ c. in-one (extent_lease s.geometry extent) _ (sym (lease-place-found (extent_lease s.geometry extent)))),
           )
 
       -- the extents from one on

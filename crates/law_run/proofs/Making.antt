@@ -31,7 +31,7 @@ use Rattle.law_run.specs.AllowedAsks.{last_known, IsFirstSector, MayWrite, recor
 use Rattle.law_run.specs.CommandLogs.{Exchange, Finished, first_reading}
 use Rattle.law_run.specs.KnownBytes.{given_with, without_journal, is_making, given_after, known_from, known_in, known_before}
 use Rattle.law_run.specs.Refusals.{NamesBlock, of_read, of_write, NeedsImage, of_delete, of_block, no_image, exists, out_of_limits, generations}
-use Rattle.law_run.specs.Replies.{IsConfirmed, refused, Comes}
+use Rattle.law_run.specs.Replies.{IsConfirmed, refused, Comes, rests_by_log}
 use Rattle.law_run.specs.Sessions.{names, attached_by}
 use Rattle.law_run.proofs.Asking.{IsFine, asks-write, asks-confirm}
 use Rattle.law_run.proofs.Clear.{by-unless, Clear, known-here, clear, ready-follows}
@@ -49,6 +49,7 @@ use Rattle.law_run.proofs.Spelled.{image-rest}
 use Rattle.plx_base.proofs.Tests.{eqb-true, nat_le-true, nat_le-false, nat_le-tells, nat_le-past, nat_lt-tells, not-false, and-parts, opposite-true}
 use Rattle.law_run.proofs.Unwritten.{unwritten-quiet}
 use Rattle.plx_commands.proofs.Places.{at-other, at-same}
+use Rattle.law_lease.proofs.Rests.{home-in, record-found}
 
 -- what is known of an image once its record was written anew
 abbrev pub made_known : Geometry → (image : ℕ) → ImageRecord → Given → Given
@@ -104,7 +105,7 @@ module _ (s : Setting) (before : List Finished) (known : Known) (command : Comma
       let going1 = going-more s before (clock reading ∷ []) x slot.0 c tt (λ other apart. tt) refl tt refl (quiet-none s.geometry slot.0 (x ∷ clock reading ∷ []) refl) (going-first s before slot.0 claim until reading ready.now) in
       asks-write (May s before command) s before known command reading fine (clock reading ∷ []) (image_lease slot.0) until kind.Record (record_at s.geometry slot.0) (image_bytes made)
       (ends_in_time s known (image_use slot.0 until) r next) 1 refl (let a = rests.claims in omega arith) (λ y e. rw e refl) (image-below s.geometry slot.0 ready.fits.within)
-      (slot.0, ready.fits.within, refl, refl) (((tt, tt), may), ready-follows s before known command slot reading on rests session claim until ready fine ask.Clock)
+      (home-in (image_lease slot.0) (rests_by_log s before command (clock reading ∷ []) kind.Record (record_at s.geometry slot.0) (image_bytes made)) (ap (λ n. Some (image_lease n)) (record-found s.geometry slot.0))) (((tt, tt), may), ready-follows s before known command slot reading on rests session claim until ready fine ask.Clock)
       (asks-confirm s before known command slot c on.named ready.fits.within fine (let a = rests.claims in omega arith) (x ∷ clock reading ∷ []) r next 0 going1 tt
       (λ reading' early going confirmed.
       let done = clock reading' ∷ x ∷ clock reading ∷ [] in

@@ -19,7 +19,7 @@ use Rattle.law_run.specs.Holdings.{Holds, hold_by_log}
 use Rattle.law_run.specs.OnHand as on_hand
 use Rattle.law_run.specs.OnHand.{IsLostOnHand, ShowsOnHand}
 use Rattle.law_run.specs.Replies as replies
-use Rattle.law_run.specs.Replies.{WasLost, of_clock, of_need}
+use Rattle.law_run.specs.Replies.{WasLost, of_clock, of_list}
 use Rattle.law_run.specs.Space.{IsMapDamaged}
 use Rattle.law_run.specs.Uses as uses
 use Rattle.law_run.specs.Uses.{AreUsed, IsInUse}
@@ -86,7 +86,7 @@ ends-shown s geometry log spares uses' known follows IsDone = record {
   unwritten = λ own k block until bytes along. on_hand.unwritten (record { 0 = block }) (k, until, bytes, (own ++ log.exchanges, refl));
   missed = λ own k extent block until bytes last along below needs.
       shown (exchange (ask.Write k (record { 0 = block }) until) bytes (answer.Missed last) ∷ own ++ log.exchanges) (extent_use s.geometry extent until) last
-      (on_hand.missed k (record { 0 = block }) extent bytes (own ++ log.exchanges, refl) refl (of_need needs));
+      (on_hand.missed k (record { 0 = block }) extent bytes (own ++ log.exchanges, refl) refl (of_list (needs log.command)));
   reached = λ own extent until last claim bytes due along below none held found.
       shown (clock last ∷ read_of (map_at s.geometry extent) bytes ∷ own ++ log.exchanges) due last (on_hand.reached extent until claim bytes (own ++ log.exchanges) below refl none held found);
   damaged = λ own extent until last claim bytes along below none held found.

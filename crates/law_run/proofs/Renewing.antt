@@ -46,6 +46,7 @@ use Rattle.law_run.proofs.Right.{clock, IsHeld, FitsAt, Rests, finish, log_on, M
 use Rattle.law_run.proofs.Runs.{HasFirst, along-more, start, hand_start}
 use Rattle.plx_base.proofs.Tests.{clash}
 use Rattle.plx_commands.proofs.Places.{at-other, at-same}
+use Rattle.law_lease.proofs.Rests.{in-one, lease-place-found}
 
 -- ---- no other refusal's fact holds of a renewal
 
@@ -245,7 +246,7 @@ module _ (s : Setting) (before : List Finished) (known : Known) (reading : ℕ) 
       by-hold (Held claim until) held rest =
           asks-write (May s before Renew) s before known Renew reading fine done lease until kind.Renew (lease_at lease) (lease_bytes (lease_is.Claimed claim (later_of until (reading + term))))
           (renew_part s known (start s before reading) reading left (lease + 1)) (renewals (start s before reading) left (lease + 1)) r.first
-          (let c = rests.claims in let b = r.begun in omega arith) (λ y e. claims-more s.geometry done y (rw e refl)) (omega arith) refl
+          (let c = rests.claims in let b = r.begun in omega arith) (λ y e. claims-more s.geometry done y (rw e refl)) (omega arith) (in-one lease _ (sym (lease-place-found lease)))
           ((r.went, renewal_of_lease lease claim reading (omega arith) refl held r.first (renewal-limits s before done lease claim until reading small held) refl), r.follows _)
           (rest _ (one-renewal done lease claim until (omega arith) r held))
       by-hold Nothing held rest = rest done (none-held done lease r (λ claim until h. (let P : ⊥ = cc in P)))

@@ -52,7 +52,7 @@ module _ (s : Setting) (geometry : IsGeometry s.geometry) (log : CommandLog) (kn
   retire-meets =
       subst (λ n. MeetsWork s log (IsOfOneExtent s.geometry) (ShowsOnHand s known uses follows (AreGivenUp s log)) log.exchanges (retire_work s known uses holds hand follows) n)
       (let e = retire-asks-are s.geometry.extents 0 in let e' : retire_asks s.geometry.extents 0 ≡ 3 * s.geometry.extents = omega arith in e')
-      (retires s log.before log.exchanges NoneSpared inside geometry.blocks_high log.command uses known
+      (retires s log.before log.exchanges NoneSpared inside geometry.blocks_high (omega (arith, geometry.blocks_low)) log.command uses known
       (λ done a bytes. MayAsk s (with_exchanges log done) a bytes × IsOfOneExtent s.geometry a)
       (λ done end. ShowsOnHand s known uses follows (AreGivenUp s log) (with_exchanges log done) end)
       (λ b has. may.pool b (subst (λ (l : List ℕ). HasBlock l b) (sym may.fresh) has))

@@ -46,6 +46,7 @@ use Rattle.law_run.proofs.Right.{clock, read_of, FitsAt, Rests, finish, log_on, 
 use Rattle.law_run.proofs.RetireFollows.{image_asks, retire-follows}
 use Rattle.law_run.proofs.Runs.{start, hand_start}
 use Rattle.plx_base.proofs.Tests.{clash}
+use Rattle.law_lease.proofs.Rests.{in-one, lease-place-found}
 
 -- those of extents, and those of images before this one
 abbrev PastImage : Setting → (image lease : ℕ) → Type 0
@@ -121,7 +122,7 @@ module _ (s : Setting) (geometry : IsGeometry s.geometry) (before : List Finishe
         (claims own (exchange (ask.Write k (record { 0 = block }) until) bytes answer.Fault) a refl);
     missed = λ own k extent block until bytes last a below needs.
         missed-shows s before known Retire reading (retire-fine s before reading) (own ++ from) (extent_lease s.geometry extent) until k block bytes last (first own a)
-        (claims own (exchange (ask.Write k (record { 0 = block }) until) bytes (answer.Missed last)) a refl) (extent-below s.geometry extent below) needs;
+        (claims own (exchange (ask.Write k (record { 0 = block }) until) bytes (answer.Missed last)) a refl) (extent-below s.geometry extent below) (needs Retire);
     reached = λ own extent until last claim bytes due a below none held found. (
         let own1 = read_of (map_at s.geometry extent) bytes ∷ own in
         let done = clock last ∷ own1 ++ from in (
@@ -166,7 +167,7 @@ module _ (s : Setting) (geometry : IsGeometry s.geometry) (before : List Finishe
       by-hold : (hold' : Hold) → hold_by_log s before (own ++ from) l ≡ hold' → MeetsRetiring own (retire_lease s known l None hold' rest) (suc n)
       by-hold (Held claim until) is =
           asks-write (MayByRules s before Retire) s before known Retire reading (retire-fine s before reading) (own ++ from) l until kind.Release (lease_at l) (lease_bytes lease_is.Free) rest n (first own r.along)
-          (let c = rests.claims in let b = r.along.begun in omega arith) (λ y e. claims-more s.geometry (own ++ from) y (rw e refl)) below refl
+          (let c = rests.claims in let b = r.along.begun in omega arith) (λ y e. claims-more s.geometry (own ++ from) y (rw e refl)) below (in-one l _ (sym (lease-place-found l)))
           (r.along.went, release_of_lease l claim below refl is refl)
           (right _ (released s before from Spares within P Q K own l until r wider split here
           (λ image less spare e. free spare.0 (attached-below spare.0 spare.2) spare.2 (sym spare.1 ∙ e))))
@@ -234,7 +235,7 @@ module _ (s : Setting) (geometry : IsGeometry s.geometry) (before : List Finishe
 
   allowed-retire : Meets (MayByRules s before Retire) (Shows s before Retire) from (retire_part s known (start s before reading) (hand_start s before reading)) (retire_asks s.geometry.extents (image_asks s.geometry.images 1))
   allowed-retire =
-      retires s before from Spares within geometry.blocks_high Retire [] known (MayByRules s before Retire) (Shows s before Retire) (hand-no-maps s before Retire from older ((tt, tt), tt)) (λ done a bytes may place. may) endings
+      retires s before from Spares within geometry.blocks_high (omega (arith, geometry.blocks_low)) Retire [] known (MayByRules s before Retire) (Shows s before Retire) (hand-no-maps s before Retire from older ((tt, tt), tt)) (λ done a bytes may place. may) endings
       (start s before reading) (λ extent below. refl) (hand_start s before reading) refl (λ done a bytes extent may below place. may)
       s.geometry.extents 0 [] (image_asks s.geometry.images 1) _ (omega arith)
       (retires-none s before from Spares within tt (tt, tt) (PastExtent s 0) (GivenBack 0) (λ l below p. omega (arith, p.0, p.1)) (λ e k. omega (arith, k)))

@@ -36,7 +36,7 @@ use Rattle.law_run.specs.CommandLogs.{Exchange, CommandLog, IsIn}
 use Rattle.law_run.specs.Holdings.{holds_along, holds_after, hold_by_log, hand_by_log, filled_by_log, last_found, claims_in, claims_begun, is_map_found}
 use Rattle.law_run.specs.KnownBytes.{nothing_given, given_after_exchanges}
 use Rattle.law_run.specs.Machines.{with_work}
-use Rattle.law_run.specs.Replies.{IsLastReading, of_clock, RestsOn, of_need, WasLost}
+use Rattle.law_run.specs.Replies.{IsLastReading, of_clock, RestsOn, of_list, WasLost}
 use Rattle.law_run.specs.Uses as uses
 use Rattle.law_run.specs.Uses.{AreUsed, IsInUse}
 use Rattle.law_run.specs.Replies as replies
@@ -56,6 +56,7 @@ use Rattle.law_run.proofs.Right.{clock, read_of}
 use Rattle.law_run.proofs.Runs.{HasFirst, along-more}
 use Rattle.law_run.proofs.TakeFollows.{FollowsTake, Calm, map-goes-on}
 use Rattle.plx_rules.proofs.Maps.{length-with_set, set-is-map}
+use Rattle.law_lease.proofs.Rests.{in-one, map-found}
 
 -- ---- the maps of the extents that were passed
 
@@ -313,7 +314,7 @@ module _ (s : Setting) (geometry : IsGeometry s.geometry) (first : CommandLog) (
       subst (λ c. Keeping done (ends (reply.Lost name until last) (nothing_known c)) n) (sym counted) (work.fails done _ (takes.lost name until last why))
 
   -- a write came too late for its guard, the end of the lease of an extent
-  pub write-missed : (done : List Exchange) (k : WriteKind) (block : BlockNo) (bytes : List ℕ) (e until last claims n : ℕ) → RestsOn s.geometry k block.0 (lease.Extent (record { 0 = e })) →
+  pub write-missed : (done : List Exchange) (k : WriteKind) (block : BlockNo) (bytes : List ℕ) (e until last claims n : ℕ) → RestsOn s (log (exchange (ask.Write k block until) bytes (answer.Missed last) ∷ done)) k block.0 bytes (lease.Extent (record { 0 = e })) →
       claims ≡ claims_in s.geometry (after_work first (exchange (ask.Write k block until) bytes (answer.Missed last) ∷ done)) + claims_begun s.geometry first.before →
       Keeping (exchange (ask.Write k block until) bytes (answer.Missed last) ∷ done) (ends (reply.Lost (lease_name s.geometry (extent_lease s.geometry e)) until last) (nothing_known claims)) n
   write-missed done k block bytes e until last claims n on counted =
@@ -456,7 +457,7 @@ module _ (s : Setting) (geometry : IsGeometry s.geometry) (first : CommandLog) (
                   λ unbusy. take-full M tried done t e until claim bytes bits (block ∷ blocks) k below new r1 is same (now bytes) refl few',
                 ))) (λ a. tt),
             write-failed done1 kind.Take (record { 0 = place }) until out t.known.claims m (sum (exchange (ask.Write kind.Take (record { 0 = place }) until) out answer.Fault) refl),
-            λ late past small. write-missed done1 kind.Take (record { 0 = place }) out e until late t.known.claims m (of_need (e, below, refl, refl))
+            λ late past small. write-missed done1 kind.Take (record { 0 = place }) out e until late t.known.claims m (of_list (in-one (extent_lease s.geometry e) _ (sym (ap (extent_lease s.geometry) (map-found s.geometry e some-blocks)))))
                 (sum (exchange (ask.Write kind.Take (record { 0 = place }) until) out (answer.Missed late)) refl),
           )
 

@@ -53,6 +53,7 @@ use Rattle.law_run.proofs.Slots.{slot-below}
 use Rattle.law_run.proofs.Unwritten.{unwritten-quiet}
 use Rattle.plx_base.proofs.Tests.{nat_le-tells, nat_le-past, not-false, eqb-is, eqb-isn't, opposite-true}
 use Rattle.plx_commands.proofs.Places.{at-other, at-same}
+use Rattle.law_lease.proofs.Rests.{in-one, data-found, descriptor-place-found}
 
 pub on-write : (slot : SlotNo) (vblock : ℕ) (payload : Payload) → OnImage (Write slot vblock payload) slot.0
 on-write slot vblock payload = record { named = λ other. refl; used = λ other. refl; needed = λ other. refl; no_attach = λ other is. (let P : ⊥ = cc in P) }
@@ -168,12 +169,12 @@ module _ (s : Setting) (some : 1 ≤ s.geometry.slots) (before : List Finished) 
       let end_part = ends_in_time s known (image_use slot.0 until) (reply.Written (write_count session + 1)) next in
       let commit_part = write_then s known (record { lease = lease; until = until }) kind.JCommit commit (descriptor_bytes d) end_part in
       asks-write (May s before command) s before known command reading fine done0 lease until kind.JData block bytes commit_part 2 refl (let a = rests.claims in omega arith) (λ y e. rw e refl) held_lease
-      (slot.0, at, ready.fits.within, slot_below, refl, refl) (
+      (in-one lease _ (sym (ap image_lease (data-found g slot.0 at slot_below)))) (
         (going0.went, data_of_write slot vblock payload (write_count session + 1) refl (claim, going0.held) (is-next done0 given known0 ready.fits live room) refl refl long),
         ready-follows s before known command slot reading on rests session claim until ready fine ask.Clock,
       )
       (asks-write (May s before command) s before known command reading fine done1 lease until kind.JCommit commit (descriptor_bytes d) end_part 1 refl (let a = rests.claims in omega arith) (λ y e. rw e refl) held_lease
-      (slot.0, at, ready.fits.within, slot_below, refl, refl) (
+      (in-one lease _ (sym (ap image_lease (descriptor-place-found g slot.0 at slot_below)))) (
         (
           going1.went,
           commit_of_write slot vblock payload d refl (claim, going1.held) (is-next done1 given1 known1 fits1 live room) refl limit refl refl refl (inl refl)

@@ -71,17 +71,22 @@ abbrev pub last_found : List Exchange → Option (ℕ × List ℕ)
 last_found [] = None
 last_found (exchange ∷ older) = found_by exchange.ask exchange.answer
 
--- which blocks were filled since the last link after some exchanges of a command that began with these holdings, before the newest one's leases are looked at
-abbrev pub filled_told : Geometry → (attached : ℕ → Bool) → (start : ℕ → Hold) → List Exchange → List (ℕ × List ℕ)
+-- which blocks were filled since the last link after some exchanges of a command that began with
+-- these holdings, before the newest one's leases are looked at
+abbrev pub filled_told : Geometry → (attached : ℕ → Bool) → (start : ℕ → Hold) → List Exchange →
+    List (ℕ × List ℕ)
 filled_told g attached start [] = []
 filled_told g attached start (exchange ∷ []) = []
 filled_told g attached start (exchange ∷ last ∷ older) =
     filled_answered exchange.ask exchange.bytes exchange.answer
-    (filled_held g (holds_along g attached start (last ∷ older)) (filled_told g attached start (last ∷ older)))
+    (filled_held g (holds_along g attached start (last ∷ older))
+    (filled_told g attached start (last ∷ older)))
 
 -- those of them whose extents are held
-abbrev pub filled_along : Geometry → (attached : ℕ → Bool) → (start : ℕ → Hold) → List Exchange → List (ℕ × List ℕ)
-filled_along g attached start exchanges = filled_held g (holds_along g attached start exchanges) (filled_told g attached start exchanges)
+abbrev pub filled_along : Geometry → (attached : ℕ → Bool) → (start : ℕ → Hold) → List Exchange →
+    List (ℕ × List ℕ)
+filled_along g attached start exchanges =
+    filled_held g (holds_along g attached start exchanges) (filled_told g attached start exchanges)
 
 -- what is in hand after some exchanges of a command that began with these holdings and blocks, before the newest one's leases are looked at
 abbrev pub hand_told : Geometry → (attached : ℕ → Bool) → (start : ℕ → Hold) → (hand : List ℕ) → List Exchange → List ℕ
@@ -90,7 +95,8 @@ hand_told g attached start hand (exchange ∷ []) = hand
 hand_told g attached start hand (exchange ∷ last ∷ older) =
     hand_left exchange.ask (filled_along g attached start (last ∷ older))
     (hand_answered g (found_by last.ask last.answer) exchange.ask exchange.bytes exchange.answer
-    (hand_held g (holds_along g attached start (last ∷ older)) (hand_told g attached start hand (last ∷ older))))
+    (hand_held g (holds_along g attached start (last ∷ older))
+    (hand_told g attached start hand (last ∷ older))))
 
 -- what is in hand then: of those blocks the ones whose extents are held
 abbrev pub hand_along : Geometry → (attached : ℕ → Bool) → (start : ℕ → Hold) → (hand : List ℕ) → List Exchange → List ℕ
@@ -109,9 +115,10 @@ hand_after g (finished ∷ before) =
 abbrev pub hand_by_log : Setting → List Finished → List Exchange → List ℕ
 hand_by_log s before exchanges = hand_along s.geometry (is_attached before) (holds_after s.geometry before) (hand_after s.geometry before) exchanges
 
--- which blocks were filled since the last link after some exchanges of a command with those before it
+-- the same after some exchanges of a command with those before it
 abbrev pub filled_by_log : Setting → List Finished → List Exchange → List (ℕ × List ℕ)
-filled_by_log s before exchanges = filled_along s.geometry (is_attached before) (holds_after s.geometry before) exchanges
+filled_by_log s before exchanges =
+    filled_along s.geometry (is_attached before) (holds_after s.geometry before) exchanges
 
 -- ---- claims
 

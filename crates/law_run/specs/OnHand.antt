@@ -69,7 +69,7 @@ pub data IsLostOnHand (s : Setting) (log : CommandLog) (uses : List InUse) (due 
   missed : (k : WriteKind) (block : BlockNo) (extent : ℕ) (bytes : List ℕ) →
       LastAnswered log (ask.Write k block due.until) bytes (answer.Missed reading) →
       due.lease ≡ extent_lease s.geometry extent →
-      RestsOn s.geometry k block.0 (lease.Extent (record { 0 = extent })) →
+      RestsOn s log k block.0 bytes (lease.Extent (record { 0 = extent })) →
       IsLostOnHand s log uses due reading
   reached : (extent until : ℕ) (claim : Claim) (bytes : List ℕ) (older : List Exchange) →
       extent < s.geometry.extents →

@@ -13,6 +13,8 @@ use Rattle.plx_base.specs.declared.numbers.SlotNo.{SlotNo}
 use Rattle.plx_base.specs.declared.payload.Payload.{Payload}
 use Rattle.plx_base.specs.declared.write_kind.WriteKind.{WriteKind}
 use Rattle.plx_base.specs.declared.write_kind.WriteKind.TheVariants as kind
+use Rattle.plx_commands.specs.Replies.{is_in}
+use Rattle.plx_commands.specs.declared.command.Command.{Command}
 use Rattle.plx_commands.specs.declared.command.Command.TheVariants.{Attach, Detach, Create, Delete, Read, Write, Renew}
 use Rattle.plx_commands.specs.declared.reply.Report.{Report}
 use Rattle.plx_commands.specs.declared.reply.Reply.{Reply}
@@ -23,18 +25,18 @@ use Rattle.plx_gate.specs.Leases.{lease_bytes}
 use Rattle.plx_gate.specs.declared.image.ImageRecord.{ImageRecord}
 use Rattle.plx_geom.specs.Geometry.{Geometry, lease_count, lease_number, image_lease, lease_at, record_at, log_at, descriptor_at, data_at}
 use Rattle.plx_rules.specs.InUse.{InUse, IsNamedFirst, lease_name}
-use Rattle.plx_rules.specs.Owners.{Needs}
+use Rattle.plx_rules.specs.Rests.{rests_on}
 use Rattle.plx_rules.specs.Settings.{Setting}
 use Rattle.plx_rules.specs.Stored.{Holds, StoredImage, record_on, IsContent, Stores}
 use Rattle.law_run.specs.Busy.{IsBusy}
 use Rattle.law_run.specs.Changes.{written_on, created_on, deleted_on, report_on}
-use Rattle.law_run.specs.CommandLogs.{Exchange, CommandLog, WasAnswered, NewestIs, LastAnsweredIn, LastAnswered}
+use Rattle.law_run.specs.CommandLogs.{Exchange, Finished, CommandLog, older_than, WasAnswered, NewestIs, LastAnsweredIn, LastAnswered}
 use Rattle.law_run.specs.Holdings as holdings
-use Rattle.law_run.specs.Holdings.{HoldsImage}
+use Rattle.law_run.specs.Holdings.{filled_by_log, holds_after, holds_along, HoldsImage}
 use Rattle.law_run.specs.KnownBytes.{known_in, known_before}
 use Rattle.law_run.specs.Outside.{IsOutside}
 use Rattle.law_run.specs.Refusals.{Refuses}
-use Rattle.law_run.specs.Sessions.{names}
+use Rattle.law_run.specs.Sessions.{is_attached, names}
 use Rattle.law_run.specs.Space.{OfTake, WasBusyForSpace, IsFull, IsWornOut, IsMapDamaged, IsLeaseDamaged, ShowsReserve, ShowsRetire}
 use Rattle.law_run.specs.Uses.{IsInUse}
 
@@ -48,10 +50,24 @@ pub record IsConfirmed (s : Setting) (log : CommandLog) (image : ℕ) : Type 0 w
   pub held : HoldsImage s log image until
   pub below : reading < until
 
--- a lease on which a write rests: the one that its kind needs, or the one that it claims
-pub data RestsOn (g : Geometry) : WriteKind → (block : ℕ) → LeaseName → Type 0 where
-  of_need : {kind : WriteKind} {block : ℕ} {name : LeaseName} → Needs g kind block (lease_number g name) → RestsOn g kind block name
-  of_claim : {block : ℕ} {name : LeaseName} → block ≡ lease_at (lease_number g name) → RestsOn g kind.Claim block name
+-- the leases on which a write of a command rests that is asked after these exchanges
+abbrev pub rests_by_log : Setting → List Finished → Command → List Exchange → WriteKind →
+    (block : ℕ) → List ℕ → List ℕ
+rests_by_log s before command exchanges kind block bytes =
+    rests_on s.geometry command
+    (holds_along s.geometry (is_attached before) (holds_after s.geometry before) exchanges)
+    (filled_by_log s before exchanges) kind block bytes
+
+-- a lease on which the newest ask of a command, a write, rests, by the exchanges before it; or the
+-- one that it claims
+pub data RestsOn (s : Setting) (log : CommandLog) : WriteKind → (block : ℕ) → List ℕ → LeaseName →
+    Type 0 where
+  of_list : {kind : WriteKind} {block : ℕ} {bytes : List ℕ} {name : LeaseName} →
+      is_in (lease_number s.geometry name)
+      (rests_by_log s log.before log.command (older_than log.exchanges) kind block bytes) ≡ true →
+      RestsOn s log kind block bytes name
+  of_claim : {block : ℕ} {bytes : List ℕ} {name : LeaseName} →
+      block ≡ lease_at (lease_number s.geometry name) → RestsOn s log kind.Claim block bytes name
 
 -- the last answer in these exchanges was this reading
 pub data IsLastReading (exchanges : List Exchange) (reading : ℕ) : Type 0 where
@@ -63,7 +79,7 @@ pub data IsLastReading (exchanges : List Exchange) (reading : ℕ) : Type 0 wher
 pub data WasLost (s : Setting) (log : CommandLog) : LeaseName → (until reading : ℕ) → Type 0 where
   missed : {name : LeaseName} {until reading : ℕ} (kind : WriteKind) (block : BlockNo) (bytes : List ℕ) →
       LastAnswered log (ask.Write kind block until) bytes (answer.Missed reading) →
-      RestsOn s.geometry kind block.0 name → WasLost s log name until reading
+      RestsOn s log kind block.0 bytes name → WasLost s log name until reading
   reached : {name : LeaseName} {until reading : ℕ} (due : InUse) →
       name ≡ lease_name s.geometry due.lease → until ≡ due.until →
       IsLastReading log.exchanges reading → IsInUse s log due → due.until ≤ reading →

@@ -19,20 +19,12 @@ use Rattle.plx_rules.specs.Part.{WriteThen}
 use Rattle.plx_rules.specs.Rests.{filled_blocks}
 use Rattle.plx_rules.specs.World as world
 use Rattle.plx_rules.specs.World.{World, Seat, Step, Reached, setting_at}
+use Rattle.law_lease.proofs.LeaseSteps.{reached-leased}
+use Rattle.law_lease.proofs.Leased.{Leased}
 use Rattle.law_space.proofs.Lists.{in-filter}
 use Rattle.law_tree.proofs.ByKind.{Chain, RecordMoves, stays, clears, links, TreeWaits}
-use Rattle.law_tree.proofs.TreeSteps.{RulesOfTrees, SparesHands, keeps-trees}
-use Rattle.law_tree.proofs.Treed.{Treed, due, hand_while}
-
--- the blocks that the write at a place links
-abbrev pub linked_at : Place → (filled : List (ℕ × List ℕ)) → List ℕ
-linked_at (In known command (WriteThen kind.Link block bytes guard done fault missed)) filled = filled_blocks filled
-linked_at (In known command (WriteThen kind.Record block bytes guard done fault missed)) filled = filled_blocks filled
-linked_at other filled = []
-
--- the same, of a seat
-abbrev pub linked_of : Geometry → (appliance : ℕ) → Seat → List ℕ
-linked_of g a seat = linked_at (position (setting_at g a seat.boots) seat.log).place (position (setting_at g a seat.boots) seat.log).filled
+use Rattle.law_tree.proofs.TreeSteps.{NamesLinked, RulesOfTrees, SparesHands, keeps-trees}
+use Rattle.law_tree.proofs.Treed.{Treed, due, due_of, hand_while, linked_at, linked_of}
 
 -- a boot that waits for the write links the block by it
 abbrev pub NamedBy : Geometry → (appliances : ℕ) → (ℕ → Seat) → (number block : ℕ) → Type 0
@@ -147,44 +139,51 @@ issue-spares w a none number b block below waits is named = names-spare w number
           subst L other (named c under (ap (λ (s : Seat). s.pending) other ∙ waits'))
     ]
 
+-- the new write is named by what it links
+issue-links : (w : World) (leased : Leased w) (a : ℕ) → NamesLinked (NamedBy w.geometry w.appliances (at w.seats a (record (w.seats a) { pending = Some (length w.surface.writes) }))) w a
+issue-links w leased a block is b below = at-all (λ c s. c < w.appliances → s.pending ≡ Some (length w.surface.writes) → is_in block (linked_of w.geometry c s) ≡ true) w.seats a
+    (record (w.seats a) { pending = Some (length w.surface.writes) }) (λ under waits. is)
+    (λ c ne under waits. absurd (let asked = (leased.seated c under).asked (length w.surface.writes) waits in
+    let less = slice_get_within w.surface.writes (length w.surface.writes) asked.0 asked.1 in omega (arith, less))) b below
+
 -- by whom the blocks of a link are named goes with the seats
 pub keeps-named : {w v : World} {event : Event} → Step w event v → Reached w → ((names : ℕ → ℕ → Type 0) → Treed names w → SparesHands names w → RulesOfTrees names w) →
     Treed (named_in w) w → Treed (named_in v) v
 keeps-named (world.issues {w = w} {appliance = a} known command what block bytes guard done fault missed below here none) reached rules treed =
     let now = NamedBy w.geometry w.appliances (at w.seats a.0 (record (w.seats a.0) { pending = Some (length w.surface.writes) })) in
     let before = treed-named (named_in w) now w (λ n c x found named. issue-named w a.0 n c x found named) treed in
-    keeps-trees now (world.issues {w = w} {appliance = a} known command what block bytes guard done fault missed below here none) reached (rules now before (issue-spares w a.0 none)) before
+    keeps-trees now (world.issues {w = w} {appliance = a} known command what block bytes guard done fault missed below here none) reached (rules now before (issue-spares w a.0 none)) (issue-links w (reached-leased reached) a.0) before
 keeps-named (world.ticks {w = w} {by = by} room) reached rules treed =
-    keeps-trees (named_in w) (world.ticks {w = w} {by = by} room) reached (rules (named_in w) treed (names-spare w)) treed
+    keeps-trees (named_in w) (world.ticks {w = w} {by = by} room) reached (rules (named_in w) treed (names-spare w)) tt treed
 keeps-named (world.lands {w = w} {appliance = a} {back = back} {sector = sector} number write below back' may) reached rules treed =
-    keeps-trees (named_in w) (world.lands {w = w} {appliance = a} {back = back} {sector = sector} number write below back' may) reached (rules (named_in w) treed (names-spare w)) treed
+    keeps-trees (named_in w) (world.lands {w = w} {appliance = a} {back = back} {sector = sector} number write below back' may) reached (rules (named_in w) treed (names-spare w)) tt treed
 keeps-named (world.starts {w = w} {appliance = a} {command = command} known below here whole built) reached rules treed =
     treed-named (named_in w) _ _ (λ n c x found named. named-elsewhere w.geometry w.appliances w.seats a.0 _ refl n c named)
-    (keeps-trees (named_in w) (world.starts {w = w} {appliance = a} {command = command} known below here whole built) reached (rules (named_in w) treed (names-spare w)) treed)
+    (keeps-trees (named_in w) (world.starts {w = w} {appliance = a} {command = command} known below here whole built) reached (rules (named_in w) treed (names-spare w)) tt treed)
 keeps-named (world.begins {w = w} {appliance = a} {reading = reading} known command below here is) reached rules treed =
     treed-named (named_in w) _ _ (λ n c x found named. named-elsewhere w.geometry w.appliances w.seats a.0 _ refl n c named)
-    (keeps-trees (named_in w) (world.begins {w = w} {appliance = a} {reading = reading} known command below here is) reached (rules (named_in w) treed (names-spare w)) treed)
+    (keeps-trees (named_in w) (world.begins {w = w} {appliance = a} {reading = reading} known command below here is) reached (rules (named_in w) treed (names-spare w)) tt treed)
 keeps-named (world.reads {w = w} {appliance = a} known command block rest fault below here) reached rules treed =
     treed-named (named_in w) _ _ (λ n c x found named. named-elsewhere w.geometry w.appliances w.seats a.0 _ refl n c named)
-    (keeps-trees (named_in w) (world.reads {w = w} {appliance = a} known command block rest fault below here) reached (rules (named_in w) treed (names-spare w)) treed)
+    (keeps-trees (named_in w) (world.reads {w = w} {appliance = a} known command block rest fault below here) reached (rules (named_in w) treed (names-spare w)) tt treed)
 keeps-named (world.read_faults {w = w} {appliance = a} known command block rest fault below here) reached rules treed =
     treed-named (named_in w) _ _ (λ n c x found named. named-elsewhere w.geometry w.appliances w.seats a.0 _ refl n c named)
-    (keeps-trees (named_in w) (world.read_faults {w = w} {appliance = a} known command block rest fault below here) reached (rules (named_in w) treed (names-spare w)) treed)
+    (keeps-trees (named_in w) (world.read_faults {w = w} {appliance = a} known command block rest fault below here) reached (rules (named_in w) treed (names-spare w)) tt treed)
 keeps-named (world.dones {w = w} {appliance = a} known command what block bytes guard done fault missed number below here waited whole) reached rules treed =
     treed-named (named_in w) _ _ (λ n c x found named. named-elsewhere w.geometry w.appliances w.seats a.0 _ refl n c named)
-    (keeps-trees (named_in w) (world.dones {w = w} {appliance = a} known command what block bytes guard done fault missed number below here waited whole) reached (rules (named_in w) treed (names-spare w)) treed)
+    (keeps-trees (named_in w) (world.dones {w = w} {appliance = a} known command what block bytes guard done fault missed number below here waited whole) reached (rules (named_in w) treed (names-spare w)) tt treed)
 keeps-named (world.write_faults {w = w} {appliance = a} known command what block bytes guard done fault missed below here) reached rules treed =
     treed-named (named_in w) _ _ (λ n c x found named. named-elsewhere w.geometry w.appliances w.seats a.0 _ refl n c named)
-    (keeps-trees (named_in w) (world.write_faults {w = w} {appliance = a} known command what block bytes guard done fault missed below here) reached (rules (named_in w) treed (names-spare w)) treed)
+    (keeps-trees (named_in w) (world.write_faults {w = w} {appliance = a} known command what block bytes guard done fault missed below here) reached (rules (named_in w) treed (names-spare w)) tt treed)
 keeps-named (world.misses {w = w} {appliance = a} {reading = reading} known command what block bytes guard done fault missed below here free past is) reached rules treed =
     treed-named (named_in w) _ _ (λ n c x found named. named-elsewhere w.geometry w.appliances w.seats a.0 _ refl n c named)
-    (keeps-trees (named_in w) (world.misses {w = w} {appliance = a} {reading = reading} known command what block bytes guard done fault missed below here free past is) reached (rules (named_in w) treed (names-spare w)) treed)
+    (keeps-trees (named_in w) (world.misses {w = w} {appliance = a} {reading = reading} known command what block bytes guard done fault missed below here free past is) reached (rules (named_in w) treed (names-spare w)) tt treed)
 keeps-named (world.clocks {w = w} {appliance = a} {reading = reading} known command rest below here is) reached rules treed =
     treed-named (named_in w) _ _ (λ n c x found named. named-elsewhere w.geometry w.appliances w.seats a.0 _ refl n c named)
-    (keeps-trees (named_in w) (world.clocks {w = w} {appliance = a} {reading = reading} known command rest below here is) reached (rules (named_in w) treed (names-spare w)) treed)
+    (keeps-trees (named_in w) (world.clocks {w = w} {appliance = a} {reading = reading} known command rest below here is) reached (rules (named_in w) treed (names-spare w)) tt treed)
 keeps-named (world.waits {w = w} {appliance = a} {reading = reading} known command from rest below here is past) reached rules treed =
     treed-named (named_in w) _ _ (λ n c x found named. named-elsewhere w.geometry w.appliances w.seats a.0 _ refl n c named)
-    (keeps-trees (named_in w) (world.waits {w = w} {appliance = a} {reading = reading} known command from rest below here is past) reached (rules (named_in w) treed (names-spare w)) treed)
+    (keeps-trees (named_in w) (world.waits {w = w} {appliance = a} {reading = reading} known command from rest below here is past) reached (rules (named_in w) treed (names-spare w)) tt treed)
 keeps-named (world.crashes {w = w} {appliance = a} below room) reached rules treed =
     treed-named (named_in w) _ _ (λ n c x found named. named-elsewhere w.geometry w.appliances w.seats a.0 _ refl n c named)
-    (keeps-trees (named_in w) (world.crashes {w = w} {appliance = a} below room) reached (rules (named_in w) treed (names-spare w)) treed)
+    (keeps-trees (named_in w) (world.crashes {w = w} {appliance = a} below room) reached (rules (named_in w) treed (names-spare w)) tt treed)

@@ -11,6 +11,7 @@ use Rattle.plx_commands.specs.Places.{at}
 use Rattle.plx_commands.specs.Replies.{is_in}
 use Rattle.plx_commands.specs.declared.command.Command.{Command}
 use Rattle.plx_commands.specs.declared.event.Event.{Event}
+use Rattle.plx_commands.specs.declared.event.Event.TheVariants as event
 use Rattle.plx_disk.specs.Writes.{Issued, fresh_write, no_sectors}
 use Rattle.plx_geom.specs.Geometry.{Geometry, extent_lease, lease_at}
 use Rattle.plx_rules.specs.Boot.{Place, In, Position, position}
@@ -33,7 +34,7 @@ use Rattle.law_lease.proofs.Rests.{rests-home}
 use Rattle.law_tree.proofs.ByKind.{TreePlaced, TreeWaits}
 use Rattle.law_tree.proofs.TreeLands.{landed-treed}
 use Rattle.law_tree.proofs.TreeSeats.{seat-treed, start-treed, begin-treed, read-treed, fault-treed, clock-treed, wait-treed, write-fault-treed, miss-treed, done-treed}
-use Rattle.law_tree.proofs.Treed.{Treed, FreshSeat, IsFree, TreesPlaced, TreesWait, due_of, hand_while}
+use Rattle.law_tree.proofs.Treed.{Treed, FreshSeat, IsFree, TreesPlaced, TreesWait, due_of, hand_while, linked_of}
 
 -- a lease is held in time, by what a boot holds that waits for no write
 abbrev pub HoldsInTime : (holds : ℕ → Hold) → (time lease : ℕ) → Type 0
@@ -148,26 +149,35 @@ module _ (names : ℕ → ℕ → Type 0) (w : World) (leased : Leased w) (treed
 abbrev pub SparesHands : (names : ℕ → ℕ → Type 0) → World → Type 0
 SparesHands names w = (number b c : ℕ) → b < w.appliances → (w.seats b).pending ≡ Some number → is_in c (due_of w.geometry b (w.seats b)) ≡ true → names number c → ⊥
 
+-- a write that an appliance issues next is named by the blocks that it links
+abbrev pub NamesLinked : (names : ℕ → ℕ → Type 0) → World → (appliance : ℕ) → Type 0
+NamesLinked names w a = (c : ℕ) → is_in c (linked_of w.geometry a (w.seats a)) ≡ true → names (length w.surface.writes) c
+
+-- it is so where an event issues it
+abbrev pub NamesIssued : (names : ℕ → ℕ → Type 0) → World → Event → Type 0
+NamesIssued names w (event.Issue a) = NamesLinked names w a.0
+NamesIssued names w other = Unit {0}
+
 -- who knows the parts says what each write meets as it is issued
 pub record RulesOfTrees (names : ℕ → ℕ → Type 0) (w : World) : Type 0 where
   pub meets : (a : ℕ) (known : Known) (command : Command) (k : WriteKind) (block : ℕ) (bytes : List ℕ) (guard : ℕ) (done fault : Part End) (missed : ℕ → Part End) → a < w.appliances →
-      (stands w a).place ≡ In known command (WriteThen k block bytes guard done fault missed) → (w.seats a).pending ≡ None →
+      (stands w a).place ≡ In known command (WriteThen k block bytes guard done fault missed) → (w.seats a).pending ≡ None → NamesLinked names w a →
       MeetsTree (names (length w.surface.writes)) w.geometry w.surface.time w.surface.device (stands w a) (rests_on w.geometry command (stands w a).holds (stands w a).filled k block bytes) k block bytes
   pub spared : SparesHands names w
 
-pub keeps-trees : (names : ℕ → ℕ → Type 0) {w v : World} {event : Event} → Step w event v → Reached w → RulesOfTrees names w → Treed names w → Treed names v
-keeps-trees names (world.ticks {w = w} {by = by} room) reached rules treed = record {
+pub keeps-trees : (names : ℕ → ℕ → Type 0) {w v : World} {event : Event} → Step w event v → Reached w → RulesOfTrees names w → NamesIssued names w event → Treed names w → Treed names v
+keeps-trees names (world.ticks {w = w} {by = by} room) reached rules linked treed = record {
   shared = treed.shared;
   rooted = treed.rooted;
   fresh = λ a below c is claim until grips. treed.fresh a below c is claim until (grips.0, (let l = grips.1 in omega (arith, l)));
   placed = λ home n x is op. treed.placed home n x is (open-later w.geometry w.rests w.appliances w.surface.time by w.surface.writes w.seats home n x op);
   waits = λ n x found all. treed.waits n x found (λ lease under. open-later w.geometry w.rests w.appliances w.surface.time by w.surface.writes w.seats lease n x (all lease under));
 }
-keeps-trees names (world.starts {w = w} {appliance = a} {command = command} known below here whole built) reached rules treed = start-treed names w (reached-leased reached) treed a.0 below _ _ known command here
-keeps-trees names (world.begins {w = w} {appliance = a} {reading = reading} known command below here is) reached rules treed = begin-treed names w (reached-leased reached) treed a.0 below _ _ known command reading here
-keeps-trees names (world.reads {w = w} {appliance = a} known command block rest fault below here) reached rules treed = read-treed names w (reached-leased reached) treed a.0 below _ _ known command block rest fault here
-keeps-trees names (world.read_faults {w = w} {appliance = a} known command block rest fault below here) reached rules treed = fault-treed names w (reached-leased reached) treed a.0 below _ _ known command block rest fault here
-keeps-trees names (world.issues {w = w} {appliance = a} known command what block bytes guard done fault missed below here none) reached rules treed = record {
+keeps-trees names (world.starts {w = w} {appliance = a} {command = command} known below here whole built) reached rules linked treed = start-treed names w (reached-leased reached) treed a.0 below _ _ known command here
+keeps-trees names (world.begins {w = w} {appliance = a} {reading = reading} known command below here is) reached rules linked treed = begin-treed names w (reached-leased reached) treed a.0 below _ _ known command reading here
+keeps-trees names (world.reads {w = w} {appliance = a} known command block rest fault below here) reached rules linked treed = read-treed names w (reached-leased reached) treed a.0 below _ _ known command block rest fault here
+keeps-trees names (world.read_faults {w = w} {appliance = a} known command block rest fault below here) reached rules linked treed = fault-treed names w (reached-leased reached) treed a.0 below _ _ known command block rest fault here
+keeps-trees names (world.issues {w = w} {appliance = a} known command what block bytes guard done fault missed below here none) reached rules linked treed = record {
   shared = treed.shared;
   rooted = treed.rooted;
   fresh = fresh-issued names w leased treed a.0 below none leases what block bytes guard grants meets;
@@ -189,17 +199,17 @@ keeps-trees names (world.issues {w = w} {appliance = a} known command what block
         (let L : Place → Type 0 = λ q. LawfulAt w.geometry (boot_number a.0 (w.seats a.0).boots) (stands w a.0).holds (stands w a.0).filled (stands w a.0).sample q in (subst L here (leased.seated a.0 below).lawful).0)
 
     meets : MeetsTree (names (length w.surface.writes)) w.geometry w.surface.time w.surface.device (stands w a.0) leases what block bytes
-    meets = rules.meets a.0 known command what block bytes guard done fault missed below here none
-keeps-trees names (world.lands {w = w} {appliance = a} {back = back} {sector = sector} number write below back' may) reached rules treed =
+    meets = rules.meets a.0 known command what block bytes guard done fault missed below here none linked
+keeps-trees names (world.lands {w = w} {appliance = a} {back = back} {sector = sector} number write below back' may) reached rules linked treed =
     let t = landed-treed names w reached treed number sector write may (λ b c under waits is named. rules.spared number b c under waits is named) in
     record { shared = t.shared; rooted = t.rooted; fresh = t.fresh; placed = t.placed; waits = t.waits }
-keeps-trees names (world.dones {w = w} {appliance = a} known command what block bytes guard done fault missed number below here waited whole) reached rules treed =
+keeps-trees names (world.dones {w = w} {appliance = a} known command what block bytes guard done fault missed number below here waited whole) reached rules linked treed =
     done-treed names w (reached-leased reached) treed a.0 below _ _ known command what block bytes guard done fault missed here number waited whole
-keeps-trees names (world.write_faults {w = w} {appliance = a} known command what block bytes guard done fault missed below here) reached rules treed =
+keeps-trees names (world.write_faults {w = w} {appliance = a} known command what block bytes guard done fault missed below here) reached rules linked treed =
     write-fault-treed names w (reached-leased reached) treed a.0 below _ _ known command what block bytes guard done fault missed here
-keeps-trees names (world.misses {w = w} {appliance = a} {reading = reading} known command what block bytes guard done fault missed below here free past is) reached rules treed =
+keeps-trees names (world.misses {w = w} {appliance = a} {reading = reading} known command what block bytes guard done fault missed below here free past is) reached rules linked treed =
     miss-treed names w (reached-leased reached) treed a.0 below _ _ known command what block bytes guard done fault missed here reading
-keeps-trees names (world.clocks {w = w} {appliance = a} {reading = reading} known command rest below here is) reached rules treed = clock-treed names w (reached-leased reached) treed a.0 below _ _ known command rest reading here
-keeps-trees names (world.waits {w = w} {appliance = a} {reading = reading} known command from rest below here is past) reached rules treed = wait-treed names w (reached-leased reached) treed a.0 below _ _ known command from rest reading here
-keeps-trees names (world.crashes {w = w} {appliance = a} below room) reached rules treed =
+keeps-trees names (world.clocks {w = w} {appliance = a} {reading = reading} known command rest below here is) reached rules linked treed = clock-treed names w (reached-leased reached) treed a.0 below _ _ known command rest reading here
+keeps-trees names (world.waits {w = w} {appliance = a} {reading = reading} known command from rest below here is past) reached rules linked treed = wait-treed names w (reached-leased reached) treed a.0 below _ _ known command from rest reading here
+keeps-trees names (world.crashes {w = w} {appliance = a} below room) reached rules linked treed =
     seat-treed names w (reached-leased reached) treed a.0 below _ _ (record { boots = (w.seats a.0).boots + 1; log = []; pending = None }) refl (λ c is claim until grips. absurd (let e = is in let P : ⊥ = cc in P))

@@ -1,5 +1,5 @@
 -- What holds of the trees of a world.
-use Rattle.std.proofs.Common.{◌≡◌, ℕ, ◌<◌, List, true, Option, Some, None}
+use Rattle.std.proofs.Common.{◌≡◌, ℕ, ◌<◌, List, [], true, Option, Some, None}
 use Rattle.std.specs.Prelude.{slice_get}
 use Rattle.plx_base.specs.Sectors.{Device}
 use Rattle.plx_base.specs.declared.lease.Claim.{Claim}
@@ -11,7 +11,7 @@ use Rattle.plx_radix.specs.Paths.{Unreachable, Shared}
 use Rattle.plx_rules.specs.Boot.{Place, In, position}
 use Rattle.plx_rules.specs.Hands.{hand_from, hand_unlinked}
 use Rattle.plx_rules.specs.Part.{WriteThen}
-use Rattle.plx_rules.specs.Rests.{extent_of, home_of}
+use Rattle.plx_rules.specs.Rests.{extent_of, filled_blocks, home_of}
 use Rattle.plx_rules.specs.World.{World, Seat, setting_at}
 use Rattle.law_lease.proofs.Frame.{AllStand}
 use Rattle.law_lease.proofs.Open.{GripsLease, IsOpen}
@@ -33,6 +33,16 @@ due g (Some n) place found filled hand = hand_while g place found filled hand
 abbrev pub due_of : Geometry → (appliance : ℕ) → Seat → List ℕ
 due_of g a seat = due g seat.pending (position (setting_at g a seat.boots) seat.log).place (position (setting_at g a seat.boots) seat.log).found
     (position (setting_at g a seat.boots) seat.log).filled (position (setting_at g a seat.boots) seat.log).hand
+
+-- the blocks that the write at a place links
+abbrev pub linked_at : Place → (filled : List (ℕ × List ℕ)) → List ℕ
+linked_at (In known command (WriteThen kind.Link block bytes guard done fault missed)) filled = filled_blocks filled
+linked_at (In known command (WriteThen kind.Record block bytes guard done fault missed)) filled = filled_blocks filled
+linked_at other filled = []
+
+-- the same, of a seat
+abbrev pub linked_of : Geometry → (appliance : ℕ) → Seat → List ℕ
+linked_of g a seat = linked_at (position (setting_at g a seat.boots) seat.log).place (position (setting_at g a seat.boots) seat.log).filled
 
 -- a block that is free to be linked
 pub record IsFree (g : Geometry) (d : Device) (block : ℕ) : Type 0 where

@@ -93,13 +93,13 @@ module _ (s : Setting) (geometry : IsGeometry s.geometry) (log : CommandLog) (kn
           ((own' : List Exchange) → Work (GivenBack (extent + 1)) own' → MeetsGivingBack own' tail m) → MeetsGivingBack own tail (suc (suc m))
       unheld none next =
           let one = next own (given-more s log.before log.exchanges NoLease inside NoLease own extent r (none-unheld s log.before log.exchanges NoLease inside own extent r.along.has none)) in
-          let one-more = more s log.before log.exchanges NoLease inside geometry.blocks_high log.command uses known MayGive ShowsGiven in-pool may-give endings in
+          let one-more = more s log.before log.exchanges NoLease inside geometry.blocks_high (omega (arith, geometry.blocks_low)) log.command uses known MayGive ShowsGiven in-pool may-give endings in
           one-more (suc m) tail own (one-more m tail own one)
 
       by-hold : (hold : Hold) → hold_by_log s log.before (own ++ log.exchanges) (extent_lease s.geometry extent) ≡ hold →
           ((own' : List Exchange) → Work (GivenBack (extent + 1)) own' → MeetsGivingBack own' tail m) → MeetsGivingBack own (give_extent s known uses hand extent hold tail) (suc (suc m))
       by-hold (Held claim until) is next =
-          gives s log.before log.exchanges NoLease inside geometry.blocks_high log.command uses known MayGive ShowsGiven in-pool may-give endings NoLease own extent until m claim
+          gives s log.before log.exchanges NoLease inside geometry.blocks_high (omega (arith, geometry.blocks_low)) log.command uses known MayGive ShowsGiven in-pool may-give endings NoLease own extent until m claim
           (in_extent s.geometry extent hand) tail (omega arith) (λ p. p) r is (ap (in_extent s.geometry extent) (sym may.fresh)) (λ own' r' held'. next own' r')
       by-hold Nothing is next = unheld (ap is_held is) next
       by-hold (Seen sample) is next = unheld (ap is_held is) next

@@ -45,8 +45,8 @@ StandsAt s lent stage.Idle p = p.place ≡ Idle lent.known
 StandsAt s lent (stage.Begun begun) p = HasBegun s lent.known begun p
 StandsAt s lent (stage.In w) p = IsInWork lent w p
 
--- an appliance stands for a log that leads to where it stands, its tokens are what the log holds, and its hand is the one of the log;
--- no command fills a block yet
+-- an appliance stands for a log that leads to where it stands, its tokens are what the log holds,
+-- and its hand is the one of the log; no command fills a block yet
 pub record StandsFor (a : Appliance) (log : List Happening) : Type 0 where
   pub at : StandsAt (appliance_setting a) (lent_of a.holdings) a.stage (position (appliance_setting a) log)
   pub held : HoldsAs a.holdings.setting.geometry (image_leases a.holdings.leases.leases.items) (extents_in a.holdings) (position (appliance_setting a) log).holds

@@ -88,7 +88,8 @@ went_on s ask bytes answer p (Idle known) = p
 went_on s ask bytes answer p (Begins known command) = first_read s known command answer p
 went_on s ask bytes answer p (In known command part) =
     goes_to s.geometry known command (after_answer p.sample ask bytes answer p.holds)
-    (hand_left ask p.filled (hand_answered s.geometry p.found ask bytes answer p.hand)) (filled_answered ask bytes answer p.filled)
+    (hand_left ask p.filled (hand_answered s.geometry p.found ask bytes answer p.hand))
+    (filled_answered ask bytes answer p.filled)
     (sample_of answer) (found_by ask answer) (latest_after answer p.latest) (answered part answer)
 
 -- where a boot stands after its log, whose newest happening stands first

@@ -76,7 +76,8 @@ filled_held g holds filled = filter (λ one. is_held (holds (lease_at (extent_le
 
 -- ---- what links take out of the hand
 
--- what stays in hand from the ask of a write on: a link and the write of a record link the blocks that were filled
+-- what stays in hand from the ask of a write on: a link and the write of a record link the blocks
+-- that were filled
 abbrev pub hand_unlinked : WriteKind → (filled : List (ℕ × List ℕ)) → List ℕ → List ℕ
 hand_unlinked kind.Link filled hand = blocks_without (filled_blocks filled) hand
 hand_unlinked kind.Record filled hand = blocks_without (filled_blocks filled) hand

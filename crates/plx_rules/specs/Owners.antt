@@ -1,15 +1,15 @@
--- Which boot owns a lease, which writes need it, and what that promises.
-use Rattle.std.specs.Prelude.{◌≡◌, ◌+◌, ◌≤◌, ◌<◌, ◌⊎◌, ◌==◌, ℕ, List, Bool, true, false, Option, Some, None, slice_get}
+-- Which boot owns a lease, what that promises, and on what a write that is waited for rests.
+use Rattle.std.specs.Prelude.{◌≡◌, ◌+◌, ◌≤◌, ◌<◌, ◌==◌, ℕ, List, Bool, true, false, Option, Some, None, slice_get}
 use Rattle.plx_base.specs.declared.lease.Claim.{Claim}
 use Rattle.plx_base.specs.declared.write_kind.WriteKind.{WriteKind}
 use Rattle.plx_base.specs.declared.write_kind.WriteKind.TheVariants as kind
 use Rattle.plx_disk.specs.Writes.{Issued, MayLand, after_landing}
 use Rattle.plx_gate.specs.Leases.{read_lease}
-use Rattle.plx_geom.specs.Geometry.{Geometry, IsPoolBlock, lease_count, root_lease, image_lease, extent_lease, lease_at, record_at, descriptor_at, data_at, map_at}
+use Rattle.plx_geom.specs.Geometry.{Geometry, lease_count, lease_at}
 use Rattle.plx_rules.specs.Part.{WriteThen}
-use Rattle.plx_rules.specs.Boot.{Place, In}
+use Rattle.plx_rules.specs.Boot.{Place, In, Position}
 use Rattle.plx_rules.specs.Holds.{Hold, Nothing, Held, hold_after_renewal}
-use Rattle.plx_rules.specs.Rests.{IsUnder}
+use Rattle.plx_rules.specs.Rests.{IsUnder, rests_on}
 use Rattle.plx_rules.specs.Times.{drift}
 use Rattle.plx_rules.specs.World.{World, Reached, setting_of, stands}
 
@@ -53,25 +53,6 @@ pub record Owns (w : World) (appliance lease : ℕ) : Type 0 where
   pub held : held_by w appliance (lease_at lease) ≡ Held claim until
   pub time : w.surface.time ≤ until + drift
 
--- a write of this kind to this block needs that lease; the kinds of trees and snapshots aren't asked for yet
-abbrev pub Needs : Geometry → WriteKind → (block lease : ℕ) → Type 0
-Needs g kind.Claim block lease = ⊥
-Needs g kind.Renew block lease = block ≡ lease_at lease
-Needs g kind.Release block lease = block ≡ lease_at lease
-Needs g kind.Take block lease = (extent : ℕ) × (extent < g.extents) × (block ≡ map_at g extent) × (lease ≡ extent_lease g extent)
-Needs g kind.Give block lease = (extent : ℕ) × (extent < g.extents) × (block ≡ map_at g extent) × (lease ≡ extent_lease g extent)
-Needs g kind.Sweep block lease =
-    (extent : ℕ) × (extent < g.extents) × (block ≡ map_at g extent) × ((lease ≡ extent_lease g extent) ⊎ (lease ≡ root_lease))
-Needs g kind.Fresh block lease = (extent : ℕ) × (bit : ℕ) × IsPoolBlock g extent bit block × (lease ≡ extent_lease g extent)
-Needs g kind.Link block lease = ⊥
-Needs g kind.Overwrite block lease = ⊥
-Needs g kind.Record block lease = (image : ℕ) × (image < g.images) × (block ≡ record_at g image) × (lease ≡ image_lease image)
-Needs g kind.Log block lease = ⊥
-Needs g kind.JData block lease =
-    (image : ℕ) × (slot : ℕ) × (image < g.images) × (slot < g.slots) × (block ≡ data_at g image slot) × (lease ≡ image_lease image)
-Needs g kind.JCommit block lease =
-    (image : ℕ) × (slot : ℕ) × (image < g.images) × (slot < g.slots) × (block ≡ descriptor_at g image slot) × (lease ≡ image_lease image)
-
 -- at most one boot owns each lease
 abbrev pub HasOneOwner : World → Type 0
 HasOneOwner w = (a b lease : ℕ) → a < w.appliances → b < w.appliances → Owns w a lease → Owns w b lease → a ≡ b
@@ -90,3 +71,20 @@ Exclusion = (w : World) → Reached w → HasOneOwner w
 -- in every world that events lead to no late write changes what its lease's owner has
 abbrev pub Guarding : Type 0
 Guarding = (w : World) → Reached w → IsGuarded w
+
+-- ---- a write that is waited for
+
+-- a write that is asked at a place rests on what its command, what its boot holds and what that has
+-- filled give
+abbrev pub RestsAsAsked : Geometry → (leases : List ℕ) → Position → Place → Type 0
+RestsAsAsked g leases p (In known command (WriteThen kind block bytes guard done fault missed)) =
+    leases ≡ rests_on g command p.holds p.filled kind block bytes
+RestsAsAsked g leases p other = ⊥
+
+-- in every world that events lead to the write that a boot waits for rests so: beside its home a
+-- link rests on the leases of the extents of the blocks that its boot has filled, which the ask has
+-- taken out of the hand
+abbrev pub WaitsRestAsAsked : Type 0
+WaitsRestAsAsked = (w : World) → Reached w → (appliance number : ℕ) → appliance < w.appliances →
+    (w.seats appliance).pending ≡ Some number →
+    RestsAsAsked w.geometry (w.rests number) (stands w appliance) (stands w appliance).place

@@ -35,16 +35,23 @@ HasMaps g device = (extent : ℕ) → extent < g.extents → HoldsMap g.extent_b
 abbrev pub MapsStay : Type 0
 MapsStay = (w : World) → Reached w → HasMaps w.geometry w.surface.device
 
--- what is in hand while a write is asked: the blocks whose bits a give clears have left, and those that a link or the write of a record links
-abbrev pub hand_at : Geometry → Place → Option (ℕ × List ℕ) → (filled : List (ℕ × List ℕ)) → List ℕ → List ℕ
-hand_at g (In known command (WriteThen kind.Give block bytes guard done fault missed)) found filled hand = hand_from g found kind.Give block bytes hand
-hand_at g (In known command (WriteThen kind.Link block bytes guard done fault missed)) found filled hand = hand_unlinked kind.Link filled hand
-hand_at g (In known command (WriteThen kind.Record block bytes guard done fault missed)) found filled hand = hand_unlinked kind.Record filled hand
+-- what is in hand while a write is asked: the blocks whose bits a give clears have left, and those
+-- that a link or the write of a record links
+abbrev pub hand_at : Geometry → Place → Option (ℕ × List ℕ) → (filled : List (ℕ × List ℕ)) →
+    List ℕ → List ℕ
+hand_at g (In known command (WriteThen kind.Give block bytes guard done fault missed)) found filled hand =
+    hand_from g found kind.Give block bytes hand
+hand_at g (In known command (WriteThen kind.Link block bytes guard done fault missed)) found filled hand =
+    hand_unlinked kind.Link filled hand
+hand_at g (In known command (WriteThen kind.Record block bytes guard done fault missed)) found filled hand =
+    hand_unlinked kind.Record filled hand
 hand_at g other found filled hand = hand
 
 -- what is in the hand of the present boot of an appliance
 abbrev pub hand_of : World → (appliance : ℕ) → List ℕ
-hand_of w appliance = hand_at w.geometry (stands w appliance).place (stands w appliance).found (stands w appliance).filled (stands w appliance).hand
+hand_of w appliance =
+    hand_at w.geometry (stands w appliance).place (stands w appliance).found
+    (stands w appliance).filled (stands w appliance).hand
 
 -- a block is in the hand of an appliance that owns its extent's lease
 pub record HasInHand (w : World) (appliance block : ℕ) : Type 0 where

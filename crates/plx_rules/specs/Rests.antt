@@ -46,22 +46,28 @@ filled_blocks filled = map (λ one. one.0) filled
 abbrev pub leases_named : Command → List ℕ
 leases_named command = map image_lease (named_slots command)
 
--- the leases on which a write of this command rests, by what its boot holds and has filled since its last link as it is issued:
--- its home, under which its own block lies, stands first; a claim rests on none
-abbrev pub rests_on : Geometry → Command → (ℕ → Hold) → (filled : List (ℕ × List ℕ)) → WriteKind → (block : ℕ) → List ℕ → List ℕ
+-- the leases on which a write of this command rests, by what its boot holds and has filled since
+-- its last link as it is issued: its home, under which its own block lies, stands first; a claim
+-- rests on none
+abbrev pub rests_on : Geometry → Command → (ℕ → Hold) → (filled : List (ℕ × List ℕ)) →
+    WriteKind → (block : ℕ) → List ℕ → List ℕ
 rests_on g command holds filled kind.Claim block bytes = []
 rests_on g command holds filled kind.Renew block bytes = lease_in block ∷ []
 rests_on g command holds filled kind.Release block bytes = lease_in block ∷ []
 rests_on g command holds filled kind.Take block bytes = extent_lease g (extent_of g block) ∷ []
 rests_on g command holds filled kind.Give block bytes = extent_lease g (extent_of g block) ∷ []
-rests_on g command holds filled kind.Sweep block bytes = extent_lease g (extent_of g block) ∷ root_lease ∷ []
+rests_on g command holds filled kind.Sweep block bytes =
+    extent_lease g (extent_of g block) ∷ root_lease ∷ []
 rests_on g command holds filled kind.Fresh block bytes = extent_lease g (extent_of g block) ∷ []
-rests_on g command holds filled kind.Link block bytes = leases_named command ++ extents_of g (filled_blocks filled)
+rests_on g command holds filled kind.Link block bytes =
+    leases_named command ++ extents_of g (filled_blocks filled)
 rests_on g command holds filled kind.Overwrite block bytes = leases_named command
-rests_on g command holds filled kind.Record block bytes = image_lease (image_of_record g block) ∷ extents_of g (filled_blocks filled)
+rests_on g command holds filled kind.Record block bytes =
+    image_lease (image_of_record g block) ∷ extents_of g (filled_blocks filled)
 rests_on g command holds filled kind.Log block bytes = image_lease (image_of_log g block) ∷ []
 rests_on g command holds filled kind.JData block bytes = image_lease (image_of_journal g block) ∷ []
-rests_on g command holds filled kind.JCommit block bytes = image_lease (image_of_journal g block) ∷ []
+rests_on g command holds filled kind.JCommit block bytes =
+    image_lease (image_of_journal g block) ∷ []
 
 -- the issued write with this number stands under a lease: it rests on it
 abbrev pub IsUnder : (rests : ℕ → List ℕ) → (number lease : ℕ) → Type 0
