@@ -35,6 +35,7 @@ use Rattle.law_run.proofs.Passed.{Passed, passed-all}
 use Rattle.law_run.proofs.Rests.{rests-lost, rests-failed}
 use Rattle.law_run.proofs.Uses.{of-one}
 use Rattle.law_run.proofs.Right.{clock, Rests, finish, log_on, Shows, Right}
+use Rattle.law_run.specs.Senses.{IsAny}
 use Rattle.plx_base.proofs.Tests.{lt-cases}
 use Rattle.plx_commands.specs.Replies.{is_in}
 
@@ -58,7 +59,7 @@ IsFine s before command reading = (done : List Exchange) → first_reading done 
 
 -- what the work meets, and an Ok, come where no refusal's fact holds
 pub replied-fine : (s : Setting) (before : List Finished) (command : Command) (reading : ℕ) → IsFine s before command reading → (done : List Exchange) → first_reading done ≡ Some reading → (r : Reply) →
-    Comes s (log_on before command done) r → IsReplied s (log_on before command done) r
+    Comes s IsAny (log_on before command done) r → IsReplied s IsAny (log_on before command done) r
 replied-fine s before command reading fine done first r comes = worked (passed-all s (log_on before command done) (fine done first)) comes
 
 -- a write that fails ends the command
@@ -149,7 +150,7 @@ module _ (s : Setting) (before : List Finished) (known : Known) (command : Comma
   -- a reply after one more reading
   pub asks-confirm : (done : List Exchange) (r : Reply) (next : Known) (n : ℕ) → Going s before done slot.0 c → MayFollow s (log_on before command done) ask.Clock →
       ((reading : ℕ) → reading < c.until → Going s before (clock reading ∷ done) slot.0 c → IsConfirmed s (log_on before command (clock reading ∷ done)) slot.0 →
-      Comes s (log_on before command (clock reading ∷ done)) r × Rests s (finish command (clock reading ∷ done) r ∷ before) next) →
+      Comes s IsAny (log_on before command (clock reading ∷ done)) r × Rests s (finish command (clock reading ∷ done) r ∷ before) next) →
       Right s before command done (ends_in_time s known (image_use slot.0 c.until) r next) (suc n)
   asks-confirm done r next n going' on right = (
     ((going'.went, tt), on),

@@ -35,7 +35,7 @@ use Rattle.law_run.specs.Replies.{ReadRestsOn, of_record, of_log, of_descriptor,
 use Rattle.law_run.specs.Sessions.{attached_by, is_attached}
 use Rattle.law_run.proofs.Asking.{IsFine, replied-fine, asks-confirm}
 use Rattle.law_run.proofs.Counted.{write-counted}
-use Rattle.law_run.proofs.Facts.{stored_by_session, plain-parts, stores-session}
+use Rattle.law_run.proofs.Facts.{stored_by_session, plain-parts}
 use Rattle.law_run.proofs.Grown.{with-block-same, with-other, fits-empty}
 use Rattle.law_run.proofs.Holding.{first-more, claims-more, Spared, spared-more, Course, Going, going-more, reads-no-claim}
 use Rattle.law_run.proofs.Following.{read-inside, past-unbusy}
@@ -47,6 +47,8 @@ use Rattle.law_run.proofs.OnImage.{NamesOne, names-own, names-other, names-only}
 use Rattle.law_run.proofs.Rests.{KeepsHolds, rests-by}
 use Rattle.law_run.proofs.Uses.{quiet-read}
 use Rattle.law_run.proofs.Right.{read_of, clock, FitsSession, FitsAt, Rests, finish, log_on, May, Shows, Right}
+use Rattle.law_run.specs.Senses.{seen_in}
+use Rattle.law_run.proofs.Senses.{stores-seen}
 use Rattle.plx_base.proofs.Tests.{nat_le-true, nat_le-false, lt-cases, clash, eqb-isn't}
 use Rattle.plx_commands.proofs.Places.{at-other, at-same}
 
@@ -206,13 +208,13 @@ module _ (s : Setting) (before : List Finished) (known next : Known) (slot : Slo
       asks-confirm s before next (Attach slot) slot c (attach-one slot) within fine claims done r more n going on
       (λ reading early after confirmed.
       let here = known-now (clock reading ∷ done) in (
-        record {
+        λ sense any. record {
           slot = slot;
           command = refl;
           confirmed = confirmed;
           image = stored_by_session session;
-          stores = subst (λ (g : Given). Stores s.geometry g slot.0 (stored_by_session session)) (sym here)
-              (stores-session s.geometry (told_now done) slot.0 session fits);
+          stores = subst (λ (g : Given). Stores s.geometry (seen_in sense s.geometry g) slot.0 (stored_by_session session)) (sym here)
+              (stores-seen sense s.geometry (told_now done) slot.0 session fits);
           whole = refl;
           told = ap (λ n. record (session_report session) { taken = n }) (plain-parts session.image fits.plain).0;
           inside = λ block bytes there. subst (λ (g : Given). ¬ IsOutside s.geometry g slot.0 block.0 bytes) (sym here)

@@ -3,8 +3,9 @@ use Rattle.std.proofs.Common.{◌≤◌, List, arith}
 use Rattle.plx_commands.specs.declared.command.Command.{Command}
 use Rattle.plx_commands.specs.declared.command.Command.TheVariants.{Attach, Detach, Create, Delete, Read, Write, Flush, Reserve, Renew, Retire, Reclaim}
 use Rattle.plx_rules.specs.Settings.{Setting}
+use Rattle.plx_rules.specs.Boot.{asks, position, writes_out}
 use Rattle.law_run.specs.Bounds.{bound, bound_of}
-use Rattle.law_run.specs.CommandLogs.{Exchange, Finished, CommandLog}
+use Rattle.law_run.specs.CommandLogs.{Exchange, Finished, CommandLog, commands}
 use Rattle.law_run.specs.Positions.{PositionsAgree}
 use Rattle.law_run.specs.Rules.{IsSetting, RunsKeepRules}
 use Rattle.law_run.proofs.Attaches.{attach-begins}
@@ -15,8 +16,10 @@ use Rattle.law_run.proofs.Renewing.{renew-begins}
 use Rattle.law_run.proofs.Reserving.{reserve-begins}
 use Rattle.law_run.proofs.Retiring.{retire-begins}
 use Rattle.law_run.proofs.Runs as runs
-use Rattle.law_run.proofs.Runs.{BeginsRight, runs-keep}
+use Rattle.law_run.proofs.Runs.{BeginsRight, RunsKeepBoth, runs-keep}
 use Rattle.law_run.proofs.Writing.{write-begins}
+use Rattle.law_run.specs.Senses.{IsLocal, IsAny}
+use Rattle.law_run.proofs.Senses.{keeps-in}
 
 pub begins-right : (s : Setting) → IsSetting s → BeginsRight s
 begins-right s is before known (Attach slot) reading formed built older rests small =
@@ -52,8 +55,14 @@ some-bound-of s before Reclaim exchanges = omega arith
 some-bound : (s : Setting) (log : CommandLog) → 1 ≤ bound s log
 some-bound s log = some-bound-of s log.before log.command log.exchanges
 
+-- in both senses
+pub runs-keep-both : RunsKeepBoth
+runs-keep-both = runs-keep begins-right some-bound
+
+-- and so in the local one
 pub runs-keep-rules : RunsKeepRules
-runs-keep-rules = runs-keep begins-right some-bound
+runs-keep-rules s log setting run =
+    keeps-in s IsAny IsLocal (λ sense is. tt) (commands s log) (asks (position s log).place) (writes_out (position s log).place) (runs-keep-both s log setting run)
 
 pub positions-agree : PositionsAgree
 positions-agree = runs.positions-agree begins-right

@@ -12,17 +12,18 @@ use Rattle.law_run.specs.CommandLogs.{CommandLog, WasAnswered}
 use Rattle.law_run.specs.Completeness.{HasCause, fact, failed, missed, reached, busy, full, worn, outside, outside_map, outside_lease, OkWithoutCause}
 use Rattle.law_run.specs.Replies.{Comes, IsReplied, refused, worked}
 use Rattle.law_run.specs.Replies as replies
+use Rattle.law_run.specs.Senses.{Local, IsLocal}
 
 own-of-same : (command : Command) (is : Command) (r : Reply) → command ≡ is → is_own is r ≡ true → is_own command r ≡ true
 own-of-same command is r e mine = subst (λ c. is_own c r ≡ true) (sym e) mine
 
-of-work : (s : Setting) (log : CommandLog) (r : Reply) → Comes s log r → HasCause s log ⊎ (is_own log.command r ≡ true)
-of-work s log (reply.Attached report) comes = inr (own-of-same log.command _ (reply.Attached report) comes.command refl)
+of-work : (s : Setting) (log : CommandLog) (r : Reply) → Comes s IsLocal log r → HasCause s log ⊎ (is_own log.command r ≡ true)
+of-work s log (reply.Attached report) comes = inr (own-of-same log.command _ (reply.Attached report) (comes Local tt).command refl)
 of-work s log reply.Detached comes = inr (own-of-same log.command _ reply.Detached comes.command refl)
-of-work s log reply.Created comes = inr (own-of-same log.command _ reply.Created comes.command refl)
-of-work s log reply.Deleted comes = inr (own-of-same log.command _ reply.Deleted comes.command refl)
-of-work s log (reply.Data payload) comes = inr (own-of-same log.command _ (reply.Data payload) comes.command refl)
-of-work s log (reply.Written number) comes = inr (own-of-same log.command _ (reply.Written number) comes.command refl)
+of-work s log reply.Created comes = inr (own-of-same log.command _ reply.Created (comes Local tt).command refl)
+of-work s log reply.Deleted comes = inr (own-of-same log.command _ reply.Deleted (comes Local tt).command refl)
+of-work s log (reply.Data payload) comes = inr (own-of-same log.command _ (reply.Data payload) (comes Local tt).command refl)
+of-work s log (reply.Written number) comes = inr (own-of-same log.command _ (reply.Written number) (comes Local tt).command refl)
 of-work s log (reply.Flushed applied blocks) comes = absurd comes
 of-work s log reply.Reserved comes = inr (own-of-same log.command _ reply.Reserved comes.command refl)
 of-work s log reply.Renewed comes = inr (own-of-same log.command _ reply.Renewed comes.command refl)

@@ -38,8 +38,8 @@ counts-same g given more image kept slot d same counts = record { within = count
 
 -- a session goes by its image's record and journal blocks alone
 pub fits-along : (g : Geometry) (given more : Given) (image : ℕ) (session : Session) → more (record_at g image) ≡ given (record_at g image) →
-    ((slot : ℕ) → more (descriptor_at g image slot) ≡ given (descriptor_at g image slot)) →
-    ((slot : ℕ) → more (data_at g image slot) ≡ given (data_at g image slot)) → FitsSession g given image session → FitsSession g more image session
+    ((slot : ℕ) → slot < g.slots → more (descriptor_at g image slot) ≡ given (descriptor_at g image slot)) →
+    ((slot : ℕ) → slot < g.slots → more (data_at g image slot) ≡ given (data_at g image slot)) → FitsSession g given image session → FitsSession g more image session
 fits-along g given more image session same descriptors blocks fits = record {
   within = fits.within;
   found = ap record_in same ∙ fits.found;
@@ -47,10 +47,10 @@ fits-along g given more image session same descriptors blocks fits = record {
   room = fits.room;
   numbers = fits.numbers;
   counts = λ k write found.
-      counts-same g given more image session.image (journal_slot g.slots write.number) (descriptor_of session.image write) (descriptors (journal_slot g.slots write.number)) (fits.counts k write found);
-  blocks = λ k write found. blocks (journal_slot g.slots write.number) ∙ fits.blocks k write found;
-  only = λ slot d counts. fits.only slot d (counts-same g more given image session.image slot d (sym (descriptors slot)) counts);
-  whole = λ slot below. ap (λ o. drop 512 (last_known o)) (descriptors slot) ∙ fits.whole slot below;
+      counts-same g given more image session.image (journal_slot g.slots write.number) (descriptor_of session.image write) (descriptors (journal_slot g.slots write.number) (fits.counts k write found).within) (fits.counts k write found);
+  blocks = λ k write found. blocks (journal_slot g.slots write.number) (fits.counts k write found).within ∙ fits.blocks k write found;
+  only = λ slot d counts. fits.only slot d (counts-same g more given image session.image slot d (sym (descriptors slot counts.within)) counts);
+  whole = λ slot below. ap (λ o. drop 512 (last_known o)) (descriptors slot below) ∙ fits.whole slot below;
 }
 
 -- an image whose journal isn't known, with no writes

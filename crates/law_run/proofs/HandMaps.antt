@@ -23,6 +23,7 @@ use Rattle.law_run.specs.Sessions.{is_attached}
 use Rattle.law_run.proofs.FreeBlocks.{since-clear, own-read}
 use Rattle.law_run.proofs.Hands.{HasBlock, has-append, has-filter, give-fewer, told-quiet, left-has}
 use Rattle.law_run.proofs.Right.{log_on}
+use Rattle.law_run.specs.Senses.{IsAny}
 
 -- none of these blocks is a map
 abbrev pub AreNoMaps : Geometry → List ℕ → Type 0
@@ -74,14 +75,14 @@ along-no-maps s before command (x ∷ last ∷ older) allowed none =
     b (left-has x.ask (filled_by_log s before (last ∷ older)) _ b has)
 
 -- after commands that kept the rules
-kept-no-maps : (s : Setting) (before : List Finished) → AllKept s before → AreNoMaps s.geometry (hand_after s.geometry before)
+kept-no-maps : (s : Setting) (before : List Finished) → AllKept s IsAny before → AreNoMaps s.geometry (hand_after s.geometry before)
 kept-no-maps s [] kept b has = absurd (let P : ⊥ = cc in P)
 kept-no-maps s (finished ∷ before) kept b has =
     held-no-maps s.geometry (holds_after s.geometry (finished ∷ before)) _
     (along-no-maps s before finished.command finished.exchanges kept.0.allowed (kept-no-maps s before kept.1)) b has
 
 -- and along one that keeps them
-pub hand-no-maps : (s : Setting) (before : List Finished) (command : Command) (done : List Exchange) → AllKept s before → AllAllowed s before command done →
+pub hand-no-maps : (s : Setting) (before : List Finished) (command : Command) (done : List Exchange) → AllKept s IsAny before → AllAllowed s before command done →
     AreNoMaps s.geometry (hand_by_log s before done)
 hand-no-maps s before command [] kept allowed = kept-no-maps s before kept
 hand-no-maps s before command (x ∷ done) kept allowed =

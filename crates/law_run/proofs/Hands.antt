@@ -26,6 +26,7 @@ use Rattle.law_run.specs.Rules.{AllAllowed, AllKept}
 use Rattle.law_run.specs.Sessions.{is_attached}
 use Rattle.law_run.proofs.Right.{log_on, IsHeld}
 use Rattle.law_run.proofs.Runs.{HasFirst, told-more}
+use Rattle.law_run.specs.Senses.{IsAny}
 
 -- ---- blocks in a list
 
@@ -316,14 +317,14 @@ along-within s before command (x ∷ last ∷ older) allowed within =
     λ b has. rest b (left-has x.ask (filled_by_log s before (last ∷ older)) _ b has)
 
 -- after commands that kept the rules
-pub kept-within : (s : Setting) (before : List Finished) → AllKept s before → IsWithinExtents s.geometry (hand_after s.geometry before)
+pub kept-within : (s : Setting) (before : List Finished) → AllKept s IsAny before → IsWithinExtents s.geometry (hand_after s.geometry before)
 kept-within s [] kept b has = absurd (let P : ⊥ = cc in P)
 kept-within s (finished ∷ before) kept b has =
     held-within s.geometry (holds_after s.geometry (finished ∷ before)) _
     (along-within s before finished.command finished.exchanges kept.0.allowed (kept-within s before kept.1)) b has
 
 -- and along one that keeps them
-pub hand-in-extents : (s : Setting) (before : List Finished) (command : Command) (done : List Exchange) → AllKept s before → AllAllowed s before command done →
+pub hand-in-extents : (s : Setting) (before : List Finished) (command : Command) (done : List Exchange) → AllKept s IsAny before → AllAllowed s before command done →
     IsWithinExtents s.geometry (hand_by_log s before done)
 hand-in-extents s before command [] kept allowed = kept-within s before kept
 hand-in-extents s before command (x ∷ done) kept allowed =

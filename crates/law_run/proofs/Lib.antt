@@ -17,6 +17,7 @@ pub mod Grown
 pub mod Unwritten
 pub mod OneImage
 pub mod Completeness
+pub mod Senses
 pub mod Clear
 pub mod Reading
 pub mod Detaching

@@ -35,7 +35,7 @@ use Rattle.law_run.specs.Replies.{IsConfirmed, refused, Comes, rests_by_log}
 use Rattle.law_run.specs.Sessions.{names, attached_by}
 use Rattle.law_run.proofs.Asking.{IsFine, asks-write, asks-confirm}
 use Rattle.law_run.proofs.Clear.{by-unless, Clear, known-here, clear, ready-follows}
-use Rattle.law_run.proofs.Facts.{stored_by_session, limits, record-spelled, stores-session}
+use Rattle.law_run.proofs.Facts.{stored_by_session, limits, record-spelled}
 use Rattle.law_run.proofs.Grown.{with-block-same, fits-empty}
 use Rattle.law_run.proofs.Holding.{Course, going-first, going-more}
 use Rattle.law_run.proofs.Meets.{exchange}
@@ -48,6 +48,8 @@ use Rattle.law_run.proofs.Runs.{start, hand_start}
 use Rattle.law_run.proofs.Spelled.{image-rest}
 use Rattle.plx_base.proofs.Tests.{eqb-true, nat_le-true, nat_le-false, nat_le-tells, nat_le-past, nat_lt-tells, not-false, and-parts, opposite-true}
 use Rattle.law_run.proofs.Unwritten.{unwritten-quiet}
+use Rattle.law_run.specs.Senses.{IsAny, seen_in, Sense}
+use Rattle.law_run.proofs.Senses.{stores-seen}
 use Rattle.plx_commands.proofs.Places.{at-other, at-same}
 use Rattle.law_lease.proofs.Rests.{home-in, record-found}
 
@@ -95,8 +97,8 @@ module _ (s : Setting) (before : List Finished) (known : Known) (command : Comma
       ((reading' : ℕ) →
       let done = clock reading' ∷ exchange (ask.Write kind.Record (record { 0 = record_at s.geometry slot.0 }) until) (image_bytes made) answer.Done ∷ clock reading ∷ [] in
       IsConfirmed s (log_on before command done) slot.0 →
-      Stores s.geometry (known_before s.geometry (log_on before command done) slot.0) slot.0 (stored_by_session session) →
-      Stores s.geometry (known_in s.geometry (log_on before command done) slot.0) slot.0 (stored_by_session (new_session made)) → Comes s (log_on before command done) r) →
+      ((sense : Sense) → Stores s.geometry (seen_in sense s.geometry (known_before s.geometry (log_on before command done) slot.0)) slot.0 (stored_by_session session)) →
+      ((sense : Sense) → Stores s.geometry (seen_in sense s.geometry (known_in s.geometry (log_on before command done) slot.0)) slot.0 (stored_by_session (new_session made))) → Comes s IsAny (log_on before command done) r) →
       Right s before command (clock reading ∷ []) (record_part s known slot.0 until made r) 2
   right-record may shows =
       let x = exchange (ask.Write kind.Record (record { 0 = record_at s.geometry slot.0 }) until) (image_bytes made) answer.Done in
@@ -115,9 +117,9 @@ module _ (s : Setting) (before : List Finished) (known : Known) (command : Comma
       (λ j block. unwritten-quiet done (known_from s.geometry (log_on before command done) slot.0) block (tt, (tt, (tt, tt))) j)
       ∙ known-here s before known command slot reading on rests session claim until ready done in (
         shows reading' confirmed
-            (subst (λ (g : Given). Stores s.geometry g slot.0 (stored_by_session session)) (sym was) (stores-session s.geometry (given_after s.geometry before slot.0) slot.0 session ready.fits))
-            (subst (λ (g : Given). Stores s.geometry g slot.0 (stored_by_session (new_session made))) (sym same)
-            (stores-session s.geometry (made_known s.geometry slot.0 made (given_after s.geometry before slot.0)) slot.0 (new_session made) fits)),
+            (λ sense. subst (λ (g : Given). Stores s.geometry (seen_in sense s.geometry g) slot.0 (stored_by_session session)) (sym was) (stores-seen sense s.geometry (given_after s.geometry before slot.0) slot.0 session ready.fits))
+            (λ sense. subst (λ (g : Given). Stores s.geometry (seen_in sense s.geometry g) slot.0 (stored_by_session (new_session made))) (sym same)
+            (stores-seen sense s.geometry (made_known s.geometry slot.0 made (given_after s.geometry before slot.0)) slot.0 (new_session made) fits)),
         rests-by s before command done r known next slot.0 (names-other command slot.0 on.named) (λ other apart. at-other known.sessions slot.0 other (Some (new_session made)) apart)
             (λ other b apart. none other b) keeps going.spared
             (subst (λ o. FitsAt s (finish command done r ∷ before) slot.0 o) (sym (at-same known.sessions slot.0 (Some (new_session made)))) (
@@ -212,7 +214,7 @@ right-create s before known slot size label reading rests labelled session claim
     (place 11 (λ lt. free) (λ lt. good) (λ lt. below)) made is refl reply.Created (λ other b. refl) (λ h. refl)
     (record_of_create slot size label generation refl (claim, ready.now) refl (found1 ∙ ap Some (free-is session.image free)) is refl
     (first-sector s.geometry (known_in s.geometry log slot.0) slot.0 session.image made found1 (limits s.geometry (given_after s.geometry before slot.0) slot.0 session ready.fits) is))
-    (λ reading' confirmed before' after. record {
+    (λ reading' confirmed before' after sense any. record {
       slot = slot;
       size = size;
       label = label;
@@ -220,8 +222,8 @@ right-create s before known slot size label reading rests labelled session claim
       confirmed = confirmed;
       image = stored_by_session session;
       free = free;
-      before = before';
-      after = after;
+      before = before' sense;
+      after = after sense;
     }))))
 
 pub create-begins : (s : Setting) (before : List Finished) (known : Known) (slot : SlotNo) (size : ℕ) (label : Label) (reading : ℕ) → Rests s before known → IsLabel label →
@@ -283,14 +285,14 @@ right-delete s before known slot reading rests session claim until ready =
     (place 11 (λ lt. live)) made made_is refl reply.Deleted (λ other b. refl) (λ h. refl)
     (record_of_delete slot session.image refl (claim, ready.now) refl found1 live made_is refl
     (first-sector s.geometry (known_in s.geometry log slot.0) slot.0 session.image made found1 is made_is))
-    (λ reading' confirmed before' after. record {
+    (λ reading' confirmed before' after sense any. record {
       slot = slot;
       command = refl;
       confirmed = confirmed;
       image = stored_by_session session;
       live = live;
-      before = before';
-      after = after;
+      before = before' sense;
+      after = after sense;
     }))
 
 pub delete-begins : (s : Setting) (before : List Finished) (known : Known) (slot : SlotNo) (reading : ℕ) → Rests s before known →

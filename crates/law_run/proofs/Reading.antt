@@ -26,6 +26,8 @@ use Rattle.law_run.proofs.OnImage.{OnImage, names-own, still, on-image, Ready}
 use Rattle.law_run.proofs.Passed.{Passed, passed-at-most}
 use Rattle.law_run.proofs.Right.{clock, Rests, log_on, Right}
 use Rattle.law_run.proofs.Runs.{start, hand_start}
+use Rattle.law_run.specs.Senses.{seen_in}
+use Rattle.law_run.proofs.Senses.{fits-seen}
 use Rattle.plx_base.proofs.Tests.{nat_le-tells, nat_le-past, not-false, opposite-true}
 
 pub on-read : (slot : SlotNo) (vblock : ℕ) → OnImage (Read slot vblock) slot.0
@@ -82,16 +84,17 @@ module _ (s : Setting) (before : List Finished) (known : Known) (slot : SlotNo) 
       (λ reading' early going confirmed.
       let done = clock reading' ∷ clock reading ∷ [] in
       let same : known_in s.geometry (log_on before command done) slot.0 ≡ given_after s.geometry before slot.0 = rw (names-own command slot.0 on.named, ready.attached) refl in (
-        record {
+        λ sense any. record {
           slot = slot;
           vblock = vblock;
           command = refl;
           confirmed = confirmed;
           kept = session.image;
           found = ap (λ (g : Given). record_on s.geometry g slot.0) same ∙ ready.fits.found;
-          content = subst (λ (g : Given). IsContent s.geometry g slot.0 session.image vblock (Holds (bytes_of (payload_of (content session vblock))))) (sym same)
-              (subst (λ (b : List ℕ). IsContent s.geometry (given_after s.geometry before slot.0) slot.0 session.image vblock (Holds b)) (sym (bytes_of-payload_of (content session vblock)))
-              (content-held s.geometry (given_after s.geometry before slot.0) slot.0 session ready.fits vblock));
+          content = subst (λ (g : Given). IsContent s.geometry (seen_in sense s.geometry g) slot.0 session.image vblock (Holds (bytes_of (payload_of (content session vblock))))) (sym same)
+              (subst (λ (b : List ℕ). IsContent s.geometry (seen_in sense s.geometry (given_after s.geometry before slot.0)) slot.0 session.image vblock (Holds b)) (sym (bytes_of-payload_of (content session vblock)))
+              (content-held s.geometry (seen_in sense s.geometry (given_after s.geometry before slot.0)) slot.0 session
+              (fits-seen sense s.geometry (given_after s.geometry before slot.0) slot.0 session ready.fits) vblock));
         },
         still-at s before known command slot reading on rests session claim until ready done (reply.Data (payload_of (content session vblock))) (λ other b. refl) (λ h. refl) c going refl same,
       ))))

@@ -45,6 +45,7 @@ use Rattle.law_run.proofs.Runs.{start, hand_start}
 use Rattle.law_run.proofs.TakeFollows as takes_follow
 use Rattle.law_run.proofs.TakeFollows.{ReadsOutside, FollowsAnswer, FollowsTake}
 use Rattle.law_run.proofs.TakeRules.{at-rest, take-meets}
+use Rattle.law_run.specs.Senses.{IsAny}
 
 -- after the first reading a lease is held, or it isn't
 first-rest : (attached : Bool) (reading : ℕ) (hold : Hold) → IsRest (at_first attached reading hold)
@@ -99,7 +100,7 @@ module _ (s : Setting) (before : List Finished) (known : Known) (count reading :
   is-take : (own : List Exchange) → IsTake (whole_log own) own count
   is-take own = record { begun = clock reading ∷ []; takes = of_reserve reading refl refl; since = refl }
 
-  refusal-comes : (own : List Exchange) (r : Reply) → RefusesTake s (whole_log own) own count r → Comes s (whole_log own) r
+  refusal-comes : (own : List Exchange) (r : Reply) → RefusesTake s (whole_log own) own count r → Comes s IsAny (whole_log own) r
   refusal-comes own r (takes.full full) = (own, count, is-take own, full)
   refusal-comes own r (takes.busy extent seen busy) = for_space extent (own, count, is-take own, busy)
   refusal-comes own r (takes.worn_out last worn) = (own, count, is-take own, worn)
@@ -154,7 +155,7 @@ module _ (s : Setting) (before : List Finished) (known : Known) (count reading :
         (others-spared own has.others) (ap (λ (k : Known). k.claims) has.told.knows) rests,
   )
 
-  begins-reserve : AllKept s before → MayBeginTake s first (start s before reading) [] known (hand_start s before reading)
+  begins-reserve : AllKept s IsAny before → MayBeginTake s first (start s before reading) [] known (hand_start s before reading)
   begins-reserve older = record {
     used = record { sound = λ one there. absurd there; complete = λ one u. unused one.lease u.of };
     extents = λ e below. refl;
@@ -203,7 +204,7 @@ module _ (s : Setting) (before : List Finished) (known : Known) (count reading :
   reserve-follows [] a follows = first-follows s before (Reserve count) reading (reserve-fine s before count reading) (λ image until named is. (let P : ⊥ = cc in absurd P)) a
   reserve-follows (x ∷ older) a follows = after-own x older a x.answer follows
 
-pub reserve-begins : (s : Setting) → IsGeometry s.geometry → s.boot < 2 ^ 128 → (before : List Finished) (known : Known) (count reading : ℕ) → AllKept s before → Rests s before known →
+pub reserve-begins : (s : Setting) → IsGeometry s.geometry → s.boot < 2 ^ 128 → (before : List Finished) (known : Known) (count reading : ℕ) → AllKept s IsAny before → Rests s before known →
     (left : ℕ) × (left ≤ 8 * s.geometry.extents)
     × Right s before (Reserve count) (clock reading ∷ []) (command_part s known (start s before reading) (hand_start s before reading) reading (Reserve count)) left
 reserve-begins s geometry small before known count reading older rests = (

@@ -45,6 +45,7 @@ use Rattle.law_run.proofs.Uses.{claims_at}
 use Rattle.law_run.proofs.Right.{clock, read_of, FitsAt, Rests, finish, log_on, Shows, Right, MayByRules, MayByCauses}
 use Rattle.law_run.proofs.RetireFollows.{image_asks, retire-follows}
 use Rattle.law_run.proofs.Runs.{start, hand_start}
+use Rattle.law_run.specs.Senses.{IsAny}
 use Rattle.plx_base.proofs.Tests.{clash}
 use Rattle.law_lease.proofs.Rests.{in-one, lease-place-found}
 
@@ -56,7 +57,7 @@ image-asks-are : (left n : ℕ) → image_asks left n ≡ left + n
 image-asks-are zero n = omega arith
 image-asks-are (suc left) n = let e = image-asks-are left n in omega arith
 
-module _ (s : Setting) (geometry : IsGeometry s.geometry) (before : List Finished) (known : Known) (reading : ℕ) (rests : Rests s before known) (older : AllKept s before) where
+module _ (s : Setting) (geometry : IsGeometry s.geometry) (before : List Finished) (known : Known) (reading : ℕ) (rests : Rests s before known) (older : AllKept s IsAny before) where
   -- its first exchange
   abbrev from : List Exchange
   from = clock reading ∷ []
@@ -261,7 +262,7 @@ module _ (s : Setting) (geometry : IsGeometry s.geometry) (before : List Finishe
         ]
       ]
 
-pub retire-begins : (s : Setting) → IsGeometry s.geometry → (before : List Finished) (known : Known) (reading : ℕ) → AllKept s before → Rests s before known →
+pub retire-begins : (s : Setting) → IsGeometry s.geometry → (before : List Finished) (known : Known) (reading : ℕ) → AllKept s IsAny before → Rests s before known →
     (left : ℕ) × (left ≤ 1 + 3 * s.geometry.extents + s.geometry.images)
     × Right s before Retire (clock reading ∷ []) (command_part s known (start s before reading) (hand_start s before reading) reading Retire) left
 retire-begins s geometry before known reading older rests = (

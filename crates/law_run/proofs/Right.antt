@@ -27,6 +27,7 @@ use Rattle.law_run.specs.KnownBytes.{given_after}
 use Rattle.law_run.specs.Replies.{IsReplied}
 use Rattle.law_run.specs.Sessions.{is_attached}
 use Rattle.law_run.proofs.Meets.{exchange, Meets}
+use Rattle.law_run.specs.Senses.{IsAny}
 
 -- a reading of the clock, and the read of a block
 abbrev pub clock : ℕ → Exchange
@@ -86,7 +87,7 @@ abbrev pub May : Setting → List Finished → Command → List Exchange → Ask
 May s before command done a bytes = MayByRules s before command done a bytes × MayByCauses s before command done a bytes
 
 abbrev pub Shows : Setting → List Finished → Command → List Exchange → End → Type 0
-Shows s before command done end = IsReplied s (log_on before command done) end.reply × Rests s (finish command done end.reply ∷ before) end.known
+Shows s before command done end = IsReplied s IsAny (log_on before command done) end.reply × Rests s (finish command done end.reply ∷ before) end.known
 
 abbrev pub Right : Setting → List Finished → Command → List Exchange → Part End → ℕ → Type 0
 Right s before command done part n = Meets (May s before command) (Shows s before command) done part n

@@ -23,10 +23,11 @@ use Rattle.law_run.specs.Causes.{MayGoOnWith, MayFollow, AllFollow}
 use Rattle.law_run.specs.CommandLogs.{Exchange, Finished, CommandLog, Commands, Between, Within, commands_after_start, commands_after_exchange, commands, with_exchange}
 use Rattle.law_run.specs.Holdings.{at_first, after_first_answer, holds_along, holds_after, last_found, hand_told, hand_along, hand_after, hand_by_log, filled_told, filled_along, filled_by_log}
 use Rattle.law_run.specs.Positions.{known_at, IsByCommands, PositionsAgree}
-use Rattle.law_run.specs.Rules.{AllAllowed, AllKept, KeepsRules, IsSetting, RunsKeepRules}
+use Rattle.law_run.specs.Rules.{AllAllowed, AllKept, KeepsFullRules, IsSetting}
 use Rattle.law_run.specs.Sessions.{is_attached}
 use Rattle.law_run.proofs.Meets.{exchange, meets-next}
 use Rattle.law_run.proofs.Right.{clock, FitsAt, Rests, May, Shows, Right}
+use Rattle.law_run.specs.Senses.{IsAny}
 
 -- what is held after the first reading of a command
 abbrev pub start : Setting → List Finished → (reading : ℕ) → ℕ → Hold
@@ -38,7 +39,7 @@ hand_start s before reading = hand_by_log s before (clock reading ∷ [])
 
 -- a command that begins after these commands keeps the rules from its first reading on
 abbrev pub BeginsRight : Setting → Type 0
-BeginsRight s = (before : List Finished) (known : Known) (command : Command) (reading : ℕ) → IsWellFormed command → IsBuilt command → AllKept s before → Rests s before known → reading < 2 ^ 48 →
+BeginsRight s = (before : List Finished) (known : Known) (command : Command) (reading : ℕ) → IsWellFormed command → IsBuilt command → AllKept s IsAny before → Rests s before known → reading < 2 ^ 48 →
     (left : ℕ) × (1 + left ≤ bound_of s before command (clock reading ∷ []))
     × Right s before command (clock reading ∷ []) (command_part s known (start s before reading) (hand_start s before reading) reading command) left
 
@@ -105,7 +106,7 @@ filled-more g attached before x (y ∷ older) has = refl
 
 -- a command runs of which this is the rest
 pub record RunsWithRest (s : Setting) (log : CommandLog) (part : Part End) : Type 0 where
-  pub older : AllKept s log.before
+  pub older : AllKept s IsAny log.before
   pub allowed : AllAllowed s log.before log.command log.exchanges
   pub at_once : AllFollow s log.before log.command log.exchanges
   pub left : ℕ
@@ -114,7 +115,7 @@ pub record RunsWithRest (s : Setting) (log : CommandLog) (part : Part End) : Typ
 
 -- a command has begun
 pub record Begun (s : Setting) (known : Known) (command : Command) (log : CommandLog) : Type 0 where
-  pub older : AllKept s log.before
+  pub older : AllKept s IsAny log.before
   pub rests : Rests s log.before known
   pub is : log.command ≡ command
   pub none_yet : log.exchanges ≡ []
@@ -126,7 +127,7 @@ held_in s log = holds_along s.geometry (is_attached log.before) (holds_after s.g
 
 -- where a boot stands fits its commands
 abbrev pub Agree : Setting → (ℕ → Hold) → List ℕ → List (ℕ × List ℕ) → Option ℕ → Option (ℕ × List ℕ) → Place → Commands → Type 0
-Agree s holds hand filled sample found (Idle known) (Between before) = AllKept s before × Rests s before known × (holds ≡ holds_after s.geometry before) × (hand ≡ hand_after s.geometry before)
+Agree s holds hand filled sample found (Idle known) (Between before) = AllKept s IsAny before × Rests s before known × (holds ≡ holds_after s.geometry before) × (hand ≡ hand_after s.geometry before)
 Agree s holds hand filled sample found (Begins known command) (Within log) = Begun s known command log × (holds ≡ holds_after s.geometry log.before) × (hand ≡ hand_after s.geometry log.before)
 Agree s holds hand filled sample found (In known command part) (Within log) =
     RunsWithRest s log part × (holds ≡ held_in s log) × (sample ≡ last_sample log.exchanges) × HasFirst log.exchanges × Rests s log.before known
@@ -151,7 +152,7 @@ bound-grows s before Retire x done = omega arith
 bound-grows s before Reclaim x done = omega arith
 
 -- an answered ask is one more exchange
-along : (s : Setting) (log : CommandLog) (x : Exchange) (known : Known) (command : Command) (holds : ℕ → Hold) (hand : List ℕ) (filled : List (ℕ × List ℕ)) (part : Part End) (left : ℕ) → AllKept s log.before → Rests s log.before known →
+along : (s : Setting) (log : CommandLog) (x : Exchange) (known : Known) (command : Command) (holds : ℕ → Hold) (hand : List ℕ) (filled : List (ℕ × List ℕ)) (part : Part End) (left : ℕ) → AllKept s IsAny log.before → Rests s log.before known →
     AllAllowed s log.before log.command log.exchanges → AllFollow s log.before log.command log.exchanges → MayAsk s log x.ask x.bytes × MayFollow s log x.ask → Right s log.before log.command (x ∷ log.exchanges) part left →
     length log.exchanges + suc left ≤ bound s (with_exchange x log) →
     holds ≡ holds_along s.geometry (is_attached log.before) (holds_after s.geometry log.before) (x ∷ log.exchanges) →
@@ -263,7 +264,7 @@ agrees s right log (boot.goes_on {log = older} {ask = a} {bytes = bytes} {answer
     goes-on s right p p.place (commands s older) a bytes x (agrees s right older run) stands writes fits
 
 keeps-rules : (s : Setting) (holds : ℕ → Hold) (hand : List ℕ) (filled : List (ℕ × List ℕ)) (sample : Option ℕ) (found : Option (ℕ × List ℕ)) (here : Place) (so_far : Commands) → ((log : CommandLog) → so_far ≡ Within log → 1 ≤ bound s log) →
-    Agree s holds hand filled sample found here so_far → KeepsRules s so_far (asks here) (writes_out here)
+    Agree s holds hand filled sample found here so_far → KeepsFullRules s so_far (asks here) (writes_out here)
 keeps-rules s holds hand filled sample found (Idle known) (Between before) least agree = agree.0
 keeps-rules s holds hand filled sample found (Idle known) (Within log) least agree = absurd agree
 keeps-rules s holds hand filled sample found (Begins known command) (Between before) least agree = absurd agree
@@ -289,8 +290,13 @@ keeps-rules s holds hand filled sample found (In known command part) (Within log
           let within = r.bounded in omega arith);
     }
 
--- each run keeps the rules, where each command that begins does
-pub runs-keep : ((s : Setting) → IsSetting s → BeginsRight s) → ((s : Setting) (log : CommandLog) → 1 ≤ bound s log) → RunsKeepRules
+-- each log that is a run keeps the rules in both senses: no tree is read by a command that is built
+abbrev pub RunsKeepBoth : Type 0
+RunsKeepBoth = (s : Setting) (log : List Happening) → IsSetting s → IsRun s log →
+    KeepsFullRules s (commands s log) (asks (position s log).place) (writes_out (position s log).place)
+
+-- so it does where each command that begins does
+pub runs-keep : ((s : Setting) → IsSetting s → BeginsRight s) → ((s : Setting) (log : CommandLog) → 1 ≤ bound s log) → RunsKeepBoth
 runs-keep right least s log setting run =
     let p = position s log in
     keeps-rules s p.holds p.hand p.filled p.sample p.found p.place (commands s log) (λ l e. least s l) (agrees s (right s setting) log run)

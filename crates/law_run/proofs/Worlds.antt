@@ -5,7 +5,7 @@ use Rattle.law_lease.proofs.LeaseSteps.{reached-leased}
 use Rattle.law_lease.proofs.Runs.{boots-run}
 use Rattle.law_run.specs.Rules.{IsSetting}
 use Rattle.law_run.specs.Worlds.{BootsKeepRules}
-use Rattle.law_run.proofs.Begun.{runs-keep-rules}
+use Rattle.law_run.proofs.Begun.{runs-keep-both}
 
 -- what each boot is given is within the limits
 pub given-within : (w : World) → Reached w → (appliance : ℕ) → appliance < w.appliances → IsSetting (setting_of w appliance)
@@ -17,4 +17,4 @@ given-within w reached appliance below =
 
 pub boots-keep-rules : BootsKeepRules
 boots-keep-rules w reached appliance below =
-    runs-keep-rules (setting_of w appliance) (w.seats appliance).log (given-within w reached appliance below) (boots-run w reached appliance below)
+    runs-keep-both (setting_of w appliance) (w.seats appliance).log (given-within w reached appliance below) (boots-run w reached appliance below)

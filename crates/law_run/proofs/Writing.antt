@@ -38,7 +38,7 @@ use Rattle.law_run.specs.Refusals.{NamesBlock, of_read, of_write, of_block, no_i
 use Rattle.law_run.specs.Replies.{refused}
 use Rattle.law_run.proofs.Asking.{IsFine, asks-write, asks-confirm}
 use Rattle.law_run.proofs.Clear.{by-unless, Clear, known-here, clear, ready-follows}
-use Rattle.law_run.proofs.Facts.{stored_by_session, limits, stores-session, next-free, write-count}
+use Rattle.law_run.proofs.Facts.{stored_by_session, limits, next-free, write-count}
 use Rattle.law_run.proofs.Grown.{with-block-same, fits-data, fits-more}
 use Rattle.law_run.proofs.Holding.{Course, going-first, going-more}
 use Rattle.law_lease.proofs.Latest.{latest-push}
@@ -51,6 +51,8 @@ use Rattle.law_run.proofs.Right.{clock, FitsSession, FitsAt, Rests, finish, log_
 use Rattle.law_run.proofs.Runs.{start, hand_start}
 use Rattle.law_run.proofs.Slots.{slot-below}
 use Rattle.law_run.proofs.Unwritten.{unwritten-quiet}
+use Rattle.law_run.specs.Senses.{seen_in}
+use Rattle.law_run.proofs.Senses.{stores-seen}
 use Rattle.plx_base.proofs.Tests.{nat_le-tells, nat_le-past, not-false, eqb-is, eqb-isn't, opposite-true}
 use Rattle.plx_commands.proofs.Places.{at-other, at-same}
 use Rattle.law_lease.proofs.Rests.{in-one, data-found, descriptor-place-found}
@@ -189,16 +191,16 @@ module _ (s : Setting) (some : 1 ≤ s.geometry.slots) (before : List Finished) 
       let was : known_before g (log_on before command done3) slot.0 ≡ given =
       (λ j block'. unwritten-quiet done3 (known_from g (log_on before command done3) slot.0) block' (tt, (tt, (tt, (tt, tt)))) j)
       ∙ known-here s before known command slot reading on rests session claim until ready done3 in (
-        record {
+        λ sense any. record {
           slot = slot;
           vblock = vblock;
           payload = payload;
           command = refl;
           confirmed = confirmed;
           image = stored_by_session session;
-          before = subst (λ (h : Given). Stores g h slot.0 (stored_by_session session)) (sym was) (stores-session g given slot.0 session ready.fits);
-          after = subst (λ (h : Given). Stores g h slot.0 (written_on (stored_by_session session) vblock bytes)) (sym known3)
-              (stores-written g given2 slot.0 session write (stores-session g given2 slot.0 (with_write session write) fits2));
+          before = subst (λ (h : Given). Stores g (seen_in sense g h) slot.0 (stored_by_session session)) (sym was) (stores-seen sense g given slot.0 session ready.fits);
+          after = subst (λ (h : Given). Stores g (seen_in sense g h) slot.0 (written_on (stored_by_session session) vblock bytes)) (sym known3)
+              (stores-written g (seen_in sense g given2) slot.0 session write (stores-seen sense g given2 slot.0 (with_write session write) fits2));
           told = refl;
         },
         rests-by s before command done3 (reply.Written (write_count session + 1)) known next slot.0 (names-other command slot.0 on.named)

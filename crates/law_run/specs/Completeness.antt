@@ -18,6 +18,7 @@ use Rattle.law_run.specs.KnownBytes.{known_in}
 use Rattle.law_run.specs.Outside.{IsOutside}
 use Rattle.law_run.specs.Refusals.{Refuses}
 use Rattle.law_run.specs.Replies.{IsLastReading, WasBusy, IsReplied}
+use Rattle.law_run.specs.Senses.{IsLocal}
 use Rattle.law_run.specs.Sessions.{names}
 use Rattle.law_run.specs.Space.{IsFull, IsWornOut, OfTake}
 use Rattle.law_run.specs.Uses.{IsInUse}
@@ -42,4 +43,5 @@ pub data HasCause (s : Setting) (log : CommandLog) : Type 0 where
 
 -- a command that has its reply has a cause in its log, or the reply is its own Ok
 abbrev pub OkWithoutCause : Type 0
-OkWithoutCause = (s : Setting) (log : CommandLog) (reply : Reply) → IsReplied s log reply → HasCause s log ⊎ (is_own log.command reply ≡ true)
+OkWithoutCause = (s : Setting) (log : CommandLog) (reply : Reply) →
+    IsReplied s IsLocal log reply → HasCause s log ⊎ (is_own log.command reply ≡ true)

@@ -9,6 +9,7 @@ pub mod Outside
 pub mod Refusals
 pub mod Busy
 pub mod Space
+pub mod Senses
 pub mod Replies
 pub mod Causes
 pub mod Completeness

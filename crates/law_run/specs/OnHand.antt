@@ -21,6 +21,7 @@ use Rattle.law_run.specs.AllowedAsks.{WentOn}
 use Rattle.law_run.specs.CommandLogs.{Exchange, CommandLog, IsIn, LastAnswered}
 use Rattle.law_run.specs.Holdings.{hold_by_log, hand_by_log, Holds}
 use Rattle.law_run.specs.Machines.{IsOfBlock}
+use Rattle.law_run.specs.Senses.{IsLocal}
 use Rattle.law_run.specs.Replies.{RestsOn, Comes}
 use Rattle.law_run.specs.Space.{IsMapDamaged}
 use Rattle.law_run.specs.Uses.{AreUsed}
@@ -91,17 +92,17 @@ pub data ShowsOnHand (s : Setting) (known : Known) (uses : List InUse) (follows 
     (IsDone : CommandLog → Type 0) (log : CommandLog) : End → Type 0 where
   done : IsDone log → ShowsOnHand s known uses follows IsDone log follows
   lost : (due : InUse) (reading : ℕ) → IsLostOnHand s log uses due reading →
-      (AreUsed s log uses → Comes s log (reply.Lost
+      (AreUsed s log uses → Comes s IsLocal log (reply.Lost
       (lease_name s.geometry due.lease) due.until reading)) →
       ShowsOnHand s known uses follows IsDone log
       (record {
         reply = reply.Lost (lease_name s.geometry due.lease) due.until reading;
         known = nothing_known known.claims;
       })
-  unread : (block : BlockNo) → Comes s log (reply.ReadFault block) →
+  unread : (block : BlockNo) → Comes s IsLocal log (reply.ReadFault block) →
       ShowsOnHand s known uses follows IsDone log
       (record { reply = reply.ReadFault block; known = known })
-  unwritten : (block : BlockNo) → Comes s log (reply.WriteFault block) →
+  unwritten : (block : BlockNo) → Comes s IsLocal log (reply.WriteFault block) →
       ShowsOnHand s known uses follows IsDone log
       (record { reply = reply.WriteFault block; known = nothing_known known.claims })
   damaged : (block : BlockNo) → IsMapDamaged s log block →

@@ -27,7 +27,7 @@ use Rattle.plx_geom.specs.Geometry.{Geometry, lease_count, lease_number, image_l
 use Rattle.plx_rules.specs.InUse.{InUse, IsNamedFirst, lease_name}
 use Rattle.plx_rules.specs.Rests.{rests_on}
 use Rattle.plx_rules.specs.Settings.{Setting}
-use Rattle.plx_rules.specs.Stored.{Holds, StoredImage, record_on, IsContent, Stores}
+use Rattle.plx_rules.specs.Stored.{Given, Holds, StoredImage, record_on, IsContent, Stores}
 use Rattle.law_run.specs.Busy.{IsBusy}
 use Rattle.law_run.specs.Changes.{written_on, created_on, deleted_on, report_on}
 use Rattle.law_run.specs.CommandLogs.{Exchange, Finished, CommandLog, older_than, WasAnswered, NewestIs, LastAnsweredIn, LastAnswered}
@@ -36,6 +36,7 @@ use Rattle.law_run.specs.Holdings.{filled_by_log, holds_after, holds_along, Hold
 use Rattle.law_run.specs.KnownBytes.{known_in, known_before}
 use Rattle.law_run.specs.Outside.{IsOutside}
 use Rattle.law_run.specs.Refusals.{Refuses}
+use Rattle.law_run.specs.Senses.{Sense, seen_in}
 use Rattle.law_run.specs.Sessions.{is_attached, names}
 use Rattle.law_run.specs.Space.{OfTake, WasBusyForSpace, IsFull, IsWornOut, IsMapDamaged, IsLeaseDamaged, ShowsReserve, ShowsRetire}
 use Rattle.law_run.specs.Uses.{IsInUse}
@@ -122,13 +123,22 @@ pub data WasDamaged (s : Setting) (log : CommandLog) (block : BlockNo) : Type 0 
 
 -- ---- the Ok of each command
 
+-- what is known by now, in a sense
+abbrev pub seen_now : Setting → Sense → CommandLog → (image : ℕ) → Given
+seen_now s sense log image = seen_in sense s.geometry (known_in s.geometry log image)
+
+-- and what was known before the command's own writes
+abbrev pub seen_before : Setting → Sense → CommandLog → (image : ℕ) → Given
+seen_before s sense log image = seen_in sense s.geometry (known_before s.geometry log image)
+
 -- the image is attached: the report is that of the image that the known bytes store, which has no snapshots; and no bytes that were read are outside the format
-pub record ShowsImage (s : Setting) (log : CommandLog) (report : Report) : Type 0 where
+pub record ShowsImage (s : Setting) (sense : Sense) (log : CommandLog) (report : Report)
+    : Type 0 where
   pub slot : SlotNo
   pub command : log.command ≡ Attach slot
   pub confirmed : IsConfirmed s log slot.0
   pub image : StoredImage
-  pub stores : Stores s.geometry (known_in s.geometry log slot.0) slot.0 image
+  pub stores : Stores s.geometry (seen_now s sense log slot.0) slot.0 image
   pub whole : image.frozen ≡ []
   pub told : report ≡ report_on image
   pub inside : (block : BlockNo) (bytes : List ℕ) → WasAnswered log (ask.Read block) [] (answer.Bytes bytes) →
@@ -142,7 +152,7 @@ pub record ShowsDetached (s : Setting) (log : CommandLog) : Type 0 where
   pub released : LastAnswered log (ask.Write kind.Release (record { 0 = lease_at (image_lease slot.0) }) guard) (lease_bytes lease_is.Free) answer.Done
 
 -- an image is made: the known bytes store the new image, where they stored a free slot
-pub record ShowsCreate (s : Setting) (log : CommandLog) : Type 0 where
+pub record ShowsCreate (s : Setting) (sense : Sense) (log : CommandLog) : Type 0 where
   pub slot : SlotNo
   pub size : ℕ
   pub label : Label
@@ -150,39 +160,42 @@ pub record ShowsCreate (s : Setting) (log : CommandLog) : Type 0 where
   pub confirmed : IsConfirmed s log slot.0
   pub image : StoredImage
   pub free : image.live ≡ false
-  pub before : Stores s.geometry (known_before s.geometry log slot.0) slot.0 image
-  pub after : Stores s.geometry (known_in s.geometry log slot.0) slot.0 (created_on image size label)
+  pub before : Stores s.geometry (seen_before s sense log slot.0) slot.0 image
+  pub after : Stores s.geometry (seen_now s sense log slot.0) slot.0 (created_on image size label)
 
 -- an image is deleted: the known bytes store a free slot, where they stored the image
-pub record ShowsDelete (s : Setting) (log : CommandLog) : Type 0 where
+pub record ShowsDelete (s : Setting) (sense : Sense) (log : CommandLog) : Type 0 where
   pub slot : SlotNo
   pub command : log.command ≡ Delete slot
   pub confirmed : IsConfirmed s log slot.0
   pub image : StoredImage
   pub live : image.live ≡ true
-  pub before : Stores s.geometry (known_before s.geometry log slot.0) slot.0 image
-  pub after : Stores s.geometry (known_in s.geometry log slot.0) slot.0 (deleted_on image)
+  pub before : Stores s.geometry (seen_before s sense log slot.0) slot.0 image
+  pub after : Stores s.geometry (seen_now s sense log slot.0) slot.0 (deleted_on image)
 
 -- data was given: it is the content that the known bytes store
-pub record ShowsContent (s : Setting) (log : CommandLog) (payload : Payload) : Type 0 where
+pub record ShowsContent (s : Setting) (sense : Sense) (log : CommandLog) (payload : Payload)
+    : Type 0 where
   pub slot : SlotNo
   pub vblock : ℕ
   pub command : log.command ≡ Read slot vblock
   pub confirmed : IsConfirmed s log slot.0
   pub kept : ImageRecord
   pub found : record_on s.geometry (known_in s.geometry log slot.0) slot.0 ≡ Some kept
-  pub content : IsContent s.geometry (known_in s.geometry log slot.0) slot.0 kept vblock (Holds (bytes_of payload))
+  pub content : IsContent s.geometry (seen_now s sense log slot.0) slot.0
+      kept vblock (Holds (bytes_of payload))
 
 -- a block was written: the known bytes store the image from before, changed by this write
-pub record ShowsWrite (s : Setting) (log : CommandLog) (number : ℕ) : Type 0 where
+pub record ShowsWrite (s : Setting) (sense : Sense) (log : CommandLog) (number : ℕ) : Type 0 where
   pub slot : SlotNo
   pub vblock : ℕ
   pub payload : Payload
   pub command : log.command ≡ Write slot vblock payload
   pub confirmed : IsConfirmed s log slot.0
   pub image : StoredImage
-  pub before : Stores s.geometry (known_before s.geometry log slot.0) slot.0 image
-  pub after : Stores s.geometry (known_in s.geometry log slot.0) slot.0 (written_on image vblock (bytes_of payload))
+  pub before : Stores s.geometry (seen_before s sense log slot.0) slot.0 image
+  pub after : Stores s.geometry (seen_now s sense log slot.0) slot.0
+      (written_on image vblock (bytes_of payload))
   pub told : number ≡ image.writes + 1
 
 -- each lease that is held was renewed in this command, until the moment until which it is held
@@ -193,38 +206,45 @@ pub record ShowsRenewals (s : Setting) (log : CommandLog) : Type 0 where
 
 -- ---- all replies
 
--- why a reply comes of the work, and what it shows; a refusal that rests on a fact comes of none, and no command that is built has the Oks that show nothing
-abbrev pub Comes : Setting → CommandLog → Reply → Type 0
-Comes s log (reply.Attached report) = ShowsImage s log report
-Comes s log reply.Detached = ShowsDetached s log
-Comes s log reply.Created = ShowsCreate s log
-Comes s log reply.Deleted = ShowsDelete s log
-Comes s log (reply.Data payload) = ShowsContent s log payload
-Comes s log (reply.Written number) = ShowsWrite s log number
-Comes s log (reply.Flushed applied blocks) = ⊥
-Comes s log reply.Reserved = ShowsReserve s log
-Comes s log reply.Renewed = ShowsRenewals s log
-Comes s log reply.Retired = ShowsRetire s log
-Comes s log (reply.Reclaimed covered freed reads) = ⊥
-Comes s log reply.NotAttached = ⊥
-Comes s log reply.AlreadyAttached = ⊥
-Comes s log reply.NoImage = ⊥
-Comes s log reply.Exists = ⊥
-Comes s log (reply.OutOfRange size) = ⊥
-Comes s log (reply.Busy lease seen) = WasBusy s log lease seen
-Comes s log (reply.Lost lease until reading) = WasLost s log lease until reading
-Comes s log (reply.ReadFault block) = LastAnswered log (ask.Read block) [] answer.Fault
-Comes s log (reply.WriteFault block) = (kind : WriteKind) × (guard : ℕ) × (bytes : List ℕ) × LastAnswered log (ask.Write kind block guard) bytes answer.Fault
-Comes s log reply.Full = OfTake log (IsFull s log)
-Comes s log (reply.Damaged block) = WasDamaged s log block
-Comes s log (reply.WornOut last) = OfTake log (λ own count. IsWornOut s log own count last)
+-- why a reply comes of the work, and what it shows, in these senses; a refusal that rests on a fact
+-- comes of none, and no command that is built has the Oks that show nothing
+abbrev pub Comes : Setting → (Sense → Type 0) → CommandLog → Reply → Type 0
+Comes s senses log (reply.Attached report) =
+    (sense : Sense) → senses sense → ShowsImage s sense log report
+Comes s senses log reply.Detached = ShowsDetached s log
+Comes s senses log reply.Created = (sense : Sense) → senses sense → ShowsCreate s sense log
+Comes s senses log reply.Deleted = (sense : Sense) → senses sense → ShowsDelete s sense log
+Comes s senses log (reply.Data payload) =
+    (sense : Sense) → senses sense → ShowsContent s sense log payload
+Comes s senses log (reply.Written number) =
+    (sense : Sense) → senses sense → ShowsWrite s sense log number
+Comes s senses log (reply.Flushed applied blocks) = ⊥
+Comes s senses log reply.Reserved = ShowsReserve s log
+Comes s senses log reply.Renewed = ShowsRenewals s log
+Comes s senses log reply.Retired = ShowsRetire s log
+Comes s senses log (reply.Reclaimed covered freed reads) = ⊥
+Comes s senses log reply.NotAttached = ⊥
+Comes s senses log reply.AlreadyAttached = ⊥
+Comes s senses log reply.NoImage = ⊥
+Comes s senses log reply.Exists = ⊥
+Comes s senses log (reply.OutOfRange size) = ⊥
+Comes s senses log (reply.Busy lease seen) = WasBusy s log lease seen
+Comes s senses log (reply.Lost lease until reading) = WasLost s log lease until reading
+Comes s senses log (reply.ReadFault block) = LastAnswered log (ask.Read block) [] answer.Fault
+Comes s senses log (reply.WriteFault block) =
+    (kind : WriteKind) × (guard : ℕ) × (bytes : List ℕ)
+    × LastAnswered log (ask.Write kind block guard) bytes answer.Fault
+Comes s senses log reply.Full = OfTake log (IsFull s log)
+Comes s senses log (reply.Damaged block) = WasDamaged s log block
+Comes s senses log (reply.WornOut last) = OfTake log (λ own count. IsWornOut s log own count last)
 
 -- a command was asked for its first reading alone
 abbrev pub IsAtFirst : CommandLog → Type 0
 IsAtFirst log = (reading : ℕ) × NewestIs log.exchanges ask.Clock [] (answer.Reading reading) []
 
 -- a command has its reply: at its first reading the first refusal whose fact holds, or, where no fact of a refusal holds, what comes of its work
-pub data IsReplied (s : Setting) (log : CommandLog) : Reply → Type 0 where
+pub data IsReplied (s : Setting) (senses : Sense → Type 0) (log : CommandLog) : Reply → Type 0 where
   refused : {reply : Reply} (place : ℕ) → IsAtFirst log → Refuses s log place reply → ((later : ℕ) (other : Reply) → Refuses s log later other → place ≤ later) →
-      IsReplied s log reply
-  worked : {reply : Reply} → ((place : ℕ) (other : Reply) → ¬ Refuses s log place other) → Comes s log reply → IsReplied s log reply
+      IsReplied s senses log reply
+  worked : {reply : Reply} → ((place : ℕ) (other : Reply) → ¬ Refuses s log place other) →
+      Comes s senses log reply → IsReplied s senses log reply

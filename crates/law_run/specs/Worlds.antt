@@ -3,12 +3,13 @@ use Rattle.std.specs.Prelude.{◌<◌, ℕ}
 use Rattle.plx_rules.specs.Boot.{asks, writes_out}
 use Rattle.plx_rules.specs.World.{World, Reached, setting_of, stands}
 use Rattle.law_run.specs.CommandLogs.{commands}
-use Rattle.law_run.specs.Rules.{KeepsRules}
+use Rattle.law_run.specs.Rules.{KeepsFullRules}
 
--- the log of an appliance's boot keeps the rules
+-- the log of an appliance's boot keeps the rules, in both senses
 abbrev pub BootKeepsRules : World → (appliance : ℕ) → Type 0
 BootKeepsRules w appliance =
-    KeepsRules (setting_of w appliance) (commands (setting_of w appliance) (w.seats appliance).log)
+    KeepsFullRules (setting_of w appliance)
+    (commands (setting_of w appliance) (w.seats appliance).log)
     (asks (stands w appliance).place) (writes_out (stands w appliance).place)
 
 -- the log of each appliance's boot does

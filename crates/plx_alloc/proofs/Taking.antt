@@ -1,7 +1,6 @@
 -- How a take goes on, by where its machine stands.
-use Rattle.std.proofs.Common.{◌≡◌, ◌≢◌, ◌<◌, ◌≤◌, ◌+◌, ◌-◌, ◌∙◌, ap, sym, refl, subst, ℕ, suc, List, [], ◌∷◌, ◌++◌, length, Bool, true, false, Option, Some, None, inl, inr, arith}
-use Rattle.std.specs.Prelude.{◌==◌, ◌&&◌, ◌||◌, nat_le, nat_lt, not, if◌then◌else◌}
-use Rattle.std.proofs.lemmas.Bool.Decides.{eqb_tells, leb_tells}
+use Rattle.std.proofs.Common.{◌≡◌, ◌≢◌, ◌<◌, ◌≤◌, ◌+◌, ◌-◌, ◌∙◌, ap, sym, refl, subst, ℕ, suc, List, [], ◌∷◌, ◌++◌, length, Bool, true, false, Option, Some, None, arith}
+use Rattle.std.specs.Prelude.{nat_le, nat_lt, not, if◌then◌else◌}
 use Rattle.plx_base.specs.declared.lease.Claim.{Claim}
 use Rattle.plx_base.specs.declared.lease.LeaseRecord.{LeaseRecord}
 use Rattle.plx_base.specs.declared.numbers.BlockNo.{BlockNo}
@@ -39,7 +38,7 @@ use Rattle.plx_alloc.specs.declared.reserve.Reserve.{Reserve}
 use Rattle.plx_alloc.specs.declared.reserve.ReserveAt.TheVariants as at
 use Rattle.plx_alloc.proofs.Passes.{held-enough, held-first, held_first, extent_hold_at, others-enough, others-first, others-same, others_first}
 use Rattle.plx_alloc.proofs.Reached.{take_here-goes, take_held-goes, take_others-goes, taken_part-goes}
-use Rattle.plx_base.proofs.Tests.{nat_le-past, nat_le-true, nat_le-tells}
+use Rattle.plx_base.proofs.Tests.{nat_le-true}
 
 -- ---- what is held of an extent's lease
 

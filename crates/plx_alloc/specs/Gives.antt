@@ -1,5 +1,5 @@
 -- What is still asked where blocks in hand are given back, by where the machine stands and by what is lent to it.
-use Rattle.std.specs.Prelude.{◌+◌, ◌-◌, ℕ, zero, suc, List, [], ◌∷◌, Option}
+use Rattle.std.specs.Prelude.{◌+◌, ◌-◌, ℕ, zero, suc, List, ◌∷◌, Option}
 use Rattle.plx_base.specs.declared.write_kind.WriteKind.TheVariants as kind
 use Rattle.plx_geom.specs.Geometry.{extent_lease, lease_at}
 use Rattle.plx_lease.specs.Uses.{uses_of}

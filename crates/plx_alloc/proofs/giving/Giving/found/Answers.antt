@@ -1,4 +1,4 @@
-use Rattle.std.proofs.Common.{◌∙◌, ap, sym, subst, rules, ◌≡◌, ◌∷◌, [], Some, None, length, arith}
+use Rattle.std.proofs.Common.{◌∙◌, ap, sym, subst, rules, ◌≡◌, ◌∷◌, Some, None, length, arith}
 use Rattle.plx_base.specs.Spelling.{IsReading}
 use Rattle.plx_base.specs.declared.write_kind.WriteKind.TheVariants as kind
 use Rattle.plx_commands.specs.Replies.{is_in}
