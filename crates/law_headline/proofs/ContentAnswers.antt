@@ -45,6 +45,7 @@ use Rattle.plx_rules.specs.Rests.{rests_on}
 use Rattle.plx_rules.specs.Session.{Session, Known}
 use Rattle.plx_rules.specs.Settings.{Setting}
 use Rattle.plx_rules.specs.Times.{is_expired}
+use Rattle.plx_rules.specs.Histories.{came}
 use Rattle.plx_rules.specs.World.{World, IsReadingAt, setting_at, goes_on, with_reply_of}
 use Rattle.law_lease.proofs.LawfulCommands.{first-rests}
 use Rattle.law_lease.proofs.LeaseFrames.{grip-open}
@@ -222,7 +223,7 @@ module _ (w : World) (content : KeepsContent w) (a : ℕ) (below : a < w.applian
   -- ---- the clock
 
   -- a reading in a command that serves an image, or doesn't
-  read-clock : (event : Event) (log : List Happening) (known : Known) (command : Command) (part : Part End) (reading : ℕ) (hand : List ℕ) (filled : List (ℕ × List ℕ)) {latest : ℕ} → NoMap g hand → starts_and_crashes w.trace ≡ events_told (event ∷ w.history) →
+  read-clock : (event : Event) (log : List Happening) (known : Known) (command : Command) (part : Part End) (reading : ℕ) (hand : List ℕ) (filled : List (ℕ × List ℕ)) {latest : ℕ} → NoMap g hand → starts_and_crashes w.trace ≡ events_told (came event ∷ w.history) →
       (place : Place) → p.place ≡ place → ((b : ℕ) (x : Issued) → IsAskedAt place b x → ⊥) → IsReadingAt reading time → ModelRuns g a command known m →
       Leased (went_to w content a below event log known command (λ block. hold_after_reading reading (p.holds block)) (Some reading) (just_at g command (λ block. hold_after_reading reading (p.holds block)) reading) (with_reply_of (appliance_no a) part w.trace)) →
       position s log ≡ goes_to g known command (λ block. hold_after_reading reading (p.holds block)) hand filled (Some reading) None latest part →

@@ -24,6 +24,7 @@ use Rattle.plx_rules.specs.Headline.{model_before, model_in}
 use Rattle.plx_rules.specs.Holds.{Held}
 use Rattle.plx_rules.specs.Owners.{pending_write}
 use Rattle.plx_rules.specs.Session.{Session, Known}
+use Rattle.plx_rules.specs.Histories.{came}
 use Rattle.plx_rules.specs.World.{World, Seat, with_surface, after_start, after_crash}
 use Rattle.law_lease.proofs.LeaseFrames.{grip-open}
 use Rattle.law_lease.proofs.LeaseSteps.{not-waiting}
@@ -45,7 +46,7 @@ use Rattle.law_model.proofs.Replied.{Names, changed-named, named-one, Unmoved, u
 
 -- ---- time passes
 
-pub tick-content : (w : World) (by : ℕ) → KeepsContent w → Leased (with_surface w (event.Tick by) (after_time w.surface by)) → KeepsContent (with_surface w (event.Tick by) (after_time w.surface by))
+pub tick-content : (w : World) (by : ℕ) → KeepsContent w → Leased (with_surface w (came (event.Tick by)) (after_time w.surface by)) → KeepsContent (with_surface w (came (event.Tick by)) (after_time w.surface by))
 tick-content w by content leased = record {
   leased = leased;
   told = content.told;

@@ -28,6 +28,7 @@ use Rattle.plx_rules.specs.Ends.{End}
 use Rattle.plx_rules.specs.Headline.{starts_and_crashes, events_told, IsUndamaged, model_before, model_in}
 use Rattle.plx_rules.specs.Holds.{Hold}
 use Rattle.plx_rules.specs.Session.{Session, Known}
+use Rattle.plx_rules.specs.Histories.{came}
 use Rattle.plx_rules.specs.World.{World, Seat, setting_at, with_reply_of}
 use Rattle.law_lease.proofs.Leased.{Leased}
 use Rattle.law_lease.proofs.Open.{IsOpen, open-elsewhere}
@@ -117,7 +118,7 @@ module _ (w : World) (content : KeepsContent w) (a : ℕ) (below : a < w.applian
   went_to trace = record w {
     seats = at w.seats a (record { boots = (w.seats a).boots; log = log; pending = None });
     trace = trace;
-    history = event ∷ w.history;
+    history = came event ∷ w.history;
   }
 
   -- the command's reply is harmless, and leaves no session of the image
@@ -160,7 +161,7 @@ module _ (w : World) (content : KeepsContent w) (a : ℕ) (below : a < w.applian
     pub grips : Grips g time writes a (w.seats a) image claim until
     pub free : (w.seats a).pending ≡ None
 
-  module _ (said : starts_and_crashes w.trace ≡ events_told (event ∷ w.history)) (running : ModelRuns g a command known m) where
+  module _ (said : starts_and_crashes w.trace ≡ events_told (came event ∷ w.history)) (running : ModelRuns g a command known m) where
     -- the command goes on
     content-on : (part : Part End) (hand : List ℕ) (filled : List (ℕ × List ℕ)) (found : Option (ℕ × List ℕ)) {latest : ℕ} → NoMap g hand → FoundMap g found → Leased (went_to w.trace) →
         position (setting_at g a (w.seats a).boots) log ≡ record { holds = holds; hand = hand; filled = filled; sample = sample; found = found; latest = latest; place = In known command part } → Fair g a command known holds sample false part →

@@ -32,6 +32,7 @@ use Rattle.plx_rules.specs.Rests.{IsUnder, home_of, rests_on}
 use Rattle.plx_commands.specs.Replies.{is_in}
 use Rattle.plx_rules.specs.Session.{Known}
 use Rattle.plx_rules.specs.Settings.{boot_number}
+use Rattle.plx_rules.specs.Histories.{landing}
 use Rattle.plx_rules.specs.World.{World, Seat, with_surface, after_issue}
 use Rattle.law_lease.proofs.LeaseSteps.{placed-may}
 use Rattle.law_lease.proofs.Frame.{Frame, IsNewlyOpen, SameUnder, frame-all, frame-others, stood-issued, grips-before, grips-free, grips-other, grips-own, land-frame, landed-or, open-issued}
@@ -497,8 +498,8 @@ module _ (w : World) (content : KeepsContent w) where
           waits-others x.kind g (w.rests n) device after x.block x.bytes x.landed left.1 (content.waits n x away.1 left.0)
     ]
 
-    pub land-content : (a back : ℕ) → Leased (with_surface w (event.Land (appliance_no a) back sector) (after_landing w.surface number write sector)) →
-        KeepsContent (with_surface w (event.Land (appliance_no a) back sector) (after_landing w.surface number write sector))
+    pub land-content : (a back : ℕ) → Leased (with_surface w (landing (event.Land (appliance_no a) back sector) number) (after_landing w.surface number write sector)) →
+        KeepsContent (with_surface w (landing (event.Land (appliance_no a) back sector) number) (after_landing w.surface number write sector))
     land-content a back leased = record {
       leased = leased;
       told = content.told;

@@ -35,6 +35,7 @@ use Rattle.plx_rules.specs.Holds.{Hold, no_holds, after_answer, after_write, aft
 use Rattle.plx_rules.specs.Rests.{rests_on}
 use Rattle.plx_rules.specs.Session.{Known}
 use Rattle.plx_rules.specs.Settings.{Setting, boot_number}
+use Rattle.plx_rules.specs.Histories.{Past}
 use Rattle.plx_rules.specs.World as world
 use Rattle.plx_rules.specs.World.{World, Seat, Step, Reached, IsReadingAt, first_world, setting_at}
 use Rattle.plx_rules.specs.Times.{term}
@@ -95,7 +96,7 @@ lawful-placed g boot known command holds filled sample (WriteThen k block bytes 
 lawful-placed g boot known command holds filled sample (ClockThen rest) lawful = lawful
 lawful-placed g boot known command holds filled sample (UntilThen from rest) lawful = lawful
 
-module _ (w : World) (leased : Leased w) (a : ℕ) (below : a < w.appliances) (trace : List Entry) (history : List Event) where
+module _ (w : World) (leased : Leased w) (a : ℕ) (below : a < w.appliances) (trace : List Entry) (history : List Past) where
   abbrev g : Geometry
   g = w.geometry
 

@@ -32,6 +32,7 @@ use Rattle.plx_rules.specs.Ends.{End}
 use Rattle.plx_rules.specs.Holds.{Hold, hold_after_read, after_answer, after_write, holds_after_reply, after_first, first_hold, session_at, sample_of, latest_after}
 use Rattle.plx_rules.specs.Session.{Known}
 use Rattle.plx_rules.specs.Settings.{boot_number}
+use Rattle.plx_rules.specs.Histories.{Past, came, landing}
 use Rattle.plx_rules.specs.World as world
 use Rattle.plx_rules.specs.Rests.{rests_on}
 use Rattle.plx_rules.specs.World.{World, Seat, Step, Reached, IsReadingAt, IsBack, setting_at, setting_of, stands, with_reply_of, with_happening, goes_on, with_surface, after_start, after_issue, issued_by, is_boot_of}
@@ -121,7 +122,7 @@ first_flags (suc k) = slice_set (first_flags k) k true
 
 module _ (g : Geometry) (appliances : ℕ) (few : appliances ≤ 8) (lease : ℕ) where
   -- a world of this geometry
-  abbrev pub world_at : (time : ℕ) → Device → List Issued → (rests : ℕ → List ℕ) → (ℕ → Seat) → List Entry → List Event → World
+  abbrev pub world_at : (time : ℕ) → Device → List Issued → (rests : ℕ → List ℕ) → (ℕ → Seat) → List Entry → List Past → World
   world_at time device writes rests seats trace history = record {
     geometry = g;
     appliances = appliances;
@@ -142,7 +143,7 @@ module _ (g : Geometry) (appliances : ℕ) (few : appliances ≤ 8) (lease : ℕ
     pub writes : List Issued
     pub rests : ℕ → List ℕ
     pub seats : ℕ → Seat
-    pub history : List Event
+    pub history : List Past
     pub reached : Reached (world_at t device writes rests seats tr history)
     pub same : (b : ℕ) → device b ≡ d b
     pub places : (b : ℕ) → IsSpot lease (place_in b (seats b)) (p b)
@@ -171,7 +172,7 @@ module _ (g : Geometry) (appliances : ℕ) (few : appliances ≤ 8) (lease : ℕ
     writes = st.writes;
     rests = st.rests;
     seats = st.seats;
-    history = event.Tick by ∷ st.history;
+    history = came (event.Tick by) ∷ st.history;
     reached = world.later st.reached (world.ticks soon);
     same = st.same;
     places = st.places;
@@ -193,7 +194,7 @@ module _ (g : Geometry) (appliances : ℕ) (few : appliances ≤ 8) (lease : ℕ
     stands-at place here = (st.places a.0).place ∙ here
 
     -- something happens to the appliance
-    go : (happening : Happening) (history : List Event) (trace : List Entry) (q : Spot) →
+    go : (happening : Happening) (history : List Past) (trace : List Entry) (q : Spot) →
         Reached (world_at t st.device st.writes st.rests (at st.seats a.0 (with_happening (st.seats a.0) happening)) trace history) →
         IsSpot lease (place_in a.0 (with_happening (st.seats a.0) happening)) q → Stage t d (at p a.0 q) trace
     go happening history trace q reached is = record {
@@ -234,7 +235,7 @@ module _ (g : Geometry) (appliances : ℕ) (few : appliances ≤ 8) (lease : ℕ
         answered part ans ≡ rest → (hold : Hold) → hold_next lease r asked bytes ans rest ≡ hold → Step w one (goes_on w one a asked bytes ans (answered part ans)) →
         Stage t d (at p a.0 (spot_next known command hold ans rest)) (with_reply_of a rest tr)
     go-in known command part here one asked bytes ans rest leads hold held step =
-        go (Asked asked bytes ans) (one ∷ st.history) (with_reply_of a rest tr) _
+        go (Asked asked bytes ans) (came one ∷ st.history) (with_reply_of a rest tr) _
         (world.later st.reached (subst (λ (x : Part End). Step w one (goes_on w one a asked bytes ans x)) leads step))
         (spot-next known command part here asked bytes ans rest leads hold held (st.seats a.0) (st.places a.0))
 
@@ -266,7 +267,7 @@ module _ (g : Geometry) (appliances : ℕ) (few : appliances ≤ 8) (lease : ℕ
     pub starts-now : (known : Known) (command : Command) → r.place ≡ Idle known → IsWellFormed command → IsBuilt command →
         Stage t d (at p a.0 (record { hold = r.hold; sample = None; place = Begins known command })) (entry.Start a command ∷ tr)
     starts-now known command here whole built =
-        go (Began command) (event.Start a command ∷ st.history) (entry.Start a command ∷ tr) _
+        go (Began command) (came (event.Start a command) ∷ st.history) (entry.Start a command ∷ tr) _
         (world.later st.reached (world.starts known below (stands-at _ here) whole built))
         (record { hold = (st.places a.0).hold; sample = refl; place = ap (place_after_begin command) (stands-at _ here) })
 
@@ -284,7 +285,7 @@ module _ (g : Geometry) (appliances : ℕ) (few : appliances ≤ 8) (lease : ℕ
         let e : place_in a.0 (with_happening (st.seats a.0) (Asked ask.Clock [] (answer.Reading t))) ≡ goes_to g known command (after_first g known t q.holds) q.hand [] (Some t) None t rest =
         ap (went_on (setting_at g a.0 (st.seats a.0).boots) ask.Clock [] (answer.Reading t) q) (stands-at _ here)
         ∙ ap (goes_to g known command (after_first g known t q.holds) q.hand [] (Some t) None t) all in
-        go (Asked ask.Clock [] (answer.Reading t)) (event.Reading a t ∷ st.history) (with_reply_of a rest tr) _
+        go (Asked ask.Clock [] (answer.Reading t)) (came (event.Reading a t) ∷ st.history) (with_reply_of a rest tr) _
         (world.later st.reached (subst P all (world.begins {reading = t} known command below (stands-at _ here) now)))
         (subst (λ (x : Position). IsSpot lease x (spot_next known command hold (answer.Reading t) rest)) (sym e) (record {
           hold = part-alone lease rest (after_first g known t q.holds) ∙ ((λ i. after_part rest (λ b. first_hold (session_at g known lease) t (held-q i)) lease) ∙ held);
@@ -317,7 +318,7 @@ module _ (g : Geometry) (appliances : ℕ) (few : appliances ≤ 8) (lease : ℕ
       pub record Landing (flags : List Bool) : Type 0 where
         pub device : Device
         pub writes : List Issued
-        pub history : List Event
+        pub history : List Past
         pub reached : Reached (world_at t device writes since waiting tr history)
         pub found : slice_get writes number ≡ Some (write_of flags)
         pub there : device block ≡ with_landed_sectors flags bytes (st.device block)
@@ -327,7 +328,7 @@ module _ (g : Geometry) (appliances : ℕ) (few : appliances ≤ 8) (lease : ℕ
       issued-first = record {
         device = st.device;
         writes = st.writes ++ write_of no_sectors ∷ [];
-        history = event.Issue a ∷ st.history;
+        history = came (event.Issue a) ∷ st.history;
         reached = world.later st.reached (world.issues known command what block bytes guard done fault missed below (stands-at _ here) (st.free a.0));
         found = push-last st.writes (write_of no_sectors);
         there = sym (mixed-none 8 bytes (st.device block));
@@ -338,7 +339,7 @@ module _ (g : Geometry) (appliances : ℕ) (few : appliances ≤ 8) (lease : ℕ
       lands-next flags k eight missing l = record {
         device = put l.device block (with_landed_sector k bytes (l.device block));
         writes = slice_set l.writes number (write_of (slice_set flags k true));
-        history = event.Land a (issued_by a.0 (drop (number + 1) l.writes)) k ∷ l.history;
+        history = landing (event.Land a (issued_by a.0 (drop (number + 1) l.writes)) k) number ∷ l.history;
         reached = world.later l.reached (world.lands {back = issued_by a.0 (drop (number + 1) l.writes)} {sector = k} number (write_of flags) below
             (record { found = l.found; owner = own-boot a.0 (st.seats a.0).boots (omega (arith, few, below)); newer = refl })
             (record { found = l.found; open_yet = refl; missing = missing; early = early }));
@@ -372,7 +373,7 @@ module _ (g : Geometry) (appliances : ℕ) (few : appliances ≤ 8) (lease : ℕ
         writes = landed-whole.writes;
         rests = since;
         seats = at waiting a.0 (with_happening (waiting a.0) (Asked (ask.Write what (record { 0 = block }) guard) bytes answer.Done));
-        history = event.Done a ∷ landed-whole.history;
+        history = came (event.Done a) ∷ landed-whole.history;
         reached = world.later landed-whole.reached
             (subst (λ (x : Part End). Step last (event.Done a) (goes_on last (event.Done a) a (ask.Write what (record { 0 = block }) guard) bytes answer.Done x)) is
             (world.dones known command what block bytes guard done fault missed number below

@@ -25,6 +25,7 @@ use Rattle.plx_rules.specs.Part.{Part, Ends, ReadThen, WriteThen, ClockThen, Unt
 use Rattle.plx_rules.specs.Rests.{extent_of, rests_on}
 use Rattle.plx_rules.specs.Session.{Known}
 use Rattle.plx_rules.specs.Settings.{Setting, boot_number}
+use Rattle.plx_rules.specs.Histories.{Past}
 use Rattle.plx_rules.specs.World as world
 use Rattle.plx_rules.specs.World.{World, Seat, Step, Reached, setting_at}
 use Rattle.law_lease.proofs.LeaseFrames.{grip-open}
@@ -48,7 +49,7 @@ careful-placed found known command (WriteThen k block bytes guard done fault mis
 careful-placed found known command (ClockThen rest) careful = careful
 careful-placed found known command (UntilThen from rest) careful = careful
 
-module _ (w : World) (leased : Leased w) (spaced : Spaced w) (a : ℕ) (below : a < w.appliances) (trace : List Entry) (history : List Event) where
+module _ (w : World) (leased : Leased w) (spaced : Spaced w) (a : ℕ) (below : a < w.appliances) (trace : List Entry) (history : List Past) where
   abbrev g : Geometry
   g = w.geometry
 

@@ -33,6 +33,7 @@ use Rattle.plx_rules.specs.Pools.{HasInHand, hand_at}
 use Rattle.plx_rules.specs.Rests.{extent_of}
 use Rattle.plx_rules.specs.Session.{with_claim}
 use Rattle.plx_rules.specs.Space.{Taking, after_extent_claim, extent_use, first_taking, is_own_set, other_found, read_map, take_found, take_here, taken_part, with_claim_begun, with_claimed, with_set}
+use Rattle.plx_rules.specs.Histories.{came}
 use Rattle.plx_rules.specs.World as world
 use Rattle.plx_rules.specs.World.{World, Seat, Reached, first_seat, goes_on, setting_at, stands, with_happening}
 use Rattle.law_lease.proofs.FirstDevice.{formatted-is}
@@ -151,7 +152,7 @@ map-stage = record {
   writes = [];
   rests = λ number. [];
   seats = seats2;
-  history = event.Reading one 1000 ∷ event.Start one reserve ∷ [];
+  history = came (event.Reading one 1000) ∷ came (event.Start one reserve) ∷ [];
   reached = world.later (world.later (world.first small-is (omega arith) (omega arith) (formatted-is small_geometry small-is))
       (world.starts {appliance = one} {command = reserve} k0 appliance-in refl (omega arith, omega arith) tt))
       (world.begins {appliance = one} {reading = 1000} k0 reserve appliance-in refl (record { early = omega arith; late = omega arith }));

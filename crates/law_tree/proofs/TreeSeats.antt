@@ -24,6 +24,7 @@ use Rattle.plx_rules.specs.Part.{Part, ReadThen, WriteThen, ClockThen, UntilThen
 use Rattle.plx_rules.specs.Rests.{extent_of}
 use Rattle.plx_rules.specs.Session.{Known}
 use Rattle.plx_rules.specs.Settings.{Setting}
+use Rattle.plx_rules.specs.Histories.{Past}
 use Rattle.plx_rules.specs.World.{World, Seat, setting_at}
 use Rattle.plx_rules.proofs.Holds.{first-held, timed-held, nothing-held, part-held}
 use Rattle.law_lease.proofs.LeaseFrames.{grip-open}
@@ -59,7 +60,7 @@ done-due g known command kind.Link block bytes guard done fault missed found fil
 done-due g known command kind.Record block bytes guard done fault missed found filled hand c is = from-leaves (λ h. hand_unlinked kind.Record filled h) g kind.Record block bytes found hand c (λ old new. refl) is
 done-due g known command other block bytes guard done fault missed found filled hand c is = from-leaves (λ h. h) g other block bytes found hand c (λ old new. refl) is
 
-module _ (names : ℕ → ℕ → Type 0) (w : World) (leased : Leased w) (treed : Treed names w) (a : ℕ) (below : a < w.appliances) (trace : List Entry) (history : List Event) where
+module _ (names : ℕ → ℕ → Type 0) (w : World) (leased : Leased w) (treed : Treed names w) (a : ℕ) (below : a < w.appliances) (trace : List Entry) (history : List Past) where
   abbrev g : Geometry
   g = w.geometry
 

@@ -9,6 +9,7 @@ use Rattle.plx_commands.specs.declared.event.Event.{Event}
 use Rattle.plx_commands.specs.declared.event.Event.TheVariants as event
 use Rattle.plx_commands.specs.declared.reply.Reply.{Reply}
 use Rattle.plx_commands.specs.declared.reply.Reply.TheVariants as reply
+use Rattle.plx_rules.specs.Histories.{Past}
 use Rattle.plx_rules.specs.Stored.{StoresEither}
 use Rattle.plx_rules.specs.World.{World, Reached}
 
@@ -26,9 +27,9 @@ told_of_event (event.Crash appliance) others = entry.Crash appliance ∷ others
 told_of_event event others = others
 
 -- the starts and crashes of a history
-abbrev pub events_told : List Event → List Entry
+abbrev pub events_told : List Past → List Entry
 events_told [] = []
-events_told (event ∷ others) = told_of_event event (events_told others)
+events_told (past ∷ others) = told_of_event past.event (events_told others)
 
 -- the model before a world's trace
 abbrev pub model_before : World → Model

@@ -3,6 +3,7 @@ pub mod Boot
 pub mod Claims
 pub mod Commands
 pub mod Ends
+pub mod Histories
 pub mod Holds
 pub mod InUse
 pub mod Journal
@@ -24,6 +25,7 @@ pub mod Formatted
 pub mod Owners
 pub mod World
 pub mod Boots
+pub mod Undisturbed
 pub mod Headline
 pub mod Sequences
 pub mod Stored

@@ -20,6 +20,7 @@ use Rattle.plx_rules.specs.Boot.{Happening, Began, Asked, Idle, Begins, In, Posi
 use Rattle.plx_rules.specs.Commands.{IsBuilt, IsWellFormed}
 use Rattle.plx_rules.specs.Ends.{End}
 use Rattle.plx_rules.specs.Formatted.{IsFormatted}
+use Rattle.plx_rules.specs.Histories.{Past, came, landing}
 use Rattle.plx_rules.specs.Rests.{rests_on}
 use Rattle.plx_rules.specs.Session.{Known}
 use Rattle.plx_rules.specs.Settings.{Setting, boot_number}
@@ -40,7 +41,7 @@ pub record World : Type 0 where
   pub rests : ℕ → List ℕ
   pub seats : ℕ → Seat
   pub trace : List Entry
-  pub history : List Event
+  pub history : List Past
 
 -- an appliance that was asked nothing yet
 abbrev pub first_seat : Seat
@@ -87,19 +88,19 @@ abbrev pub goes_on : World → Event → ApplianceNo → Ask → List ℕ → An
 goes_on w event appliance ask bytes answer rest = record w {
   seats = at w.seats appliance.0 (with_happening (w.seats appliance.0) (Asked ask bytes answer));
   trace = with_reply_of appliance rest w.trace;
-  history = event ∷ w.history;
+  history = came event ∷ w.history;
 }
 
 -- the world once an event has changed the device alone
-abbrev pub with_surface : World → Event → Surface → World
-with_surface w event surface = record w { surface = surface; history = event ∷ w.history }
+abbrev pub with_surface : World → Past → Surface → World
+with_surface w past surface = record w { surface = surface; history = past ∷ w.history }
 
 -- the world once an appliance has begun a command
 abbrev pub after_start : World → ApplianceNo → Command → World
 after_start w appliance command = record w {
   seats = at w.seats appliance.0 (with_happening (w.seats appliance.0) (Began command));
   trace = entry.Start appliance command ∷ w.trace;
-  history = event.Start appliance command ∷ w.history;
+  history = came (event.Start appliance command) ∷ w.history;
 }
 
 -- the write that an appliance asks for, once it is issued
@@ -112,7 +113,7 @@ after_issue w appliance command kind block bytes guard = record w {
   surface = with_issued w.surface (issued_write w appliance kind block bytes guard);
   rests = at w.rests (length w.surface.writes) (rests_on w.geometry command (stands w appliance.0).holds (stands w appliance.0).filled kind block bytes);
   seats = at w.seats appliance.0 (record (w.seats appliance.0) { pending = Some (length w.surface.writes) });
-  history = event.Issue appliance ∷ w.history;
+  history = came (event.Issue appliance) ∷ w.history;
 }
 
 -- the world once an appliance has lost its memory: it is the fresh appliance of its next boot, and its issued writes stay
@@ -120,7 +121,7 @@ abbrev pub after_crash : World → ApplianceNo → World
 after_crash w appliance = record w {
   seats = at w.seats appliance.0 (record { boots = (w.seats appliance.0).boots + 1; log = []; pending = None });
   trace = entry.Crash appliance ∷ w.trace;
-  history = event.Crash appliance ∷ w.history;
+  history = came (event.Crash appliance) ∷ w.history;
 }
 
 -- whether a boot is this appliance's
@@ -145,7 +146,7 @@ pub record IsReadingAt (reading time : ℕ) : Type 0 where
 
 -- the steps that are possible
 pub data Step : World → Event → World → Type 0 where
-  ticks : {w : World} {by : ℕ} → w.surface.time + by < 2 ^ 47 → Step w (event.Tick by) (with_surface w (event.Tick by) (after_time w.surface by))
+  ticks : {w : World} {by : ℕ} → w.surface.time + by < 2 ^ 47 → Step w (event.Tick by) (with_surface w (came (event.Tick by)) (after_time w.surface by))
   starts : {w : World} {appliance : ApplianceNo} {command : Command} (known : Known) → appliance.0 < w.appliances →
       (stands w appliance.0).place ≡ Idle known → IsWellFormed command → IsBuilt command →
       Step w (event.Start appliance command) (after_start w appliance command)
@@ -169,7 +170,7 @@ pub data Step : World → Event → World → Type 0 where
       Step w (event.Issue appliance) (after_issue w appliance command kind block bytes guard)
   lands : {w : World} {appliance : ApplianceNo} {back sector : ℕ} (number : ℕ) (write : Issued) → appliance.0 < w.appliances →
       IsBack w.surface.writes appliance.0 back number write → MayLand w.surface number sector write →
-      Step w (event.Land appliance back sector) (with_surface w (event.Land appliance back sector) (after_landing w.surface number write sector))
+      Step w (event.Land appliance back sector) (with_surface w (landing (event.Land appliance back sector) number) (after_landing w.surface number write sector))
   dones : {w : World} {appliance : ApplianceNo} (known : Known) (command : Command) (kind : WriteKind) (block : ℕ) (bytes : List ℕ) (guard : ℕ)
       (done fault : Part End) (missed : ℕ → Part End) (number : ℕ) → appliance.0 < w.appliances →
       (stands w appliance.0).place ≡ In known command (WriteThen kind block bytes guard done fault missed) →

@@ -7,6 +7,7 @@ use Rattle.plx_commands.specs.declared.event.Event.TheVariants as event
 use Rattle.plx_disk.specs.Standing.{Turns}
 use Rattle.plx_disk.specs.Standing.{Stands as DiskStands, Stays as DiskStays}
 use Rattle.plx_disk.specs.Writes.{Issued, MayLand, Surface, after_landing, after_time, with_sector}
+use Rattle.plx_rules.specs.Histories.{Past, came, landing}
 use Rattle.plx_rules.specs.World as rules
 use Rattle.plx_rules.specs.World.{IsBack, Step, lands, ticks, with_surface}
 use Rattle.plx_world.specs.Backs.{HasNone, IsNth, IsNumber}
@@ -39,7 +40,7 @@ stands-over old new w v only h geometry count seats trace numbers surface =
       trace = only.trace ∙ (h.trace ∙ ap reverse (sym trace));
     }
 
-pub stands-disk : (old new : World) (w : rules.World) (one : Event) (s : Surface) → OnlyDisk old new → WorldStands old w →
+pub stands-disk : (old new : World) (w : rules.World) (one : Past) (s : Surface) → OnlyDisk old new → WorldStands old w →
     ((a : ℕ) → own_numbers a 0 s.writes ≡ own_numbers a 0 w.surface.writes) → DiskStands new.disk s → WorldStands new (with_surface w one s)
 stands-disk old new w one s only h numbers surface = stands-over old new w (with_surface w one s) only h refl refl (λ a. refl) refl numbers surface
 
@@ -59,9 +60,9 @@ pub ticks-by : (old new : World) (by : ℕ) (result : Bool) → OnlyDisk old new
     ((s : Surface) → DiskStands old.disk s → (IsTrue result ↔ (s.time + by < 2 ^ 47))) →
     (IsTrue result → Turns old.disk new.disk (λ s. after_time s by)) → (result ≡ false → DiskStays old.disk new.disk) → Steps old new (event.Tick by) result
 ticks-by old new by true only early turns stays w h = (
-  with_surface w (event.Tick by) (after_time w.surface by),
+  with_surface w (came (event.Tick by)) (after_time w.surface by),
   ticks ((early w.surface h.surface).0 refl),
-  stands-disk old new w (event.Tick by) (after_time w.surface by) only h (λ a. refl) (turns refl w.surface h.surface),
+  stands-disk old new w (came (event.Tick by)) (after_time w.surface by) only h (λ a. refl) (turns refl w.surface h.surface),
 )
 ticks-by old new by false only early turns stays w h =
     impossible old new (event.Tick by) (stays-disk old new only (stays refl))
@@ -79,9 +80,9 @@ lands-number old new a back sector number true only is landed refused stays w h 
     let found = there.1 in
     let same : found.0 ≡ l.0 = let p : slice_get w.surface.writes number ≡ Some found.0 = found.1.found in let q : slice_get w.surface.writes number ≡ Some l.0 = l.1.found in cc in
     let P : Issued → Type 0 = λ x. IsBack w.surface.writes a.0 back number x in (
-      with_surface w one (after_landing w.surface number l.0 sector),
+      with_surface w (landing one number) (after_landing w.surface number l.0 sector),
       lands number l.0 there.0 (subst P same found.1) l.1,
-      stands-disk old new w one (after_landing w.surface number l.0 sector) only h (λ k. own-numbers-set k 0 w.surface.writes number l.0 (with_sector l.0 sector) l.1.found refl) l.2,
+      stands-disk old new w (landing one number) (after_landing w.surface number l.0 sector) only h (λ k. own-numbers-set k 0 w.surface.writes number l.0 (with_sector l.0 sector) l.1.found refl) l.2,
     )
 lands-number old new a back sector number false only is landed refused stays w h =
     impossible old new (event.Land a back sector) (stays-disk old new only (stays refl)) (λ w v h step.

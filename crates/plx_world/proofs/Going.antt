@@ -18,6 +18,7 @@ use Rattle.plx_disk.specs.declared.ask.Ask.TheVariants as ask
 use Rattle.plx_rules.specs.Boot.{Place, Idle, Begins, In, asks}
 use Rattle.plx_rules.specs.Part.{Ends, ReadThen, WriteThen, ClockThen, UntilThen}
 use Rattle.plx_rules.specs.Sequences.{next_of_sector, missing_sector, next_at, next_event, next_landing, next_of_write, next_sector, stops}
+use Rattle.plx_rules.specs.Histories.{landing}
 use Rattle.plx_rules.specs.World as rules
 use Rattle.plx_rules.specs.World.{IsReadingAt, Step, is_boot_of, issued_by, stands, with_surface}
 use Rattle.plx_world.specs.Answering.{asked_by, pending_of}
@@ -317,15 +318,15 @@ goes-land old new a guard number sector writing pending least within landed only
     let lands = subst P same (l.1, l.2) in
     let missing-is = missing-least waiting.write.landed sector is in
     let early : nat_le s.time (waiting.write.guard + 50) ≡ true = le-leb s.time (waiting.write.guard + 50) lands.0.early in (
-      with_surface w one (after_landing s number waiting.write sector),
+      with_surface w (landing one number) (after_landing s number waiting.write sector),
       record {
         one = one;
         next = next-issued w a guard number waiting (Some sector) missing-is
             ∙ ap (λ (x : Bool). Some (if x then event.Land a back sector else event.Fault a)) early;
         step = rules.lands number waiting.write waiting.writes.there (record { found = waiting.found; owner = waiting.own; newer = refl }) lands.0;
-        stands = stands-disk old new w one (after_landing s number waiting.write sector) only h
+        stands = stands-disk old new w (landing one number) (after_landing s number waiting.write sector) only h
             (λ b. own-numbers-set b 0 s.writes number waiting.write (with_sector waiting.write sector) waiting.found refl) lands.1;
-        less = less-land w one a number sector waiting.write waiting.waited waiting.found missing-is within;
+        less = less-land w (landing one number) a number sector waiting.write waiting.waited waiting.found missing-is within;
       },
     )
 

@@ -23,6 +23,7 @@ use Rattle.plx_rules.specs.Part.{Part, Ends, ReadThen, WriteThen, ClockThen, Unt
 use Rattle.plx_rules.specs.Sequences.{missing_sector, next_sector}
 use Rattle.plx_rules.specs.Session.{Known}
 use Rattle.plx_rules.specs.Settings.{Setting}
+use Rattle.plx_rules.specs.Histories.{Past}
 use Rattle.plx_rules.specs.World as rules
 use Rattle.plx_rules.specs.World.{Seat, Step, goes_on, setting_at, setting_of, stands, with_surface}
 use Rattle.plx_world.specs.Bounds.{AtMost, most_asks}
@@ -270,7 +271,7 @@ left-less : (m : Option ℕ) (n : ℕ) → n < 8 → IsPast m n → sectors_left
 left-less None n below past = omega (arith, below)
 left-less (Some k) n below past = omega (arith, below, past)
 
-pub less-land : (w : rules.World) (one : Event) (a : ApplianceNo) (number sector : ℕ) (write : Issued) → (w.seats a.0).pending ≡ Some number →
+pub less-land : (w : rules.World) (one : Past) (a : ApplianceNo) (number sector : ℕ) (write : Issued) → (w.seats a.0).pending ≡ Some number →
     slice_get w.surface.writes number ≡ Some write → missing_sector write.landed ≡ Some sector → sector < 8 →
     IsLess a w (with_surface w one (after_landing w.surface number write sector))
 less-land w one a number sector write pending found least within count few =
