@@ -105,6 +105,7 @@ enters h result is tied inside suits = record {
   tied = tied;
   inside = inside;
   suits = suits;
+  sessions = refl;
 }
 
 -- a refusal

@@ -235,8 +235,9 @@ pub first-in : (s : Setting) (known : Known) (after : Lent) (b : Begun) (w : Wor
     BegunStands s known b log leases extents hand →
     work_rest after w ≡ waiting_part s known (lease_holds_at s.geometry (first_leases known reading leases) (first_extents reading extents)) (held_hand s.geometry (first_extents reading extents) hand) reading b →
     image_leases tokens ≡ first_leases known reading leases → StartsInside (image_leases tokens) (first_extents reading extents) w → (work_setting w).geometry ≡ s.geometry →
+    after.known.sessions ≡ known.sessions →
     FirstIn s after w tokens (first_extents reading extents) (held_hand s.geometry (first_extents reading extents) hand) log reading
-first-in s known after b w log reading leases extents hand tokens waits is same starts tied =
+first-in s known after b w log reading leases extents hand tokens waits is same starts tied sessions =
     let p = position s log in
     let h = waits.begun in
     let holds = after_first s.geometry known reading p.holds in
@@ -260,6 +261,7 @@ first-in s known after b w log reading leases extents hand tokens waits is same 
         before = known;
         command = h.command;
         place_is = place;
+        sessions = sym sessions;
         inside = subst (λ (o : Option (ℕ × List ℕ)). Inside w next.holds next.sample o) (sym (ap (λ (q : Position). q.found) moved))
             (starts-inside s.geometry (image_leases tokens) exts w next.holds next.sample tied starts agrees clean);
       };

@@ -22,6 +22,7 @@ pub mod Retired
 pub mod RetireAnswered
 pub mod RenewBegins
 pub mod SpaceBegins
+pub mod RunLogs
 pub mod Stood
 pub mod Tables
 pub mod Went

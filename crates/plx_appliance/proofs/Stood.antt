@@ -15,7 +15,7 @@ use Rattle.plx_appliance.specs.Giving.{rules_setting}
 use Rattle.plx_appliance.specs.Holding.{first_extents, first_leases}
 use Rattle.plx_appliance.specs.RenewStarts.{holds_in}
 use Rattle.plx_appliance.specs.Space.{AreWithin, extents_in, hand_in, held_hand}
-use Rattle.plx_appliance.specs.Kept.{known_of}
+use Rattle.plx_appliance.specs.Kept.{known_of, sessions_of}
 use Rattle.plx_appliance.specs.Lent.{lent_of}
 use Rattle.plx_appliance.specs.Stands.{IsTied, StartsInside}
 use Rattle.plx_appliance.specs.Tokens.{lease_holds_at, image_leases}
@@ -25,6 +25,7 @@ use Rattle.plx_appliance.specs.declared.appliance.Stage.{Stage}
 use Rattle.plx_appliance.specs.declared.appliance.Stage.TheVariants as stage
 use Rattle.plx_appliance.specs.declared.begun.Begun.{Begun}
 use Rattle.plx_appliance.specs.declared.holdings.Holdings.{Holdings}
+use Rattle.plx_appliance.specs.declared.sessions.Sessions.{Sessions}
 use Rattle.plx_appliance.specs.declared.setting.Setting.{Setting}
 use Rattle.plx_appliance.specs.declared.work.Work.{Work}
 use Rattle.plx_appliance.proofs.Went.{Stood, keeps-by, stood-as}
@@ -74,15 +75,17 @@ pub stood-in : (a : Appliance) (b : Begun) (log : List Happening) (reading : ℕ
     a.stage ≡ stage.Begun b → StandsFor a log → AreWithin a.holdings.setting.geometry (hand_in a.holdings) → IsDroppedOf a h reading →
     work_rest (lent_of h2) w ≡ waiting_part (rules_setting h.setting) (known_of h) (holds_in h) (hand_in h) reading b →
     image_leases h2.leases.leases.items ≡ image_leases h.leases.leases.items → IsTied h.setting w → StartsInside (image_leases h.leases.leases.items) (extents_in h) w →
+    h2.sessions ≡ h.sessions →
     FirstIn (appliance_setting a) (lent_of h2) w h2.leases.leases.items (extents_in h) (hand_in h) log reading
-stood-in a b log reading h h2 w begun stands within d part same tied starts =
+stood-in a b log reading h h2 w begun stands within d part same tied starts sessions =
     let exts = first_extents reading (extents_in a.holdings) in
     let first = first-in (appliance_setting a) (known_of a.holdings) (lent_of h2) b w log reading (image_leases a.holdings.leases.leases.items) (extents_in a.holdings) (hand_in a.holdings) h2.leases.leases.items
     (begun-waits a b log begun stands within)
     (over-old a h reading b (work_rest (lent_of h2) w) d part)
     (same ∙ d.leases)
     (subst (λ (es : ℕ → Hold). StartsInside (image_leases h2.leases.leases.items) es w) d.extents (subst (λ (ls : ℕ → Hold). StartsInside ls (extents_in h) w) (sym same) starts))
-    (ap (λ (st : Setting). st.geometry) (tied.same ∙ d.setting)) in
+    (ap (λ (st : Setting). st.geometry) (tied.same ∙ d.setting))
+    (ap (λ (s : Sessions). sessions_of s.images.items) sessions ∙ ap (λ (known : Known). known.sessions) d.known) in
     subst (λ (l : List ℕ). FirstIn (appliance_setting a) (lent_of h2) w h2.leases.leases.items (extents_in h) l log reading) (sym (dropped-hand a h reading d))
     (subst (λ (es : ℕ → Hold). FirstIn (appliance_setting a) (lent_of h2) w h2.leases.leases.items es (held_hand a.holdings.setting.geometry exts (hand_in a.holdings)) log reading) (sym d.extents) first)
 

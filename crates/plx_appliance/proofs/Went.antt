@@ -48,6 +48,7 @@ pub record WorkIsAnswered (s : Setting) (lent later : Lent) (w new : Work) (log 
   pub at : IsInWork lent w (position s log)
   pub hand : (position s log).hand ≡ before.hand
   pub held : HoldsAs s.geometry (image_leases_after_write q a after.leases) (image_leases_after_write q a after.extents) (after_answer (position s log).sample q bytes a (position s log).holds)
+  pub sessions : result ≡ None → later.known.sessions ≡ lent.known.sessions
   pub inside : result ≡ None → Inside new (after_answer (position s log).sample q bytes a (position s log).holds) (sample_of a) (found_by q a)
   pub within : AreWithin s.geometry (hand_answered s.geometry (position s log).found q bytes a before.hand)
   pub unfilled : (position s log).filled ≡ []
@@ -92,6 +93,7 @@ went-in s lent later w new log q bytes a before after h is =
         before = h.at.before;
         command = h.at.command;
         place_is = ap (λ (r : Position). r.place) moved ∙ ap (place_of h.at.before h.at.command) (sym is) ∙ place-asks h.at.before h.at.command (work_rest later new) asks;
+        sessions = h.at.sessions ∙ sym (h.sessions refl);
         inside = subst (λ (o : Option (ℕ × List ℕ)). Inside new next.holds next.sample o) (sym (ap (λ (r : Position). r.found) moved))
             (subst (λ (o : Option ℕ). Inside new next.holds o (found_by q a)) (sym (ap (λ (r : Position). r.sample) moved))
             (subst (λ (t : ℕ → Hold). Inside new t (sample_of a) (found_by q a)) (sym holding) (h.inside refl)));
@@ -163,8 +165,9 @@ space-of h g same = (h.geometry ∙ same, subst (λ (k : Geometry). IsHand k (ex
 pub answered-by : (a : Appliance) (w new : Work) (log : List Happening) (q r : Ask) (bytes : List ℕ) (found : Answer) (h : Holdings) (result : Option Reply) →
     a.stage ≡ stage.In w → StandsFor a log → IsStanding a log r bytes → Fits r found → ((lent : Lent) → Some q ≡ standing (work_rest lent w)) → Spares w q →
     Moves w new found (lent_of a.holdings) (lent_of h) result → h.setting ≡ a.holdings.setting → (result ≡ None → work_setting new ≡ work_setting w) → (result ≡ None → work_suits h.space new) →
+    (result ≡ None → (known_of h).sessions ≡ (known_of a.holdings).sessions) →
     (q ≡ r) × WorkIsAnswered (appliance_setting a) (lent_of a.holdings) (lent_of h) w new log r bytes found (keeps_of a.holdings) (keeps_of h) result
-answered-by a w new log q r bytes found h result runs stands standing' fits is spare moves kept goes suits =
+answered-by a w new log q r bytes found h result runs stands standing' fits is spare moves kept goes suits sessions =
     let lent = lent_of a.holdings in
     let later = lent_of h in
     let s = appliance_setting a in
@@ -191,6 +194,7 @@ answered-by a w new log q r bytes found h result runs stands standing' fits is s
         hand = stands.hand;
         unfilled = stands.unfilled;
         fills = unfilled-after r bytes found (work-fills lent w r stands' spares);
+        sessions = sessions;
         held = subst (λ (bs : List ℕ). HoldsAs g (image_leases_after_write r found later.leases) (image_leases_after_write r found (extents_in h)) (now bs)) writes held;
         inside = λ none. subst (λ (bs : List ℕ). Inside new (now bs) (sample_of found) (found_by r found)) writes
             (work-inside g lent later w new r found p.holds p.sample p.found result same own.0 suit stands' spares fits held i.inside moves none

@@ -1,8 +1,12 @@
 -- An appliance, by the log of its boot.
-use Rattle.std.specs.Prelude.{◌≡◌, ℕ, List, [], Bool, true, false, Some, is_some}
+use Rattle.std.specs.Prelude.{◌≡◌, ℕ, List, [], Bool, true, false, Some}
+use Rattle.law_run.specs.CommandLogs.{commands}
+use Rattle.law_run.specs.Positions.{finished_of}
+use Rattle.law_run.specs.Rules.{KeepsRules}
+use Rattle.law_run.specs.Sessions.{is_attached}
 use Rattle.plx_commands.specs.declared.command.Command.{Command}
 use Rattle.plx_disk.specs.declared.ask.Ask.{Ask}
-use Rattle.plx_rules.specs.Boot.{Position, Idle, Begins, In, Happening, asks, position, writes_out}
+use Rattle.plx_rules.specs.Boot.{Position, Idle, Begins, In, Happening, IsRun, asks, position, writes_out}
 use Rattle.plx_rules.specs.Commands.{command_part}
 use Rattle.plx_rules.specs.Holds.{Hold}
 use Rattle.plx_rules.specs.Session.{Known}
@@ -10,7 +14,6 @@ use Rattle.plx_rules.specs.Settings.{Setting}
 use Rattle.plx_appliance.specs.Begins.{waiting_part}
 use Rattle.plx_appliance.specs.Giving.{rules_setting}
 use Rattle.plx_appliance.specs.Holding.{HoldsAs}
-use Rattle.plx_appliance.specs.Kept.{known_of}
 use Rattle.plx_appliance.specs.Lent.{Lent, lent_of}
 use Rattle.plx_appliance.specs.Space.{extents_in, hand_in}
 use Rattle.plx_appliance.specs.Stands.{Inside}
@@ -32,11 +35,13 @@ pub record HasBegun (s : Setting) (known : Known) (begun : Begun) (p : Position)
   pub place_is : p.place ≡ Begins known command
   pub part_is : (holds : ℕ → Hold) (hand : List ℕ) (reading : ℕ) → waiting_part s known holds hand reading begun ≡ command_part s known holds hand reading command
 
--- a command has had its first reading, and its machine stands where its log does
+-- a command has had its first reading, and its machine stands where its log does; the sessions are
+-- those from before it
 pub record IsInWork (lent : Lent) (w : Work) (p : Position) : Type 0 where
   pub before : Known
   pub command : Command
   pub place_is : p.place ≡ In before command (work_rest lent w)
+  pub sessions : before.sessions ≡ lent.known.sessions
   pub inside : Inside w p.holds p.sample p.found
 
 -- a stage stands where the log leads
@@ -45,9 +50,10 @@ StandsAt s lent stage.Idle p = p.place ≡ Idle lent.known
 StandsAt s lent (stage.Begun begun) p = HasBegun s lent.known begun p
 StandsAt s lent (stage.In w) p = IsInWork lent w p
 
--- an appliance stands for a log that leads to where it stands, its tokens are what the log holds,
+-- an appliance stands for a run that leads to where it stands, its tokens are what the log holds,
 -- and its hand is the one of the log; no command fills a block yet
 pub record StandsFor (a : Appliance) (log : List Happening) : Type 0 where
+  pub run : IsRun (appliance_setting a) log
   pub at : StandsAt (appliance_setting a) (lent_of a.holdings) a.stage (position (appliance_setting a) log)
   pub held : HoldsAs a.holdings.setting.geometry (image_leases a.holdings.leases.leases.items) (extents_in a.holdings) (position (appliance_setting a) log).holds
   pub hand : (position (appliance_setting a) log).hand ≡ hand_in a.holdings
@@ -77,6 +83,14 @@ IsIdle a = runs a.stage ≡ false
 abbrev pub IsRunning : Appliance → Type 0
 IsRunning a = runs a.stage ≡ true
 
--- the image in this slot has a session
-abbrev pub has_session : Appliance → ℕ → Bool
-has_session a image = is_some ((known_of a.holdings).sessions image)
+-- whether a log shows a session of the image in this slot: it goes by the commands that have their
+-- replies
+abbrev pub shows_session : Appliance → List Happening → (image : ℕ) → Bool
+shows_session a log image = is_attached (finished_of (commands (appliance_setting a) log)) image
+
+-- each log that an appliance stands for keeps the rules, whatever its answers were
+abbrev pub AppliancesKeepRules : Type 0
+AppliancesKeepRules = (a : Appliance) (log : List Happening) → StandsFor a log →
+    KeepsRules (appliance_setting a) (commands (appliance_setting a) log)
+    (asks (position (appliance_setting a) log).place)
+    (writes_out (position (appliance_setting a) log).place)

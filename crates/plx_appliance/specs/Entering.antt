@@ -19,6 +19,7 @@ pub record Enters (old new : Holdings) (asked : Part End) (result : Result Work 
   pub leases : leases_in new ≡ leases_in old
   pub extents : extents_in new ≡ extents_in old
   pub hand : hand_in new ≡ hand_in old
+  pub sessions : new.sessions ≡ old.sessions
   pub setting : new.setting ≡ old.setting
   pub tied : IfOk result (IsTied old.setting)
   pub inside : IfOk result (StartsInside (leases_in old) (extents_in old))

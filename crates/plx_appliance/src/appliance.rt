@@ -10,7 +10,7 @@ use crate::fitting::fits;
 use crate::holdings::Holdings;
 use crate::setting::Setting;
 use crate::work::Work;
-use plx_base::{NoMemory, SlotNo};
+use plx_base::{BlockNo, NoMemory, SlotNo};
 use plx_commands::{Command, Reply};
 use plx_disk::{Answer, Ask};
 use std::alloc::Global;
@@ -52,9 +52,10 @@ impl Appliance {
     ghost use Rattle.plx_rules.specs.Boot.{Began, Asked, Fits, Happening, asks, position, replies, writes_out};
     ghost use Rattle.plx_rules.specs.Commands.{IsBuilt, IsWellFormed};
     ghost use Rattle.plx_rules.specs.Machines.{AreWhole, IsTimely};
-    ghost use Rattle.plx_appliance.specs.Appliance.{IsIdle, IsRunning, IsStanding, StandsFor, has_begun, has_session, appliance_setting};
+    ghost use Rattle.plx_appliance.specs.Appliance.{IsIdle, IsRunning, IsStanding, StandsFor, has_begun, shows_session, appliance_setting};
     ghost use Rattle.plx_appliance.specs.declared.work.Work.{Work as Running};
     ghost use Rattle.plx_alloc.specs.Asking.{IsOnDevice};
+    ghost use Rattle.plx_alloc.specs.Tables.{numbers};
     ghost use Rattle.plx_appliance.specs.declared.begun.Begun.{Begun as Started};
 
     /// An appliance that was asked nothing yet.
@@ -81,11 +82,21 @@ impl Appliance {
         }
     }
 
-    /// Whether the image in this slot has a session.
+    /// Whether the image in this slot has a session. An attach begins it with its reply, and a detach
+    /// ends it so.
     pub fn is_attached(&self, slot: SlotNo) -> bool
-        ensures { result ≡ has_session self.now slot.0 }
+        ensures { (log : List Happening) → StandsFor self.now log →
+            result ≡ shows_session self.now log slot.0 }
     {
         self.holdings.sessions.get(slot).is_some()
+    }
+
+    /// The blocks in hand, in the order in which they were taken.
+    pub fn hand(&self) -> &[BlockNo]
+        ensures { (log : List Happening) → StandsFor self.now log →
+            numbers result.now ≡ (position (appliance_setting self.now) log).hand }
+    {
+        self.holdings.space.hand()
     }
 
     /// Any command that is built begins, with all the memory that it can need. Without memory nothing changes.

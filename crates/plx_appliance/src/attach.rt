@@ -159,6 +159,7 @@ impl Attach {
         ensures own { result ≡ None → self.new.load.slots ≡ self.old.load.slots }
         ensures count { sessions.new.count ≡ sessions.old.count }
         ensures slots { sessions.new.slots ≡ sessions.old.slots }
+        ensures sessions { result ≡ None → sessions.new ≡ sessions.old }
         ensures leased { leases.new.count ≡ leases.old.count }
         ensures moves { attach_moves self.old.at self.old self.new answer.now
             (image_leases leases.old.leases.items) (image_leases leases.new.leases.items) result }

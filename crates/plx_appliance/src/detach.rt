@@ -88,6 +88,7 @@ impl Detach {
         ensures image { self.new.image ≡ self.old.image }
         ensures count { sessions.new.count ≡ sessions.old.count }
         ensures slots { sessions.new.slots ≡ sessions.old.slots }
+        ensures sessions { result ≡ None → sessions.new ≡ sessions.old }
         ensures leased { leases.new.count ≡ leases.old.count }
     {
         match answer {

@@ -50,6 +50,7 @@ pub fn enter(begun: Begun, holdings: &mut Holdings, reading: u64) -> Result<Work
         ≡ image_leases holdings.old.leases.leases.items }
     ensures extents { extents_in holdings.new ≡ extents_in holdings.old }
     ensures hand { hand_in holdings.new ≡ hand_in holdings.old }
+    ensures sessions { holdings.new.sessions ≡ holdings.old.sessions }
     ensures setting { holdings.new.setting ≡ holdings.old.setting }
     ensures tied { IfOk result (IsTied holdings.old.setting) }
     ensures inside { IfOk result (StartsInside (image_leases holdings.old.leases.leases.items)

@@ -131,6 +131,7 @@ impl Load {
         ensures own { result ≡ None → self.new.slots ≡ self.old.slots }
         ensures count { sessions.new.count ≡ sessions.old.count }
         ensures slots { sessions.new.slots ≡ sessions.old.slots }
+        ensures sessions { result ≡ None → sessions.new ≡ sessions.old }
     {
         match (self.at, answer) {
             (LoadAt::Record, Answer::Bytes(bytes)) => {
@@ -286,6 +287,7 @@ impl Load {
         ensures own { result ≡ None → self.new.slots ≡ self.old.slots }
         ensures count { sessions.new.count ≡ sessions.old.count }
         ensures slots { sessions.new.slots ≡ sessions.old.slots }
+        ensures sessions { result ≡ None → sessions.new ≡ sessions.old }
     {
         if let Some(reply) = self.image.reached(reading) {
             return Some(reply);

@@ -172,6 +172,7 @@ impl Record {
         ensures image { self.new.image ≡ self.old.image }
         ensures count { sessions.new.count ≡ sessions.old.count }
         ensures slots { sessions.new.slots ≡ sessions.old.slots }
+        ensures sessions { result ≡ None → sessions.new ≡ sessions.old }
     {
         match (self.at, answer) {
             (RecordAt::First, Answer::Done) => {
@@ -199,6 +200,7 @@ impl Record {
         ensures image { self.new.image ≡ self.old.image }
         ensures count { sessions.new.count ≡ sessions.old.count }
         ensures slots { sessions.new.slots ≡ sessions.old.slots }
+        ensures sessions { result ≡ None → sessions.new ≡ sessions.old }
     {
         if let Some(reply) = self.image.reached(reading) {
             return Some(reply);

@@ -61,6 +61,7 @@ impl Renew {
             ≡ answered (renew_rest (known_of holdings.old) self.old) answer.now }
         ensures setting { self.new.setting ≡ self.old.setting }
         ensures kept { holdings.new.setting ≡ holdings.old.setting }
+        ensures known { known_of holdings.new ≡ known_of holdings.old }
         ensures moves { RenewMoves self.old self.new answer.now (lent_of holdings.old)
             (lent_of holdings.new) result }
     {

@@ -124,6 +124,7 @@ impl Retire {
             ≡ answered (retire_images_rest (lent_of holdings.old) self.old) answer.now }
         ensures setting { self.new.setting ≡ self.old.setting }
         ensures kept { holdings.new.setting ≡ holdings.old.setting }
+        ensures sessions { holdings.new.sessions ≡ holdings.old.sessions }
         ensures suits { result ≡ None
             → retire_suits holdings.new.space self.new.setting self.new.stage }
         ensures moves { retire_moves self.old.stage self.new answer.now (lent_of holdings.old)

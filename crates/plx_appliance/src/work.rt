@@ -91,6 +91,8 @@ impl Work {
         ensures own { result ≡ None → work_slots self.new ≡ work_slots self.old }
         ensures kept { result ≡ None → work_setting self.new ≡ work_setting self.old }
         ensures setting { holdings.new.setting ≡ holdings.old.setting }
+        ensures sessions { result ≡ None → (known_of holdings.new).sessions
+            ≡ (known_of holdings.old).sessions }
         ensures suits { result ≡ None → work_suits holdings.new.space self.new }
         ensures moves { Moves self.old self.new answer.now (lent_of holdings.old)
             (lent_of holdings.new) result }

@@ -143,6 +143,7 @@ impl Write {
         ensures image { self.new.image ≡ self.old.image }
         ensures count { sessions.new.count ≡ sessions.old.count }
         ensures slots { sessions.new.slots ≡ sessions.old.slots }
+        ensures sessions { result ≡ None → sessions.new ≡ sessions.old }
     {
         match (self.at, answer) {
             (WriteAt::Data, Answer::Done) => {
@@ -179,6 +180,7 @@ impl Write {
             (Answer.Reading reading) }
         ensures count { sessions.new.count ≡ sessions.old.count }
         ensures slots { sessions.new.slots ≡ sessions.old.slots }
+        ensures sessions { result ≡ None → sessions.new ≡ sessions.old }
     {
         if let Some(reply) = self.image.reached(reading) {
             return Some(reply);

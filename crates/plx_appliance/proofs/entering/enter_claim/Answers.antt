@@ -38,4 +38,5 @@ returns c =
         sampled = e.sampled;
       });
       suits = tt;
+      sessions = refl;
     }

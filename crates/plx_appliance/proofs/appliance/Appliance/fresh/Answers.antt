@@ -1,5 +1,6 @@
 use Rattle.std.proofs.Common.{◌≡◌, ℕ, ap, refl, sym, subst}
 use Rattle.plx_geom.specs.Geometry.{lease_at}
+use Rattle.plx_rules.specs.Boot as boot
 use Rattle.plx_rules.specs.Boot.{Idle}
 use Rattle.plx_rules.specs.Holds.{Hold, Nothing}
 use Rattle.plx_appliance.specs.Space.{extents_in}
@@ -11,6 +12,7 @@ pub returns-clause-log : goal.returns-clause-log
 returns-clause-log c =
     let h = c.in_ok-holdings.holdings in
     record {
+      run = boot.empty;
       at = ap Idle (sym c.in_ok-holdings.ensures.known);
       held = λ lease within.
           let P : (leases extents : ℕ → Hold) → Type 0 = λ leases extents. Nothing ≡ lease_holds_at h.setting.geometry leases extents (lease_at lease) in

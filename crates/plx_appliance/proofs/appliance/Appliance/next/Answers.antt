@@ -14,6 +14,7 @@ use Rattle.plx_appliance.specs.declared.appliance.Stage.{Stage}
 use Rattle.plx_appliance.specs.declared.holdings.Holdings.{Holdings}
 use Rattle.plx_appliance.specs.declared.setting.Setting.{Setting}
 use Rattle.plx_appliance.proofs.Answered.{work-kept}
+use Rattle.plx_appliance.proofs.RunLogs.{run-goes-on}
 use Rattle.plx_appliance.proofs.Went.{Stood, answered-by, keeps_of, stands-in, stands-out, went-in, went-out}
 use Rattle.plx_appliance.proofs.appliance.Appliance.next.Goals as goal
 
@@ -26,13 +27,13 @@ returns-in-None-clause-log c = λ log ask bytes work is stands standing fits.
     let found = c.args.answer.now in
     let x = c.in-None.ensures in
     let by = answered-by a w new log c.ask-ask.result ask bytes found h None c.in-In.is stands standing fits c.ask-ask.ensures.ask c.ask-ask.ensures.spare
-    x.moves x.setting x.kept x.suits in
+    x.moves x.setting x.kept x.suits x.sessions in
     let went = went-in (appliance_setting a) (lent_of a.holdings) (lent_of h) w new log ask bytes found (keeps_of a.holdings) (keeps_of h) by.1 x.rest in
     let kept = work-kept (lent_of a.holdings) (lent_of h) w new c.ask-ask.result found (c.ask-ask.ensures.ask (lent_of a.holdings)) x.rest in
     let same = c.drop_failed.ensures.kept kept in
     let stood = subst (λ (k : Holdings). Stood k (position (rules_setting k.setting) (Asked ask bytes found ∷ log)) (λ lent. IsInWork lent new (position (rules_setting k.setting) (Asked ask bytes found ∷ log)))) (sym same)
     (stands-in a h new log ask bytes found x.setting (subst (λ (q : Ask). DropsNothing q found) by.0 kept) went) in
-    record { at = stood.at; held = stood.held; hand = stood.hand; unfilled = stood.unfilled }
+    record { run = run-goes-on a.holdings.setting c.drop_failed.new.self.setting log ask bytes found (c.drop_failed.ensures.setting ∙ x.setting) stands.run standing.ask_is standing.bytes_are fits; at = stood.at; held = stood.held; hand = stood.hand; unfilled = stood.unfilled }
 
 pub returns-in-None-clause-reply : goal.returns-in-None-clause-reply
 returns-in-None-clause-reply c = λ log ask bytes work is stands standing fits.
@@ -41,7 +42,7 @@ returns-in-None-clause-reply c = λ log ask bytes work is stands standing fits.
     let found = c.args.answer.now in
     let x = c.in-None.ensures in
     let by = answered-by a c.in-In.work c.answer-reply.new.self log c.ask-ask.result ask bytes found h None c.in-In.is stands standing fits c.ask-ask.ensures.ask c.ask-ask.ensures.spare
-    x.moves x.setting x.kept x.suits in
+    x.moves x.setting x.kept x.suits x.sessions in
     (went-in (appliance_setting a) (lent_of a.holdings) (lent_of h) c.in-In.work c.answer-reply.new.self log ask bytes found (keeps_of a.holdings) (keeps_of h) by.1 x.rest).no_reply
 
 pub returns-in-Some-clause-log : goal.returns-in-Some-clause-log
@@ -55,7 +56,7 @@ returns-in-Some-clause-log c = λ log ask bytes work is stands standing fits.
     let e = c.settle.ensures in
     let x = c.in-Some.ensures in
     let by = answered-by a c.in-In.work c.answer-reply.new.self log c.ask-ask.result ask bytes found h (Some r) c.in-In.is stands standing fits c.ask-ask.ensures.ask c.ask-ask.ensures.spare
-    x.moves x.setting x.kept x.suits in
+    x.moves x.setting x.kept x.suits x.sessions in
     let went = went-out (appliance_setting a) (lent_of a.holdings) (lent_of h) c.in-In.work c.answer-reply.new.self r log ask bytes found (keeps_of a.holdings) (keeps_of h) by.1 x.rest in
     let stood = stands-out a h k r log ask bytes found (record {
       setting = e.setting ∙ d.setting ∙ x.setting;
@@ -66,6 +67,7 @@ returns-in-Some-clause-log c = λ log ask bytes work is stands standing fits.
     }) went in
     let p = position (rules_setting k.setting) (Asked ask bytes found ∷ log) in
     record {
+      run = run-goes-on a.holdings.setting k.setting log ask bytes found (e.setting ∙ d.setting ∙ x.setting) stands.run standing.ask_is standing.bytes_are fits;
       at = subst (λ (st : Stage). StandsAt (rules_setting k.setting) (lent_of k) st p)
           (sym c.set.ensures) stood.at;
       held = stood.held;
@@ -81,7 +83,7 @@ returns-in-Some-clause-reply c = λ log ask bytes work is stands standing fits.
     let r = c.in-Some.reply in
     let x = c.in-Some.ensures in
     let by = answered-by a c.in-In.work c.answer-reply.new.self log c.ask-ask.result ask bytes found h (Some r) c.in-In.is stands standing fits c.ask-ask.ensures.ask c.ask-ask.ensures.spare
-    x.moves x.setting x.kept x.suits in
+    x.moves x.setting x.kept x.suits x.sessions in
     (went-out (appliance_setting a) (lent_of a.holdings) (lent_of h) c.in-In.work c.answer-reply.new.self r log ask bytes found (keeps_of a.holdings) (keeps_of h) by.1 x.rest).replied
 
 pub invariant_of-self-in-None : goal.invariant_of-self-in-None

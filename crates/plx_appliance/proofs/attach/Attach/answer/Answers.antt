@@ -20,6 +20,7 @@ returns-in-None c =
       own = λ none. refl;
       count = refl;
       slots = refl;
+      sessions = λ none. refl;
       leased = refl;
       moves = rw c.in-Claim.is (record {
         end = None;
@@ -43,6 +44,7 @@ returns-in-Some c =
       own = λ none. k.own;
       count = refl;
       slots = refl;
+      sessions = λ none. refl;
       leased = k.leased;
       moves = rw (c.in-Claim.is, k.claim) (record {
         end = Some c.in-Some.end;
@@ -63,6 +65,7 @@ returns-in-Load c =
       own = e.own;
       count = e.count;
       slots = e.slots;
+      sessions = e.sessions;
       leased = refl;
       moves = rw c.in-Load.is (record { at = refl; leases = refl });
     }

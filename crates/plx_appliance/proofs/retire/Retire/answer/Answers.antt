@@ -41,6 +41,7 @@ returns-in-None c =
       rest = rw c.in-Extents.is (e.rest (o c.answer.new.space.claims) ∙ same);
       setting = refl;
       kept = refl;
+      sessions = refl;
       suits = λ none. e.suits refl;
       moves = rw c.in-Extents.is (record {
         images = refl;
@@ -72,6 +73,7 @@ returns-in-Some c =
           ∙ same);
       setting = c.go_on.ensures.setting;
       kept = refl;
+      sessions = refl;
       suits = λ none. image-suits lent.space new.setting new.stage (c.go_on.ensures.image none);
       moves = rw c.in-Extents.is (record {
         images = refl;
