@@ -301,9 +301,9 @@ module _ (s : Setting) (geometry : IsGeometry s.geometry) (a : ℕ) (command : C
     )
 
     -- blocks in hand are given back
-    fair-given : (uses : List InUse) (extent until : ℕ) (blocks : List ℕ) (bits : List Bool) (rest : Part End) → HoldsMap s.geometry.extent_blocks (map_bytes (with_clear blocks (map_at s.geometry extent) bits)) → StaysFair rest →
-        StaysFair (give_found s known uses extent until blocks (Some bits) rest)
-    fair-given uses extent until blocks bits rest spells right holds sample just backs = (
+    fair-given : (beside : List InUse) (extent until : ℕ) (blocks : List ℕ) (bits : List Bool) (rest : Part End) → HoldsMap s.geometry.extent_blocks (map_bytes (with_clear blocks (map_at s.geometry extent) bits)) → StaysFair rest →
+        StaysFair (give_found s known beside extent until blocks (Some bits) rest)
+    fair-given beside extent until blocks bits rest spells right holds sample just backs = (
       record { named = tt; spells = spells },
       length-map_bytes (with_clear blocks (map_at s.geometry extent) bits),
       right holds None false backs,
@@ -313,33 +313,33 @@ module _ (s : Setting) (geometry : IsGeometry s.geometry) (a : ℕ) (command : C
       λ reading. refl,
     )
 
-    fair-give : (uses : List InUse) (extent until : ℕ) → extent < s.geometry.extents → (blocks : List ℕ) (rest : Part End) → is_in (map_at s.geometry extent) blocks ≡ false → StaysFair rest → StaysFair (give_part s known uses extent until blocks rest)
-    fair-give uses extent until below [] rest out right holds sample just backs = right holds sample just backs
-    fair-give uses extent until below (block ∷ blocks) rest out right holds sample just backs = (
+    fair-give : (beside : List InUse) (extent until : ℕ) → extent < s.geometry.extents → (blocks : List ℕ) (rest : Part End) → is_in (map_at s.geometry extent) blocks ≡ false → StaysFair rest → StaysFair (give_part s known beside extent until blocks rest)
+    fair-give beside extent until below [] rest out right holds sample just backs = right holds sample just backs
+    fair-give beside extent until below (block ∷ blocks) rest out right holds sample just backs = (
       λ bytes spelled.
           let holds-map = spelled.map extent below refl in
-          let P : Option (List Bool) → Type 0 = λ o. Fairly (after-map extent sample bytes holds) None false (give_found s known uses extent until (block ∷ blocks) o rest) in
+          let P : Option (List Bool) → Type 0 = λ o. Fairly (after-map extent sample bytes holds) None false (give_found s known beside extent until (block ∷ blocks) o rest) in
           subst P (sym (map-read s.geometry.extent_blocks bytes holds-map))
-          (fair-given uses extent until (block ∷ blocks) (bits_of s.geometry.extent_blocks bytes) rest
+          (fair-given beside extent until (block ∷ blocks) (bits_of s.geometry.extent_blocks bytes) rest
           (clear-spelled s.geometry.extent_blocks (block ∷ blocks) (map_at s.geometry extent) (bits_of s.geometry.extent_blocks bytes) geometry.blocks_high out holds-map.is) right
           _ None false (backs-read s.geometry known holds (map_at s.geometry extent) sample bytes backs)),
       read-failed gives.read_fault (map_at s.geometry extent) known holds None false refl backs,
       λ k c u low e' w. map-unconfirmed extent k low e',
     )
 
-    fair-give_up : (uses : List InUse) (hand : List ℕ) → NoMap s.geometry hand → (extent : ℕ) → extent < s.geometry.extents → (hold : Hold) (rest : Part End) → StaysFair rest → StaysFair (retire_extent s known uses hand extent hold rest)
-    fair-give_up uses hand none extent below (Held claim until) rest right =
-        fair-give uses extent until below (in_extent s.geometry extent hand) _ (out-filter _ (map_at s.geometry extent) hand (none extent below))
+    fair-give_up : (beside : List InUse) (hand : List ℕ) → NoMap s.geometry hand → (extent : ℕ) → extent < s.geometry.extents → (hold : Hold) (rest : Part End) → StaysFair rest → StaysFair (retire_extent s known beside hand extent hold rest)
+    fair-give_up beside hand none extent below (Held claim until) rest right =
+        fair-give beside extent until below (in_extent s.geometry extent hand) _ (out-filter _ (map_at s.geometry extent) hand (none extent below))
         (fair-release (extent_use s.geometry extent until) rest (extent-unused extent) right)
-    fair-give_up uses hand none extent below Nothing rest right = right
-    fair-give_up uses hand none extent below (Seen l) rest right = right
-    fair-give_up uses hand none extent below (Wrote claim until) rest right = right
-    fair-give_up uses hand none extent below (Waited claim until) rest right = right
+    fair-give_up beside hand none extent below Nothing rest right = right
+    fair-give_up beside hand none extent below (Seen l) rest right = right
+    fair-give_up beside hand none extent below (Wrote claim until) rest right = right
+    fair-give_up beside hand none extent below (Waited claim until) rest right = right
 
-    fair-extents : (uses : List InUse) (first : ℕ → Hold) (hand : List ℕ) → NoMap s.geometry hand → (left extent : ℕ) (rest : Part End) → left + extent ≡ s.geometry.extents → StaysFair rest → StaysFair (retire_extents s known uses first hand left extent rest)
-    fair-extents uses first hand none zero extent rest all right = right
-    fair-extents uses first hand none (suc left) extent rest all right =
-        fair-give_up uses hand none extent (omega (arith, all)) (first (lease_at (extent_lease s.geometry extent))) _ (fair-extents uses first hand none left (extent + 1) rest (omega (arith, all)) right)
+    fair-extents : (beside : List InUse) (first : ℕ → Hold) (hand : List ℕ) → NoMap s.geometry hand → (left extent : ℕ) (rest : Part End) → left + extent ≡ s.geometry.extents → StaysFair rest → StaysFair (retire_extents s known beside first hand left extent rest)
+    fair-extents beside first hand none zero extent rest all right = right
+    fair-extents beside first hand none (suc left) extent rest all right =
+        fair-give_up beside hand none extent (omega (arith, all)) (first (lease_at (extent_lease s.geometry extent))) _ (fair-extents beside first hand none left (extent + 1) rest (omega (arith, all)) right)
 
     fair-lease : (lease : ℕ) (session : Option Session) (hold : Hold) (rest : Part End) → (session ≡ None → (k : ℕ) (t : Session) → k < s.geometry.images → known.sessions k ≡ Some t → image_lease k ≢ lease) → StaysFair rest →
         StaysFair (retire_lease s known lease session hold rest)
