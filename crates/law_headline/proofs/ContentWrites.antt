@@ -43,7 +43,7 @@ use Rattle.law_headline.proofs.ContentFrames.{owned-same, grip-only}
 use Rattle.law_headline.proofs.ContentGoes.{names-same}
 use Rattle.law_headline.proofs.Held.{Regime, Without, With, IsWith, IsOn, Looks, IsOf, HeldPart, IsNamed, Fair}
 use Rattle.law_headline.proofs.HeldFrames.{missing_of, missing-landed, same-refl, same-put, same-over, held-part-same, keeps-landed}
-use Rattle.law_headline.proofs.ImageWrites.{placed-block, placed-keeps, placed-made, named-image, use-image, held-image-write, image-held, image-write, of-covers, of-one, placed-cases, same-under}
+use Rattle.law_headline.proofs.ImageWrites.{placed-block, placed-keeps, placed-made, named-image, use-image, held-image-write, image-held, image-write, of-covers, of-one-image, placed-cases, same-under}
 use Rattle.law_headline.proofs.JournalFacts.{Keeps-same}
 use Rattle.law_headline.proofs.Journals.{HoldsSlot, Same}
 use Rattle.law_headline.proofs.BytesByKind.{OnlyBytes, only-lands}
@@ -175,7 +175,7 @@ module _ (w : World) (content : KeepsContent w) where
       | inl mine ↦
           let grant = (use-image g boot (p a).holds leases block bytes guard what mine.1 may).grants (image_lease i) needs in
           let named = named-image g command block what mine.1 fits.1.0.named in
-          let names : Names command i = (let P : ℕ → Type 0 = λ j. Names command j in subst P (of-one g geometry named.0 i block named.1 within named.2 of) named.3) in
+          let names : Names command i = (let P : ℕ → Type 0 = λ j. Names command j in subst P (of-one-image g geometry named.0 i block named.1 within named.2 of) named.3) in
           let grips : (claim : Claim) × (until : ℕ) × Grips g time writes a (w.seats a) i claim until = elim live [
             | inl early ↦ (grant.claim, grant.until, grips-free w content.leased a below free leases what block bytes guard (image_lease i) grant.claim grant.until grant.hold (let guarded = grant.guarded in omega arith))
             | inr held ↦ held
@@ -462,7 +462,7 @@ module _ (w : World) (content : KeepsContent w) where
         by_place (In known command part) waits mine asked fits owned =
             let named = named-of g b i command known (p b).holds (p b).sample part (boot_number b (w.seats b).boots) write fits.1 asked mine.1 in
             let N : ℕ → Type 0 = λ j. Names command j in
-            let names : Names command i = subst N (of-one g geometry named.0 i write.block named.1 within named.2 mine.0) named.3 in
+            let names : Names command i = subst N (of-one-image g geometry named.0 i write.block named.1 within named.2 mine.0) named.3 in
             let s = owned.0 names in (
               λ names'. record {
                 regime = s.regime;

@@ -142,8 +142,8 @@ same-under g i d e within same = record {
 }
 
 -- a block of two images is one image's
-pub of-one : (g : Geometry) → IsGeometry g → (i j block : ℕ) → i < g.images → j < g.images → IsOf g i block → IsOf g j block → i ≡ j
-of-one g geometry i j block wi wj one two = image-image i j (one-cover g geometry (image_lease i) (image_lease j) block (of-covers g i block wi one) (of-covers g j block wj two))
+pub of-one-image : (g : Geometry) → IsGeometry g → (i j block : ℕ) → i < g.images → j < g.images → IsOf g i block → IsOf g j block → i ≡ j
+of-one-image g geometry i j block wi wj one two = image-image i j (one-cover g geometry (image_lease i) (image_lease j) block (of-covers g i block wi one) (of-covers g j block wj two))
 
 -- a write is one of the image, and rests on its lease; or its block is none of the image's
 pub placed-cases : (g : Geometry) → IsGeometry g → (k : WriteKind) (block : ℕ) (bytes rests : List ℕ) → IsPlaced g k block bytes rests → (i : ℕ) → i < g.images →

@@ -33,7 +33,7 @@ use Rattle.law_lease.proofs.Open.{GripsLease, grips-only}
 use Rattle.law_tree.proofs.Moved.{apart-free}
 use Rattle.law_tree.proofs.Roots.{pool-extent-within}
 use Rattle.law_tree.proofs.TreeLands.{lands}
-use Rattle.law_tree.proofs.Treed.{Treed, due_of}
+use Rattle.law_tree.proofs.Treed.{Treed, due_at_seat}
 use Rattle.plx_geom.proofs.Places.{extent-below}
 
 -- a block was filled with these bytes
@@ -59,7 +59,7 @@ IsNotPending writes pending block = (n : ℕ) (x : Issued) → pending ≡ Some 
 abbrev pub FilledSeat : Geometry → (time : ℕ) → Device → List Issued → (appliance : ℕ) → Seat → Type 0
 FilledSeat g time d writes a seat =
     (block : ℕ) (bytes : List ℕ) → IsFilled block bytes (position (setting_at g a seat.boots) seat.log).filled → IsNotPending writes seat.pending block →
-    is_in block (due_of g a seat) ≡ true → (claim : Claim) (until : ℕ) → GripsLease g time writes a seat (extent_lease g (extent_of g block)) claim until → d block ≡ bytes
+    is_in block (due_at_seat g a seat) ≡ true → (claim : Claim) (until : ℕ) → GripsLease g time writes a seat (extent_lease g (extent_of g block)) claim until → d block ≡ bytes
 
 -- the landing of a sector leaves it
 module _ (names : ℕ → ℕ → Type 0) (w : World) (reached : Reached w) (treed : Treed names w) (number sector : ℕ) (write : Issued) (may : MayLand w.surface number sector write) where

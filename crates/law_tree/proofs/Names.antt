@@ -24,7 +24,7 @@ use Rattle.law_lease.proofs.Leased.{Leased}
 use Rattle.law_space.proofs.Lists.{in-filter}
 use Rattle.law_tree.proofs.ByKind.{Chain, RecordMoves, stays, clears, links, TreeWaits}
 use Rattle.law_tree.proofs.TreeSteps.{NamesLinked, RulesOfTrees, SparesHands, keeps-trees}
-use Rattle.law_tree.proofs.Treed.{Treed, due, due_of, hand_while, linked_at, linked_of}
+use Rattle.law_tree.proofs.Treed.{Treed, due, due_at_seat, hand_while, linked_at, linked_of}
 
 -- a boot that waits for the write links the block by it
 abbrev pub NamedBy : Geometry → (appliances : ℕ) → (ℕ → Seat) → (number block : ℕ) → Type 0

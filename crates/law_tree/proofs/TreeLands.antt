@@ -29,7 +29,7 @@ use Rattle.law_tree.proofs.ByKind.{OnFresh, OnNode, OnLeaf, OnRecord, TreePlaced
 use Rattle.law_tree.proofs.Moved.{free, owned, Moved, same, WritesTree, fixed, moved-shared, moved-rooted, moved-off}
 use Rattle.law_tree.proofs.OwnLands.{fresh-moves, leaf-moves, leaf-after, link-lands, fresh-after, record-lands}
 use Rattle.law_tree.proofs.Roots.{IsTreeless, pool-only, pool-extent-within, quiet-paths}
-use Rattle.law_tree.proofs.Treed.{Treed, FreshSeat, TreesPlaced, TreesWait, due_of}
+use Rattle.law_tree.proofs.Treed.{Treed, FreshSeat, TreesPlaced, TreesWait, due_at_seat}
 
 -- a block that has no pool block, record or log in it
 quiet-at : (g : Geometry) → IsGeometry g → (block : ℕ) → ((b : ℕ) → InPool g b → b ≢ block) → ((i : ℕ) → i < g.images → record_at g i ≢ block) → ((i : ℕ) → i < g.images → log_at g i ≢ block) → IsTreeless g block
@@ -251,7 +251,7 @@ module _ (names : ℕ → ℕ → Type 0) (w : World) (reached : Reached w) (tre
 
   -- what holds of the other writes stays
   module _ (spared : (b c : ℕ) → b < w.appliances → (w.seats b).pending ≡ Some number →
-      is_in c (due_of g b (w.seats b)) ≡ true →
+      is_in c (due_at_seat g b (w.seats b)) ≡ true →
       names number c → ⊥) where
     placed-lands : TreesPlaced g w.rests w.appliances w.surface.time after now w.seats
     placed-lands home n x is op = elim (landed-or w leased number sector write may n x (open-found g w.rests w.appliances w.surface.time now w.seats home n x op)) [

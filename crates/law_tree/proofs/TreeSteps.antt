@@ -34,7 +34,7 @@ use Rattle.law_lease.proofs.Rests.{rests-home}
 use Rattle.law_tree.proofs.ByKind.{TreePlaced, TreeWaits}
 use Rattle.law_tree.proofs.TreeLands.{landed-treed}
 use Rattle.law_tree.proofs.TreeSeats.{seat-treed, start-treed, begin-treed, read-treed, fault-treed, clock-treed, wait-treed, write-fault-treed, miss-treed, done-treed}
-use Rattle.law_tree.proofs.Treed.{Treed, FreshSeat, IsFree, TreesPlaced, TreesWait, due_of, hand_while, linked_of}
+use Rattle.law_tree.proofs.Treed.{Treed, FreshSeat, IsFree, TreesPlaced, TreesWait, due_at_seat, hand_while, linked_of}
 
 -- a lease is held in time, by what a boot holds that waits for no write
 abbrev pub HoldsInTime : (holds : ℕ → Hold) → (time lease : ℕ) → Type 0
@@ -147,7 +147,7 @@ module _ (names : ℕ → ℕ → Type 0) (w : World) (leased : Leased w) (treed
 
 -- what a boot has in hand is named by no write that it waits for
 abbrev pub SparesHands : (names : ℕ → ℕ → Type 0) → World → Type 0
-SparesHands names w = (number b c : ℕ) → b < w.appliances → (w.seats b).pending ≡ Some number → is_in c (due_of w.geometry b (w.seats b)) ≡ true → names number c → ⊥
+SparesHands names w = (number b c : ℕ) → b < w.appliances → (w.seats b).pending ≡ Some number → is_in c (due_at_seat w.geometry b (w.seats b)) ≡ true → names number c → ⊥
 
 -- a write that an appliance issues next is named by the blocks that it links
 abbrev pub NamesLinked : (names : ℕ → ℕ → Type 0) → World → (appliance : ℕ) → Type 0

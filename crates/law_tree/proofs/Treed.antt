@@ -30,8 +30,8 @@ due g None place found filled hand = hand
 due g (Some n) place found filled hand = hand_while g place found filled hand
 
 -- the same, of a seat
-abbrev pub due_of : Geometry → (appliance : ℕ) → Seat → List ℕ
-due_of g a seat = due g seat.pending (position (setting_at g a seat.boots) seat.log).place (position (setting_at g a seat.boots) seat.log).found
+abbrev pub due_at_seat : Geometry → (appliance : ℕ) → Seat → List ℕ
+due_at_seat g a seat = due g seat.pending (position (setting_at g a seat.boots) seat.log).place (position (setting_at g a seat.boots) seat.log).found
     (position (setting_at g a seat.boots) seat.log).filled (position (setting_at g a seat.boots) seat.log).hand
 
 -- the blocks that the write at a place links
@@ -52,7 +52,7 @@ pub record IsFree (g : Geometry) (d : Device) (block : ℕ) : Type 0 where
 -- a block in the hand of a boot that holds its extent's lease in time is reached by no path
 abbrev pub FreshSeat : Geometry → (time : ℕ) → Device → List Issued → (appliance : ℕ) → Seat → Type 0
 FreshSeat g time d writes a seat =
-    (block : ℕ) → is_in block (due_of g a seat) ≡ true →
+    (block : ℕ) → is_in block (due_at_seat g a seat) ≡ true →
     (claim : Claim) (until : ℕ) → GripsLease g time writes a seat (extent_lease g (extent_of g block)) claim until → IsFree g d block
 
 -- while a write is open under its home, what its kind says of its place holds

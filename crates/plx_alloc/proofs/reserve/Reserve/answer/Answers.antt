@@ -21,8 +21,8 @@ tells-of at.Claim g m found tells = tt
 tells-of at.Damaged g m found tells = tells
 
 -- a take that reads claims nothing
-not-claim : (place : ReserveAt) → ReadsFirst place → place ≡ at.Claim → ⊥
-not-claim place reads here = subst ReadsFirst here reads
+ask-no-claim : (place : ReserveAt) → ReadsFirst place → place ≡ at.Claim → ⊥
+ask-no-claim place reads here = subst ReadsFirst here reads
 
 pub returns-in-Write-Missed-clause-rest : goal.returns-in-Write-Missed-clause-rest
 returns-in-Write-Missed-clause-rest c = λ o.
@@ -57,7 +57,7 @@ returns-in-Map-Bytes-clause-found c = λ fits none'.
 
 pub returns-in-Write-Done-clause-leases : goal.returns-in-Write-Done-clause-leases
 returns-in-Write-Done-clause-leases c =
-    rw c.in-Write-Done.is-0 (record { leases = c.after_write.ensures.leases; starts = λ none' here. absurd (not-claim c.after_write.new.self.at (c.after_write.ensures.reads none') here) })
+    rw c.in-Write-Done.is-0 (record { leases = c.after_write.ensures.leases; starts = λ none' here. absurd (ask-no-claim c.after_write.new.self.at (c.after_write.ensures.reads none') here) })
 
 pub returns-in-Some-clause-leases : goal.returns-in-Some-clause-leases
 returns-in-Some-clause-leases c =
@@ -68,7 +68,7 @@ returns-in-Some-clause-leases c =
       hold = e.hold;
       number = e.kept.number;
       leases = k.leases;
-      ends = λ none' here. absurd (not-claim c.claim_over.new.self.at (k.reads none') here);
+      ends = λ none' here. absurd (ask-no-claim c.claim_over.new.self.at (k.reads none') here);
       goes_on = λ none'. (k.reads none', k.goes_on none');
     })
 
