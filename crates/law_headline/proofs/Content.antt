@@ -12,8 +12,8 @@ use Rattle.plx_commands.specs.Model.{Model, Slot}
 use Rattle.plx_commands.specs.declared.command.Command.{Command}
 use Rattle.plx_disk.specs.Writes.{Issued}
 use Rattle.plx_geom.specs.Geometry.{Geometry, image_lease}
-use Rattle.plx_rules.specs.Part.{Part}
-use Rattle.plx_rules.specs.Boot.{Place, Idle, Begins, In, Position, position}
+use Rattle.plx_rules.specs.Process.{Process}
+use Rattle.plx_rules.specs.Boot.{Place, Idle, Begins, In, Configuration, configuration}
 use Rattle.plx_rules.specs.Commands.{IsBuilt, IsWellFormed}
 use Rattle.plx_rules.specs.Ends.{End}
 use Rattle.plx_rules.specs.Headline.{starts_and_crashes, events_told, AreUndamaged, model_before, model_in}
@@ -25,7 +25,7 @@ use Rattle.law_lease.proofs.Frame.{AllStand}
 use Rattle.law_lease.proofs.Leased.{Leased}
 use Rattle.law_lease.proofs.Open.{GripsLease, IsOpen}
 use Rattle.law_headline.proofs.HandFacts.{HandFits}
-use Rattle.law_headline.proofs.Held.{SameSessions, Regime, With, ModelRuns, Looks, HasImage, IsOf, IsOn, HeldPart, Backs, Fair}
+use Rattle.law_headline.proofs.Held.{SameSessions, Regime, With, ModelRuns, Looks, HasImage, IsOf, IsOn, HeldProcess, Backs, Fair}
 use Rattle.law_headline.proofs.HeldBegins.{IsBegunChange}
 use Rattle.law_headline.proofs.HeldFrames.{missing_of}
 use Rattle.law_headline.proofs.Journals.{IsJournal, IsShown, HoldsSlot}
@@ -46,16 +46,16 @@ abbrev pub appliance_no : ℕ → ApplianceNo
 appliance_no a = record { 0 = a }
 
 -- where an appliance's present boot stands
-abbrev pub stands_at : Geometry → (appliance : ℕ) → Seat → Position
-stands_at g appliance seat = position (setting_at g appliance seat.boots) seat.log
+abbrev pub stands_at : Geometry → (appliance : ℕ) → Seat → Configuration
+stands_at g appliance seat = configuration (setting_at g appliance seat.boots) seat.log
 
 -- ---- whoever owns the images: what an appliance knows fits the model, and what is left of its command is fair
 
 -- by where it stands: it is in no command, has begun one, or is in one of which this is left
-abbrev pub PlaceFits : Geometry → ℕ → Model → Position → Place → Type 0
+abbrev pub PlaceFits : Geometry → ℕ → Model → Configuration → Place → Type 0
 PlaceFits g a m p (Idle known) = (m.running a ≡ None) × SameSessions a known m × Backs g p.holds known
 PlaceFits g a m p (Begins known command) = ModelRuns g a command known m × Backs g p.holds known × IsWellFormed command × IsBuilt command
-PlaceFits g a m p (In known command part) = ModelRuns g a command known m × Fair g a command known p.holds p.sample false part
+PlaceFits g a m p (In known command process) = ModelRuns g a command known m × Fair g a command known p.holds p.sample false process
 
 -- ---- an image's owner
 
@@ -69,10 +69,10 @@ pub record IsBegun (g : Geometry) (a i : ℕ) (command : Command) (known : Known
   pub left : IsShown session.image session.writes image
 
 -- a command of it runs: what is left of it is right, and so is what has landed of the write that it waits for
-pub record IsServing (g : Geometry) (a i : ℕ) (command : Command) (known : Known) (part : Part End) (device : Device) (writes : List Issued) (pending : Option ℕ) (m : Model) : Type 0 where
+pub record IsServing (g : Geometry) (a i : ℕ) (command : Command) (known : Known) (process : Process End) (device : Device) (writes : List Issued) (pending : Option ℕ) (m : Model) : Type 0 where
   pub regime : Regime
   pub looks : Looks g a i command known regime m
-  pub held : HeldPart g a i command known regime part device
+  pub held : HeldProcess g a i command known regime process device
   pub on : IsOn g i device regime
   pub fills : (n : ℕ) (x : Issued) → pending ≡ Some n → slice_get writes n ≡ Some x → IsJournalled x.kind → with_landed_sectors (missing_of x.landed) x.bytes (device x.block) ≡ x.bytes
 
@@ -85,8 +85,8 @@ abbrev pub OwnedAt : Geometry → ℕ → ℕ → Device → List Issued → Opt
 OwnedAt g a i device writes pending m (Idle known) = HasContent g a i known device m
 OwnedAt g a i device writes pending m (Begins known command) =
     (Names command i → (s : Session) → known.sessions i ≡ Some s → IsBegun g a i command known s device m) × ((Names command i → ⊥) → HasContent g a i known device m)
-OwnedAt g a i device writes pending m (In known command part) =
-    (Names command i → IsServing g a i command known part device writes pending m) × ((Names command i → ⊥) → HasContent g a i known device m)
+OwnedAt g a i device writes pending m (In known command process) =
+    (Names command i → IsServing g a i command known process device writes pending m) × ((Names command i → ⊥) → HasContent g a i known device m)
 
 -- a boot holds an image's lease, in time
 abbrev pub Grips : Geometry → ℕ → List Issued → ℕ → Seat → ℕ → Claim → ℕ → Type 0

@@ -33,9 +33,9 @@ use Rattle.plx_gate.specs.Leases.{lease_bytes, read_lease, IsClaimed}
 use Rattle.plx_geom.specs.Geometry.{Geometry, image_lease, lease_at}
 use Rattle.plx_geom.proofs.Places.{image-below}
 use Rattle.law_lease.proofs.Lists.{none-some}
-use Rattle.plx_rules.specs.Part.{Part, Ends, ReadThen, WriteThen, ClockThen, UntilThen}
-use Rattle.plx_rules.specs.Boot.{Happening, Asked, Place, Begins, In, Position, position, place_of, after_part, goes_to, went_on, first_part}
-use Rattle.plx_rules.specs.Commands.{IsBuilt, IsWellFormed, attached_part, of_attached, detach_part, create_part, delete_part, read_part, write_part, command_part}
+use Rattle.plx_rules.specs.Process.{Process, Ends, ReadThen, WriteThen, ClockThen, UntilThen}
+use Rattle.plx_rules.specs.Boot.{BootEntry, Asked, Place, Begins, In, Configuration, configuration, place_of, after_process, goes_to, went_on, first_process}
+use Rattle.plx_rules.specs.Commands.{IsBuilt, IsWellFormed, attached_process, of_attached, detach_process, create_process, delete_process, read_process, write_process, command_process}
 use Rattle.plx_rules.specs.Ends.{End}
 use Rattle.plx_rules.specs.Hands.{hand_answered, hand_held, hand_left, hand_unlinked}
 use Rattle.plx_rules.specs.Headline.{IsUndamaged, starts_and_crashes, events_told, model_in}
@@ -57,20 +57,20 @@ use Rattle.law_lease.proofs.Leased.{MayIssue, LawfulAt, Unlanded, Good, StandsCo
 use Rattle.law_headline.proofs.Content.{appliance_no, stands_at, IsJournalled, PlaceFits, IsBegun, HasContent, OwnedAt, Grips, Minds, KeepsContent}
 use Rattle.law_headline.proofs.ContentGoes.{content-went, dropping-false, NoSession, went_to}
 use Rattle.law_headline.proofs.FairCommands.{fair-command}
-use Rattle.law_headline.proofs.FairParts.{backs-first}
+use Rattle.law_headline.proofs.FairProcesses.{backs-first}
 use Rattle.law_headline.proofs.HandFacts.{NoMap, HandFits, no-map-filter, no-map-unlinked, hand-done}
 use Rattle.law_headline.proofs.Harmless.{Harmless, yields-stays}
 use Rattle.law_headline.proofs.Harmless as harmless
-use Rattle.law_headline.proofs.Held.{IsSpelled, attached_of, Regime, Without, With, ModelRuns, Looks, IsOf, IsOn, HeldPart, IsBacking, Backs, IsDrop, is_below, are_below, is_some_slot, just_at, Fair}
+use Rattle.law_headline.proofs.Held.{IsSpelled, attached_of, Regime, Without, With, ModelRuns, Looks, IsOf, IsOn, HeldProcess, IsBacking, Backs, IsDrop, is_below, are_below, is_some_slot, just_at, Fair}
 use Rattle.law_headline.proofs.HeldBegins.{begin-without, begin-with}
 use Rattle.law_headline.proofs.HeldCommands.{slot_no}
-use Rattle.law_headline.proofs.HeldFrames.{missing_of, held-part-same}
+use Rattle.law_headline.proofs.HeldFrames.{missing_of, held-process-same}
 use Rattle.law_headline.proofs.ImageWrites.{held-image-write, held-or, placed-cases}
 use Rattle.law_headline.proofs.Journals.{Same}
 use Rattle.law_model.proofs.ModelFacts.{sound-all}
 use Rattle.law_model.specs.Sound.{Sound}
 use Rattle.law_model.proofs.Replied.{IsDropping, IsAmongSlots, Names}
-use Rattle.plx_rules.proofs.Holds.{first-held, part-held, timed-held}
+use Rattle.plx_rules.proofs.Holds.{first-held, process-held, timed-held}
 
 -- ---- how a lease comes to be held
 
@@ -127,7 +127,7 @@ module _ (w : World) (content : KeepsContent w) (a : ℕ) (below : a < w.applian
   abbrev s : Setting
   s = setting_at g a (w.seats a).boots
 
-  abbrev p : Position
+  abbrev p : Configuration
   p = stands_at g a (w.seats a)
 
   fits-at : (place : Place) → p.place ≡ place → PlaceFits g a m p place
@@ -158,14 +158,14 @@ module _ (w : World) (content : KeepsContent w) (a : ℕ) (below : a < w.applian
       let P : Place → Type 0 = λ q. OwnedAt g a i device writes (w.seats a).pending m q in subst P here (content.owned i within a below minds)
 
   -- what a boot minds after an answer it minded before, where it gripped before what it grips
-  minds-back : (i : ℕ) (log : List Happening) →
+  minds-back : (i : ℕ) (log : List BootEntry) →
       ((claim : Claim) (until : ℕ) → Grips g time writes a (record { boots = (w.seats a).boots; log = log; pending = None }) i claim until → Grips g time writes a (w.seats a) i claim until) →
       Minds g time writes m a (record { boots = (w.seats a).boots; log = log; pending = None }) i → Minds g time writes m a (w.seats a) i
   minds-back i log back (inl grips) = inl (grips.0, grips.1, back grips.0 grips.1 grips.2)
   minds-back i log back (inr mine) = inr mine
 
   -- nothing is open where no write is waited for
-  quiet-free : (log : List Happening) → (w.seats a).pending ≡ None → (i : ℕ) → i < g.images → (k : ℕ) (x : Issued) →
+  quiet-free : (log : List BootEntry) → (w.seats a).pending ≡ None → (i : ℕ) → i < g.images → (k : ℕ) (x : Issued) →
       IsOpen g w.rests w.appliances time writes (at w.seats a (record { boots = (w.seats a).boots; log = log; pending = None })) (image_lease i) k x → IsOf g i x.block → (m.slots i).owner ≡ Some a → ⊥
   quiet-free log free i within k x op of mine =
       none-some k (sym free ∙ content.whose i within k x (open-elsewhere g w.rests w.appliances time writes w.seats (image_lease i) a _ refl k x op) of a mine)
@@ -175,15 +175,15 @@ module _ (w : World) (content : KeepsContent w) (a : ℕ) (below : a < w.applian
   is-none None e = refl
   is-none (Some s) e = absurd (let P : ⊥ = cc in P)
 
-  -- a seat that waits for no write holds what its position says
-  seat-holds : (log : List Happening) (known : Known) (command : Command) (holds : ℕ → Hold) (hand : List ℕ) (filled : List (ℕ × List ℕ)) (sample : Option ℕ) (found : Option (ℕ × List ℕ)) {latest : ℕ} (part : Part End) →
-      position s log ≡ goes_to g known command holds hand filled sample found latest part → (i : ℕ) (claim : Claim) (until : ℕ) →
+  -- a seat that waits for no write holds what its configuration says
+  seat-holds : (log : List BootEntry) (known : Known) (command : Command) (holds : ℕ → Hold) (hand : List ℕ) (filled : List (ℕ × List ℕ)) (sample : Option ℕ) (found : Option (ℕ × List ℕ)) {latest : ℕ} (process : Process End) →
+      configuration s log ≡ goes_to g known command holds hand filled sample found latest process → (i : ℕ) (claim : Claim) (until : ℕ) →
       Grips g time writes a (record { boots = (w.seats a).boots; log = log; pending = None }) i claim until → holds (lease_at (image_lease i)) ≡ Held claim until
-  seat-holds log known command holds hand filled sample found part leads i claim until grips =
-      let P : Position → Type 0 = λ q. grip_at q.place None (lease_at (image_lease i)) (q.holds (lease_at (image_lease i))) ≡ Held claim until in
-      let e : after_part part holds (lease_at (image_lease i)) ≡ Held claim until =
-      sym (grip-open (place_of known command part) None (lease_at (image_lease i)) (after_part part holds (lease_at (image_lease i))) refl) ∙ subst P leads grips.0 in
-      part-held part holds (lease_at (image_lease i)) claim until e
+  seat-holds log known command holds hand filled sample found process leads i claim until grips =
+      let P : Configuration → Type 0 = λ q. grip_at q.place None (lease_at (image_lease i)) (q.holds (lease_at (image_lease i))) ≡ Held claim until in
+      let e : after_process process holds (lease_at (image_lease i)) ≡ Held claim until =
+      sym (grip-open (place_of known command process) None (lease_at (image_lease i)) (after_process process holds (lease_at (image_lease i))) refl) ∙ subst P leads grips.0 in
+      process-held process holds (lease_at (image_lease i)) claim until e
 
   sound : Sound m
   sound = sound-all w.geometry.images w.appliances w.trace content.permitted
@@ -223,21 +223,21 @@ module _ (w : World) (content : KeepsContent w) (a : ℕ) (below : a < w.applian
   -- ---- the clock
 
   -- a reading in a command that serves an image, or doesn't
-  read-clock : (event : Event) (log : List Happening) (known : Known) (command : Command) (part : Part End) (reading : ℕ) (hand : List ℕ) (filled : List (ℕ × List ℕ)) {latest : ℕ} → NoMap g hand → starts_and_crashes w.trace ≡ events_told (came event ∷ w.history) →
+  read-clock : (event : Event) (log : List BootEntry) (known : Known) (command : Command) (process : Process End) (reading : ℕ) (hand : List ℕ) (filled : List (ℕ × List ℕ)) {latest : ℕ} → NoMap g hand → starts_and_crashes w.trace ≡ events_told (came event ∷ w.history) →
       (place : Place) → p.place ≡ place → ((b : ℕ) (x : Issued) → IsAskedAt place b x → ⊥) → IsReadingAt reading time → ModelRuns g a command known m →
-      Leased (went_to w content a below event log known command (λ block. hold_after_reading reading (p.holds block)) (Some reading) (just_at g command (λ block. hold_after_reading reading (p.holds block)) reading) (with_reply_of (appliance_no a) part w.trace)) →
-      position s log ≡ goes_to g known command (λ block. hold_after_reading reading (p.holds block)) hand filled (Some reading) None latest part →
-      Fair g a command known (λ block. hold_after_reading reading (p.holds block)) (Some reading) (just_at g command (λ block. hold_after_reading reading (p.holds block)) reading) part →
+      Leased (went_to w content a below event log known command (λ block. hold_after_reading reading (p.holds block)) (Some reading) (just_at g command (λ block. hold_after_reading reading (p.holds block)) reading) (with_reply_of (appliance_no a) process w.trace)) →
+      configuration s log ≡ goes_to g known command (λ block. hold_after_reading reading (p.holds block)) hand filled (Some reading) None latest process →
+      Fair g a command known (λ block. hold_after_reading reading (p.holds block)) (Some reading) (just_at g command (λ block. hold_after_reading reading (p.holds block)) reading) process →
       ((i : ℕ) → i < g.images → Minds g time writes m a (w.seats a) i →
-      (Names command i → (regime : Regime) × Looks g a i command known regime m × HeldPart g a i command known regime part device × IsOn g i device regime) × ((Names command i → ⊥) → HasContent g a i known device m)) →
-      KeepsContent (went_to w content a below event log known command (λ block. hold_after_reading reading (p.holds block)) (Some reading) (just_at g command (λ block. hold_after_reading reading (p.holds block)) reading) (with_reply_of (appliance_no a) part w.trace))
-  read-clock event log known command part reading hand filled none said place here no-ask is running leased leads fair own =
+      (Names command i → (regime : Regime) × Looks g a i command known regime m × HeldProcess g a i command known regime process device × IsOn g i device regime) × ((Names command i → ⊥) → HasContent g a i known device m)) →
+      KeepsContent (went_to w content a below event log known command (λ block. hold_after_reading reading (p.holds block)) (Some reading) (just_at g command (λ block. hold_after_reading reading (p.holds block)) reading) (with_reply_of (appliance_no a) process w.trace))
+  read-clock event log known command process reading hand filled none said place here no-ask is running leased leads fair own =
       let free = free-at place here no-ask in
       let h : ℕ → Hold = λ block. hold_after_reading reading (p.holds block) in
-      content-went w content a below event log known command h (Some reading) (just_at g command h reading) said running part hand filled None none tt leased leads fair
+      content-went w content a below event log known command h (Some reading) (just_at g command h reading) said running process hand filled None none tt leased leads fair
       (λ i within minds.
       let mine = own i within (minds-back i log (λ claim until grips. grips-now free i claim until
-      (timed-held reading (p.holds (lease_at (image_lease i))) claim until (seat-holds log known command h hand filled (Some reading) None part leads i claim until grips)) grips.1) minds) in
+      (timed-held reading (p.holds (lease_at (image_lease i))) claim until (seat-holds log known command h hand filled (Some reading) None process leads i claim until grips)) grips.1) minds) in
       ((λ names. inl (mine.0 names)), mine.1))
       (inl (quiet-free _ free))
       (λ e.
@@ -247,7 +247,7 @@ module _ (w : World) (content : KeepsContent w) (a : ℕ) (below : a < w.applian
       record { image = j.0; within = j.1; names = j.2; serves = inl ((own j.0 j.1 (inl (j.3.0, j.3.1, grips))).0 j.2); claim = j.3.0; until = j.3.1; grips = grips; free = free })
 
   module _ (known : Known) (command : Command) where
-    pub clock-content : (rest : ℕ → Part End) (reading : ℕ) → p.place ≡ In known command (ClockThen rest) → IsReadingAt reading time →
+    pub clock-content : (rest : ℕ → Process End) (reading : ℕ) → p.place ≡ In known command (ClockThen rest) → IsReadingAt reading time →
         Leased (goes_on w (event.Reading (appliance_no a) reading) (appliance_no a) ask.Clock [] (answer.Reading reading) (rest reading)) →
         KeepsContent (goes_on w (event.Reading (appliance_no a) reading) (appliance_no a) ask.Clock [] (answer.Reading reading) (rest reading))
     clock-content rest reading here is leased =
@@ -261,7 +261,7 @@ module _ (w : World) (content : KeepsContent w) (a : ℕ) (below : a < w.applian
         (λ i within minds. let mine = owned-at place here i within minds in
         ((λ names. let s = mine.0 names in (s.regime, s.looks, s.held reading, s.on)), mine.1))
 
-    pub wait-content : (from : ℕ) (rest : ℕ → Part End) (reading : ℕ) → p.place ≡ In known command (UntilThen from rest) → IsReadingAt reading time → from ≤ reading →
+    pub wait-content : (from : ℕ) (rest : ℕ → Process End) (reading : ℕ) → p.place ≡ In known command (UntilThen from rest) → IsReadingAt reading time → from ≤ reading →
         Leased (goes_on w (event.Reading (appliance_no a) reading) (appliance_no a) (ask.Until from) [] (answer.Reading reading) (rest reading)) →
         KeepsContent (goes_on w (event.Reading (appliance_no a) reading) (appliance_no a) (ask.Until from) [] (answer.Reading reading) (rest reading))
     wait-content from rest reading here is past leased =
@@ -277,7 +277,7 @@ module _ (w : World) (content : KeepsContent w) (a : ℕ) (below : a < w.applian
 
     -- ---- a read
 
-    module _ (block : ℕ) (rest : List ℕ → Part End) (fault : Part End) (here : p.place ≡ In known command (ReadThen block rest fault)) where
+    module _ (block : ℕ) (rest : List ℕ → Process End) (fault : Process End) (here : p.place ≡ In known command (ReadThen block rest fault)) where
       abbrev place : Place
       place = In known command (ReadThen block rest fault)
 
@@ -319,7 +319,7 @@ module _ (w : World) (content : KeepsContent w) (a : ℕ) (below : a < w.applian
                       ((λ names. let s = mine.0 names in inl (s.regime, s.looks, s.held.1, s.on)), mine.1)
                   | inr fresh ↦
                       let confirm = fits.1.2 i claim until within (sym fresh.0) fresh.1 in
-                      let P : List ℕ → Type 0 = λ x. HeldPart g a i command known (Without (content.stored i within).kept (content.stored i within).writes) (rest x) device in (
+                      let P : List ℕ → Type 0 = λ x. HeldProcess g a i command known (Without (content.stored i within).kept (content.stored i within).writes) (rest x) device in (
                         (λ names. inl (
                           Without (content.stored i within).kept (content.stored i within).writes,
                           looks-without command known i within confirm.0 fits.0,
@@ -351,7 +351,7 @@ module _ (w : World) (content : KeepsContent w) (a : ℕ) (below : a < w.applian
 
     -- ---- a write is answered
 
-    module _ (what : WriteKind) (block : ℕ) (bytes : List ℕ) (guard : ℕ) (done fault : Part End) (missed : ℕ → Part End)
+    module _ (what : WriteKind) (block : ℕ) (bytes : List ℕ) (guard : ℕ) (done fault : Process End) (missed : ℕ → Process End)
         (here : p.place ≡ In known command (WriteThen what block bytes guard done fault missed)) where
       abbrev wplace : Place
       wplace = In known command (WriteThen what block bytes guard done fault missed)
@@ -362,8 +362,8 @@ module _ (w : World) (content : KeepsContent w) (a : ℕ) (below : a < w.applian
       unheld : {X : Type 0} (claim : Claim) (until : ℕ) → Nothing ≡ Held claim until → X
       unheld claim until e = absurd (let P : ⊥ = cc in P)
 
-      dropped : (event : Event) (log : List Happening) (h : ℕ → Hold) (part : Part End) → IsDrop part → Fair g a command known no_holds None false part → (i : ℕ) →
-          NoSession w content a below event log known command h None false part i
+      dropped : (event : Event) (log : List BootEntry) (h : ℕ → Hold) (process : Process End) → IsDrop process → Fair g a command known no_holds None false process → (i : ℕ) →
+          NoSession w content a below event log known command h None false process i
       dropped event log h (Ends end) drops fair i = (
         elim fair.allowed [ inl fine ↦ fine | inr rest ↦ elim rest [ inl e ↦ unjust e | inr y ↦ unjust (sym (yields-stays y) ∙ drops) ] ],
         is-none (end.known.sessions i) (fair.kept i ∙ dropping-false end.reply command (attached_of known) i drops),
@@ -531,31 +531,31 @@ module _ (w : World) (content : KeepsContent w) (a : ℕ) (below : a < w.applian
                 ap (λ (l : List Bool). with_landed_sectors (missing_of l) landed.0.bytes (device landed.0.block)) landed.2 ∙ mixed-none 8 landed.0.bytes (device landed.0.block) in
                 sym (ap device asked.1) ∙ (sym none ∙ (fills ∙ asked.2))
 
-            done-held' : (i : ℕ) → i < g.images → (regime : Regime) → HeldPart g a i command known regime (WriteThen what block bytes guard done fault missed) device →
-                (IsJournalled what → with_landed_sectors (missing_of landed.0.landed) landed.0.bytes (device landed.0.block) ≡ landed.0.bytes) → HeldPart g a i command known regime done device
+            done-held' : (i : ℕ) → i < g.images → (regime : Regime) → HeldProcess g a i command known regime (WriteThen what block bytes guard done fault missed) device →
+                (IsJournalled what → with_landed_sectors (missing_of landed.0.landed) landed.0.bytes (device landed.0.block) ≡ landed.0.bytes) → HeldProcess g a i command known regime done device
             done-held' i within regime held fills = elim (held-or g a i command known regime block bytes guard done fault missed device what held) [
               | inl released ↦ released
               | inr of ↦ elim (placed-cases g content.leased.geometry what block bytes _ (placed-may g s.boot p.holds _ what block bytes guard may) i within) [
                 | inl mine ↦
                     let write = held-image-write g a i command known regime block bytes guard done fault missed device what mine.1 held in
-                    held-part-same g a i command known regime done (put device block bytes) device (whole (full (fills mine.1)) i) write.follows
+                    held-process-same g a i command known regime done (put device block bytes) device (whole (full (fills mine.1)) i) write.follows
                 | inr away ↦ absurd (away of)
               ]
             ]
 
   -- ---- the first reading of a command
 
-  abbrev Serving : Known → Command → Part End → ℕ → Type 0
-  Serving known command part i =
-      ((regime : Regime) × Looks g a i command known regime m × HeldPart g a i command known regime part device × IsOn g i device regime)
-      ⊎ NoSession w content a below (event.Reading (appliance_no a) 0) [] known command p.holds None false part i
+  abbrev Serving : Known → Command → Process End → ℕ → Type 0
+  Serving known command process i =
+      ((regime : Regime) × Looks g a i command known regime m × HeldProcess g a i command known regime process device × IsOn g i device regime)
+      ⊎ NoSession w content a below (event.Reading (appliance_no a) 0) [] known command p.holds None false process i
 
   -- a command of an image without a session ends for want of it
-  serves-none : (known : Known) (h : ℕ → Hold) (reading i j : ℕ) (command : Command) (rest : Session → ℕ → Part End) → named_slots command ≡ j ∷ [] → is_in 1 (row command) ≡ true → j ≡ i → known.sessions i ≡ None →
+  serves-none : (known : Known) (h : ℕ → Hold) (reading i j : ℕ) (command : Command) (rest : Session → ℕ → Process End) → named_slots command ≡ j ∷ [] → is_in 1 (row command) ≡ true → j ≡ i → known.sessions i ≡ None →
       Serving known command (of_attached s known h reading j rest) i
   serves-none known h reading i j command rest one listed names is =
       let none : known.sessions j ≡ None = ap known.sessions names ∙ is in
-      let P : Option Session → Type 0 = λ o. Serving known command (attached_part s known j o (nat_lt j g.images) (h (lease_at (image_lease j))) reading rest) i in
+      let P : Option Session → Type 0 = λ o. Serving known command (attached_process s known j o (nat_lt j g.images) (h (lease_at (image_lease j))) reading rest) i in
       let H : List ℕ → Type 0 = λ l. has_all (attached_of known) l ≡ false in
       subst P (sym none) (inr (harmless.without listed (subst H (sym one) (ap (λ (o : Option Session). is_some o && true) none)), is, tt))
 
@@ -567,10 +567,10 @@ module _ (w : World) (content : KeepsContent w) (a : ℕ) (below : a < w.applian
     abbrev hand : List ℕ
     hand = hand_held g h p.hand
 
-    serves-without : (command : Command) → ModelRuns g a command known m → IsBuilt command → Names command i → known.sessions i ≡ None → Serving known command (command_part s known h hand reading command) i
+    serves-without : (command : Command) → ModelRuns g a command known m → IsBuilt command → Names command i → known.sessions i ≡ None → Serving known command (command_process s known h hand reading command) i
     serves-without (Attach j) running built (inl names) is =
         let k = content.stored i within in
-        let P : ℕ → Type 0 = λ n. Serving known (Attach (slot_no n)) (command_part s known h hand reading (Attach (slot_no n))) i in
+        let P : ℕ → Type 0 = λ n. Serving known (Attach (slot_no n)) (command_process s known h hand reading (Attach (slot_no n))) i in
         let running' : ModelRuns g a (Attach (slot_no i)) known m = (let Q : ℕ → Type 0 = λ n. ModelRuns g a (Attach (slot_no n)) known m in subst Q names running) in
         subst P (sym names) (inl (
           Without k.kept k.writes,
@@ -578,11 +578,11 @@ module _ (w : World) (content : KeepsContent w) (a : ℕ) (below : a < w.applian
           begin-without s content.leased.geometry a i within known h hand reading claim until held device k.kept k.writes k.journal is,
           k.journal,
         ))
-    serves-without (Detach j) running built (inl names) is = serves-none known h reading i j.0 (Detach j) (detach_part s known j.0) refl refl names is
-    serves-without (Create j size label) running built (inl names) is = serves-none known h reading i j.0 (Create j size label) (create_part s known j.0 size label) refl refl names is
-    serves-without (Delete j) running built (inl names) is = serves-none known h reading i j.0 (Delete j) (delete_part s known j.0) refl refl names is
-    serves-without (Read j v) running built (inl names) is = serves-none known h reading i j.0 (Read j v) (read_part s known j.0 v) refl refl names is
-    serves-without (Write j v x) running built (inl names) is = serves-none known h reading i j.0 (Write j v x) (write_part s known j.0 v (bytes_of x)) refl refl names is
+    serves-without (Detach j) running built (inl names) is = serves-none known h reading i j.0 (Detach j) (detach_process s known j.0) refl refl names is
+    serves-without (Create j size label) running built (inl names) is = serves-none known h reading i j.0 (Create j size label) (create_process s known j.0 size label) refl refl names is
+    serves-without (Delete j) running built (inl names) is = serves-none known h reading i j.0 (Delete j) (delete_process s known j.0) refl refl names is
+    serves-without (Read j v) running built (inl names) is = serves-none known h reading i j.0 (Read j v) (read_process s known j.0 v) refl refl names is
+    serves-without (Write j v x) running built (inl names) is = serves-none known h reading i j.0 (Write j v x) (write_process s known j.0 v (bytes_of x)) refl refl names is
     serves-without (Attach j) running built (inr no') is = absurd no'
     serves-without (Detach j) running built (inr no') is = absurd no'
     serves-without (Create j size label) running built (inr no') is = absurd no'
@@ -596,7 +596,7 @@ module _ (w : World) (content : KeepsContent w) (a : ℕ) (below : a < w.applian
     serves-without Reclaim running built names is = absurd names
 
     serves : (command : Command) → ModelRuns g a command known m → IsWellFormed command → IsBuilt command → Names command i → (o : Option Session) → known.sessions i ≡ o →
-        ((t : Session) → known.sessions i ≡ Some t → IsBegun g a i command known t device m) → Serving known command (command_part s known h hand reading command) i
+        ((t : Session) → known.sessions i ≡ Some t → IsBegun g a i command known t device m) → Serving known command (command_process s known h hand reading command) i
     serves command running well built names (Some t) is begun =
         let b = begun t is in
         inl (
@@ -612,8 +612,8 @@ module _ (w : World) (content : KeepsContent w) (a : ℕ) (below : a < w.applian
   backed-by known h backs i (Some t) e some = backs i t e
 
   pub begin-content : (known : Known) (command : Command) (reading : ℕ) → p.place ≡ Begins known command → IsReadingAt reading time →
-      Leased (goes_on w (event.Reading (appliance_no a) reading) (appliance_no a) ask.Clock [] (answer.Reading reading) (first_part s known reading command p)) →
-      KeepsContent (goes_on w (event.Reading (appliance_no a) reading) (appliance_no a) ask.Clock [] (answer.Reading reading) (first_part s known reading command p))
+      Leased (goes_on w (event.Reading (appliance_no a) reading) (appliance_no a) ask.Clock [] (answer.Reading reading) (first_process s known reading command p)) →
+      KeepsContent (goes_on w (event.Reading (appliance_no a) reading) (appliance_no a) ask.Clock [] (answer.Reading reading) (first_process s known reading command p))
   begin-content known command reading here is leased =
       let place = Begins known command in
       let fits = fits-at place here in
@@ -622,7 +622,7 @@ module _ (w : World) (content : KeepsContent w) (a : ℕ) (below : a < w.applian
       let boots = (content.leased.seated a below).boots in
       let few = content.leased.few in
       let h = after_first g known reading p.holds in
-      let part = first_part s known reading command p in
+      let process = first_process s known reading command p in
       let log = Asked ask.Clock [] (answer.Reading reading) ∷ (w.seats a).log in
       let leads = ap (went_on s ask.Clock [] (answer.Reading reading) p) here in
       let backs = backs-first g known p.holds reading fits.1 in
@@ -634,19 +634,19 @@ module _ (w : World) (content : KeepsContent w) (a : ℕ) (below : a < w.applian
       subst G held' (good-free g w.rests w.appliances time device writes w.seats (image_lease i) (content.leased.on (image_lease i) (image-below g i within)) a below free) in
       good.limits) in
       let own : (i : ℕ) → i < g.images → (claim : Claim) (until : ℕ) → h (lease_at (image_lease i)) ≡ Held claim until → Minds g time writes m a (w.seats a) i →
-      (Names command i → Serving known command part i) × ((Names command i → ⊥) → HasContent g a i known device m) =
+      (Names command i → Serving known command process i) × ((Names command i → ⊥) → HasContent g a i known device m) =
       λ i within claim until held minds.
       (let mine = owned-at place here i within minds in (
         λ names. serves known reading i within claim until held command fits.0 fits.2 fits.3 names (known.sessions i) refl (mine.0 names),
         mine.1,
       )) in
-      content-went w content a below (event.Reading (appliance_no a) reading) log known command h (Some reading) (just_at g command h reading) content.told fits.0 part p.hand [] None in-hand.hand tt
+      content-went w content a below (event.Reading (appliance_no a) reading) log known command h (Some reading) (just_at g command h reading) content.told fits.0 process p.hand [] None in-hand.hand tt
       leased leads
       (fair-command s content.leased.geometry a (omega (arith, below, few, boots)) known reading h (hand_held g h p.hand) (no-map-filter g _ p.hand in-hand.hand) backs
       (λ i. first-rests (session_at g known (lease_at (image_lease i))) reading (p.holds (lease_at (image_lease i)))) limits command fits.2 fits.3 early)
       (λ i within minds. elim minds [
         | inl grips ↦
-            let held = seat-holds log known command h p.hand [] (Some reading) None part leads i grips.0 grips.1 grips.2 in
+            let held = seat-holds log known command h p.hand [] (Some reading) None process leads i grips.0 grips.1 grips.2 in
             own i within grips.0 grips.1 held (inl (
               grips.0,
               grips.1,

@@ -8,8 +8,8 @@ use Rattle.plx_commands.specs.declared.command.Command.{Command}
 use Rattle.plx_disk.specs.Writes.{Issued}
 use Rattle.plx_geom.specs.Geometry.{Geometry, image_lease}
 use Rattle.plx_geom.proofs.Places.{image-below}
-use Rattle.plx_rules.specs.Part.{Part}
-use Rattle.plx_rules.specs.Boot.{Place, Idle, Begins, In, Position}
+use Rattle.plx_rules.specs.Process.{Process}
+use Rattle.plx_rules.specs.Boot.{Place, Idle, Begins, In, Configuration}
 use Rattle.plx_rules.specs.Ends.{End}
 use Rattle.plx_rules.specs.Session.{Known}
 use Rattle.plx_rules.specs.World.{World}
@@ -17,8 +17,8 @@ use Rattle.law_lease.proofs.Leased.{Leased}
 use Rattle.law_lease.proofs.Open.{IsOpen, grips-one, grips-only}
 use Rattle.law_headline.proofs.Content.{IsJournalled, PlaceFits, IsServing, HasContent, OwnedAt, Grips}
 use Rattle.law_model.proofs.Foreign.{Foreign}
-use Rattle.law_headline.proofs.Held.{Regime, Without, With, ModelRuns, Looks, IsOf, IsOn, HeldPart}
-use Rattle.law_headline.proofs.HeldFrames.{missing_of, same-at, held-part-same, has-same, has-foreign, looks-foreign}
+use Rattle.law_headline.proofs.Held.{Regime, Without, With, ModelRuns, Looks, IsOf, IsOn, HeldProcess}
+use Rattle.law_headline.proofs.HeldFrames.{missing_of, same-at, held-process-same, has-same, has-foreign, looks-foreign}
 use Rattle.law_headline.proofs.JournalFacts.{IsJournal-same}
 use Rattle.law_headline.proofs.JournalOne.{shows-one}
 use Rattle.law_headline.proofs.Journals.{Same, HoldsSlot}
@@ -35,10 +35,10 @@ running-unmoved g a h command known m n ne un is = record {
   sessions = λ j. un.sessions h ne j ∙ is.sessions j;
 }
 
-pub place-unmoved : (g : Geometry) (a h : ℕ) (m n : Model) (p : Position) (place : Place) → h ≢ a → Unmoved a m n → PlaceFits g h m p place → PlaceFits g h n p place
+pub place-unmoved : (g : Geometry) (a h : ℕ) (m n : Model) (p : Configuration) (place : Place) → h ≢ a → Unmoved a m n → PlaceFits g h m p place → PlaceFits g h n p place
 place-unmoved g a h m n p (Idle known) ne un fits = (un.running h ne ∙ fits.0, (λ j. un.sessions h ne j ∙ fits.1 j), fits.2)
 place-unmoved g a h m n p (Begins known command) ne un fits = (running-unmoved g a h command known m n ne un fits.0, fits.1, fits.2, fits.3)
-place-unmoved g a h m n p (In known command part) ne un fits = (running-unmoved g a h command known m n ne un fits.0, fits.1)
+place-unmoved g a h m n p (In known command process) ne un fits = (running-unmoved g a h command known m n ne un fits.0, fits.1)
 
 module _ (g : Geometry) (a h i : ℕ) (device : Device) (writes : List Issued) (pending : Option ℕ) (m n : Model) (ne : h ≢ a) (un : Unmoved a m n)
     (foreign : Foreign a (m.slots i) (n.slots i)) (differs : Differs (n.slots i)) where
@@ -62,7 +62,7 @@ module _ (g : Geometry) (a h i : ℕ) (device : Device) (writes : List Issued) (
     }),
     λ away. has-all known (owned.1 away),
   )
-  owned-foreign (In known command part) owned = (
+  owned-foreign (In known command process) owned = (
     λ names. (let s = owned.0 names in record { regime = s.regime; looks = looks-all command known s.regime s.looks; held = s.held; on = s.on; fills = s.fills }),
     λ away. has-all known (owned.1 away),
   )
@@ -76,12 +76,12 @@ module _ (g : Geometry) (few : g.slots ≤ 64) (a h i : ℕ) (device : Device) (
   pub owned-taken : (place : Place) → OwnedAt g h i device writes pending m place → OwnedAt g h i device writes pending n place
   owned-taken (Idle known) owned = λ s is. not-theirs (owned s is).owner
   owned-taken (Begins known command) owned = ((λ names s is. not-theirs (owned.0 names s is).looks.slot.0), (λ away s is. not-theirs (owned.1 away s is).owner))
-  owned-taken (In known command part) owned =
+  owned-taken (In known command process) owned =
       ((λ names. let s = owned.0 names in by_regime s.regime s.looks s.held s.on s.fills), (λ away s is. not-theirs (owned.1 away s is).owner))
     where
-      by_regime : (regime : Regime) → Looks g h i command known regime m → HeldPart g h i command known regime part device → IsOn g i device regime →
+      by_regime : (regime : Regime) → Looks g h i command known regime m → HeldProcess g h i command known regime process device → IsOn g i device regime →
           ((k : ℕ) (x : Issued) → pending ≡ Some k → slice_get writes k ≡ Some x → IsJournalled x.kind → with_landed_sectors (missing_of x.landed) x.bytes (device x.block) ≡ x.bytes) →
-          IsServing g h i command known part device writes pending n
+          IsServing g h i command known process device writes pending n
       by_regime (With image change) looks held on fills = not-theirs looks.slot.0
       by_regime (Without kept ws) looks held on fills = record {
         regime = Without kept ws;
@@ -104,7 +104,7 @@ module _ (g : Geometry) (h i : ℕ) (d e : Device) (writes now : List Issued) (p
 
   -- the device holds the same of the image, and of what is waited for there is what there was
   pub owned-same : (place : Place) →
-      ((known : Known) (command : Command) (part : Part End) → place ≡ In known command part → Names command i → (n : ℕ) (x : Issued) → pending ≡ Some n → slice_get now n ≡ Some x → IsJournalled x.kind →
+      ((known : Known) (command : Command) (process : Process End) → place ≡ In known command process → Names command i → (n : ℕ) (x : Issued) → pending ≡ Some n → slice_get now n ≡ Some x → IsJournalled x.kind →
       slice_get writes n ≡ Some x × IsOf g i x.block) →
       OwnedAt g h i d writes pending m place → OwnedAt g h i e now pending m place
   owned-same (Idle known) old owned = λ s is. has-same g i h s d e (m.slots i) same (owned s is)
@@ -119,14 +119,14 @@ module _ (g : Geometry) (h i : ℕ) (d e : Device) (writes now : List Issued) (p
     }),
     λ away s is. has-same g i h s d e (m.slots i) same (owned.1 away s is),
   )
-  owned-same (In known command part) old owned = (
+  owned-same (In known command process) old owned = (
     λ names. (let s = owned.0 names in record {
       regime = s.regime;
       looks = s.looks;
-      held = held-part-same g h i command known s.regime part d e same s.held;
+      held = held-process-same g h i command known s.regime process d e same s.held;
       on = on-same s.regime s.on;
       fills = λ n x waits found kind.
-          (let was = old known command part refl names n x waits found kind in
+          (let was = old known command process refl names n x waits found kind in
           let P : List ℕ → Type 0 = λ b. with_landed_sectors (missing_of x.landed) x.bytes b ≡ x.bytes in
           subst P (sym (same-at g i x.block d e was.1 same)) (s.fills n x waits was.0 kind));
     }),

@@ -22,8 +22,8 @@ use Rattle.plx_commands.proofs.Places.{at-all, at-other}
 use Rattle.plx_disk.specs.Writes.{Issued}
 use Rattle.plx_geom.specs.Geometry.{Geometry, image_lease}
 use Rattle.law_lease.proofs.Lists.{none-some}
-use Rattle.plx_rules.specs.Part.{Part, Ends, ReadThen, WriteThen, ClockThen, UntilThen}
-use Rattle.plx_rules.specs.Boot.{Happening, In, Position, position, goes_to}
+use Rattle.plx_rules.specs.Process.{Process, Ends, ReadThen, WriteThen, ClockThen, UntilThen}
+use Rattle.plx_rules.specs.Boot.{BootEntry, In, Configuration, configuration, goes_to}
 use Rattle.plx_rules.specs.Ends.{End}
 use Rattle.plx_rules.specs.Headline.{starts_and_crashes, events_told, IsUndamaged, model_before, model_in}
 use Rattle.plx_rules.specs.Holds.{Hold}
@@ -37,7 +37,7 @@ use Rattle.law_headline.proofs.ContentFrames.{place-unmoved, owned-foreign, owne
 use Rattle.law_model.proofs.Foreign.{Foreign}
 use Rattle.law_headline.proofs.HandFacts.{NoMap, FoundMap, HandFits, no-map-filter}
 use Rattle.law_headline.proofs.Harmless.{Harmless, Yields, harmless-answers, harmless-foreign, yields-answers, yields-stays, yields-foreign}
-use Rattle.law_headline.proofs.Held.{attached_of, Regime, Without, With, ModelRuns, Looks, HasImage, IsOf, IsOn, HeldPart, IsDrop, IsFairEnd, Fair}
+use Rattle.law_headline.proofs.Held.{attached_of, Regime, Without, With, ModelRuns, Looks, HasImage, IsOf, IsOn, HeldProcess, IsDrop, IsFairEnd, Fair}
 use Rattle.law_headline.proofs.HeldCommands.{slot_no}
 use Rattle.law_headline.proofs.HeldFrames.{keeps-foreign}
 use Rattle.law_headline.proofs.Journals.{HoldsSlot}
@@ -93,7 +93,7 @@ dropping-or r = by_flag (ends_sessions (number_of r))
 both-ways : {X : Type 0} (r : Reply) → IsDropping r → ends_sessions (number_of r) ≡ false → X
 both-ways r drops stays = absurd (let e : true ≡ false = sym drops ∙ stays in let P : ⊥ = cc in P)
 
-module _ (w : World) (content : KeepsContent w) (a : ℕ) (below : a < w.appliances) (event : Event) (log : List Happening) (known : Known) (command : Command)
+module _ (w : World) (content : KeepsContent w) (a : ℕ) (below : a < w.appliances) (event : Event) (log : List BootEntry) (known : Known) (command : Command)
     (holds : ℕ → Hold) (sample : Option ℕ) (just : Bool) where
   abbrev g : Geometry
   g = w.geometry
@@ -122,22 +122,22 @@ module _ (w : World) (content : KeepsContent w) (a : ℕ) (below : a < w.applian
   }
 
   -- the command's reply is harmless, and leaves no session of the image
-  abbrev pub NoSession : Part End → ℕ → Type 0
+  abbrev pub NoSession : Process End → ℕ → Type 0
   NoSession (Ends end) i = Harmless g.images (attached_of known) command end.reply × (end.known.sessions i ≡ None) × IsUndamaged end.reply
-  NoSession part i = ⊥
+  NoSession process i = ⊥
 
   -- what is left of the command is right for the image's owner
-  abbrev pub IsRightFor : Part End → ℕ → Type 0
-  IsRightFor part i = (regime : Regime) × Looks g a i command known regime m × HeldPart g a i command known regime part device × IsOn g i device regime
+  abbrev pub IsRightFor : Process End → ℕ → Type 0
+  IsRightFor process i = (regime : Regime) × Looks g a i command known regime m × HeldProcess g a i command known regime process device × IsOn g i device regime
 
   -- the command serves the image, or ends for want of a session
-  abbrev pub Serves : Part End → ℕ → Type 0
-  Serves part i = IsRightFor part i ⊎ NoSession part i
+  abbrev pub Serves : Process End → ℕ → Type 0
+  Serves process i = IsRightFor process i ⊎ NoSession process i
 
   -- what the boot's image is, once it holds the lease
-  abbrev pub Owned : Part End → Type 0
-  Owned part = (i : ℕ) → i < g.images → Minds g time writes m a seat' i →
-      (Names command i → Serves part i) × ((Names command i → ⊥) → HasContent g a i known device m)
+  abbrev pub Owned : Process End → Type 0
+  Owned process = (i : ℕ) → i < g.images → Minds g time writes m a seat' i →
+      (Names command i → Serves process i) × ((Names command i → ⊥) → HasContent g a i known device m)
 
   -- what is open after the answer was open before
   open-before : (i k : ℕ) (x : Issued) → IsOpen g w.rests w.appliances time writes (at w.seats a seat') (image_lease i) k x → IsOpen g w.rests w.appliances time writes w.seats (image_lease i) k x
@@ -151,11 +151,11 @@ module _ (w : World) (content : KeepsContent w) (a : ℕ) (below : a < w.applian
   LeavesNoneOpen = (i : ℕ) → i < g.images → (k : ℕ) (x : Issued) → IsOpen g w.rests w.appliances time writes (at w.seats a seat') (image_lease i) k x → IsOf g i x.block → (m.slots i).owner ≡ Some a → ⊥
 
   -- directly after a reading below the end of the named image's lease
-  pub record IsJust (part : Part End) : Type 0 where
+  pub record IsJust (process : Process End) : Type 0 where
     pub image : ℕ
     pub within : image < g.images
     pub names : Names command image
-    pub serves : Serves part image
+    pub serves : Serves process image
     pub claim : Claim
     pub until : ℕ
     pub grips : Grips g time writes a (w.seats a) image claim until
@@ -163,12 +163,12 @@ module _ (w : World) (content : KeepsContent w) (a : ℕ) (below : a < w.applian
 
   module _ (said : starts_and_crashes w.trace ≡ events_told (came event ∷ w.history)) (running : ModelRuns g a command known m) where
     -- the command goes on
-    content-on : (part : Part End) (hand : List ℕ) (filled : List (ℕ × List ℕ)) (found : Option (ℕ × List ℕ)) {latest : ℕ} → NoMap g hand → FoundMap g found → Leased (went_to w.trace) →
-        position (setting_at g a (w.seats a).boots) log ≡ record { holds = holds; hand = hand; filled = filled; sample = sample; found = found; latest = latest; place = In known command part } → Fair g a command known holds sample false part →
+    content-on : (process : Process End) (hand : List ℕ) (filled : List (ℕ × List ℕ)) (found : Option (ℕ × List ℕ)) {latest : ℕ} → NoMap g hand → FoundMap g found → Leased (went_to w.trace) →
+        configuration (setting_at g a (w.seats a).boots) log ≡ record { holds = holds; hand = hand; filled = filled; sample = sample; found = found; latest = latest; place = In known command process } → Fair g a command known holds sample false process →
         ((i : ℕ) → i < g.images → Minds g time writes m a seat' i →
-        (Names command i → IsRightFor part i) × ((Names command i → ⊥) → HasContent g a i known device m)) → LeavesNoneOpen →
+        (Names command i → IsRightFor process i) × ((Names command i → ⊥) → HasContent g a i known device m)) → LeavesNoneOpen →
         KeepsContent (went_to w.trace)
-    content-on part hand filled found none read leased leads fair own quiet = record {
+    content-on process hand filled found none read leased leads fair own quiet = record {
       leased = leased;
       told = said;
       permitted = content.permitted;
@@ -177,7 +177,7 @@ module _ (w : World) (content : KeepsContent w) (a : ℕ) (below : a < w.applian
       spelled = content.spelled;
       maps = content.maps;
       hands = at-all (λ b s. b < w.appliances → SeatHand g b s) w.seats a seat'
-          (λ under. let P : Position → Type 0 = λ q. HandFits g q in subst P (sym leads) (record { hand = none; found = read }))
+          (λ under. let P : Configuration → Type 0 = λ q. HandFits g q in subst P (sym leads) (record { hand = none; found = read }))
           (λ b ne under. content.hands b under);
       placed = λ home k x is op. content.placed home k x is (open-elsewhere g w.rests w.appliances time writes w.seats home a seat' refl k x op);
       waits = waits-stay;
@@ -186,12 +186,12 @@ module _ (w : World) (content : KeepsContent w) (a : ℕ) (below : a < w.applian
         | inr away ↦ ap (λ (s : Seat). s.pending) (at-other w.seats a b seat' away.1) ∙ content.whose i within k x (open-before i k x op) of b owns'
       ];
       seats = at-all (λ b s. b < w.appliances → SeatFits g m b s) w.seats a seat'
-          (λ under. let P : Position → Type 0 = λ q. PlaceFits g a m q q.place in subst P (sym leads) (running, fair))
+          (λ under. let P : Configuration → Type 0 = λ q. PlaceFits g a m q q.place in subst P (sym leads) (running, fair))
           (λ b ne under. content.seats b under);
       owned = λ i within. at-all (λ b s. b < w.appliances → SeatOwns g time device writes m i b s) w.seats a seat'
           (λ under minds.
           let mine = own i within minds in
-          let P : Position → Type 0 = λ q. OwnedAt g a i device writes None m q.place in
+          let P : Configuration → Type 0 = λ q. OwnedAt g a i device writes None m q.place in
           subst P (sym leads) (
             (λ names. (let s = mine.0 names in record { regime = s.0; looks = s.1; held = s.2; on = s.3; fills = λ n x e. absurd (none-some n e) })),
             mine.1,
@@ -200,7 +200,7 @@ module _ (w : World) (content : KeepsContent w) (a : ℕ) (below : a < w.applian
     }
 
     -- the command ends
-    module _ (end : End) (hand : List ℕ) (filled : List (ℕ × List ℕ)) (found : Option (ℕ × List ℕ)) {latest : ℕ} (none : NoMap g hand) (read : FoundMap g found) (leased : Leased (went_to (entry.Reply (appliance_no a) end.reply ∷ w.trace))) (leads : position (setting_at g a (w.seats a).boots) log ≡ goes_to g known command holds hand filled sample found latest (Ends end))
+    module _ (end : End) (hand : List ℕ) (filled : List (ℕ × List ℕ)) (found : Option (ℕ × List ℕ)) {latest : ℕ} (none : NoMap g hand) (read : FoundMap g found) (leased : Leased (went_to (entry.Reply (appliance_no a) end.reply ∷ w.trace))) (leads : configuration (setting_at g a (w.seats a).boots) log ≡ goes_to g known command holds hand filled sample found latest (Ends end))
         (fair : IsFairEnd g command known holds just end) (own : Owned (Ends end)) (quiet : LeavesNoneOpen ⊎ IsDropping end.reply) (now : just ≡ true → IsJust (Ends end)) where
       abbrev n : Model
       n = model_after_reply m a command end.reply
@@ -362,7 +362,7 @@ module _ (w : World) (content : KeepsContent w) (a : ℕ) (below : a < w.applian
             spelled = content.spelled;
             maps = content.maps;
             hands = at-all (λ b s. b < w.appliances → SeatHand g b s) w.seats a seat'
-                (λ under. let P : Position → Type 0 = λ q. HandFits g q in subst P (sym leads) (record { hand = no-map-filter g _ hand none; found = read }))
+                (λ under. let P : Configuration → Type 0 = λ q. HandFits g q in subst P (sym leads) (record { hand = no-map-filter g _ hand none; found = read }))
                 (λ b ne under. content.hands b under);
             stored = λ i within.
                 let P : Model → Type 0 = λ x. HoldsSlot g device i (x.slots i) in
@@ -400,29 +400,29 @@ module _ (w : World) (content : KeepsContent w) (a : ℕ) (below : a < w.applian
             seats =
                 let P : Model → Type 0 = λ x. (b : ℕ) → b < w.appliances → SeatFits g x b (at w.seats a seat' b) in
                 subst P (sym is-model) (at-all (λ b s. b < w.appliances → SeatFits g n b s) w.seats a seat'
-                (λ under. let Q : Position → Type 0 = λ q. PlaceFits g a n q q.place in subst Q (sym leads) (running-replied m a command end.reply, sessions-are, fair.backs))
+                (λ under. let Q : Configuration → Type 0 = λ q. PlaceFits g a n q q.place in subst Q (sym leads) (running-replied m a command end.reply, sessions-are, fair.backs))
                 (λ b ne under. let pb = stands_at g b (w.seats b) in
                 place-unmoved g a b m n pb pb.place ne (unmoved-replied m a command end.reply) (content.seats b under)));
             owned = λ i within.
                 let P : Model → Type 0 = λ x. (b : ℕ) → b < w.appliances → SeatOwns g time device writes x i b (at w.seats a seat' b) in
                 subst P (sym is-model) (at-all (λ b s. b < w.appliances → SeatOwns g time device writes n i b s) w.seats a seat'
-                (λ under minds. let Q : Position → Type 0 = λ q. OwnedAt g a i device writes None n q.place in subst Q (sym leads) (has-after i within minds))
+                (λ under minds. let Q : Configuration → Type 0 = λ q. OwnedAt g a i device writes None n q.place in subst Q (sym leads) (has-after i within minds))
                 (λ b ne under minds. others i within b ne under minds));
           }
 
     -- an ask was answered
-    only-held : (part : Part End) → ((i : ℕ) → NoSession part i → ⊥) → Owned part → (i : ℕ) → i < g.images → Minds g time writes m a seat' i →
-        (Names command i → IsRightFor part i) × ((Names command i → ⊥) → HasContent g a i known device m)
-    only-held part none own i within minds =
+    only-held : (process : Process End) → ((i : ℕ) → NoSession process i → ⊥) → Owned process → (i : ℕ) → i < g.images → Minds g time writes m a seat' i →
+        (Names command i → IsRightFor process i) × ((Names command i → ⊥) → HasContent g a i known device m)
+    only-held process none own i within minds =
         let mine = own i within minds in (λ names. elim (mine.0 names) [ inl held ↦ held | inr no' ↦ absurd (none i no') ], mine.1)
 
     still : LeavesNoneOpen ⊎ ⊥ → LeavesNoneOpen
     still (inl quiet) = quiet
     still (inr no') = absurd no'
 
-    pub content-went : (part : Part End) (hand : List ℕ) (filled : List (ℕ × List ℕ)) (found : Option (ℕ × List ℕ)) {latest : ℕ} → NoMap g hand → FoundMap g found → Leased (went_to (with_reply_of (appliance_no a) part w.trace)) →
-        position (setting_at g a (w.seats a).boots) log ≡ goes_to g known command holds hand filled sample found latest part → Fair g a command known holds sample just part →
-        Owned part → LeavesNoneOpen ⊎ IsDrop part → (just ≡ true → IsJust part) → KeepsContent (went_to (with_reply_of (appliance_no a) part w.trace))
+    pub content-went : (process : Process End) (hand : List ℕ) (filled : List (ℕ × List ℕ)) (found : Option (ℕ × List ℕ)) {latest : ℕ} → NoMap g hand → FoundMap g found → Leased (went_to (with_reply_of (appliance_no a) process w.trace)) →
+        configuration (setting_at g a (w.seats a).boots) log ≡ goes_to g known command holds hand filled sample found latest process → Fair g a command known holds sample just process →
+        Owned process → LeavesNoneOpen ⊎ IsDrop process → (just ≡ true → IsJust process) → KeepsContent (went_to (with_reply_of (appliance_no a) process w.trace))
     content-went (Ends end) hand filled found none read leased leads fair own quiet now = content-replied end hand filled found none read leased leads fair own quiet now
     content-went (ReadThen block rest fault) hand filled found none read leased leads fair own quiet now =
         content-on (ReadThen block rest fault) _ _ found (no-map-filter g _ hand none) read leased leads fair (only-held (ReadThen block rest fault) (λ i e. e) own) (still quiet)

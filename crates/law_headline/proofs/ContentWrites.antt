@@ -20,8 +20,8 @@ use Rattle.plx_extent.specs.Maps.{HoldsMap}
 use Rattle.plx_geom.specs.Geometry.{Geometry, IsGeometry, image_lease, lease_count, map_at}
 use Rattle.plx_geom.proofs.Places.{image-image, image-below}
 use Rattle.plx_disk.proofs.Lists.{push-before, push-last}
-use Rattle.plx_rules.specs.Part.{Part, Ends, ReadThen, WriteThen, ClockThen, UntilThen}
-use Rattle.plx_rules.specs.Boot.{Place, Idle, Begins, In, Position}
+use Rattle.plx_rules.specs.Process.{Process, Ends, ReadThen, WriteThen, ClockThen, UntilThen}
+use Rattle.plx_rules.specs.Boot.{Place, Idle, Begins, In, Configuration}
 use Rattle.plx_rules.specs.Ends.{End}
 use Rattle.plx_rules.specs.Headline.{model_in}
 use Rattle.plx_rules.specs.Holds.{Hold}
@@ -41,8 +41,8 @@ use Rattle.law_lease.proofs.Leased.{MayIssue, LawfulAt, IsAskedAt, IsRight, Leas
 use Rattle.law_headline.proofs.Content.{appliance_no, stands_at, IsJournalled, PlaceFits, OwnedAt, Grips, Minds, Whose, SeatFits, SpellMaps, SeatHand, SeatOwns, Placed, WaitsAreMet, KeepsContent}
 use Rattle.law_headline.proofs.ContentFrames.{owned-same, grip-only}
 use Rattle.law_headline.proofs.ContentGoes.{names-same}
-use Rattle.law_headline.proofs.Held.{Regime, Without, With, IsWith, IsOn, Looks, IsOf, HeldPart, IsNamed, Fair}
-use Rattle.law_headline.proofs.HeldFrames.{missing_of, missing-landed, same-refl, same-put, same-over, held-part-same, keeps-landed}
+use Rattle.law_headline.proofs.Held.{Regime, Without, With, IsWith, IsOn, Looks, IsOf, HeldProcess, IsNamed, Fair}
+use Rattle.law_headline.proofs.HeldFrames.{missing_of, missing-landed, same-refl, same-put, same-over, held-process-same, keeps-landed}
 use Rattle.law_headline.proofs.ImageWrites.{placed-block, placed-keeps, placed-made, named-image, use-image, held-image-write, image-held, image-write, of-covers, of-one-image, placed-cases, same-under}
 use Rattle.law_headline.proofs.JournalFacts.{Keeps-same}
 use Rattle.law_headline.proofs.Journals.{HoldsSlot, Same}
@@ -53,8 +53,8 @@ use Rattle.law_model.proofs.Replied.{Names}
 use Rattle.law_headline.proofs.WaitsByKind.{WaitsOn, waits-asked, waits-lands, waits-others}
 
 -- a journal's write that is waited for is one of the named image
-named-of : (g : Geometry) (a i : ℕ) (command : Command) (known : Known) (holds : ℕ → Hold) (sample : Option ℕ) (part : Part End) (boot : ℕ) (x : Issued) →
-    Fair g a command known holds sample false part → IsAskedAt (In known command part) boot x → IsJournalled x.kind → (j : ℕ) × (j < g.images) × (IsOf g j x.block) × Names command j
+named-of : (g : Geometry) (a i : ℕ) (command : Command) (known : Known) (holds : ℕ → Hold) (sample : Option ℕ) (process : Process End) (boot : ℕ) (x : Issued) →
+    Fair g a command known holds sample false process → IsAskedAt (In known command process) boot x → IsJournalled x.kind → (j : ℕ) × (j < g.images) × (IsOf g j x.block) × Names command j
 named-of g a i command known holds sample (WriteThen what block bytes guard done fault missed) boot x fair asked journalled =
     let N : WriteKind → Type 0 = λ k. IsNamed g command k block in
     let P : ℕ → Type 0 = λ b. (j : ℕ) × (j < g.images) × (IsOf g j b) × Names command j in
@@ -117,25 +117,25 @@ module _ (w : World) (content : KeepsContent w) where
   abbrev m : Model
   m = model_in w
 
-  abbrev p : ℕ → Position
+  abbrev p : ℕ → Configuration
   p b = stands_at g b (w.seats b)
 
   -- what an appliance waits for, in a command that names an image
-  waits-of : (b : ℕ) → b < w.appliances → (i : ℕ) (known : Known) (command : Command) (part : Part End) → (p b).place ≡ In known command part → Names command i → (n : ℕ) (x : Issued) →
+  waits-of : (b : ℕ) → b < w.appliances → (i : ℕ) (known : Known) (command : Command) (process : Process End) → (p b).place ≡ In known command process → Names command i → (n : ℕ) (x : Issued) →
       (w.seats b).pending ≡ Some n → slice_get writes n ≡ Some x → IsJournalled x.kind → IsOf g i x.block
-  waits-of b below i known command part here names n x waits found journalled =
+  waits-of b below i known command process here names n x waits found journalled =
       let asked = (content.leased.seated b below).asked n waits in
       let same : asked.0 ≡ x = (let e : Some asked.0 ≡ Some x = sym asked.1 ∙ found in cc) in
       let Q : Issued → Type 0 = λ y. IsAskedAt (p b).place (boot_number b (w.seats b).boots) y in
       let R : Place → Type 0 = λ q. IsAskedAt q (boot_number b (w.seats b).boots) x in
       let F : Place → Type 0 = λ q. PlaceFits g b m (p b) q in
-      let fits : PlaceFits g b m (p b) (In known command part) = subst F here (content.seats b below) in
+      let fits : PlaceFits g b m (p b) (In known command process) = subst F here (content.seats b below) in
       of-named g command i x.block
-      (named-of g b i command known (p b).holds (p b).sample part (boot_number b (w.seats b).boots) x fits.1 (subst R here (subst Q same asked.2)) journalled) names
+      (named-of g b i command known (p b).holds (p b).sample process (boot_number b (w.seats b).boots) x fits.1 (subst R here (subst Q same asked.2)) journalled) names
 
   -- ---- a write is issued
 
-  module _ (a : ℕ) (below : a < w.appliances) (known : Known) (command : Command) (what : WriteKind) (block : ℕ) (bytes : List ℕ) (guard : ℕ) (done fault : Part End) (missed : ℕ → Part End)
+  module _ (a : ℕ) (below : a < w.appliances) (known : Known) (command : Command) (what : WriteKind) (block : ℕ) (bytes : List ℕ) (guard : ℕ) (done fault : Process End) (missed : ℕ → Process End)
       (here : (p a).place ≡ In known command (WriteThen what block bytes guard done fault missed)) (free : (w.seats a).pending ≡ None) where
     abbrev boot : ℕ
     boot = boot_number a (w.seats a).boots
@@ -146,13 +146,13 @@ module _ (w : World) (content : KeepsContent w) where
     abbrev now : List Issued
     now = writes ++ fresh ∷ []
 
-    abbrev part : Part End
-    part = WriteThen what block bytes guard done fault missed
+    abbrev process : Process End
+    process = WriteThen what block bytes guard done fault missed
 
-    fits : PlaceFits g a m (p a) (In known command part)
+    fits : PlaceFits g a m (p a) (In known command process)
     fits = let F : Place → Type 0 = λ q. PlaceFits g a m (p a) q in subst F here (content.seats a below)
 
-    serving : (i : ℕ) → i < g.images → Minds g time writes m a (w.seats a) i → OwnedAt g a i device writes (w.seats a).pending m (In known command part)
+    serving : (i : ℕ) → i < g.images → Minds g time writes m a (w.seats a) i → OwnedAt g a i device writes (w.seats a).pending m (In known command process)
     serving i within minds =
         let P : Place → Type 0 = λ q. OwnedAt g a i device writes (w.seats a).pending m q in subst P here (content.owned i within a below minds)
 
@@ -278,11 +278,11 @@ module _ (w : World) (content : KeepsContent w) where
             | inr owner ↦ inr owner
           ] in
           owned-same g b i device device writes now (w.seats b).pending m (same-refl g i device) (p b).place
-          (λ known' command' part' at' names n x waits found journalled.
+          (λ known' command' process' at' names n x waits found journalled.
           let asked = (content.leased.seated b under).asked n waits in
           let same : asked.0 ≡ x = (let e : Some asked.0 ≡ Some x = sym (push-before writes fresh asked.0 n asked.1) ∙ found in cc) in
           let was : slice_get writes n ≡ Some x = asked.1 ∙ ap Some same in
-          (was, waits-of b under i known' command' part' at' names n x waits was journalled))
+          (was, waits-of b under i known' command' process' at' names n x waits was journalled))
           (content.owned i within b under old));
     }
 
@@ -385,25 +385,25 @@ module _ (w : World) (content : KeepsContent w) where
     ]
 
     -- what is right at a write stays right while it lands
-    held-lands : (b i : ℕ) (command : Command) (known : Known) (regime : Regime) (part : Part End) (boot : ℕ) → IsAskedAt (In known command part) boot write → IsJournalled write.kind →
-        HeldPart g b i command known regime part device → HeldPart g b i command known regime part after
+    held-lands : (b i : ℕ) (command : Command) (known : Known) (regime : Regime) (process : Process End) (boot : ℕ) → IsAskedAt (In known command process) boot write → IsJournalled write.kind →
+        HeldProcess g b i command known regime process device → HeldProcess g b i command known regime process after
     held-lands b i command known regime (WriteThen what block bytes guard done fault missed) number_of_boot asked journalled held =
         let D : ℕ → List ℕ → Device = λ k x. put device k (with_landed_sector sector x (device k)) in
         let K : WriteKind → Type 0 = λ k. IsJournalled k in
         let long : length bytes ≡ 4096 = ap length (sym asked.2) ∙ bytes-long in
-        let here' : HeldPart g b i command known regime (WriteThen what block bytes guard done fault missed) (D block bytes) = by_kind what (subst K asked.0 journalled) long held in
-        let P : ℕ → List ℕ → Type 0 = λ k x. HeldPart g b i command known regime (WriteThen what block bytes guard done fault missed) (D k x) in
+        let here' : HeldProcess g b i command known regime (WriteThen what block bytes guard done fault missed) (D block bytes) = by_kind what (subst K asked.0 journalled) long held in
+        let P : ℕ → List ℕ → Type 0 = λ k x. HeldProcess g b i command known regime (WriteThen what block bytes guard done fault missed) (D k x) in
         subst (λ (k : ℕ). P k write.bytes) (sym asked.1) (subst (P block) (sym asked.2) here')
       where
-        by_kind : (k : WriteKind) → IsJournalled k → length bytes ≡ 4096 → HeldPart g b i command known regime (WriteThen k block bytes guard done fault missed) device →
-            HeldPart g b i command known regime (WriteThen k block bytes guard done fault missed) (put device block (with_landed_sector sector bytes (device block)))
+        by_kind : (k : WriteKind) → IsJournalled k → length bytes ≡ 4096 → HeldProcess g b i command known regime (WriteThen k block bytes guard done fault missed) device →
+            HeldProcess g b i command known regime (WriteThen k block bytes guard done fault missed) (put device block (with_landed_sector sector bytes (device block)))
         by_kind k is long held =
             let write' = held-image-write g b i command known regime block bytes guard done fault missed device k is held in
             let made = put device block (with_landed_sector sector bytes (device block)) in
             image-held g b i command known regime block bytes guard done fault missed made k is (record {
               of = write'.of;
               keeps = λ flags count x looks. keeps-landed g i block sector bytes device (x.slots i) below-8 long (content.leased.long block) (λ f c. write'.keeps f c x looks) flags count;
-              follows = held-part-same g b i command known regime done (put device block bytes) (put made block bytes) (same-over g i block bytes (with_landed_sector sector bytes (device block)) device) write'.follows;
+              follows = held-process-same g b i command known regime done (put device block bytes) (put made block bytes) (same-over g i block bytes (with_landed_sector sector bytes (device block)) device) write'.follows;
               changes = write'.changes;
               only = (let O : List ℕ → Type 0 = λ y. OnlyBytes k bytes y in
                   subst O (sym (put-same device block (with_landed_sector sector bytes (device block)))) (only-lands k sector bytes (device block) write'.only));
@@ -414,8 +414,8 @@ module _ (w : World) (content : KeepsContent w) where
     held-lands b i command known regime (UntilThen from rest) number_of_boot asked journalled held = absurd asked
 
     -- only the image's owner in the model asks it
-    held-with : (b i : ℕ) (command : Command) (known : Known) (regime : Regime) (part : Part End) (boot : ℕ) → IsAskedAt (In known command part) boot write → IsJournalled write.kind →
-        HeldPart g b i command known regime part device → IsWith regime
+    held-with : (b i : ℕ) (command : Command) (known : Known) (regime : Regime) (process : Process End) (boot : ℕ) → IsAskedAt (In known command process) boot write → IsJournalled write.kind →
+        HeldProcess g b i command known regime process device → IsWith regime
     held-with b i command known regime (WriteThen what block bytes guard done fault missed) number_of_boot asked journalled held =
         let K : WriteKind → Type 0 = λ k. IsJournalled k in (held-image-write g b i command known regime block bytes guard done fault missed device what (subst K asked.0 journalled) held).changes
     held-with b i command known regime (Ends end) number_of_boot asked journalled held = absurd asked
@@ -436,12 +436,12 @@ module _ (w : World) (content : KeepsContent w) where
         let owned = content.owned i within b under before in
         elim (cases i within) [
           | inr no' ↦ owned-same g b i device after writes now' (w.seats b).pending m no'.1 (p b).place
-              (λ known command part at' names n x waits found journalled. elim (landed-or w content.leased number sector write may n x found) [
+              (λ known command process at' names n x waits found journalled. elim (landed-or w content.leased number sector write may n x found) [
                 | inl here' ↦
                     let P : ℕ → Type 0 = λ k. (w.seats b).pending ≡ Some k in
                     let K : Issued → Type 0 = λ y. IsJournalled y.kind in
-                    absurd (no'.0 (waits-of b under i known command part at' names number write (subst P here'.0 waits) may.found (subst K here'.1 journalled)))
-                | inr away ↦ (away.1, waits-of b under i known command part at' names n x waits away.1 journalled)
+                    absurd (no'.0 (waits-of b under i known command process at' names number write (subst P here'.0 waits) may.found (subst K here'.1 journalled)))
+                | inr away ↦ (away.1, waits-of b under i known command process at' names n x waits away.1 journalled)
               ])
               owned
           | inl mine ↦
@@ -459,16 +459,16 @@ module _ (w : World) (content : KeepsContent w) where
             IsAskedAt place (boot_number b (w.seats b).boots) write → PlaceFits g b m (p b) place → OwnedAt g b i device writes (w.seats b).pending m place → OwnedAt g b i after now' (w.seats b).pending m place
         by_place (Idle known) waits mine asked fits owned = absurd asked
         by_place (Begins known command) waits mine asked fits owned = absurd asked
-        by_place (In known command part) waits mine asked fits owned =
-            let named = named-of g b i command known (p b).holds (p b).sample part (boot_number b (w.seats b).boots) write fits.1 asked mine.1 in
+        by_place (In known command process) waits mine asked fits owned =
+            let named = named-of g b i command known (p b).holds (p b).sample process (boot_number b (w.seats b).boots) write fits.1 asked mine.1 in
             let N : ℕ → Type 0 = λ j. Names command j in
             let names : Names command i = subst N (of-one-image g geometry named.0 i write.block named.1 within named.2 mine.0) named.3 in
             let s = owned.0 names in (
               λ names'. record {
                 regime = s.regime;
                 looks = s.looks;
-                held = held-lands b i command known s.regime part (boot_number b (w.seats b).boots) asked mine.1 s.held;
-                on = on-with i s.regime (held-with b i command known s.regime part (boot_number b (w.seats b).boots) asked mine.1 s.held);
+                held = held-lands b i command known s.regime process (boot_number b (w.seats b).boots) asked mine.1 s.held;
+                on = on-with i s.regime (held-with b i command known s.regime process (boot_number b (w.seats b).boots) asked mine.1 s.held);
                 fills = λ n x waits' found journalled. elim (landed-or w content.leased number sector write may n x found) [
                   | inl here' ↦
                       let P : Issued → Type 0 = λ y. with_landed_sectors (missing_of y.landed) y.bytes (after y.block) ≡ y.bytes in

@@ -4,7 +4,7 @@ use Rattle.plx_base.specs.declared.numbers.ApplianceNo.{ApplianceNo}
 use Rattle.plx_commands.specs.declared.event.Event.TheVariants as event
 use Rattle.plx_commands.proofs.Places.{at-same, at-other}
 use Rattle.plx_commands.specs.Places.{at}
-use Rattle.plx_rules.specs.Boot.{Position, position}
+use Rattle.plx_rules.specs.Boot.{Configuration, configuration}
 use Rattle.plx_rules.specs.Boots.{IsBoot}
 use Rattle.plx_rules.specs.Owners.{hold_at_place, pending_write}
 use Rattle.plx_rules.specs.Pools.{hand_at}
@@ -38,14 +38,14 @@ crash-leaves reached (world.crashes {w = w} {appliance = a} below room) =
     let seat : Seat = record { boots = (w.seats a.0).boots + 1; log = []; pending = None } in
     let is = at-same w.seats a.0 seat in
     let next = ap (λ (s : Seat). s.boots) is in
-    let fresh = ap (λ (s : Seat). position (setting_at w.geometry a.0 s.boots) s.log) is in
+    let fresh = ap (λ (s : Seat). configuration (setting_at w.geometry a.0 s.boots) s.log) is in
     record {
       next = next;
       number = next-number w reached a.0 _ below next;
       log = ap (λ (s : Seat). s.log) is;
-      idle = ap (λ (p : Position). p.place) fresh;
-      leases = λ block. ap (λ (p : Position). hold_at_place p.place (pending_write w.surface.writes (at w.seats a.0 seat a.0).pending) block (p.holds block)) fresh;
-      hand = ap (λ (p : Position). hand_at w.geometry p.place p.found p.filled p.hand) fresh;
+      idle = ap (λ (p : Configuration). p.place) fresh;
+      leases = λ block. ap (λ (p : Configuration). hold_at_place p.place (pending_write w.surface.writes (at w.seats a.0 seat a.0).pending) block (p.holds block)) fresh;
+      hand = ap (λ (p : Configuration). hand_at w.geometry p.place p.found p.filled p.hand) fresh;
       waiting = ap (λ (s : Seat). s.pending) is;
       others = λ b ne. at-other w.seats a.0 b seat ne;
       surface = refl;

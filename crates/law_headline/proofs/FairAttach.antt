@@ -18,25 +18,25 @@ use Rattle.plx_gate.specs.declared.image.ImageRecord.{ImageRecord}
 use Rattle.plx_geom.specs.Geometry.{IsGeometry, image_lease, lease_at, record_at, descriptor_at, data_at}
 use Rattle.plx_geom.proofs.Places.{image-below, lease-record, lease-data, lease-descriptor}
 use Rattle.plx_base.proofs.Tests.{nat_lt-true, nat_le-true}
-use Rattle.plx_rules.specs.Part.{Part, Ends, UntilThen}
+use Rattle.plx_rules.specs.Process.{Process, Ends, UntilThen}
 use Rattle.plx_rules.specs.Journaled.{Journaled}
 use Rattle.plx_rules.specs.Attaching.{image_use, attach_ends, after_load, load_journal, after_record, load_image, after_claim, claim_image, attach_held}
-use Rattle.plx_rules.specs.Claims.{ClaimEnd, ClaimBusy, ClaimLost, claim_of, end_of_term, own_record, own_use, claim_in_time, reread_by, reread_part, written_part, if_expired, seen_part}
-use Rattle.plx_rules.specs.Ends.{End, read_failed, damaged_part}
+use Rattle.plx_rules.specs.Claims.{ClaimEnd, ClaimBusy, ClaimLost, claim_of, end_of_term, own_record, own_use, claim_in_time, reread_by, reread_process, written_process, if_expired, seen_process}
+use Rattle.plx_rules.specs.Ends.{End, read_failed, damaged_process}
 use Rattle.plx_rules.specs.Holds.{Hold, Nothing, Seen, Wrote, Waited, Held, no_holds, hold_after_read, hold_after_reread, hold_after_reading, hold_after_claim}
 use Rattle.plx_rules.specs.InUse.{InUse, lease_name, first_reached, unless_reached}
 use Rattle.plx_rules.specs.Journal.{Finding, Outside, Unused, Counts, finding}
-use Rattle.plx_rules.specs.Loading.{LoadEnd, load_found, load_part, gap_found}
-use Rattle.plx_rules.specs.Parts.{followed_by}
+use Rattle.plx_rules.specs.Loading.{LoadEnd, load_found, load_process, gap_found}
+use Rattle.plx_rules.specs.Processes.{followed_by}
 use Rattle.plx_rules.specs.Records.{is_live, applied_of, attached_record}
 use Rattle.plx_rules.specs.Session.{Session, Known, with_session, with_write_by_number, first_gap, session_report}
 use Rattle.plx_rules.specs.Settings.{Setting}
 use Rattle.plx_rules.specs.Times.{wait, is_expired}
 use Rattle.law_lease.proofs.LawfulCommands.{IsRest}
-use Rattle.law_headline.proofs.FairParts.{read-stays-held, lease-image, backs-read, backs-timed, backs-at, backs-with, unreached-tells, IsFair, fair-still, fair-lost, fair-write_failed, fair-ends}
+use Rattle.law_headline.proofs.FairProcesses.{read-stays-held, lease-image, backs-read, backs-timed, backs-at, backs-with, unreached-tells, IsFair, fair-still, fair-lost, fair-write_failed, fair-ends}
 use Rattle.law_headline.proofs.Harmless.{Harmless}
 use Rattle.law_headline.proofs.Harmless as harmless
-use Rattle.law_headline.proofs.Held.{IsSpelled, Without, attached_of, HeldPart, Backs, just_at}
+use Rattle.law_headline.proofs.Held.{IsSpelled, Without, attached_of, HeldProcess, Backs, just_at}
 use Rattle.law_headline.proofs.HeldCommands.{slot_no, load-attaches}
 use Rattle.plx_gate.proofs.Leases.{lease-back, length-lease}
 use Rattle.law_headline.proofs.Journals.{IsJournal}
@@ -52,15 +52,15 @@ module _ (s : Setting) (geometry : IsGeometry s.geometry) (a : ℕ) (small : s.b
   abbrev knowing : ℕ → Known
   knowing n = record { sessions = known.sessions; claims = n }
 
-  abbrev Fairly : (ℕ → Hold) → Option ℕ → Bool → Part End → Type 0
-  Fairly holds sample just part = IsFair s a attaches known holds sample just part
+  abbrev Fairly : (ℕ → Hold) → Option ℕ → Bool → Process End → Type 0
+  Fairly holds sample just process = IsFair s a attaches known holds sample just process
 
   fair-read_failed : (holds : ℕ → Hold) (sample : Option ℕ) (just : Bool) (n b : ℕ) → Backs s.geometry holds known → Fairly holds sample just (read_failed b (knowing n))
   fair-read_failed holds sample just n b backs = fair-still s a attaches known holds sample just (knowing n) (reply.ReadFault (record { 0 = b })) refl (λ j. refl) backs tt (harmless.still (harmless.free refl refl refl refl) refl)
 
   -- bytes outside the format, read under the image's lease
   fair-damaged : (holds : ℕ → Hold) (sample : Option ℕ) (just : Bool) (n b : ℕ) (claim : Claim) (until : ℕ) → Backs s.geometry holds known → holds block ≡ Held claim until →
-      Fairly holds sample just (damaged_part s (knowing n) (image_use i until) b)
+      Fairly holds sample just (damaged_process s (knowing n) (image_use i until) b)
   fair-damaged holds sample just n b claim until backs held =
       fair-ends s a attaches known i holds sample just (knowing n) (knowing n) claim until (reply.Damaged (record { 0 = b })) refl within held (λ j. refl)
       (λ r. backs-timed s.geometry known holds r backs) (λ j no'. inl refl)
@@ -78,10 +78,10 @@ module _ (s : Setting) (geometry : IsGeometry s.geometry) (a : ℕ) (small : s.b
   -- ---- the journal and the record
 
   module _ (n : ℕ) (claim : Claim) (until : ℕ) (limits : IsClaimed claim until) (kept : ImageRecord) where
-    abbrev Loads : (ℕ → Hold) → Option ℕ → Bool → Part LoadEnd → Type 0
-    Loads holds sample just part = Fairly holds sample just (followed_by part (after_load s (knowing n) i until kept))
+    abbrev Loads : (ℕ → Hold) → Option ℕ → Bool → Process LoadEnd → Type 0
+    Loads holds sample just process = Fairly holds sample just (followed_by process (after_load s (knowing n) i until kept))
 
-    fair-found : (b : ℕ) (found : Finding) (holds : ℕ → Hold) (unused : Part LoadEnd) (counts : ℕ → ℕ → Part LoadEnd) → Backs s.geometry holds known → holds block ≡ Held claim until → Loads holds None false unused →
+    fair-found : (b : ℕ) (found : Finding) (holds : ℕ → Hold) (unused : Process LoadEnd) (counts : ℕ → ℕ → Process LoadEnd) → Backs s.geometry holds known → holds block ≡ Held claim until → Loads holds None false unused →
         ((number vblock : ℕ) → Loads holds None false (counts number vblock)) → Loads holds None false (load_found b found unused counts)
     fair-found b Outside holds unused counts backs held l r = fair-damaged holds None false n b claim until backs held
     fair-found b Unused holds unused counts backs held l r = l
@@ -93,7 +93,7 @@ module _ (s : Setting) (geometry : IsGeometry s.geometry) (a : ℕ) (small : s.b
     fair-gap writes (Some number) holds sample just backs held = fair-damaged holds sample just n _ claim until backs held
 
     fair-load : (left slot : ℕ) (writes : List Journaled) (holds : ℕ → Hold) (sample : Option ℕ) (just : Bool) → Backs s.geometry holds known →
-        holds block ≡ Held claim until → Loads holds sample just (load_part s.geometry i kept left slot writes)
+        holds block ≡ Held claim until → Loads holds sample just (load_process s.geometry i kept left slot writes)
     fair-load zero slot writes holds sample just backs held = fair-gap writes (first_gap (applied_of kept) writes) holds sample just backs held
     fair-load (suc left) slot writes holds sample just backs held = (
       λ bytes spelled.
@@ -140,11 +140,11 @@ module _ (s : Setting) (geometry : IsGeometry s.geometry) (a : ℕ) (small : s.b
       (r.0, ap read_lease r.1 ∙ lease-back r.0 r.2)
 
   module _ (n : ℕ) where
-    abbrev Claims : (ℕ → Hold) → Option ℕ → Bool → Part ClaimEnd → Type 0
-    Claims holds sample just part = Fairly holds sample just (followed_by part (after_claim s (knowing n) i))
+    abbrev Claims : (ℕ → Hold) → Option ℕ → Bool → Process ClaimEnd → Type 0
+    Claims holds sample just process = Fairly holds sample just (followed_by process (after_claim s (knowing n) i))
 
     -- a reading of the claim
-    fair-claim_in_time : (uses : List InUse) (reading : ℕ) (holds : ℕ → Hold) (sample : Option ℕ) (just : Bool) (rest : Part ClaimEnd) → (first_reached uses reading ≡ None → Claims holds sample just rest) →
+    fair-claim_in_time : (uses : List InUse) (reading : ℕ) (holds : ℕ → Hold) (sample : Option ℕ) (just : Bool) (rest : Process ClaimEnd) → (first_reached uses reading ≡ None → Claims holds sample just rest) →
         Claims holds sample just (claim_in_time uses reading rest)
     fair-claim_in_time uses reading holds sample just rest fair = by_reached (first_reached uses reading) refl
       where
@@ -171,7 +171,7 @@ module _ (s : Setting) (geometry : IsGeometry s.geometry) (a : ℕ) (small : s.b
 
       -- the reread of a claim that has waited
       fair-reread : (holds : ℕ → Hold) (before : Option ℕ) (just : Bool) → Backs s.geometry holds known → holds block ≡ Waited claim (end_of_term claim) →
-          Claims holds before just (reread_part uses (image_lease i) claim)
+          Claims holds before just (reread_process uses (image_lease i) claim)
       fair-reread holds before just backs waited = (
         λ bytes spelled.
             let h = at holds block (hold_after_read before bytes (holds block)) in
@@ -187,13 +187,13 @@ module _ (s : Setting) (geometry : IsGeometry s.geometry) (a : ℕ) (small : s.b
             let fu : end_of_term claim ≡ u = cc in (
               (λ j. Attach (slot_no (same j))),
               λ device kept writes journal.
-                  let next : List ℕ → Part End = λ bytes. followed_by (reread_by (bytes_eq bytes own) uses claim (read_lease bytes)) (after_claim s (knowing n) i) in
-                  let P : Bool → Type 0 = λ b. HeldPart s.geometry a i attaches known (Without kept writes) (followed_by (reread_by b uses claim (read_lease own)) (after_claim s (knowing n) i)) device in
+                  let next : List ℕ → Process End = λ bytes. followed_by (reread_by (bytes_eq bytes own) uses claim (read_lease bytes)) (after_claim s (knowing n) i) in
+                  let P : Bool → Type 0 = λ b. HeldProcess s.geometry a i attaches known (Without kept writes) (followed_by (reread_by b uses claim (read_lease own)) (after_claim s (knowing n) i)) device in
                   let here : P (bytes_eq own own) =
                   subst P (sym ((bytes_eq-Decides own own).1 refl)) (load-attaches s a i within geometry.slots_high known device kept writes
                   (let J : ℕ → Type 0 = λ x. IsJournal s.geometry device x kept writes in subst J (sym same) journal) none (knowing n) (end_of_term claim) none) in
-                  let R : LeaseRecord → Type 0 = λ r. HeldPart s.geometry a i attaches known (Without kept writes) (next (lease_bytes r)) device in
-                  let Q : ℕ → Type 0 = λ x. HeldPart s.geometry a x attaches known (Without kept writes) (next (lease_bytes (Claimed c u))) device in
+                  let R : LeaseRecord → Type 0 = λ r. HeldProcess s.geometry a i attaches known (Without kept writes) (next (lease_bytes r)) device in
+                  let Q : ℕ → Type 0 = λ x. HeldProcess s.geometry a x attaches known (Without kept writes) (next (lease_bytes (Claimed c u))) device in
                   subst Q same (subst R (λ j. Claimed (fc j) (fu j)) here),
             ),
       )
@@ -206,10 +206,10 @@ module _ (s : Setting) (geometry : IsGeometry s.geometry) (a : ℕ) (small : s.b
 
       -- the wait of a claim that was written
       fair-wait : (holds : ℕ → Hold) (before : Option ℕ) (just : Bool) → Backs s.geometry holds known → holds block ≡ Wrote claim (end_of_term claim) →
-          Claims holds before just (UntilThen (sample + wait) (λ reading. claim_in_time uses reading (reread_part uses (image_lease i) claim)))
+          Claims holds before just (UntilThen (sample + wait) (λ reading. claim_in_time uses reading (reread_process uses (image_lease i) claim)))
       fair-wait holds before just backs wrote' = λ reading past early'.
           let h : ℕ → Hold = λ k. hold_after_reading reading (holds k) in
-          fair-claim_in_time uses reading h (Some reading) (just_at s.geometry attaches h reading) (reread_part uses (image_lease i) claim)
+          fair-claim_in_time uses reading h (Some reading) (just_at s.geometry attaches h reading) (reread_process uses (image_lease i) claim)
           (λ e. fair-reread h (Some reading) (just_at s.geometry attaches h reading) (backs-timed s.geometry known holds reading backs)
           (ap (hold_after_reading reading) wrote' ∙ ap (λ (b : Bool). if b then Waited claim (end_of_term claim) else Wrote claim (end_of_term claim))
           (both (nat_le (sample + wait) reading) (nat_lt reading (end_of_term claim)) (nat_le-true (sample + wait) reading past)
@@ -218,11 +218,11 @@ module _ (s : Setting) (geometry : IsGeometry s.geometry) (a : ℕ) (small : s.b
           both : (x y : Bool) → x ≡ true → y ≡ true → (x && y) ≡ true
           both x y ex ey = rw (ex, ey) refl
 
-      fair-seen : (found : Option LeaseRecord) (r : LeaseRecord) (holds : ℕ → Hold) (just : Bool) → found ≡ Some r → Backs s.geometry holds known → Claims holds None just (seen_part [] (image_lease i) claim found)
+      fair-seen : (found : Option LeaseRecord) (r : LeaseRecord) (holds : ℕ → Hold) (just : Bool) → found ≡ Some r → Backs s.geometry holds known → Claims holds None just (seen_process [] (image_lease i) claim found)
       fair-seen None r holds just e backs = absurd (let P : ⊥ = cc in P)
       fair-seen (Some seen) r holds just e backs = by_test (is_expired seen sample)
         where
-          by_test : (b : Bool) → Claims holds None just (if_expired b seen (written_part [] (image_lease i) claim))
+          by_test : (b : Bool) → Claims holds None just (if_expired b seen (written_process [] (image_lease i) claim))
           by_test false = fair-busy holds None just seen backs
           by_test true = (
             record { named = tt; spells = tt },

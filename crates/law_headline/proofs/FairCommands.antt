@@ -28,9 +28,9 @@ use Rattle.plx_gate.proofs.Descriptors.{length-descriptor}
 use Rattle.plx_geom.specs.Geometry.{IsGeometry, lease_count, image_lease, lease_at, record_at}
 use Rattle.plx_geom.proofs.Places.{lease-lease}
 use Rattle.plx_base.proofs.Tests.{nat_lt-true, nat_le-past}
-use Rattle.plx_rules.specs.Part.{Part}
-use Rattle.plx_rules.specs.Attaching.{image_use, attach_part}
-use Rattle.plx_rules.specs.Commands.{IsBuilt, IsWellFormed, unless, attached_part, of_attached, detach_part, record_part, create_part, delete_part, read_part, next_write, next_slot, journal_part, write_part, later_of, renewal, renew_part, attached_uses, command_part}
+use Rattle.plx_rules.specs.Process.{Process}
+use Rattle.plx_rules.specs.Attaching.{image_use, attach_process}
+use Rattle.plx_rules.specs.Commands.{IsBuilt, IsWellFormed, unless, attached_process, of_attached, detach_process, record_process, create_process, delete_process, read_process, next_write, next_slot, journal_process, write_process, later_of, renewal, renew_process, attached_uses, command_process}
 use Rattle.plx_rules.specs.Ends.{End, ends, ends_in_time}
 use Rattle.plx_rules.specs.Holds.{Hold, Nothing, Seen, Wrote, Waited, Held, no_holds, hold_after_reading, hold_after_renewal, holds_after_reply}
 use Rattle.plx_rules.specs.Records.{is_live, generation_of, size_of, made_record}
@@ -39,7 +39,7 @@ use Rattle.plx_rules.specs.Settings.{Setting}
 use Rattle.plx_rules.specs.Times.{term}
 use Rattle.plx_rules.proofs.Holds.{later-below, later-least}
 use Rattle.law_headline.proofs.FairAttach.{fair-unattached}
-use Rattle.law_headline.proofs.FairParts.{lease-image, backs-timed, backs-with, replaced, unreached-tells, just-one, names-by-list, IsFair, fair-lost, fair-write_failed, fair-in-time, fair-ends}
+use Rattle.law_headline.proofs.FairProcesses.{lease-image, backs-timed, backs-with, replaced, unreached-tells, just-one, names-by-list, IsFair, fair-lost, fair-write_failed, fair-in-time, fair-ends}
 use Rattle.law_headline.proofs.FairSpace.{fair-reserve, fair-retire}
 use Rattle.law_headline.proofs.HandFacts.{NoMap}
 use Rattle.law_headline.proofs.Harmless.{Harmless}
@@ -54,17 +54,17 @@ use Rattle.law_model.proofs.Replied.{Names, sessions_after}
 
 module _ (s : Setting) (geometry : IsGeometry s.geometry) (a : ℕ) (known : Known) (i : ℕ) (reading : ℕ) (holds : ℕ → Hold) (backs : Backs s.geometry holds known) where
   -- the rest of a command at its first reading
-  abbrev Starts : Command → Part End → Type 0
-  Starts command part = IsFair s a command known holds (Some reading) (just_at s.geometry command holds reading) part
+  abbrev Starts : Command → Process End → Type 0
+  Starts command process = IsFair s a command known holds (Some reading) (just_at s.geometry command holds reading) process
 
   -- the image is attached, and its lease is held
-  fair-session : (command : Command) (rest : Session → ℕ → Part End) → named_slots command ≡ i ∷ [] → is_in 1 (row command) ≡ true →
+  fair-session : (command : Command) (rest : Session → ℕ → Process End) → named_slots command ≡ i ∷ [] → is_in 1 (row command) ≡ true →
       ((t : Session) (claim : Claim) (until : ℕ) → i < s.geometry.images → known.sessions i ≡ Some t → holds (lease_at (image_lease i)) ≡ Held claim until → just_at s.geometry command holds reading ≡ true →
       Starts command (rest t until)) →
       Starts command (of_attached s known holds reading i rest)
   fair-session command rest one listed fair = by_session (known.sessions i) refl
     where
-      by_session : (o : Option Session) → known.sessions i ≡ o → Starts command (attached_part s known i o (nat_lt i s.geometry.images) (holds (lease_at (image_lease i))) reading rest)
+      by_session : (o : Option Session) → known.sessions i ≡ o → Starts command (attached_process s known i o (nat_lt i s.geometry.images) (holds (lease_at (image_lease i))) reading rest)
       by_session None is = record {
         kept = λ j. refl;
         backs = backs;
@@ -75,7 +75,7 @@ module _ (s : Setting) (geometry : IsGeometry s.geometry) (a : ℕ) (known : Kno
       }
       by_session (Some t) is =
           let b = backs i t is in
-          let W : Bool → Hold → Type 0 = λ w h. Starts command (attached_part s known i (Some t) w h reading rest) in
+          let W : Bool → Hold → Type 0 = λ w h. Starts command (attached_process s known i (Some t) w h reading rest) in
           subst (λ (w : Bool). W w (holds (lease_at (image_lease i)))) (sym (nat_lt-true i s.geometry.images b.within)) (subst (W true) (sym b.held)
           (fair-in-time s a command known holds (Some reading) (just_at s.geometry command holds reading) known (image_use i b.until) reading (rest t b.until)
           (λ e. fair t b.claim b.until b.within is b.held (just-one s.geometry command i one b.within holds reading ∙ (ap (λ (h : Hold). is_below h reading) b.held
@@ -92,8 +92,8 @@ module _ (s : Setting) (geometry : IsGeometry s.geometry) (a : ℕ) (known : Kno
     allowed = inr (inl just);
   }
 
-  fair-read : (vblock : ℕ) → Starts (Read (slot_no i) vblock) (of_attached s known holds reading i (read_part s known i vblock))
-  fair-read vblock = fair-session (Read (slot_no i) vblock) (read_part s known i vblock) refl refl
+  fair-read : (vblock : ℕ) → Starts (Read (slot_no i) vblock) (of_attached s known holds reading i (read_process s known i vblock))
+  fair-read vblock = fair-session (Read (slot_no i) vblock) (read_process s known i vblock) refl refl
       (λ t claim until within is held just. by_test t claim until within held just (not (is_live t.image)) (nat_le (size_of t.image) vblock))
     where
       by_test : (t : Session) (claim : Claim) (until : ℕ) → i < s.geometry.images → holds (lease_at (image_lease i)) ≡ Held claim until → just_at s.geometry (Read (slot_no i) vblock) holds reading ≡ true → (x y : Bool) →
@@ -120,14 +120,14 @@ module _ (s : Setting) (geometry : IsGeometry s.geometry) (a : ℕ) (known : Kno
     abbrev writes_block : Command
     writes_block = Write (slot_no i) vblock payload
 
-    fair-write : Starts writes_block (of_attached s known holds reading i (write_part s known i vblock (bytes_of payload)))
-    fair-write = fair-session writes_block (write_part s known i vblock (bytes_of payload)) refl refl
+    fair-write : Starts writes_block (of_attached s known holds reading i (write_process s known i vblock (bytes_of payload)))
+    fair-write = fair-session writes_block (write_process s known i vblock (bytes_of payload)) refl refl
         (λ t claim until within is held just. by_tests t claim until within is held just (not (is_live t.image)) (nat_le (size_of t.image) vblock) (is_worn last_write (write_count t)) (length t.writes == s.geometry.slots))
       where
         by_tests : (t : Session) (claim : Claim) (until : ℕ) → i < s.geometry.images → known.sessions i ≡ Some t → holds (lease_at (image_lease i)) ≡ Held claim until →
             just_at s.geometry writes_block holds reading ≡ true → (x y z f : Bool) →
             Starts writes_block (unless x reply.NoImage known (unless y (reply.OutOfRange (size_of t.image)) known (unless z (reply.WornOut last_write) known (unless f reply.Full known
-            (journal_part s known i vblock (bytes_of payload) t until)))))
+            (journal_process s known i vblock (bytes_of payload) t until)))))
         by_tests t claim until within is held just true y z f = fair-refused writes_block reply.NoImage just (λ j. refl) (λ h. refl)
         by_tests t claim until within is held just false true z f = fair-refused writes_block (reply.OutOfRange (size_of t.image)) just (λ j. refl) (λ h. refl)
         by_tests t claim until within is held just false false true f = fair-refused writes_block (reply.WornOut last_write) just (λ j. refl) (λ h. refl)
@@ -152,8 +152,8 @@ module _ (s : Setting) (geometry : IsGeometry s.geometry) (a : ℕ) (known : Kno
               λ r. refl,
             )
 
-  fair-detach : Starts (Detach (slot_no i)) (of_attached s known holds reading i (detach_part s known i))
-  fair-detach = fair-session (Detach (slot_no i)) (detach_part s known i) refl refl
+  fair-detach : Starts (Detach (slot_no i)) (of_attached s known holds reading i (detach_process s known i))
+  fair-detach = fair-session (Detach (slot_no i)) (detach_process s known i) refl refl
       (λ t claim until within is held just. (
         record { named = tt; spells = tt },
         length-lease record_is.Free,
@@ -187,7 +187,7 @@ module _ (s : Setting) (geometry : IsGeometry s.geometry) (a : ℕ) (known : Kno
 
   fair-record : (command : Command) (new : ImageRecord) (done : Reply) (t : Session) (claim : Claim) (until : ℕ) (sample : Option ℕ) (just : Bool) → length (image_bytes new) ≡ 4096 → named_slots command ≡ i ∷ [] → is_in 11 (row command) ≡ true →
       i < s.geometry.images → known.sessions i ≡ Some t → holds (lease_at (image_lease i)) ≡ Held claim until → ((f : ℕ → Bool) (j : ℕ) → sessions_after command done f j ≡ f j) → ((h : ℕ → Hold) → holds_after_reply done h ≡ h) →
-      IsFair s a command known holds sample just (record_part s known i until new done)
+      IsFair s a command known holds sample just (record_process s known i until new done)
   fair-record command new done t claim until sample just long one listed within is held same keeps = (
     record { named = (i, within, inl refl, names-by-list command i one); spells = tt },
     long,
@@ -198,14 +198,14 @@ module _ (s : Setting) (geometry : IsGeometry s.geometry) (a : ℕ) (known : Kno
     λ r. refl,
   )
 
-  fair-create : (size : ℕ) (label : List ℕ) → IsLabel label → Starts (Create (slot_no i) size label) (of_attached s known holds reading i (create_part s known i size label))
-  fair-create size label is-label = fair-session (Create (slot_no i) size label) (create_part s known i size label) refl refl
+  fair-create : (size : ℕ) (label : List ℕ) → IsLabel label → Starts (Create (slot_no i) size label) (of_attached s known holds reading i (create_process s known i size label))
+  fair-create size label is-label = fair-session (Create (slot_no i) size label) (create_process s known i size label) refl refl
       (λ t claim until within is held just. by_tests t claim until within is held just (is_live t.image) (not (is_size size)) (is_worn last_generation (generation_of t.image)) refl refl)
     where
       by_tests : (t : Session) (claim : Claim) (until : ℕ) → i < s.geometry.images → known.sessions i ≡ Some t → holds (lease_at (image_lease i)) ≡ Held claim until →
           just_at s.geometry (Create (slot_no i) size label) holds reading ≡ true → (x y z : Bool) → not (is_size size) ≡ y → is_worn last_generation (generation_of t.image) ≡ z →
           Starts (Create (slot_no i) size label) (unless x reply.Exists known (unless y (reply.OutOfRange greatest_size) known (unless z (reply.WornOut last_generation) known
-          (record_part s known i until (made_record (generation_of t.image + 1) size label) reply.Created))))
+          (record_process s known i until (made_record (generation_of t.image + 1) size label) reply.Created))))
       by_tests t claim until within is held just true y z ey ez = fair-refused (Create (slot_no i) size label) reply.Exists just (λ j. refl) (λ h. refl)
       by_tests t claim until within is held just false true z ey ez = fair-refused (Create (slot_no i) size label) (reply.OutOfRange greatest_size) just (λ j. refl) (λ h. refl)
       by_tests t claim until within is held just false false true ey ez = fair-refused (Create (slot_no i) size label) (reply.WornOut last_generation) just (λ j. refl) (λ h. refl)
@@ -226,13 +226,13 @@ module _ (s : Setting) (geometry : IsGeometry s.geometry) (a : ℕ) (known : Kno
           fair-record (Create (slot_no i) size label) new reply.Created t claim until (Some reading) (just_at s.geometry (Create (slot_no i) size label) holds reading) (length-labelled new is-label.short) refl refl
           within is held (λ f j. refl) (λ h. refl)
 
-  fair-delete : Starts (Delete (slot_no i)) (of_attached s known holds reading i (delete_part s known i))
-  fair-delete = fair-session (Delete (slot_no i)) (delete_part s known i) refl refl
+  fair-delete : Starts (Delete (slot_no i)) (of_attached s known holds reading i (delete_process s known i))
+  fair-delete = fair-session (Delete (slot_no i)) (delete_process s known i) refl refl
       (λ t claim until within is held just. by_test t claim until within is held just (not (is_live t.image)))
     where
       by_test : (t : Session) (claim : Claim) (until : ℕ) → i < s.geometry.images → known.sessions i ≡ Some t → holds (lease_at (image_lease i)) ≡ Held claim until →
           just_at s.geometry (Delete (slot_no i)) holds reading ≡ true → (x : Bool) →
-          Starts (Delete (slot_no i)) (unless x reply.NoImage known (record_part s known i until (image_is.Free (generation_of t.image)) reply.Deleted))
+          Starts (Delete (slot_no i)) (unless x reply.NoImage known (record_process s known i until (image_is.Free (generation_of t.image)) reply.Deleted))
       by_test t claim until within is held just true = fair-refused (Delete (slot_no i)) reply.NoImage just (λ j. refl) (λ h. refl)
       by_test t claim until within is held just false =
           fair-record (Delete (slot_no i)) (image_is.Free (generation_of t.image)) reply.Deleted t claim until (Some reading) (just_at s.geometry (Delete (slot_no i)) holds reading) (length-labelled (image_is.Free (generation_of t.image)) (omega arith)) refl refl
@@ -241,10 +241,10 @@ module _ (s : Setting) (geometry : IsGeometry s.geometry) (a : ℕ) (known : Kno
   -- ---- an attach
 
   fair-attach : s.boot < 2 ^ 128 → IsRest (holds (lease_at (image_lease i))) → (i < s.geometry.images → (claim : Claim) (until : ℕ) → holds (lease_at (image_lease i)) ≡ Held claim until → IsClaimed claim until) →
-      Starts (Attach (slot_no i)) (attach_part s known i (known.sessions i) (nat_lt i s.geometry.images) (holds (lease_at (image_lease i))))
+      Starts (Attach (slot_no i)) (attach_process s known i (known.sessions i) (nat_lt i s.geometry.images) (holds (lease_at (image_lease i))))
   fair-attach small rest limits = by_session (known.sessions i) refl
     where
-      by_within : (w : Bool) → nat_lt i s.geometry.images ≡ w → known.sessions i ≡ None → Starts (Attach (slot_no i)) (attach_part s known i None w (holds (lease_at (image_lease i))))
+      by_within : (w : Bool) → nat_lt i s.geometry.images ≡ w → known.sessions i ≡ None → Starts (Attach (slot_no i)) (attach_process s known i None w (holds (lease_at (image_lease i))))
       by_within false e none = record {
         kept = λ j. refl;
         backs = backs;
@@ -262,15 +262,15 @@ module _ (s : Setting) (geometry : IsGeometry s.geometry) (a : ℕ) (known : Kno
           ] in
           fair-unattached s geometry a small known i within none (holds (lease_at (image_lease i))) holds (Some reading) (just_at s.geometry (Attach (slot_no i)) holds reading) refl rest (limits within) backs
 
-      by_session : (o : Option Session) → known.sessions i ≡ o → Starts (Attach (slot_no i)) (attach_part s known i o (nat_lt i s.geometry.images) (holds (lease_at (image_lease i))))
+      by_session : (o : Option Session) → known.sessions i ≡ o → Starts (Attach (slot_no i)) (attach_process s known i o (nat_lt i s.geometry.images) (holds (lease_at (image_lease i))))
       by_session (Some t) is = record { kept = λ j. refl; backs = backs; away = λ j no'. inl refl; clean = inl tt; allowed = inl (harmless.with_session (ap (λ (o : Option Session). is_some o) is)) }
       by_session None is = by_within (nat_lt i s.geometry.images) refl is
 
 -- ---- the renewals
 
 module _ (s : Setting) (a : ℕ) (known : Known) (holds0 : ℕ → Hold) (reading : ℕ) (early : reading < 2 ^ 48) where
-  abbrev Renews : (ℕ → Hold) → Option ℕ → Part End → Type 0
-  Renews holds sample part = IsFair s a Renew known holds sample false part
+  abbrev Renews : (ℕ → Hold) → Option ℕ → Process End → Type 0
+  Renews holds sample process = IsFair s a Renew known holds sample false process
 
   -- a lease that is held, and is renewed
   backs-renewed : (holds : ℕ → Hold) (lease : ℕ) (claim : Claim) (until : ℕ) → holds (lease_at lease) ≡ Held claim until → Backs s.geometry holds known →
@@ -313,14 +313,14 @@ module _ (s : Setting) (a : ℕ) (known : Known) (holds0 : ℕ → Hold) (readin
       ]
 
   fair-renew : (left lease : ℕ) (holds : ℕ → Hold) (sample : Option ℕ) → left + lease ≡ lease_count s.geometry → Backs s.geometry holds known →
-      ((j : ℕ) → lease ≤ j → holds (lease_at j) ≡ holds0 (lease_at j)) → Renews holds sample (renew_part s known holds0 reading left lease)
+      ((j : ℕ) → lease ≤ j → holds (lease_at j) ≡ holds0 (lease_at j)) → Renews holds sample (renew_process s known holds0 reading left lease)
   fair-renew zero lease holds sample all backs same = record { kept = λ j. refl; backs = backs; away = λ j no'. inl refl; clean = inl tt; allowed = inl (harmless.unnamed refl refl) }
   fair-renew (suc left) lease holds sample all backs same =
       by_hold (λ h t b same'. fair-renew left (lease + 1) h t (omega (arith, all)) b same') (holds0 (lease_at lease)) (same lease (omega arith))
     where
       by_hold : (rest : (h : ℕ → Hold) (t : Option ℕ) → Backs s.geometry h known → ((j : ℕ) → lease + 1 ≤ j → h (lease_at j) ≡ holds0 (lease_at j)) →
-          Renews h t (renew_part s known holds0 reading left (lease + 1))) (hold : Hold) → holds (lease_at lease) ≡ hold →
-          Renews holds sample (renewal s known reading lease hold (renew_part s known holds0 reading left (lease + 1)))
+          Renews h t (renew_process s known holds0 reading left (lease + 1))) (hold : Hold) → holds (lease_at lease) ≡ hold →
+          Renews holds sample (renewal s known reading lease hold (renew_process s known holds0 reading left (lease + 1)))
       by_hold rest (Held claim until) is = (
         record { named = tt; spells = tt },
         length-lease (record_is.Claimed claim (later_of until (reading + term))),
@@ -342,7 +342,7 @@ module _ (s : Setting) (geometry : IsGeometry s.geometry) (a : ℕ) (small : s.b
     (rests : (i : ℕ) → IsRest (holds (lease_at (image_lease i))))
     (limits : (i : ℕ) → i < s.geometry.images → (claim : Claim) (until : ℕ) → holds (lease_at (image_lease i)) ≡ Held claim until → IsClaimed claim until) where
   pub fair-command : (command : Command) → IsWellFormed command → IsBuilt command → reading < 2 ^ 48 →
-      Fair s.geometry a command known holds (Some reading) (just_at s.geometry command holds reading) (command_part s known holds hand reading command)
+      Fair s.geometry a command known holds (Some reading) (just_at s.geometry command holds reading) (command_process s known holds hand reading command)
   fair-command (Attach slot) well built early = fair-attach s geometry a known slot.0 reading holds backs small (rests slot.0) (limits slot.0)
   fair-command (Detach slot) well built early = fair-detach s geometry a known slot.0 reading holds backs
   fair-command (Create slot size label) well built early = fair-create s geometry a known slot.0 reading holds backs size label well

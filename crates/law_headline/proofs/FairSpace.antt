@@ -19,18 +19,18 @@ use Rattle.plx_gate.proofs.Leases.{lease-back, length-lease}
 use Rattle.plx_gate.specs.Leases.{lease_bytes, read_lease}
 use Rattle.plx_geom.proofs.Places.{extent-below, image-below, root-image, image-extent, lease-lease, lease-map}
 use Rattle.plx_geom.specs.Geometry.{IsGeometry, lease_count, root_lease, image_lease, extent_lease, lease_at, map_at}
-use Rattle.plx_rules.specs.Claims.{ClaimEnd, ClaimHeld, ClaimBusy, ClaimLost, ClaimReadFault, ClaimWriteFault, claim_of, own_record, own_use, claim_in_time, reread_by, reread_part, written_part, if_expired, seen_part, claim_part}
+use Rattle.plx_rules.specs.Claims.{ClaimEnd, ClaimHeld, ClaimBusy, ClaimLost, ClaimReadFault, ClaimWriteFault, claim_of, own_record, own_use, claim_in_time, reread_by, reread_process, written_process, if_expired, seen_process, claim_process}
 use Rattle.plx_rules.specs.Ends.{End, ends, read_failed}
 use Rattle.plx_rules.specs.Headline.{IsUndamaged}
 use Rattle.plx_rules.specs.Holds.{Hold, Nothing, Seen, Wrote, Waited, Held, no_holds, hold_after_read, hold_after_reading, holds_after_reply}
 use Rattle.plx_rules.specs.InUse.{InUse, lease_name, first_reached, unless_reached}
-use Rattle.plx_rules.specs.Part.{Part, Ends, UntilThen}
-use Rattle.plx_rules.specs.Parts.{followed_by}
+use Rattle.plx_rules.specs.Process.{Process, Ends, UntilThen}
+use Rattle.plx_rules.specs.Processes.{followed_by}
 use Rattle.plx_rules.specs.Session.{Session, Known}
 use Rattle.plx_rules.specs.Settings.{Setting}
-use Rattle.plx_rules.specs.Space.{Taking, with_claim_begun, with_claimed, with_taken, with_busy, first_taking, extent_use, if_needed, set_part, free_from, with_set, with_clear, take_found, take_here, take_if_held, take_held, after_extent_claim, claim_extent, claim_if_free, other_found, take_if_other, take_others, shortage_part, taken_part, take_part, reserve_part, release_then, in_extent, give_found, give_part, retire_extent, retire_extents, retire_lease, retire_images, retire_part}
+use Rattle.plx_rules.specs.Space.{Taking, with_claim_begun, with_claimed, with_taken, with_busy, first_taking, extent_use, if_needed, set_process, free_from, with_set, with_clear, take_found, take_here, take_if_held, take_held, after_extent_claim, claim_extent, claim_if_free, other_found, take_if_other, take_others, shortage_process, taken_process, take_process, reserve_process, release_then, in_extent, give_found, give_process, retire_extent, retire_extents, retire_lease, retire_images, retire_process}
 use Rattle.plx_rules.specs.Times.{wait, is_expired}
-use Rattle.law_headline.proofs.FairParts.{backs-read, backs-timed, backs-other, unused-image, IsFair, fair-still, fair-lost, fair-write_failed}
+use Rattle.law_headline.proofs.FairProcesses.{backs-read, backs-timed, backs-other, unused-image, IsFair, fair-still, fair-lost, fair-write_failed}
 use Rattle.law_headline.proofs.HandFacts.{NoMap, out-filter}
 use Rattle.law_headline.proofs.Harmless.{Harmless}
 use Rattle.law_headline.proofs.Harmless as harmless
@@ -44,8 +44,8 @@ refused-sessions command r f k refusal stays =
     ap (λ (b : Bool). sessions_sorted b (ends_sessions (number_of r)) command f k) (not-own command r refusal) ∙ ap (λ (b : Bool). sessions_sorted false b command f k) stays
 
 module _ (s : Setting) (geometry : IsGeometry s.geometry) (a : ℕ) (command : Command) (known : Known) (unchanged : changed_slot command ≡ None) where
-  abbrev Fairly : (ℕ → Hold) → Option ℕ → Bool → Part End → Type 0
-  Fairly holds sample just part = IsFair s a command known holds sample just part
+  abbrev Fairly : (ℕ → Hold) → Option ℕ → Bool → Process End → Type 0
+  Fairly holds sample just process = IsFair s a command known holds sample just process
 
   -- a refusal that rests on no fact of the model, and ends no sessions
   fair-refused : (holds : ℕ → Hold) (sample : Option ℕ) (just : Bool) (now : Known) (done : Reply) → now.sessions ≡ known.sessions → is_in (number_of done) (row command) ≡ true → (number_of done == 0) ≡ false →
@@ -61,7 +61,7 @@ module _ (s : Setting) (geometry : IsGeometry s.geometry) (a : ℕ) (command : C
   -- ---- a claim of a lease that isn't an image's
 
   -- whatever ends the claim, what comes then is fair
-  record FairNext (next : ClaimEnd → Part End) : Type 0 where
+  record FairNext (next : ClaimEnd → Process End) : Type 0 where
     held : (claim : Claim) (until : ℕ) (holds : ℕ → Hold) (sample : Option ℕ) (just : Bool) → Backs s.geometry holds known → Fairly holds sample just (next (ClaimHeld claim until))
     busy : (seen : LeaseRecord) (holds : ℕ → Hold) (sample : Option ℕ) (just : Bool) → Backs s.geometry holds known → Fairly holds sample just (next (ClaimBusy seen))
     read_fault : (holds : ℕ → Hold) (sample : Option ℕ) (just : Bool) → Backs s.geometry holds known → Fairly holds sample just (next ClaimReadFault)
@@ -70,11 +70,11 @@ module _ (s : Setting) (geometry : IsGeometry s.geometry) (a : ℕ) (command : C
     lost_drops : (due : InUse) (reading : ℕ) → IsDrop (next (ClaimLost due reading))
     fault_drops : IsDrop (next ClaimWriteFault)
 
-  module _ (lease : ℕ) (within : lease < lease_count s.geometry) (other : (k : ℕ) → k < s.geometry.images → image_lease k ≢ lease) (next : ClaimEnd → Part End) (fair : FairNext next) where
-    abbrev Claims : (ℕ → Hold) → Option ℕ → Bool → Part ClaimEnd → Type 0
-    Claims holds sample just part = Fairly holds sample just (followed_by part next)
+  module _ (lease : ℕ) (within : lease < lease_count s.geometry) (other : (k : ℕ) → k < s.geometry.images → image_lease k ≢ lease) (next : ClaimEnd → Process End) (fair : FairNext next) where
+    abbrev Claims : (ℕ → Hold) → Option ℕ → Bool → Process ClaimEnd → Type 0
+    Claims holds sample just process = Fairly holds sample just (followed_by process next)
 
-    claim-in_time : (uses : List InUse) (reading : ℕ) (holds : ℕ → Hold) (sample : Option ℕ) (just : Bool) (rest : Part ClaimEnd) → Claims holds sample just rest →
+    claim-in_time : (uses : List InUse) (reading : ℕ) (holds : ℕ → Hold) (sample : Option ℕ) (just : Bool) (rest : Process ClaimEnd) → Claims holds sample just rest →
         Claims holds sample just (claim_in_time uses reading rest)
     claim-in_time uses reading holds sample just rest is = by_reached (first_reached uses reading)
       where
@@ -90,7 +90,7 @@ module _ (s : Setting) (geometry : IsGeometry s.geometry) (a : ℕ) (command : C
       abbrev uses : List InUse
       uses = own_use lease claim ∷ others
 
-      reread-fair : (holds : ℕ → Hold) (sample : Option ℕ) (just : Bool) → Backs s.geometry holds known → Claims holds sample just (reread_part uses lease claim)
+      reread-fair : (holds : ℕ → Hold) (sample : Option ℕ) (just : Bool) → Backs s.geometry holds known → Claims holds sample just (reread_process uses lease claim)
       reread-fair holds sample just backs = (
         λ bytes spelled.
             let r = lease-read bytes spelled in
@@ -105,17 +105,17 @@ module _ (s : Setting) (geometry : IsGeometry s.geometry) (a : ℕ) (command : C
           by_test false (Some seen) r e h backs' = fair.busy seen h None false backs'
 
       wait-fair : (holds : ℕ → Hold) (sample : Option ℕ) (just : Bool) → Backs s.geometry holds known →
-          Claims holds sample just (UntilThen (claim.sample + wait) (λ reading. claim_in_time uses reading (reread_part uses lease claim)))
+          Claims holds sample just (UntilThen (claim.sample + wait) (λ reading. claim_in_time uses reading (reread_process uses lease claim)))
       wait-fair holds sample just backs = λ reading past early.
           let h : ℕ → Hold = λ block. hold_after_reading reading (holds block) in
-          claim-in_time uses reading h (Some reading) (just_at s.geometry command h reading) (reread_part uses lease claim)
+          claim-in_time uses reading h (Some reading) (just_at s.geometry command h reading) (reread_process uses lease claim)
           (reread-fair h (Some reading) (just_at s.geometry command h reading) (backs-timed s.geometry known holds reading backs))
 
-      seen-fair : (found : Option LeaseRecord) (r : LeaseRecord) (holds : ℕ → Hold) (sample : Option ℕ) (just : Bool) → found ≡ Some r → Backs s.geometry holds known → Claims holds sample just (seen_part others lease claim found)
+      seen-fair : (found : Option LeaseRecord) (r : LeaseRecord) (holds : ℕ → Hold) (sample : Option ℕ) (just : Bool) → found ≡ Some r → Backs s.geometry holds known → Claims holds sample just (seen_process others lease claim found)
       seen-fair None r holds sample just e backs = absurd (let P : ⊥ = cc in P)
       seen-fair (Some seen) r holds sample just e backs = by_test (is_expired seen claim.sample)
         where
-          by_test : (b : Bool) → Claims holds sample just (if_expired b seen (written_part others lease claim))
+          by_test : (b : Bool) → Claims holds sample just (if_expired b seen (written_process others lease claim))
           by_test false = fair.busy seen holds sample just backs
           by_test true = (
             record { named = tt; spells = tt },
@@ -127,7 +127,7 @@ module _ (s : Setting) (geometry : IsGeometry s.geometry) (a : ℕ) (command : C
             λ reading. fair.lost_drops _ reading,
           )
 
-    claim-fair : (others : List InUse) (number : ℕ) (holds : ℕ → Hold) (sample : Option ℕ) (just : Bool) → Backs s.geometry holds known → Claims holds sample just (claim_part s.boot others lease number)
+    claim-fair : (others : List InUse) (number : ℕ) (holds : ℕ → Hold) (sample : Option ℕ) (just : Bool) → Backs s.geometry holds known → Claims holds sample just (claim_process s.boot others lease number)
     claim-fair others number holds sample just backs = λ reading early.
         let h : ℕ → Hold = λ block. hold_after_reading reading (holds block) in
         let backs' = backs-timed s.geometry known holds reading backs in
@@ -165,10 +165,10 @@ module _ (s : Setting) (geometry : IsGeometry s.geometry) (a : ℕ) (command : C
 
   module _ (takes : Takes) where
     -- a take goes on fairly, whatever it has so far
-    abbrev GoesFair : (Taking → Part End) → Type 0
+    abbrev GoesFair : (Taking → Process End) → Type 0
     GoesFair rest = (t : Taking) (holds : ℕ → Hold) (sample : Option ℕ) (just : Bool) → t.known.sessions ≡ known.sessions → Backs s.geometry holds known → Fairly holds sample just (rest t)
 
-    fair-set : (extent until : ℕ) (bits : List Bool) (blocks : List ℕ) (rest : Taking → Part End) → HoldsMap s.geometry.extent_blocks (map_bytes (with_set blocks (map_at s.geometry extent) bits)) → GoesFair rest → GoesFair (set_part s extent until bits blocks rest)
+    fair-set : (extent until : ℕ) (bits : List Bool) (blocks : List ℕ) (rest : Taking → Process End) → HoldsMap s.geometry.extent_blocks (map_bytes (with_set blocks (map_at s.geometry extent) bits)) → GoesFair rest → GoesFair (set_process s extent until bits blocks rest)
     fair-set extent until bits [] rest spells right t holds sample just e backs = right t holds sample just e backs
     fair-set extent until bits (block ∷ blocks) rest spells right t holds sample just e backs = (
       record { named = tt; spells = spells },
@@ -180,7 +180,7 @@ module _ (s : Setting) (geometry : IsGeometry s.geometry) (a : ℕ) (command : C
       λ reading. refl,
     )
 
-    fair-here : (count extent until : ℕ) → extent < s.geometry.extents → (rest : Taking → Part End) → GoesFair rest → GoesFair (take_here s count extent until rest)
+    fair-here : (count extent until : ℕ) → extent < s.geometry.extents → (rest : Taking → Process End) → GoesFair rest → GoesFair (take_here s count extent until rest)
     fair-here count extent until below rest right t holds sample just e backs = (
       λ bytes spelled.
           let holds-map = spelled.map extent below refl in
@@ -193,21 +193,21 @@ module _ (s : Setting) (geometry : IsGeometry s.geometry) (a : ℕ) (command : C
       λ k c u low e' w. map-unconfirmed extent k low e',
     )
 
-    fair-needed : (count : ℕ) (here rest : Taking → Part End) → GoesFair here → GoesFair rest → GoesFair (if_needed count here rest)
+    fair-needed : (count : ℕ) (here rest : Taking → Process End) → GoesFair here → GoesFair rest → GoesFair (if_needed count here rest)
     fair-needed count here rest right right' t holds sample just e backs = by_test (nat_le count (length t.hand))
       where
         by_test : (b : Bool) → Fairly holds sample just (if b then rest t else here t)
         by_test true = right' t holds sample just e backs
         by_test false = right t holds sample just e backs
 
-    fair-if_held : (count extent : ℕ) → extent < s.geometry.extents → (hold : Hold) (rest : Taking → Part End) → GoesFair rest → GoesFair (take_if_held s count extent hold rest)
+    fair-if_held : (count extent : ℕ) → extent < s.geometry.extents → (hold : Hold) (rest : Taking → Process End) → GoesFair rest → GoesFair (take_if_held s count extent hold rest)
     fair-if_held count extent below (Held claim until) rest right = fair-here count extent until below rest right
     fair-if_held count extent below Nothing rest right = right
     fair-if_held count extent below (Seen l) rest right = right
     fair-if_held count extent below (Wrote claim until) rest right = right
     fair-if_held count extent below (Waited claim until) rest right = right
 
-    fair-held : (count : ℕ) (first : ℕ → Hold) (left extent : ℕ) (rest : Taking → Part End) → left + extent ≡ s.geometry.extents → GoesFair rest → GoesFair (take_held s count first left extent rest)
+    fair-held : (count : ℕ) (first : ℕ → Hold) (left extent : ℕ) (rest : Taking → Process End) → left + extent ≡ s.geometry.extents → GoesFair rest → GoesFair (take_held s count first left extent rest)
     fair-held count first zero extent rest all right = right
     fair-held count first (suc left) extent rest all right =
         let next = fair-held count first left (extent + 1) rest (omega (arith, all)) right in
@@ -215,7 +215,7 @@ module _ (s : Setting) (geometry : IsGeometry s.geometry) (a : ℕ) (command : C
 
     -- ---- extents whose leases aren't held
 
-    fair-claimed : (count extent : ℕ) → extent < s.geometry.extents → (rest : Taking → Part End) → GoesFair rest → (t : Taking) → t.known.sessions ≡ known.sessions → FairNext (after_extent_claim s count extent rest t)
+    fair-claimed : (count extent : ℕ) → extent < s.geometry.extents → (rest : Taking → Process End) → GoesFair rest → (t : Taking) → t.known.sessions ≡ known.sessions → FairNext (after_extent_claim s count extent rest t)
     fair-claimed count extent below rest right t e = record {
       held = λ claim until holds sample just backs. fair-here count extent until below rest right (with_claimed t (extent_use s.geometry extent until)) holds sample just e backs;
       busy = λ seen holds sample just backs. right (with_busy t (extent_lease s.geometry extent) seen) holds sample just e backs;
@@ -226,7 +226,7 @@ module _ (s : Setting) (geometry : IsGeometry s.geometry) (a : ℕ) (command : C
       fault_drops = refl;
     }
 
-    fair-claim_extent : (enough : Bool) (count extent : ℕ) → extent < s.geometry.extents → (rest : Taking → Part End) → GoesFair rest → GoesFair (claim_extent enough s count extent rest)
+    fair-claim_extent : (enough : Bool) (count extent : ℕ) → extent < s.geometry.extents → (rest : Taking → Process End) → GoesFair rest → GoesFair (claim_extent enough s count extent rest)
     fair-claim_extent false count extent below rest right t holds sample just e backs =
         fair-still s a command known holds sample just t.known (reply.WornOut last_claim) e (λ j. refused-sessions command (reply.WornOut last_claim) (attached_of known) j refl refl) backs tt
         (harmless.still (harmless.worn takes.worn takes.claims) unchanged)
@@ -234,12 +234,12 @@ module _ (s : Setting) (geometry : IsGeometry s.geometry) (a : ℕ) (command : C
         claim-fair (extent_lease s.geometry extent) (extent-below s.geometry extent below) (λ k low. image-extent s.geometry k extent low) (after_extent_claim s count extent rest (with_claim_begun t))
         (fair-claimed count extent below rest right (with_claim_begun t) e) t.uses t.known.claims holds sample just backs
 
-    fair-if_free : (count extent : ℕ) → extent < s.geometry.extents → (free : List ℕ) (rest : Taking → Part End) → GoesFair rest → GoesFair (claim_if_free s count extent free rest)
+    fair-if_free : (count extent : ℕ) → extent < s.geometry.extents → (free : List ℕ) (rest : Taking → Process End) → GoesFair rest → GoesFair (claim_if_free s count extent free rest)
     fair-if_free count extent below [] rest right t holds sample just e backs = right t holds sample just e backs
     fair-if_free count extent below (block ∷ blocks) rest right t holds sample just e backs =
         fair-claim_extent (nat_lt t.known.claims last_claim) count extent below rest right t holds sample just e backs
 
-    fair-look : (count extent : ℕ) → extent < s.geometry.extents → (rest : Taking → Part End) → GoesFair rest → GoesFair (take_if_other s count extent Nothing rest)
+    fair-look : (count extent : ℕ) → extent < s.geometry.extents → (rest : Taking → Process End) → GoesFair rest → GoesFair (take_if_other s count extent Nothing rest)
     fair-look count extent below rest right t holds sample just e backs = (
       λ bytes spelled.
           let P : Option (List Bool) → Type 0 = λ o. Fairly (after-map extent sample bytes holds) None false (other_found s count extent o rest t) in
@@ -249,31 +249,31 @@ module _ (s : Setting) (geometry : IsGeometry s.geometry) (a : ℕ) (command : C
       λ k c u low e' w. map-unconfirmed extent k low e',
     )
 
-    fair-if_other : (count extent : ℕ) → extent < s.geometry.extents → (hold : Hold) (rest : Taking → Part End) → GoesFair rest → GoesFair (take_if_other s count extent hold rest)
+    fair-if_other : (count extent : ℕ) → extent < s.geometry.extents → (hold : Hold) (rest : Taking → Process End) → GoesFair rest → GoesFair (take_if_other s count extent hold rest)
     fair-if_other count extent below (Held claim until) rest right = right
     fair-if_other count extent below Nothing rest right = fair-look count extent below rest right
     fair-if_other count extent below (Seen l) rest right = fair-look count extent below rest right
     fair-if_other count extent below (Wrote claim until) rest right = fair-look count extent below rest right
     fair-if_other count extent below (Waited claim until) rest right = fair-look count extent below rest right
 
-    fair-others : (count : ℕ) (first : ℕ → Hold) (left extent : ℕ) (rest : Taking → Part End) → left + extent ≡ s.geometry.extents → GoesFair rest → GoesFair (take_others s count first left extent rest)
+    fair-others : (count : ℕ) (first : ℕ → Hold) (left extent : ℕ) (rest : Taking → Process End) → left + extent ≡ s.geometry.extents → GoesFair rest → GoesFair (take_others s count first left extent rest)
     fair-others count first zero extent rest all right = right
     fair-others count first (suc left) extent rest all right =
         let next = fair-others count first left (extent + 1) rest (omega (arith, all)) right in
         fair-needed count _ _ (fair-if_other count extent (omega (arith, all)) (first (lease_at (extent_lease s.geometry extent))) _ next) next
 
-    fair-taken : (count : ℕ) (rest : Taking → Part End) → GoesFair rest → GoesFair (taken_part s count rest)
+    fair-taken : (count : ℕ) (rest : Taking → Process End) → GoesFair rest → GoesFair (taken_process s count rest)
     fair-taken count rest right t holds sample just e backs = by_test (nat_le count (length t.hand))
       where
-        refusal : (busy : Option (ℕ × LeaseRecord)) → Fairly holds sample just (shortage_part s t.known busy)
+        refusal : (busy : Option (ℕ × LeaseRecord)) → Fairly holds sample just (shortage_process s t.known busy)
         refusal None = fair-refused holds sample just t.known reply.Full e takes.full refl refl refl (λ h. refl) tt backs
         refusal (Some met) = fair-refused holds sample just t.known (reply.Busy (lease_name s.geometry met.0) met.1) e takes.busy refl refl refl (λ h. refl) tt backs
 
-        by_test : (b : Bool) → Fairly holds sample just (if b then rest t else shortage_part s t.known t.busy)
+        by_test : (b : Bool) → Fairly holds sample just (if b then rest t else shortage_process s t.known t.busy)
         by_test true = right t holds sample just e backs
         by_test false = refusal t.busy
 
-    pub fair-take : (first : ℕ → Hold) (count : ℕ) (rest : Taking → Part End) → GoesFair rest → GoesFair (take_part s first count rest)
+    pub fair-take : (first : ℕ → Hold) (count : ℕ) (rest : Taking → Process End) → GoesFair rest → GoesFair (take_process s first count rest)
     fair-take first count rest right =
         fair-held count first s.geometry.extents 0 _ (omega arith) (fair-others count first s.geometry.extents 0 _ (omega arith) (fair-taken count rest right))
 
@@ -286,10 +286,10 @@ module _ (s : Setting) (geometry : IsGeometry s.geometry) (a : ℕ) (command : C
 
   module _ (gives : ListsGiveFaults) where
     -- what is left goes on fairly
-    abbrev StaysFair : Part End → Type 0
+    abbrev StaysFair : Process End → Type 0
     StaysFair rest = (holds : ℕ → Hold) (sample : Option ℕ) (just : Bool) → Backs s.geometry holds known → Fairly holds sample just rest
 
-    fair-release : (due : InUse) (rest : Part End) → ((k : ℕ) (t : Session) → k < s.geometry.images → known.sessions k ≡ Some t → image_lease k ≢ due.lease) → StaysFair rest → StaysFair (release_then s known due rest)
+    fair-release : (due : InUse) (rest : Process End) → ((k : ℕ) (t : Session) → k < s.geometry.images → known.sessions k ≡ Some t → image_lease k ≢ due.lease) → StaysFair rest → StaysFair (release_then s known due rest)
     fair-release due rest other right holds sample just backs = (
       record { named = tt; spells = tt },
       length-lease Free,
@@ -301,7 +301,7 @@ module _ (s : Setting) (geometry : IsGeometry s.geometry) (a : ℕ) (command : C
     )
 
     -- blocks in hand are given back
-    fair-given : (beside : List InUse) (extent until : ℕ) (blocks : List ℕ) (bits : List Bool) (rest : Part End) → HoldsMap s.geometry.extent_blocks (map_bytes (with_clear blocks (map_at s.geometry extent) bits)) → StaysFair rest →
+    fair-given : (beside : List InUse) (extent until : ℕ) (blocks : List ℕ) (bits : List Bool) (rest : Process End) → HoldsMap s.geometry.extent_blocks (map_bytes (with_clear blocks (map_at s.geometry extent) bits)) → StaysFair rest →
         StaysFair (give_found s known beside extent until blocks (Some bits) rest)
     fair-given beside extent until blocks bits rest spells right holds sample just backs = (
       record { named = tt; spells = spells },
@@ -313,7 +313,7 @@ module _ (s : Setting) (geometry : IsGeometry s.geometry) (a : ℕ) (command : C
       λ reading. refl,
     )
 
-    fair-give : (beside : List InUse) (extent until : ℕ) → extent < s.geometry.extents → (blocks : List ℕ) (rest : Part End) → is_in (map_at s.geometry extent) blocks ≡ false → StaysFair rest → StaysFair (give_part s known beside extent until blocks rest)
+    fair-give : (beside : List InUse) (extent until : ℕ) → extent < s.geometry.extents → (blocks : List ℕ) (rest : Process End) → is_in (map_at s.geometry extent) blocks ≡ false → StaysFair rest → StaysFair (give_process s known beside extent until blocks rest)
     fair-give beside extent until below [] rest out right holds sample just backs = right holds sample just backs
     fair-give beside extent until below (block ∷ blocks) rest out right holds sample just backs = (
       λ bytes spelled.
@@ -327,7 +327,7 @@ module _ (s : Setting) (geometry : IsGeometry s.geometry) (a : ℕ) (command : C
       λ k c u low e' w. map-unconfirmed extent k low e',
     )
 
-    fair-give_up : (beside : List InUse) (hand : List ℕ) → NoMap s.geometry hand → (extent : ℕ) → extent < s.geometry.extents → (hold : Hold) (rest : Part End) → StaysFair rest → StaysFair (retire_extent s known beside hand extent hold rest)
+    fair-give_up : (beside : List InUse) (hand : List ℕ) → NoMap s.geometry hand → (extent : ℕ) → extent < s.geometry.extents → (hold : Hold) (rest : Process End) → StaysFair rest → StaysFair (retire_extent s known beside hand extent hold rest)
     fair-give_up beside hand none extent below (Held claim until) rest right =
         fair-give beside extent until below (in_extent s.geometry extent hand) _ (out-filter _ (map_at s.geometry extent) hand (none extent below))
         (fair-release (extent_use s.geometry extent until) rest (extent-unused extent) right)
@@ -336,12 +336,12 @@ module _ (s : Setting) (geometry : IsGeometry s.geometry) (a : ℕ) (command : C
     fair-give_up beside hand none extent below (Wrote claim until) rest right = right
     fair-give_up beside hand none extent below (Waited claim until) rest right = right
 
-    fair-extents : (beside : List InUse) (first : ℕ → Hold) (hand : List ℕ) → NoMap s.geometry hand → (left extent : ℕ) (rest : Part End) → left + extent ≡ s.geometry.extents → StaysFair rest → StaysFair (retire_extents s known beside first hand left extent rest)
+    fair-extents : (beside : List InUse) (first : ℕ → Hold) (hand : List ℕ) → NoMap s.geometry hand → (left extent : ℕ) (rest : Process End) → left + extent ≡ s.geometry.extents → StaysFair rest → StaysFair (retire_extents s known beside first hand left extent rest)
     fair-extents beside first hand none zero extent rest all right = right
     fair-extents beside first hand none (suc left) extent rest all right =
         fair-give_up beside hand none extent (omega (arith, all)) (first (lease_at (extent_lease s.geometry extent))) _ (fair-extents beside first hand none left (extent + 1) rest (omega (arith, all)) right)
 
-    fair-lease : (lease : ℕ) (session : Option Session) (hold : Hold) (rest : Part End) → (session ≡ None → (k : ℕ) (t : Session) → k < s.geometry.images → known.sessions k ≡ Some t → image_lease k ≢ lease) → StaysFair rest →
+    fair-lease : (lease : ℕ) (session : Option Session) (hold : Hold) (rest : Process End) → (session ≡ None → (k : ℕ) (t : Session) → k < s.geometry.images → known.sessions k ≡ Some t → image_lease k ≢ lease) → StaysFair rest →
         StaysFair (retire_lease s known lease session hold rest)
     fair-lease lease None (Held claim until) rest other right = fair-release (record { lease = lease; until = until }) rest (other refl) right
     fair-lease lease None Nothing rest other right = right
@@ -350,12 +350,12 @@ module _ (s : Setting) (geometry : IsGeometry s.geometry) (a : ℕ) (command : C
     fair-lease lease None (Waited claim until) rest other right = right
     fair-lease lease (Some t) hold rest other right = right
 
-    fair-images : (first : ℕ → Hold) (left image : ℕ) (rest : Part End) → StaysFair rest → StaysFair (retire_images s known first left image rest)
+    fair-images : (first : ℕ → Hold) (left image : ℕ) (rest : Process End) → StaysFair rest → StaysFair (retire_images s known first left image rest)
     fair-images first zero image rest right = right
     fair-images first (suc left) image rest right =
         fair-lease (image_lease image) (known.sessions image) (first (lease_at (image_lease image))) _ (unused-image s.geometry known image) (fair-images first left (image + 1) rest right)
 
-    pub fair-give_back : (first : ℕ → Hold) (hand : List ℕ) → NoMap s.geometry hand → StaysFair (ends reply.Retired known) → StaysFair (retire_part s known first hand)
+    pub fair-give_back : (first : ℕ → Hold) (hand : List ℕ) → NoMap s.geometry hand → StaysFair (ends reply.Retired known) → StaysFair (retire_process s known first hand)
     fair-give_back first hand none right =
         fair-extents [] first hand none s.geometry.extents 0 _ (omega arith) (fair-images first s.geometry.images 0 _
         (fair-lease root_lease None (first (lease_at root_lease)) _ (λ e k t below is same. root-image k (sym same)) right))
@@ -363,13 +363,13 @@ module _ (s : Setting) (geometry : IsGeometry s.geometry) (a : ℕ) (command : C
 -- ---- the commands
 
 module _ (s : Setting) (geometry : IsGeometry s.geometry) (a : ℕ) (known : Known) (holds : ℕ → Hold) (backs : Backs s.geometry holds known) where
-  pub fair-reserve : (hand : List ℕ) (count : _) (sample : Option ℕ) (just : Bool) → IsFair s a (Reserve count) known holds sample just (reserve_part s known holds hand count)
+  pub fair-reserve : (hand : List ℕ) (count : _) (sample : Option ℕ) (just : Bool) → IsFair s a (Reserve count) known holds sample just (reserve_process s known holds hand count)
   fair-reserve hand count sample just =
       fair-take s geometry a (Reserve count) known refl (record { busy = refl; read_fault = refl; write_fault = refl; full = refl; worn = refl; claims = refl }) holds count _
       (λ t h l j e b. fair-still s a (Reserve count) known h l j t.known reply.Reserved e (λ i. refl) b tt (harmless.unnamed refl refl))
       (first_taking [] known hand) holds sample just refl backs
 
-  pub fair-retire : (hand : List ℕ) → NoMap s.geometry hand → (sample : Option ℕ) (just : Bool) → IsFair s a Retire known holds sample just (retire_part s known holds hand)
+  pub fair-retire : (hand : List ℕ) → NoMap s.geometry hand → (sample : Option ℕ) (just : Bool) → IsFair s a Retire known holds sample just (retire_process s known holds hand)
   fair-retire hand none sample just =
       fair-give_back s geometry a Retire known refl (record { read_fault = refl; write_fault = refl }) holds hand none
       (λ h l j b. fair-still s a Retire known h l j known reply.Retired refl (λ i. refl) b tt (harmless.unnamed refl refl))

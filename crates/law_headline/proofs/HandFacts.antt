@@ -9,7 +9,7 @@ use Rattle.plx_commands.specs.Replies.{is_in}
 use Rattle.plx_extent.specs.Maps.{IsMap, HoldsMap, bits_of}
 use Rattle.plx_geom.proofs.Places.{product-high}
 use Rattle.plx_geom.specs.Geometry.{Geometry, IsGeometry, map_at}
-use Rattle.plx_rules.specs.Boot.{Position}
+use Rattle.plx_rules.specs.Boot.{Configuration}
 use Rattle.plx_rules.specs.Hands.{set_since, hand_written, hand_from, hand_unlinked}
 use Rattle.plx_rules.specs.Rests.{filled_blocks}
 use Rattle.law_lease.proofs.Leased.{IsPlaced}
@@ -23,8 +23,8 @@ abbrev pub FoundMap : Geometry → Option (ℕ × List ℕ) → Type 0
 FoundMap g None = Unit {0}
 FoundMap g (Some found) = (extent : ℕ) → extent < g.extents → found.0 ≡ map_at g extent → HoldsMap g.extent_blocks found.1
 
--- so is the hand of a position
-pub record HandFits (g : Geometry) (p : Position) : Type 0 where
+-- so is the hand of a configuration
+pub record HandFits (g : Geometry) (p : Configuration) : Type 0 where
   pub hand : NoMap g p.hand
   pub found : FoundMap g p.found
 

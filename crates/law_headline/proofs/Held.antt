@@ -20,7 +20,7 @@ use Rattle.plx_extent.specs.Maps.{HoldsMap}
 use Rattle.plx_gate.specs.Leases.{lease_bytes, IsLease, IsClaimed}
 use Rattle.plx_gate.specs.declared.image.ImageRecord.{ImageRecord}
 use Rattle.plx_geom.specs.Geometry.{Geometry, lease_count, image_lease, lease_at, record_at, descriptor_at, data_at, map_at}
-use Rattle.plx_rules.specs.Part.{Part, Ends, ReadThen, WriteThen, ClockThen, UntilThen}
+use Rattle.plx_rules.specs.Process.{Process, Ends, ReadThen, WriteThen, ClockThen, UntilThen}
 use Rattle.plx_rules.specs.Journaled.{Journaled}
 use Rattle.plx_rules.specs.Ends.{End}
 use Rattle.plx_rules.specs.Headline.{IsUndamaged}
@@ -98,20 +98,20 @@ HeldEnd g a i command known regime end device =
     × ((s : Session) → end.known.sessions i ≡ Some s → HasImage g i a s device ((model_after_reply m a command end.reply).slots i)) × IsUndamaged end.reply
 
 -- the rest of a command is right while its boot owns the image: after a failed write, or once the release is asked, it doesn't
-abbrev pub HeldPart : Geometry → ℕ → ℕ → Command → Known → Regime → Part End → Device → Type 0
-HeldPart g a i command known regime (Ends end) device = HeldEnd g a i command known regime end device
-HeldPart g a i command known regime (ReadThen block rest fault) device =
-    IsOf g i block × HeldPart g a i command known regime (rest (device block)) device × HeldPart g a i command known regime fault device
-HeldPart g a i command known regime (WriteThen kind.Release block bytes guard done fault missed) device =
-    ((m : Model) → Looks g a i command known regime m → HoldsSlot g device i (m.slots i)) × HeldPart g a i command known regime done device
-HeldPart g a i command known regime (WriteThen what block bytes guard done fault missed) device =
+abbrev pub HeldProcess : Geometry → ℕ → ℕ → Command → Known → Regime → Process End → Device → Type 0
+HeldProcess g a i command known regime (Ends end) device = HeldEnd g a i command known regime end device
+HeldProcess g a i command known regime (ReadThen block rest fault) device =
+    IsOf g i block × HeldProcess g a i command known regime (rest (device block)) device × HeldProcess g a i command known regime fault device
+HeldProcess g a i command known regime (WriteThen kind.Release block bytes guard done fault missed) device =
+    ((m : Model) → Looks g a i command known regime m → HoldsSlot g device i (m.slots i)) × HeldProcess g a i command known regime done device
+HeldProcess g a i command known regime (WriteThen what block bytes guard done fault missed) device =
     IsOf g i block
     × ((flags : List Bool) → length flags ≡ 8 → (m : Model) → Looks g a i command known regime m → HoldsSlot g (put device block (with_landed_sectors flags bytes (device block))) i (m.slots i))
-    × HeldPart g a i command known regime done (put device block bytes)
+    × HeldProcess g a i command known regime done (put device block bytes)
     × IsWith regime
     × OnlyBytes what bytes (device block)
-HeldPart g a i command known regime (ClockThen rest) device = (reading : ℕ) → HeldPart g a i command known regime (rest reading) device
-HeldPart g a i command known regime (UntilThen from rest) device = (reading : ℕ) → HeldPart g a i command known regime (rest reading) device
+HeldProcess g a i command known regime (ClockThen rest) device = (reading : ℕ) → HeldProcess g a i command known regime (rest reading) device
+HeldProcess g a i command known regime (UntilThen from rest) device = (reading : ℕ) → HeldProcess g a i command known regime (rest reading) device
 
 -- ---- whoever owns the image
 
@@ -128,7 +128,7 @@ abbrev pub Backs : Geometry → (ℕ → Hold) → Known → Type 0
 Backs g holds known = (k : ℕ) (s : Session) → known.sessions k ≡ Some s → IsBacking g holds k
 
 -- a failed or missed write ends the command, and drops all
-abbrev pub IsDrop : Part End → Type 0
+abbrev pub IsDrop : Process End → Type 0
 IsDrop (Ends end) = IsDropping end.reply
 IsDrop other = ⊥
 
@@ -160,11 +160,11 @@ abbrev pub just_at : Geometry → Command → (ℕ → Hold) → ℕ → Bool
 just_at g command holds reading = is_some_slot (named_slots command) && are_below g holds reading (named_slots command)
 
 -- the reread that shows the boot's own claim makes it the owner
-abbrev pub IsRightOnceConfirmed : Geometry → ℕ → Command → Known → (ℕ → Hold) → ℕ → (List ℕ → Part End) → Type 0
+abbrev pub IsRightOnceConfirmed : Geometry → ℕ → Command → Known → (ℕ → Hold) → ℕ → (List ℕ → Process End) → Type 0
 IsRightOnceConfirmed g a command known holds block rest =
     (i : ℕ) (claim : Claim) (until : ℕ) → i < g.images → block ≡ lease_at (image_lease i) → holds (lease_at (image_lease i)) ≡ Waited claim until →
     (command ≡ Attach (record { 0 = i })) × ((device : Device) (kept : ImageRecord) (writes : List Journaled) → IsJournal g device i kept writes →
-    HeldPart g a i command known (Without kept writes) (rest (lease_bytes (Claimed claim until))) device)
+    HeldProcess g a i command known (Without kept writes) (rest (lease_bytes (Claimed claim until))) device)
 
 -- a write of a record or a journal is one of the named image's
 abbrev pub IsNamed : Geometry → Command → WriteKind → ℕ → Type 0
@@ -184,7 +184,7 @@ pub record IsSpelled (g : Geometry) (block : ℕ) (bytes : List ℕ) : Type 0 wh
   pub map : (extent : ℕ) → extent < g.extents → block ≡ map_at g extent → HoldsMap g.extent_blocks bytes
 
 -- the rest of a command is right whoever owns the images: `just` says that a reading below the end of each named image's lease came directly before
-abbrev pub Fair : Geometry → ℕ → Command → Known → (ℕ → Hold) → Option ℕ → Bool → Part End → Type 0
+abbrev pub Fair : Geometry → ℕ → Command → Known → (ℕ → Hold) → Option ℕ → Bool → Process End → Type 0
 Fair g a command known holds sample just (Ends end) = IsFairEnd g command known holds just end
 Fair g a command known holds sample just (ReadThen block rest fault) =
     ((bytes : List ℕ) → IsSpelled g block bytes → Fair g a command known (after_answer sample (ask.Read (record { 0 = block })) [] (answer.Bytes bytes) holds) None false (rest bytes))

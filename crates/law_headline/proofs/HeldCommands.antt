@@ -25,18 +25,18 @@ use Rattle.plx_gate.specs.declared.descriptor.Descriptor.{Descriptor}
 use Rattle.plx_gate.specs.declared.image.ImageRecord.{ImageRecord}
 use Rattle.plx_geom.specs.Geometry.{record_at, descriptor_at, data_at}
 use Rattle.plx_base.proofs.Tests.{eqb-true, nat_lt-false, nat_lt-tells, nat_le-false, nat_le-tells, not-false, and-parts}
-use Rattle.plx_rules.specs.Part.{Part}
+use Rattle.plx_rules.specs.Process.{Process}
 use Rattle.plx_rules.specs.Journaled.{Journaled}
 use Rattle.plx_rules.specs.Attaching.{image_use, attach_ends, after_load, load_journal, after_record, load_image}
-use Rattle.plx_rules.specs.Ends.{End, ends, lost_part, read_failed, in_time, ends_in_time}
+use Rattle.plx_rules.specs.Ends.{End, ends, lost_process, read_failed, in_time, ends_in_time}
 use Rattle.plx_rules.specs.InUse.{InUse, first_reached, unless_reached}
 use Rattle.plx_rules.specs.Journal.{finding, Finding, Unused, Counts, descriptor_of}
-use Rattle.plx_rules.specs.Loading.{LoadEnd, load_found, load_part, gap_found}
-use Rattle.plx_rules.specs.Parts.{followed_by}
+use Rattle.plx_rules.specs.Loading.{LoadEnd, load_found, load_process, gap_found}
+use Rattle.plx_rules.specs.Processes.{followed_by}
 use Rattle.plx_rules.specs.Records.{is_live, is_plain, taken_of, applied_of, plain_record, attached_record}
 use Rattle.plx_rules.specs.Session.{Session, Known, with_session, with_write_by_number, first_gap, session_report}
 use Rattle.plx_rules.specs.Settings.{Setting}
-use Rattle.law_headline.proofs.Held.{Regime, Without, Looks, HasImage, HeldPart}
+use Rattle.law_headline.proofs.Held.{Regime, Without, Looks, HasImage, HeldProcess}
 use Rattle.plx_gate.proofs.Images.{image-back}
 use Rattle.law_headline.proofs.JournalFacts.{finding-commit}
 use Rattle.law_headline.proofs.Journals.{IsJournal, IsShown, ShowEither, HoldsSlot}
@@ -65,7 +65,7 @@ lost-listed Reclaim = refl
 module _ (s : Setting) (a i : ℕ) (command : Command) (known : Known) (regime : Regime) (device : Device)
     (keeps : (m : Model) → Looks s.geometry a i command known regime m → HoldsSlot s.geometry device i (m.slots i)) where
   -- the end of a lease is reached
-  pub held-lost : (k : Known) (due : InUse) (reading : ℕ) → HeldPart s.geometry a i command known regime (lost_part s k due reading) device
+  pub held-lost : (k : Known) (due : InUse) (reading : ℕ) → HeldProcess s.geometry a i command known regime (lost_process s k due reading) device
   held-lost k due reading = λ m looks. (let kept = keeps m looks in (
     other-answers m a command _ (lost-listed command) refl refl,
     record { kept = kept.kept; writes = kept.writes; journal = kept.journal; either = kept.either },
@@ -74,17 +74,17 @@ module _ (s : Setting) (a i : ℕ) (command : Command) (known : Known) (regime :
   ))
 
   -- a reading that has reached no lease in use
-  pub held-in-time : (k : Known) (uses : List InUse) (reading : ℕ) (part : Part End) → HeldPart s.geometry a i command known regime part device →
-      HeldPart s.geometry a i command known regime (in_time s k uses reading part) device
-  held-in-time k uses reading part held = by_reached (first_reached uses reading)
+  pub held-in-time : (k : Known) (uses : List InUse) (reading : ℕ) (process : Process End) → HeldProcess s.geometry a i command known regime process device →
+      HeldProcess s.geometry a i command known regime (in_time s k uses reading process) device
+  held-in-time k uses reading process held = by_reached (first_reached uses reading)
     where
-      by_reached : (o : Option InUse) → HeldPart s.geometry a i command known regime (unless_reached o (λ due. lost_part s k due reading) part) device
+      by_reached : (o : Option InUse) → HeldProcess s.geometry a i command known regime (unless_reached o (λ due. lost_process s k due reading) process) device
       by_reached None = held
       by_reached (Some due) = held-lost k due reading
 
   -- a last reading
-  pub held-ends : (k after : Known) (uses : List InUse) (reply : Reply) → HeldPart s.geometry a i command known regime (ends reply after) device →
-      HeldPart s.geometry a i command known regime (ends_in_time s k uses reply after) device
+  pub held-ends : (k after : Known) (uses : List InUse) (reply : Reply) → HeldProcess s.geometry a i command known regime (ends reply after) device →
+      HeldProcess s.geometry a i command known regime (ends_in_time s k uses reply after) device
   held-ends k after uses reply held = λ reading. held-in-time k uses reading (ends reply after) held
 
 -- ---- reports
@@ -170,8 +170,8 @@ module _ (s : Setting) (a i : ℕ) (within : i < s.geometry.images) (few : s.geo
   -- ---- an attach
 
   module _ (device : Device) (kept : ImageRecord) (writes : List Journaled) (journal : IsJournal s.geometry device i kept writes) (none : known.sessions i ≡ None) where
-    abbrev Attaches : Part End → Type 0
-    Attaches part = HeldPart s.geometry a i (Attach (slot_no i)) known (Without kept writes) part device
+    abbrev Attaches : Process End → Type 0
+    Attaches process = HeldProcess s.geometry a i (Attach (slot_no i)) known (Without kept writes) process device
 
     keeps-without : (m : Model) → Looks s.geometry a i (Attach (slot_no i)) known (Without kept writes) m → HoldsSlot s.geometry device i (m.slots i)
     keeps-without m looks = record { kept = kept; writes = writes; journal = journal; either = looks.slot.0 }
@@ -214,14 +214,14 @@ module _ (s : Setting) (a i : ℕ) (within : i < s.geometry.images) (few : s.geo
 
     -- the journal, slot by slot
     module _ (k : Known) (until : ℕ) (none' : k.sessions i ≡ None) where
-      abbrev Loads : Part LoadEnd → Type 0
-      Loads part = Attaches (followed_by part (after_load s k i until kept))
+      abbrev Loads : Process LoadEnd → Type 0
+      Loads process = Attaches (followed_by process (after_load s k i until kept))
 
-      held-unused : (block : ℕ) (found : Finding) (unused : Part LoadEnd) (counts : ℕ → ℕ → Part LoadEnd) → found ≡ Unused → Loads unused → Loads (load_found block found unused counts)
+      held-unused : (block : ℕ) (found : Finding) (unused : Process LoadEnd) (counts : ℕ → ℕ → Process LoadEnd) → found ≡ Unused → Loads unused → Loads (load_found block found unused counts)
       held-unused block found unused counts is held =
           let P : Finding → Type 0 = λ f. Loads (load_found block f unused counts) in subst P (sym is) held
 
-      held-counts : (block : ℕ) (found : Finding) (unused : Part LoadEnd) (counts : ℕ → ℕ → Part LoadEnd) (d : Descriptor) → found ≡ Counts d → Loads (counts d.number d.vblock) →
+      held-counts : (block : ℕ) (found : Finding) (unused : Process LoadEnd) (counts : ℕ → ℕ → Process LoadEnd) (d : Descriptor) → found ≡ Counts d → Loads (counts d.number d.vblock) →
           Loads (load_found block found unused counts)
       held-counts block found unused counts d is held =
           let P : Finding → Type 0 = λ f. Loads (load_found block f unused counts) in subst P (sym is) held
@@ -233,7 +233,7 @@ module _ (s : Setting) (a i : ℕ) (within : i < s.geometry.images) (few : s.geo
           (λ j v at. (let number = journal.numbers j v (take-get place writes j v at) in let mine = journal.numbers place w found in let less = take-below place writes j v at in omega (arith, number, mine, less)))
           ∙ more
 
-      held-load : (left place : ℕ) → left + place ≡ s.geometry.slots → Loads (load_part s.geometry i kept left place (take place writes))
+      held-load : (left place : ℕ) → left + place ≡ s.geometry.slots → Loads (load_process s.geometry i kept left place (take place writes))
       held-load zero place all =
           let whole : take place writes ≡ writes = take_all place writes (let fits = journal.fits in omega (arith, all, fits)) in
           let P : List Journaled → Type 0 = λ ws. Attaches (after_load s k i until kept (gap_found s.geometry i ws (first_gap (applied_of kept) ws))) in
@@ -247,8 +247,8 @@ module _ (s : Setting) (a i : ℕ) (within : i < s.geometry.images) (few : s.geo
               | inl found ↦ held-counts (descriptor_at s.geometry i place) (finding kept s.geometry.slots place (device (descriptor_at s.geometry i place))) _ _ (descriptor_of kept found.0)
                   (finding-commit s.geometry device i kept writes journal few place found.0 found.2) (
                     inr (place, (omega (arith, all)), inr refl),
-                    (let P : List ℕ → Type 0 = λ x. Loads (load_part s.geometry i kept left (place + 1) (with_write_by_number (record { number = found.0.number; vblock = found.0.vblock; block = x }) (take place writes))) in
-                        let Q : List Journaled → Type 0 = λ ws. Loads (load_part s.geometry i kept left (place + 1) ws) in
+                    (let P : List ℕ → Type 0 = λ x. Loads (load_process s.geometry i kept left (place + 1) (with_write_by_number (record { number = found.0.number; vblock = found.0.vblock; block = x }) (take place writes))) in
+                        let Q : List Journaled → Type 0 = λ ws. Loads (load_process s.geometry i kept left (place + 1) ws) in
                         subst P (sym (journal.blocks place found.0 found.2))
                         (subst Q (sym (taken-more place found.0 found.2 (sym (take_more writes place found.0 found.1 ∙ ap (λ (x : Journaled). take place writes ++ x ∷ []) found.3)))) ih)),
                     held-fault k (data_at s.geometry i place) none',

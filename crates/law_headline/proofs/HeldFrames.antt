@@ -12,13 +12,13 @@ use Rattle.plx_commands.specs.Model.{Model, Slot}
 use Rattle.plx_commands.specs.declared.command.Command.{Command}
 use Rattle.plx_gate.specs.declared.image.ImageRecord.{ImageRecord}
 use Rattle.plx_geom.specs.Geometry.{Geometry, record_at, descriptor_at, data_at}
-use Rattle.plx_rules.specs.Part.{Part, Ends, ReadThen, WriteThen, ClockThen, UntilThen}
+use Rattle.plx_rules.specs.Process.{Process, Ends, ReadThen, WriteThen, ClockThen, UntilThen}
 use Rattle.plx_rules.specs.Journaled.{Journaled}
 use Rattle.plx_rules.specs.Ends.{End}
 use Rattle.plx_rules.specs.Session.{Session, Known}
 use Rattle.law_headline.proofs.BytesByKind.{OnlyBytes}
 use Rattle.law_model.proofs.Foreign.{Foreign}
-use Rattle.law_headline.proofs.Held.{Regime, Without, With, LooksSlot, Looks, HasImage, IsOf, HeldPart}
+use Rattle.law_headline.proofs.Held.{Regime, Without, With, LooksSlot, Looks, HasImage, IsOf, HeldProcess}
 use Rattle.law_headline.proofs.JournalFacts.{IsJournal-same, Keeps-same}
 use Rattle.law_headline.proofs.Journals.{IsShown, ShowEither, HoldsSlot, Same}
 use Rattle.law_model.specs.Sound.{Differs}
@@ -137,21 +137,21 @@ has-same g i a s d e slot same has = record {
 
 module _ (g : Geometry) (a i : ℕ) (command : Command) (known : Known) (regime : Regime) where
   -- on a device that holds the same of the image
-  pub held-part-same : (part : Part End) (d e : Device) → Same g i d e → HeldPart g a i command known regime part d → HeldPart g a i command known regime part e
-  held-part-same (Ends end) d e same held = λ m looks. (let h = held m looks in
+  pub held-process-same : (process : Process End) (d e : Device) → Same g i d e → HeldProcess g a i command known regime process d → HeldProcess g a i command known regime process e
+  held-process-same (Ends end) d e same held = λ m looks. (let h = held m looks in
       (h.0, Keeps-same g d e i _ same h.1, λ s is. has-same g i a s d e _ same (h.2 s is), h.3))
-  held-part-same (ReadThen block rest fault) d e same held = (
+  held-process-same (ReadThen block rest fault) d e same held = (
     held.0,
-    (let P : List ℕ → Type 0 = λ x. HeldPart g a i command known regime (rest x) e in subst P (sym (same-at g i block d e held.0 same)) (held-part-same (rest (d block)) d e same held.1)),
-    held-part-same fault d e same held.2,
+    (let P : List ℕ → Type 0 = λ x. HeldProcess g a i command known regime (rest x) e in subst P (sym (same-at g i block d e held.0 same)) (held-process-same (rest (d block)) d e same held.1)),
+    held-process-same fault d e same held.2,
   )
-  held-part-same (WriteThen what block bytes guard done fault missed) d e same held =
-      by_kind what held (λ h. held-part-same done (put d block bytes) (put e block bytes) (same-put g i block bytes d e same) h) (λ h. held-part-same done d e same h)
+  held-process-same (WriteThen what block bytes guard done fault missed) d e same held =
+      by_kind what held (λ h. held-process-same done (put d block bytes) (put e block bytes) (same-put g i block bytes d e same) h) (λ h. held-process-same done d e same h)
     where
-      by_kind : (k : WriteKind) → HeldPart g a i command known regime (WriteThen k block bytes guard done fault missed) d →
-          (HeldPart g a i command known regime done (put d block bytes) → HeldPart g a i command known regime done (put e block bytes)) →
-          (HeldPart g a i command known regime done d → HeldPart g a i command known regime done e) →
-          HeldPart g a i command known regime (WriteThen k block bytes guard done fault missed) e
+      by_kind : (k : WriteKind) → HeldProcess g a i command known regime (WriteThen k block bytes guard done fault missed) d →
+          (HeldProcess g a i command known regime done (put d block bytes) → HeldProcess g a i command known regime done (put e block bytes)) →
+          (HeldProcess g a i command known regime done d → HeldProcess g a i command known regime done e) →
+          HeldProcess g a i command known regime (WriteThen k block bytes guard done fault missed) e
       by_kind kind.Release held next plain = ((λ m looks. Keeps-same g d e i (m.slots i) same (held.0 m looks)), plain held.1)
       by_kind other held next plain = (
         held.0,
@@ -164,8 +164,8 @@ module _ (g : Geometry) (a i : ℕ) (command : Command) (known : Known) (regime 
         held.3,
         (let O : List ℕ → Type 0 = λ x. OnlyBytes other bytes x in subst O (sym (same-at g i block d e held.0 same)) held.4),
       )
-  held-part-same (ClockThen rest) d e same held = λ reading. held-part-same (rest reading) d e same (held reading)
-  held-part-same (UntilThen from rest) d e same held = λ reading. held-part-same (rest reading) d e same (held reading)
+  held-process-same (ClockThen rest) d e same held = λ reading. held-process-same (rest reading) d e same (held reading)
+  held-process-same (UntilThen from rest) d e same held = λ reading. held-process-same (rest reading) d e same (held reading)
 
 -- a landing of the write that is asked
 pub keeps-landed : (g : Geometry) (i block k : ℕ) (bytes : List ℕ) (d : Device) (slot : Slot) → k < 8 → length bytes ≡ 4096 → length (d block) ≡ 4096 →

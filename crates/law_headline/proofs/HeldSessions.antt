@@ -34,17 +34,17 @@ use Rattle.plx_gate.proofs.Descriptors.{descriptor-back}
 use Rattle.plx_geom.specs.Geometry.{record_at, descriptor_at, data_at}
 use Rattle.law_headline.proofs.JournalFacts.{journal_slot-next}
 use Rattle.plx_base.proofs.Tests.{nat_lt-true, not-false, nat_le-past}
-use Rattle.plx_rules.specs.Part.{Part}
+use Rattle.plx_rules.specs.Process.{Process}
 use Rattle.plx_rules.specs.Journaled.{Journaled}
 use Rattle.plx_rules.specs.Attaching.{image_use}
-use Rattle.plx_rules.specs.Commands.{unless, record_part, create_part, delete_part, read_part, journal_part, write_part}
+use Rattle.plx_rules.specs.Commands.{unless, record_process, create_process, delete_process, read_process, journal_process, write_process}
 use Rattle.plx_rules.specs.Ends.{End, ends, write_then, ends_in_time}
 use Rattle.plx_rules.specs.Headline.{IsUndamaged}
 use Rattle.plx_rules.specs.Journal.{journal_slot, descriptor_of}
 use Rattle.plx_rules.specs.Records.{is_live, is_plain, generation_of, size_of, applied_of, made_record}
 use Rattle.plx_rules.specs.Session.{Session, Known, with_session, new_session, write_count, content, with_write}
 use Rattle.plx_rules.specs.Settings.{Setting}
-use Rattle.law_headline.proofs.Held.{With, Looks, HasImage, HeldPart}
+use Rattle.law_headline.proofs.Held.{With, Looks, HasImage, HeldProcess}
 use Rattle.law_headline.proofs.HeldFrames.{same-all}
 use Rattle.law_headline.proofs.ImageFacts.{image-drop}
 use Rattle.law_headline.proofs.JournalFacts.{IsJournal-data, IsJournal-same, IsJournal-more, IsJournal-made, kept-limits}
@@ -66,8 +66,8 @@ module _ (s : Setting) (a i : ℕ) (within : i < s.geometry.images) (few : s.geo
   abbrev Sees : Command → Option Image → Model → Type 0
   Sees command change m = Looks s.geometry a i command known (With image change) m
 
-  abbrev Sits : Command → Option Image → Part End → Type 0
-  Sits command change part = HeldPart s.geometry a i command known (With image change) part device
+  abbrev Sits : Command → Option Image → Process End → Type 0
+  Sits command change process = HeldProcess s.geometry a i command known (With image change) process device
 
   attached-in : (command : Command) (change : Option Image) (m : Model) → Sees command change m → m.sessions a i ≡ true
   attached-in command change m looks = looks.running.sessions i ∙ ap (λ (o : Option Session). is_some o) has
@@ -146,7 +146,7 @@ module _ (s : Setting) (a i : ℕ) (within : i < s.geometry.images) (few : s.geo
   of_kept : (vblock : ℕ) → of_none image ++ of_block image vblock ≡ where_holds (not (is_live kept)) NoImage ++ where_holds (nat_le (size_of kept) vblock) (OutOfRange (size_of kept))
   of_kept vblock = rw (left.live, left.size) refl
 
-  pub held-read : (vblock until : ℕ) → Sits (Read (slot_no i) vblock) None (read_part s known i vblock session until)
+  pub held-read : (vblock until : ℕ) → Sits (Read (slot_no i) vblock) None (read_process s known i vblock session until)
   held-read vblock until = by_tests (not (is_live kept)) (nat_le (size_of kept) vblock) refl refl
     where
       command : Command
@@ -181,7 +181,7 @@ module _ (s : Setting) (a i : ℕ) (within : i < s.geometry.images) (few : s.geo
   -- ---- a write
 
   -- a write, from its place and number
-  abbrev writing_at : ℕ → List ℕ → ℕ → (place number : ℕ) → Part End
+  abbrev writing_at : ℕ → List ℕ → ℕ → (place number : ℕ) → Process End
   writing_at vblock bytes until place number =
       write_then s known (record { lease = 1 + i; until = until }) kind.JData (data_at s.geometry i place) bytes
       (write_then s known (record { lease = 1 + i; until = until }) kind.JCommit (descriptor_at s.geometry i place)
@@ -277,11 +277,11 @@ module _ (s : Setting) (a i : ℕ) (within : i < s.geometry.images) (few : s.geo
         )
 
     pub held-write : (is_live kept ≡ true → vblock < size_of kept → is_worn last_write (write_count session) ≡ false → change ≡ Some (image_after_write image vblock (bytes_of payload))) →
-        Sits writes_block change (write_part s known i vblock (bytes_of payload) session until)
+        Sits writes_block change (write_process s known i vblock (bytes_of payload) session until)
     held-write is-change = by_tests (not (is_live kept)) (nat_le (size_of kept) vblock) (is_worn last_write (write_count session)) (length writes == s.geometry.slots) refl refl refl refl
       where
         writing : not (is_live kept) ≡ false → nat_le (size_of kept) vblock ≡ false → is_worn last_write (write_count session) ≡ false → (length writes == s.geometry.slots) ≡ false →
-            Sits writes_block change (journal_part s known i vblock (bytes_of payload) session until)
+            Sits writes_block change (journal_process s known i vblock (bytes_of payload) session until)
         writing lives less young room =
             let fits = journal.fits in
             let room' : length writes < s.geometry.slots = elim (eqb_tells (length writes) s.geometry.slots) [
@@ -298,7 +298,7 @@ module _ (s : Setting) (a i : ℕ) (within : i < s.geometry.images) (few : s.geo
 
         by_tests : (x y z f : Bool) → not (is_live kept) ≡ x → nat_le (size_of kept) vblock ≡ y → is_worn last_write (write_count session) ≡ z → (length writes == s.geometry.slots) ≡ f →
             Sits writes_block change (unless x NoImage known (unless y (OutOfRange (size_of kept)) known (unless z (WornOut last_write) known (unless f Full known
-            (journal_part s known i vblock (bytes_of payload) session until)))))
+            (journal_process s known i vblock (bytes_of payload) session until)))))
         by_tests true y z f ex ey ez ef = held-founded writes_block change NoImage refl refl refl (inl refl) tt
             (λ m looks. let P : List Reply → Type 0 = λ l. IsAmong NoImage l in subst P (sym (write-facts m looks true y z ex ey ez)) (inl refl))
         by_tests false true z f ex ey ez ef = held-founded writes_block change (OutOfRange (size_of kept)) refl refl refl (inl refl) tt
@@ -314,7 +314,7 @@ module _ (s : Setting) (a i : ℕ) (within : i < s.geometry.images) (few : s.geo
       IsImage new → is_plain new ≡ true → applied_of new ≡ 0 → generation_of kept ≤ generation_of new → (is_live new ≡ true → generation_of kept < generation_of new) →
       ((m : Model) → Sees command change m → Answers m a command done') →
       ((m : Model) → (model_after_reply m a command done').slots i ≡ at m.slots i (slot_after_change (m.slots i)) i) →
-      Sits command change (record_part s known i until new done')
+      Sits command change (record_process s known i until new done')
   held-record command change new image' until done' fine is-change shown limits plain unapplied later fresh answers slots =
       let block = record_at s.geometry i in
       let session' = new_session new in
@@ -361,13 +361,13 @@ module _ (s : Setting) (a i : ℕ) (within : i < s.geometry.images) (few : s.geo
   owned-one m owner = ap (λ (b : Bool). b && true) (owns-own (m.slots i).owner a owner)
 
   pub held-delete : (until : ℕ) (change : Option Image) → (is_live kept ≡ true → change ≡ Some (free_image image.generation)) →
-      Sits (Delete (slot_no i)) change (delete_part s known i session until)
+      Sits (Delete (slot_no i)) change (delete_process s known i session until)
   held-delete until change is-change = by_test (not (is_live kept)) refl
     where
       facts : (m : Model) → Sees (Delete (slot_no i)) change m → (x : Bool) → not (is_live kept) ≡ x → refusals m a (Delete (slot_no i)) ≡ where_holds x NoImage
       facts m looks x ex = facts-of (Delete (slot_no i)) change m looks of_none ∙ (rw left.live refl ∙ ap (λ (b : Bool). where_holds b NoImage) ex)
 
-      by_test : (x : Bool) → not (is_live kept) ≡ x → Sits (Delete (slot_no i)) change (unless x NoImage known (record_part s known i until (image_is.Free (generation_of kept)) Deleted))
+      by_test : (x : Bool) → not (is_live kept) ≡ x → Sits (Delete (slot_no i)) change (unless x NoImage known (record_process s known i until (image_is.Free (generation_of kept)) Deleted))
       by_test true ex = held-founded (Delete (slot_no i)) change NoImage refl refl refl (inl refl) tt
           (λ m looks. let P : List Reply → Type 0 = λ l. IsAmong NoImage l in subst P (sym (facts m looks true ex)) (inl refl))
       by_test false ex =
@@ -379,7 +379,7 @@ module _ (s : Setting) (a i : ℕ) (within : i < s.geometry.images) (few : s.geo
 
   pub held-create : (size : ℕ) (label : List ℕ) (until : ℕ) (change : Option Image) → IsLabel label →
       (is_live kept ≡ false → not (is_size size) ≡ false → is_worn last_generation (generation_of kept) ≡ false → change ≡ Some (new_image (image.generation + 1) size label)) →
-      Sits (Create (slot_no i) size label) change (create_part s known i size label session until)
+      Sits (Create (slot_no i) size label) change (create_process s known i size label session until)
   held-create size label until change is-label is-change = by_tests (is_live kept) (not (is_size size)) (is_worn last_generation (generation_of kept)) refl refl refl
     where
       facts : (m : Model) → Sees (Create (slot_no i) size label) change m → (x y z : Bool) → is_live kept ≡ x → not (is_size size) ≡ y → is_worn last_generation (generation_of kept) ≡ z →
@@ -396,7 +396,7 @@ module _ (s : Setting) (a i : ℕ) (within : i < s.geometry.images) (few : s.geo
 
       by_tests : (x y z : Bool) → is_live kept ≡ x → not (is_size size) ≡ y → is_worn last_generation (generation_of kept) ≡ z →
           Sits (Create (slot_no i) size label) change (unless x Exists known (unless y (OutOfRange greatest_size) known (unless z (WornOut last_generation) known
-          (record_part s known i until (made_record (generation_of kept + 1) size label) Created))))
+          (record_process s known i until (made_record (generation_of kept + 1) size label) Created))))
       by_tests true y z ex ey ez = held-founded (Create (slot_no i) size label) change Exists refl refl refl (inl refl) tt
           (λ m looks. let P : List Reply → Type 0 = λ l. IsAmong Exists l in subst P (sym (facts m looks true y z ex ey ez)) (inl refl))
       by_tests false true z ex ey ez = held-founded (Create (slot_no i) size label) change (OutOfRange greatest_size) refl refl refl (inl refl) tt

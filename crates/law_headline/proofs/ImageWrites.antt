@@ -10,7 +10,7 @@ use Rattle.plx_commands.specs.declared.command.Command.{Command}
 use Rattle.plx_geom.proofs.Places.{image-extent, image-image}
 use Rattle.plx_geom.specs.Geometry.{Geometry, IsGeometry, image_lease, extent_lease, record_at, descriptor_at, data_at}
 use Rattle.plx_geom.specs.declared.place.Place.TheVariants as place
-use Rattle.plx_rules.specs.Part.{Part, WriteThen}
+use Rattle.plx_rules.specs.Process.{Process, WriteThen}
 use Rattle.plx_rules.specs.Ends.{End}
 use Rattle.plx_rules.specs.Holds.{Hold}
 use Rattle.plx_rules.specs.Rests.{home_of}
@@ -21,7 +21,7 @@ use Rattle.law_lease.proofs.Frame.{SameUnder}
 use Rattle.law_lease.proofs.Leased.{MayIssue, MayUse, IsPlaced}
 use Rattle.law_lease.proofs.Rests.{home-in}
 use Rattle.law_headline.proofs.Content.{IsJournalled}
-use Rattle.law_headline.proofs.Held.{Regime, IsWith, Looks, IsOf, HeldPart, IsNamed}
+use Rattle.law_headline.proofs.Held.{Regime, IsWith, Looks, IsOf, HeldProcess, IsNamed}
 use Rattle.law_headline.proofs.Journals.{HoldsSlot, Same}
 use Rattle.law_headline.proofs.BytesByKind.{OnlyBytes}
 use Rattle.law_headline.proofs.PlacedByKind.{KeepsImage, PlacedBy}
@@ -98,30 +98,30 @@ placed-block g kind.JData block bytes rests home placed is = inl (placed.0, plac
 placed-block g kind.JCommit block bytes rests home placed is = inl (placed.0, placed.2, same-some home (image_lease placed.0) (sym is ∙ ap home_of placed.5), inr (placed.1, placed.3, inl placed.4), tt)
 placed-block g other block bytes rests home placed is = absurd placed
 
-module _ (g : Geometry) (a i : ℕ) (command : Command) (known : Known) (regime : Regime) (block : ℕ) (bytes : List ℕ) (guard : ℕ) (done fault : Part End) (missed : ℕ → Part End) (device : Device) where
+module _ (g : Geometry) (a i : ℕ) (command : Command) (known : Known) (regime : Regime) (block : ℕ) (bytes : List ℕ) (guard : ℕ) (done fault : Process End) (missed : ℕ → Process End) (device : Device) where
   -- what an owner owes where it asks for a write of its image: whatever of it lands the image is kept, and what follows is right on the device with all of it landed
   pub record IsImageWrite (k : WriteKind) : Type 0 where
     pub of : IsOf g i block
     pub keeps : (flags : List Bool) → length flags ≡ 8 → (m : Model) → Looks g a i command known regime m → HoldsSlot g (put device block (with_landed_sectors flags bytes (device block))) i (m.slots i)
-    pub follows : HeldPart g a i command known regime done (put device block bytes)
+    pub follows : HeldProcess g a i command known regime done (put device block bytes)
     pub changes : IsWith regime
     pub only : OnlyBytes k bytes (device block)
 
-  pub held-image-write : (k : WriteKind) → IsJournalled k → HeldPart g a i command known regime (WriteThen k block bytes guard done fault missed) device → IsImageWrite k
+  pub held-image-write : (k : WriteKind) → IsJournalled k → HeldProcess g a i command known regime (WriteThen k block bytes guard done fault missed) device → IsImageWrite k
   held-image-write kind.Record is held = record { of = held.0; keeps = held.1; follows = held.2; changes = held.3; only = held.4 }
   held-image-write kind.JData is held = record { of = held.0; keeps = held.1; follows = held.2; changes = held.3; only = held.4 }
   held-image-write kind.JCommit is held = record { of = held.0; keeps = held.1; follows = held.2; changes = held.3; only = held.4 }
   held-image-write other is held = absurd is
 
-  pub image-held : (k : WriteKind) → IsJournalled k → IsImageWrite k → HeldPart g a i command known regime (WriteThen k block bytes guard done fault missed) device
+  pub image-held : (k : WriteKind) → IsJournalled k → IsImageWrite k → HeldProcess g a i command known regime (WriteThen k block bytes guard done fault missed) device
   image-held kind.Record is write = (write.of, write.keeps, write.follows, write.changes, write.only)
   image-held kind.JData is write = (write.of, write.keeps, write.follows, write.changes, write.only)
   image-held kind.JCommit is write = (write.of, write.keeps, write.follows, write.changes, write.only)
   image-held other is write = absurd is
 
   -- an owner asks for the release of its lease, or for a write of its image
-  pub held-or : (k : WriteKind) → HeldPart g a i command known regime (WriteThen k block bytes guard done fault missed) device →
-      (HeldPart g a i command known regime done device) ⊎ (IsOf g i block)
+  pub held-or : (k : WriteKind) → HeldProcess g a i command known regime (WriteThen k block bytes guard done fault missed) device →
+      (HeldProcess g a i command known regime done device) ⊎ (IsOf g i block)
   held-or kind.Release held = inl held.1
   held-or other held = inr held.0
 

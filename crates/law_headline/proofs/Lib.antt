@@ -8,7 +8,7 @@ pub mod ContentWrites
 pub mod CrashesProved
 pub mod FairAttach
 pub mod FairCommands
-pub mod FairParts
+pub mod FairProcesses
 pub mod FairSpace
 pub mod HandFacts
 pub mod Harmless

@@ -20,10 +20,10 @@ use Rattle.plx_radix.specs.Nodes.{pointer_of}
 use Rattle.plx_radix.proofs.Nodes.{pointer-hole}
 use Rattle.plx_radix.proofs.Paths.{paths_agree}
 use Rattle.plx_radix.specs.Paths.{Hole, To, end}
-use Rattle.plx_rules.specs.Boot.{Place, In, Position}
+use Rattle.plx_rules.specs.Boot.{Place, In, Configuration}
 use Rattle.plx_rules.specs.Ends.{End}
 use Rattle.plx_rules.specs.Formatted.{IsFormatted}
-use Rattle.plx_rules.specs.Part.{Part, WriteThen}
+use Rattle.plx_rules.specs.Process.{Process, WriteThen}
 use Rattle.plx_rules.specs.Records.{root_of, taken_of}
 use Rattle.plx_rules.specs.Rests.{extent_of, home_of, rests_on}
 use Rattle.plx_rules.specs.Session.{Known}
@@ -67,7 +67,7 @@ module _ (names : ℕ → ℕ → Type 0) (w : World) (reached : Reached w) (con
   abbrev d : Device
   d = w.surface.device
 
-  abbrev p : Position
+  abbrev p : Configuration
   p = stands w a
 
   abbrev boot : ℕ
@@ -76,7 +76,7 @@ module _ (names : ℕ → ℕ → Type 0) (w : World) (reached : Reached w) (con
   abbrev leased : Leased w
   leased = reached-leased reached
 
-  module _ (block : ℕ) (bytes : List ℕ) (guard : ℕ) (done fault : Part End) (missed : ℕ → Part End) (none : (w.seats a).pending ≡ None) where
+  module _ (block : ℕ) (bytes : List ℕ) (guard : ℕ) (done fault : Process End) (missed : ℕ → Process End) (none : (w.seats a).pending ≡ None) where
     abbrev StandsAt : WriteKind → Type 0
     StandsAt k = p.place ≡ In known command (WriteThen k block bytes guard done fault missed)
 

@@ -22,13 +22,13 @@ use Rattle.plx_disk.specs.declared.ask.Answer.TheVariants as answer
 use Rattle.plx_gate.proofs.Leases.{lease-back, length-lease}
 use Rattle.plx_gate.specs.Leases.{IsLease, lease_bytes, read_lease}
 use Rattle.plx_geom.specs.Geometry.{Geometry, lease_at}
-use Rattle.plx_rules.specs.Boot.{In, after_part, place_of}
-use Rattle.plx_rules.specs.Claims.{ClaimEnd, ClaimHeld, ClaimLost, ClaimReadFault, claim_of, end_of_term, own_record, own_use, claim_in_time, if_expired, reread_by, reread_part, written_part, seen_part, claim_part}
+use Rattle.plx_rules.specs.Boot.{In, after_process, place_of}
+use Rattle.plx_rules.specs.Claims.{ClaimEnd, ClaimHeld, ClaimLost, ClaimReadFault, claim_of, end_of_term, own_record, own_use, claim_in_time, if_expired, reread_by, reread_process, written_process, seen_process, claim_process}
 use Rattle.plx_rules.specs.Ends.{End}
 use Rattle.plx_rules.specs.Holds.{Hold, Nothing, Seen, Wrote, Waited, Held, hold_after_claim, hold_after_reading, hold_after_reread, seen_by}
 use Rattle.plx_rules.specs.InUse.{InUse, unless_reached}
-use Rattle.plx_rules.specs.Part.{Part, Ends, ReadThen, UntilThen}
-use Rattle.plx_rules.specs.Parts.{followed_by}
+use Rattle.plx_rules.specs.Process.{Process, Ends, ReadThen, UntilThen}
+use Rattle.plx_rules.specs.Processes.{followed_by}
 use Rattle.plx_rules.specs.Session.{Known}
 use Rattle.plx_rules.specs.Times.{is_expired, wait, window}
 use Rattle.plx_rules.specs.World.{with_reply_of}
@@ -36,7 +36,7 @@ use Rattle.law_lease.proofs.Stages.{Spot, Stage, hold_next, same-places, stage-a
 
 module _ (g : Geometry) (appliances : ℕ) (few : appliances ≤ 8) (lease : ℕ) {t : ℕ} {d : Device} {p : ℕ → Spot} {tr : List Entry}
     (st : Stage g appliances few (lease_at lease) t d p tr) (a : ApplianceNo) (below : a.0 < appliances)
-    (known : Known) (command : Command) (boot number : ℕ) (next : ClaimEnd → Part End) where
+    (known : Known) (command : Command) (boot number : ℕ) (next : ClaimEnd → Process End) where
   -- the stages of the claim
   abbrev S : ℕ → Device → (ℕ → Spot) → Type 0
   S time device places = Stage g appliances few (lease_at lease) time device places tr
@@ -58,31 +58,31 @@ module _ (g : Geometry) (appliances : ℕ) (few : appliances ≤ 8) (lease : ℕ
   uses = own_use lease claim ∷ []
 
   -- the rest once it has read its clock
-  abbrev reads_lease : Part End
-  reads_lease = followed_by (ReadThen (lease_at lease) (λ bytes. seen_part [] lease claim (read_lease bytes)) (Ends ClaimReadFault)) next
+  abbrev reads_lease : Process End
+  reads_lease = followed_by (ReadThen (lease_at lease) (λ bytes. seen_process [] lease claim (read_lease bytes)) (Ends ClaimReadFault)) next
 
   -- once it has read the lease
-  abbrev writes_claim : Part End
-  writes_claim = followed_by (written_part [] lease claim) next
+  abbrev writes_claim : Process End
+  writes_claim = followed_by (written_process [] lease claim) next
 
   -- once its claim is written
-  abbrev awaits : Part End
-  awaits = followed_by (UntilThen (t + wait) (λ reading. claim_in_time uses reading (reread_part uses lease claim))) next
+  abbrev awaits : Process End
+  awaits = followed_by (UntilThen (t + wait) (λ reading. claim_in_time uses reading (reread_process uses lease claim))) next
 
   -- once it has waited
-  abbrev rereads : Part End
-  rereads = followed_by (reread_part uses lease claim) next
+  abbrev rereads : Process End
+  rereads = followed_by (reread_process uses lease claim) next
 
   -- and once the lease is held
-  abbrev pub part_once_held : Part End
-  part_once_held = next (ClaimHeld claim until)
+  abbrev pub process_once_held : Process End
+  process_once_held = next (ClaimHeld claim until)
 
   -- where it stands with this rest of the command
-  abbrev spot : Hold → Option ℕ → Part End → Spot
+  abbrev spot : Hold → Option ℕ → Process End → Spot
   spot hold sample rest = record { hold = hold; sample = sample; place = place_of known command rest }
 
   -- what is held next, where the spot of the appliance was changed
-  held-next : (q : ℕ → Spot) (s : Spot) (asked : Ask) (bytes : List ℕ) (ans : Answer) (rest : Part End) (hold : Hold) →
+  held-next : (q : ℕ → Spot) (s : Spot) (asked : Ask) (bytes : List ℕ) (ans : Answer) (rest : Process End) (hold : Hold) →
       hold_next (lease_at lease) s asked bytes ans rest ≡ hold → hold_next (lease_at lease) (at q a.0 s a.0) asked bytes ans rest ≡ hold
   held-next q s asked bytes ans rest hold held = ap (λ (x : Spot). hold_next (lease_at lease) x asked bytes ans rest) (at-same q a.0 s) ∙ held
 
@@ -91,7 +91,7 @@ module _ (g : Geometry) (appliances : ℕ) (few : appliances ≤ 8) (lease : ℕ
   place-next q s = ap (λ (x : Spot). x.place) (at-same q a.0 s)
 
   -- it was about to claim the lease, of which it held nothing; the lease was free or expired, and the claim can be written
-  module _ (here : (p a.0).place ≡ In known command (followed_by (claim_part boot [] lease number) next)) (none : (p a.0).hold ≡ Nothing)
+  module _ (here : (p a.0).place ≡ In known command (followed_by (claim_process boot [] lease number) next)) (none : (p a.0).hold ≡ Nothing)
       (found : List ℕ) (there : d (lease_at lease) ≡ found) (seen : LeaseRecord) (says : read_lease found ≡ Some seen) (over : is_expired seen t ≡ true)
       (is : IsLease (own_record claim)) (soon : t + wait < 2 ^ 47) where
     -- the places once it has read its clock
@@ -107,7 +107,7 @@ module _ (g : Geometry) (appliances : ℕ) (few : appliances ≤ 8) (lease : ℕ
 
     once-seen : S t d seen_places
     once-seen = stage-after-read g appliances few (lease_at lease) once-sampled a below known command (lease_at lease) _ _ (place-next p (spot Nothing (Some t) reads_lease)) found there writes_claim
-        (ap (λ (x : Option LeaseRecord). followed_by (seen_part [] lease claim x) next) says ∙ ap (λ (x : Bool). followed_by (if_expired x seen (written_part [] lease claim)) next) over)
+        (ap (λ (x : Option LeaseRecord). followed_by (seen_process [] lease claim x) next) says ∙ ap (λ (x : Bool). followed_by (if_expired x seen (written_process [] lease claim)) next) over)
         (Seen t) (held-next p (spot Nothing (Some t) reads_lease) (ask.Read (record { 0 = lease_at lease })) [] (answer.Bytes found) writes_claim (Seen t)
         (at-same (λ b. Nothing) (lease_at lease) (seen_by (read_lease found) t)
         ∙ (ap (λ (x : Option LeaseRecord). seen_by x t) says ∙ ap (λ (x : Bool). if x then Seen t else Nothing) over)))
@@ -129,24 +129,24 @@ module _ (g : Geometry) (appliances : ℕ) (few : appliances ≤ 8) (lease : ℕ
     once-waited : S (t + wait) (put d (lease_at lease) own_bytes) waited_places
     once-waited = stage-after-wait g appliances few (lease_at lease) (stage-after-tick g appliances few (lease_at lease) once-written wait soon) a below known command (t + wait) _
         (place-next seen_places (spot (Wrote claim until) None awaits)) (omega arith) rereads
-        (ap (λ (reached : Bool). followed_by (unless_reached (if reached then Some (own_use lease claim) else None) (λ due. Ends (ClaimLost due (t + wait))) (reread_part uses lease claim)) next)
+        (ap (λ (reached : Bool). followed_by (unless_reached (if reached then Some (own_use lease claim) else None) (λ due. Ends (ClaimLost due (t + wait))) (reread_process uses lease claim)) next)
         (nat_le-false until (t + wait) (omega arith)))
         (Waited claim until) (held-next seen_places (spot (Wrote claim until) None awaits) (ask.Until (t + wait)) [] (answer.Reading (t + wait)) rereads (Waited claim until)
         (ap (λ (x : Bool). if x && nat_lt (t + wait) until then Waited claim until else Wrote claim until) (nat_le-true (t + wait) (t + wait) (omega arith))
         ∙ ap (λ (x : Bool). if x then Waited claim until else Wrote claim until) (nat_lt-true (t + wait) until (omega arith))))
 
     -- it holds the lease from the second reading on, where the rest doesn't end with a loss
-    pub lease-claimed : after_part part_once_held (λ b. Held claim until) (lease_at lease) ≡ Held claim until →
+    pub lease-claimed : after_process process_once_held (λ b. Held claim until) (lease_at lease) ≡ Held claim until →
         Stage g appliances few (lease_at lease) (t + wait) (put d (lease_at lease) own_bytes)
-        (at p a.0 (record { hold = Held claim until; sample = None; place = place_of known command part_once_held })) (with_reply_of a part_once_held tr)
+        (at p a.0 (record { hold = Held claim until; sample = None; place = place_of known command process_once_held })) (with_reply_of a process_once_held tr)
     lease-claimed kept =
         let own : bytes_eq own_bytes own_bytes ≡ true = (bytes_eq-Decides own_bytes own_bytes).1 refl in
         same-places g appliances few (lease_at lease)
         (stage-after-read g appliances few (lease_at lease) once-waited a below known command (lease_at lease) _ _ (place-next written_places (spot (Waited claim until) (Some (t + wait)) rereads))
-        own_bytes (put-same d (lease_at lease) own_bytes) part_once_held
+        own_bytes (put-same d (lease_at lease) own_bytes) process_once_held
         (ap (λ (x : Bool). followed_by (reread_by x uses claim (read_lease own_bytes)) next) own)
-        (Held claim until) (held-next written_places (spot (Waited claim until) (Some (t + wait)) rereads) (ask.Read (record { 0 = lease_at lease })) [] (answer.Bytes own_bytes) part_once_held (Held claim until)
-        (ap (λ (x : Hold). after_part part_once_held (λ b. x) (lease_at lease))
+        (Held claim until) (held-next written_places (spot (Waited claim until) (Some (t + wait)) rereads) (ask.Read (record { 0 = lease_at lease })) [] (answer.Bytes own_bytes) process_once_held (Held claim until)
+        (ap (λ (x : Hold). after_process process_once_held (λ b. x) (lease_at lease))
         (at-same (λ b. Waited claim until) (lease_at lease) (hold_after_reread (bytes_eq own_bytes own_bytes) (Held claim until)) ∙ ap (λ (x : Bool). hold_after_reread x (Held claim until)) own)
         ∙ kept)))
         _ (λ b. elim (eqb_tells b a.0) [ inl same ↦ rw same.0 refl | inr other ↦ rw other.0 refl ])

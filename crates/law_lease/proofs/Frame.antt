@@ -15,7 +15,7 @@ use Rattle.plx_disk.proofs.Lists.{set-other, set-same, push-before, push-last}
 use Rattle.plx_disk.specs.Writes.{Issued, MayLand, fresh_write, with_sector, all_sectors}
 use Rattle.plx_geom.proofs.Places.{lease-lease, image-below, extent-below}
 use Rattle.plx_geom.specs.Geometry.{Geometry, lease_count, lease_at, root_lease, image_lease, extent_lease}
-use Rattle.plx_rules.specs.Boot.{Position, position}
+use Rattle.plx_rules.specs.Boot.{Configuration, configuration}
 use Rattle.plx_rules.specs.Holds.{Held}
 use Rattle.plx_rules.specs.Owners.{pending_write, first_landed, is_set}
 use Rattle.plx_rules.specs.Rests.{AreWithin, IsUnder, extent_of, extents_of, home_of}
@@ -121,8 +121,8 @@ module _ (w : World) (leased : Leased w) (a : ℕ) (below : a < w.appliances) (f
   abbrev since : ℕ → List ℕ
   since = at w.rests (length w.surface.writes) leases
 
-  abbrev stands : ℕ → Position
-  stands b = position (setting_at w.geometry b (w.seats b).boots) (w.seats b).log
+  abbrev stands : ℕ → Configuration
+  stands b = configuration (setting_at w.geometry b (w.seats b).boots) (w.seats b).log
 
   -- a boot that waits for no write holds what its log says
   pub grips-free : (lease : ℕ) (claim : Claim) (until : ℕ) → (stands a).holds (lease_at lease) ≡ Held claim until → w.surface.time ≤ until + 50 → GripsLease w.geometry w.surface.time w.surface.writes a (w.seats a) lease claim until
@@ -217,8 +217,8 @@ module _ (w : World) (leased : Leased w) (number sector : ℕ) (write : Issued) 
   abbrev writes : List Issued
   writes = w.surface.writes
 
-  abbrev p : ℕ → Position
-  p b = position (setting_at g b (w.seats b).boots) (w.seats b).log
+  abbrev p : ℕ → Configuration
+  p b = configuration (setting_at g b (w.seats b).boots) (w.seats b).log
 
   abbrev now : List Issued
   now = slice_set writes number (with_sector write sector)

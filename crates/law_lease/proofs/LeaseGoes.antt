@@ -13,9 +13,9 @@ use Rattle.plx_base.specs.declared.write_kind.WriteKind.TheVariants as kind
 use Rattle.plx_disk.specs.Writes.{Issued, all_sectors}
 use Rattle.plx_commands.specs.Places.{at}
 use Rattle.plx_commands.proofs.Places.{at-all, at-same, at-other}
-use Rattle.plx_rules.specs.Part.{Part, Ends, ReadThen, WriteThen, ClockThen, UntilThen}
+use Rattle.plx_rules.specs.Process.{Process, Ends, ReadThen, WriteThen, ClockThen, UntilThen}
 use Rattle.plx_rules.specs.Session.{Session}
-use Rattle.plx_rules.specs.Boot.{Happening, Position, position, after_part}
+use Rattle.plx_rules.specs.Boot.{BootEntry, Configuration, configuration, after_process}
 use Rattle.plx_rules.specs.Claims.{claim_of}
 use Rattle.plx_rules.specs.Ends.{End}
 use Rattle.plx_rules.specs.Holds.{Hold, Nothing, Seen, Wrote, Waited, Held}
@@ -41,13 +41,13 @@ module _ (rests : ℕ → List ℕ) (time : ℕ) (writes : List Issued) (lease :
   good-reply (reply.Lost i u r) holds block good = tt
   good-reply other holds block good = good
 
-  pub good-part : (part : Part End) (holds : ℕ → Hold) (block : ℕ) → Good rests time writes lease standing boot None (holds block) →
-      Good rests time writes lease standing boot None (after_part part holds block)
-  good-part (Ends end) holds block good = good-reply end.reply holds block good
-  good-part (ReadThen b rest fault) holds block good = good
-  good-part (WriteThen k b bytes guard done fault missed) holds block good = good
-  good-part (ClockThen rest) holds block good = good
-  good-part (UntilThen from rest) holds block good = good
+  pub good-process : (process : Process End) (holds : ℕ → Hold) (block : ℕ) → Good rests time writes lease standing boot None (holds block) →
+      Good rests time writes lease standing boot None (after_process process holds block)
+  good-process (Ends end) holds block good = good-reply end.reply holds block good
+  good-process (ReadThen b rest fault) holds block good = good
+  good-process (WriteThen k b bytes guard done fault missed) holds block good = good
+  good-process (ClockThen rest) holds block good = good
+  good-process (UntilThen from rest) holds block good = good
 
   -- a reading: a claim may have waited
   pub good-timed : (reading : ℕ) (hold : Hold) → reading ≤ time + 50 → Good rests time writes lease standing boot None hold → Good rests time writes lease standing boot None (hold_after_reading reading hold)
@@ -176,19 +176,19 @@ module _ (g : Geometry) (rests : ℕ → List ℕ) (appliances time : ℕ) (devi
   abbrev boot : ℕ
   boot = boot_number a (seats a).boots
 
-  abbrev p : Position
-  p = position (setting_at g a (seats a).boots) (seats a).log
+  abbrev p : Configuration
+  p = configuration (setting_at g a (seats a).boots) (seats a).log
 
-  -- a log that leads to some position, where no write is issued
-  pub lease-at-log : (log : List Happening) (q : Position) → position (setting_at g a (seats a).boots) log ≡ q → Good rests time writes lease on.standing boot None (q.holds (lease_at lease)) →
+  -- a log that leads to some configuration, where no write is issued
+  pub lease-at-log : (log : List BootEntry) (q : Configuration) → configuration (setting_at g a (seats a).boots) log ≡ q → Good rests time writes lease on.standing boot None (q.holds (lease_at lease)) →
       LeaseOn g rests appliances time device writes (at seats a (record { boots = (seats a).boots; log = log; pending = None })) lease
   lease-at-log log q leads good =
       lease-seat (record { boots = (seats a).boots; log = log; pending = None })
-      (let P : Position → Type 0 = λ r. Good rests time writes lease on.standing boot None (grip_at r.place None (lease_at lease) (r.holds (lease_at lease))) in
+      (let P : Configuration → Type 0 = λ r. Good rests time writes lease on.standing boot None (grip_at r.place None (lease_at lease) (r.holds (lease_at lease))) in
       let H : Hold → Type 0 = λ h. Good rests time writes lease on.standing boot None h in
       subst P (sym leads) (subst H (sym (grip-open q.place None (lease_at lease) (q.holds (lease_at lease)) refl)) good))
 
-  -- what is held at a position that waits for no write
+  -- what is held at a configuration that waits for no write
   pub good-free : a < appliances → (seats a).pending ≡ None → Good rests time writes lease on.standing boot None (p.holds (lease_at lease))
   good-free below free =
       let G : Option ℕ → Type 0 = λ o. Good rests time writes lease on.standing boot o (grip_at p.place (pending_write writes o) (lease_at lease) (p.holds (lease_at lease))) in

@@ -13,7 +13,7 @@ use Rattle.plx_commands.specs.Places.{at}
 use Rattle.plx_commands.proofs.Places.{at-all}
 use Rattle.plx_disk.proofs.Lists.{push-last}
 use Rattle.law_lease.proofs.Lists.{push-cases}
-use Rattle.plx_rules.specs.Boot.{Position, position}
+use Rattle.plx_rules.specs.Boot.{Configuration, configuration}
 use Rattle.plx_rules.specs.Claims.{claim_of}
 use Rattle.plx_rules.specs.Holds.{Hold, Nothing, Seen, Wrote, Waited, Held}
 use Rattle.plx_geom.specs.Geometry.{Geometry, IsGeometry, lease_count, lease_at}
@@ -56,8 +56,8 @@ module _ (g : Geometry) (rests : ℕ → List ℕ) (appliances time : ℕ) (devi
   abbrev boot : ℕ
   boot = boot_number a (seats a).boots
 
-  abbrev p : Position
-  p = position (setting_at g a (seats a).boots) (seats a).log
+  abbrev p : Configuration
+  p = configuration (setting_at g a (seats a).boots) (seats a).log
 
   abbrev write : Issued
   write = fresh_write boot what block bytes guard
@@ -97,7 +97,7 @@ module _ (g : Geometry) (rests : ℕ → List ℕ) (appliances time : ℕ) (devi
       by_pending : (b : ℕ) → b ≢ a → b < appliances → (q : Option ℕ) → (seats b).pending ≡ q → GoodSeat g since time now lease on.standing b (seats b)
       by_pending b ne under q is =
           let bb = boot_number b (seats b).boots in
-          let pb = position (setting_at g b (seats b).boots) (seats b).log in
+          let pb = configuration (setting_at g b (seats b).boots) (seats b).log in
           let F : Option Issued → Type 0 = λ o. Good since time now lease on.standing bb (seats b).pending (grip_at pb.place o (lease_at lease) (pb.holds (lease_at lease))) in
           subst F (sym (same b ne under (seats b).pending refl)) (others b under ne (grip_at pb.place (pending_write writes (seats b).pending) (lease_at lease) (pb.holds (lease_at lease))) (on.each b under))
         where

@@ -10,11 +10,11 @@ use Rattle.plx_base.specs.declared.write_kind.WriteKind.{WriteKind}
 use Rattle.plx_base.specs.declared.write_kind.WriteKind.TheVariants as kind
 use Rattle.plx_base.proofs.Tests.{eqb-true, eqb-false}
 use Rattle.plx_disk.specs.Writes.{Issued, with_sector, all_sectors}
-use Rattle.plx_rules.specs.Part.{Ends, ReadThen, WriteThen, ClockThen, UntilThen}
+use Rattle.plx_rules.specs.Process.{Ends, ReadThen, WriteThen, ClockThen, UntilThen}
 use Rattle.plx_disk.proofs.Lists.{set-same, set-other}
 use Rattle.plx_rules.specs.Times.{window, term}
 use Rattle.law_lease.proofs.Lists.{pending-is, whole-none}
-use Rattle.plx_rules.specs.Boot.{Place, Idle, Begins, In, position}
+use Rattle.plx_rules.specs.Boot.{Place, Idle, Begins, In, configuration}
 use Rattle.plx_rules.specs.Holds.{Hold, Held}
 use Rattle.plx_geom.specs.Geometry.{Geometry, lease_count, lease_at}
 use Rattle.plx_rules.specs.Holds.{hold_after_renewal}
@@ -164,8 +164,8 @@ module _ (g : Geometry) (rests : ℕ → List ℕ) (appliances time : ℕ) (devi
   seat-landed : (changed : LeaseRecord) (a : ℕ) → a < appliances →
       ((seats a).pending ≢ Some number → (hold : Hold) → Good rests time writes lease on.standing (boot_number a (seats a).boots) (seats a).pending hold →
       Good rests time now lease changed (boot_number a (seats a).boots) (seats a).pending hold) →
-      ((seats a).pending ≡ Some number → (hold : Hold) → MayBeAsked g (boot_number a (seats a).boots) (position (setting_at g a (seats a).boots) (seats a).log).holds write.kind write.block write.bytes write.guard →
-      (position (setting_at g a (seats a).boots) (seats a).log).holds (lease_at lease) ≡ hold →
+      ((seats a).pending ≡ Some number → (hold : Hold) → MayBeAsked g (boot_number a (seats a).boots) (configuration (setting_at g a (seats a).boots) (seats a).log).holds write.kind write.block write.bytes write.guard →
+      (configuration (setting_at g a (seats a).boots) (seats a).log).holds (lease_at lease) ≡ hold →
       Good rests time writes lease on.standing (boot_number a (seats a).boots) (seats a).pending (grip_while write.kind (lease_at lease == write.block) (first_landed (Some write)) write.bytes hold) →
       Good rests time now lease changed (boot_number a (seats a).boots) (seats a).pending
       (grip_while write.kind (lease_at lease == write.block) (first_landed (Some (with_sector write sector))) write.bytes hold)) →
@@ -173,7 +173,7 @@ module _ (g : Geometry) (rests : ℕ → List ℕ) (appliances time : ℕ) (devi
   seat-landed changed a below others mine =
       let seat = seats a in
       let boot = boot_number a seat.boots in
-      let p = position (setting_at g a seat.boots) seat.log in
+      let p = configuration (setting_at g a seat.boots) seat.log in
       let hold = p.holds (lease_at lease) in
       elim (pending-is seat.pending number) [
         | inl is ↦
@@ -323,8 +323,8 @@ module _ (g : Geometry) (rests : ℕ → List ℕ) (appliances time : ℕ) (devi
 
     -- of a seat that waits for another write, or for this one
     needed-seats : (changed : LeaseRecord) → ((sample : ℕ) → sample ≤ time + 50 → SparesLease on.standing sample → SparesLease changed sample) →
-        ((a : ℕ) → (seats a).pending ≡ Some number → (hold : Hold) → MayBeAsked g (boot_number a (seats a).boots) (position (setting_at g a (seats a).boots) (seats a).log).holds write.kind write.block write.bytes write.guard →
-        (position (setting_at g a (seats a).boots) (seats a).log).holds (lease_at lease) ≡ hold →
+        ((a : ℕ) → (seats a).pending ≡ Some number → (hold : Hold) → MayBeAsked g (boot_number a (seats a).boots) (configuration (setting_at g a (seats a).boots) (seats a).log).holds write.kind write.block write.bytes write.guard →
+        (configuration (setting_at g a (seats a).boots) (seats a).log).holds (lease_at lease) ≡ hold →
         Good rests time writes lease on.standing (boot_number a (seats a).boots) (seats a).pending hold →
         Good rests time now lease changed (boot_number a (seats a).boots) (seats a).pending
         (grip_while write.kind true true write.bytes hold)) →
@@ -374,7 +374,7 @@ module _ (g : Geometry) (rests : ℕ → List ℕ) (appliances time : ℕ) (devi
       (needed-seats here first needs unlanded landed-now changed clears
       (λ a pending hold may same good.
       let boot = boot_number a (seats a).boots in
-      let holds = (position (setting_at g a (seats a).boots) (seats a).log).holds in
+      let holds = (configuration (setting_at g a (seats a).boots) (seats a).log).holds in
       let M : WriteKind → Type 0 = λ k. MayBeAsked g boot holds k write.block write.bytes write.guard in
       let renew = (subst M is may).1 in
       let lease-is : lease ≡ renew.lease = lease-lease lease renew.lease (here ∙ renew.at_lease) in

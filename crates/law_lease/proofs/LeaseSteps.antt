@@ -24,8 +24,8 @@ use Rattle.plx_disk.specs.declared.ask.Answer.TheVariants as answer
 use Rattle.plx_geom.specs.Geometry.{Geometry, IsGeometry, lease_count, image_lease, extent_lease, lease_at}
 use Rattle.plx_geom.specs.declared.place.Place.TheVariants as place
 use Rattle.plx_gate.specs.Leases.{lease_bytes}
-use Rattle.plx_rules.specs.Part.{Part, Ends, ReadThen, WriteThen, ClockThen, UntilThen}
-use Rattle.plx_rules.specs.Boot.{Happening, Began, Asked, Place, Idle, Begins, In, Position, position, place_of, after_part, goes_to, place_after_begin, first_part, went_on}
+use Rattle.plx_rules.specs.Process.{Process, Ends, ReadThen, WriteThen, ClockThen, UntilThen}
+use Rattle.plx_rules.specs.Boot.{BootEntry, Began, Asked, Place, Idle, Begins, In, Configuration, configuration, place_of, after_process, goes_to, place_after_begin, first_process, went_on}
 use Rattle.plx_rules.specs.Claims.{claim_of}
 use Rattle.plx_rules.specs.Commands.{IsWellFormed}
 use Rattle.plx_rules.specs.Ends.{End}
@@ -41,7 +41,7 @@ use Rattle.plx_rules.specs.World.{World, Seat, Step, Reached, IsReadingAt, first
 use Rattle.plx_rules.specs.Times.{term}
 use Rattle.law_lease.proofs.EachCommand.{lawful-command}
 use Rattle.law_lease.proofs.LeaseFrames.{Shrinks, good-shrinks}
-use Rattle.law_lease.proofs.LeaseGoes.{good-part, good-timed, good-first, lease-at-log, good-free, good-read, good-written}
+use Rattle.law_lease.proofs.LeaseGoes.{good-process, good-timed, good-first, lease-at-log, good-free, good-read, good-written}
 use Rattle.law_lease.proofs.LeaseIssues.{lease-issued}
 use Rattle.law_lease.proofs.LeaseLands.{lease-lands}
 use Rattle.law_lease.proofs.Leased.{MayIssue, LawfulRest, LawfulAt, IsLiveWrite, Good, GoodSeat, LeaseOn, IsPlaced, IsRight, IsAskedAt, IsLawfulSeat, Leased}
@@ -77,7 +77,7 @@ lease-ticks g rests appliances time later device writes seats lease passed on =
 
 -- only a write waits for one that is issued
 pub not-waiting : (g : Geometry) (time : ℕ) (writes : List Issued) (a : ℕ) (seat : Seat) (place : Place) → IsLawfulSeat g time writes a seat →
-    (position (setting_at g a seat.boots) seat.log).place ≡ place → ((boot : ℕ) (x : Issued) → IsAskedAt place boot x → ⊥) → seat.pending ≡ None
+    (configuration (setting_at g a seat.boots) seat.log).place ≡ place → ((boot : ℕ) (x : Issued) → IsAskedAt place boot x → ⊥) → seat.pending ≡ None
 not-waiting g time writes a seat place is here no-ask = by_pending seat.pending refl
   where
     by_pending : (q : Option ℕ) → seat.pending ≡ q → seat.pending ≡ None
@@ -87,9 +87,9 @@ not-waiting g time writes a seat place is here no-ask = by_pending seat.pending 
         absurd (no-ask (boot_number a seat.boots) asked.0
         (let P : Place → Type 0 = λ p. IsAskedAt p (boot_number a seat.boots) asked.0 in subst P here asked.2))
 
-lawful-placed : (g : Geometry) (boot : ℕ) (known : Known) (command : Command) (holds : ℕ → Hold) (filled : List (ℕ × List ℕ)) (sample : Option ℕ) (part : Part End) →
-    LawfulRest g boot command holds (filled_held g holds filled) sample part →
-    LawfulAt g boot (after_part part holds) (filled_held g (after_part part holds) filled) sample (place_of known command part)
+lawful-placed : (g : Geometry) (boot : ℕ) (known : Known) (command : Command) (holds : ℕ → Hold) (filled : List (ℕ × List ℕ)) (sample : Option ℕ) (process : Process End) →
+    LawfulRest g boot command holds (filled_held g holds filled) sample process →
+    LawfulAt g boot (after_process process holds) (filled_held g (after_process process holds) filled) sample (place_of known command process)
 lawful-placed g boot known command holds filled sample (Ends end) lawful = tt
 lawful-placed g boot known command holds filled sample (ReadThen block rest fault) lawful = lawful
 lawful-placed g boot known command holds filled sample (WriteThen k block bytes guard done fault missed) lawful = lawful
@@ -115,15 +115,15 @@ module _ (w : World) (leased : Leased w) (a : ℕ) (below : a < w.appliances) (t
   abbrev boot : ℕ
   boot = setting.boot
 
-  abbrev with-log : List Happening → World
+  abbrev with-log : List BootEntry → World
   with-log log = record w {
     seats = at w.seats a (record { boots = (w.seats a).boots; log = log; pending = None });
     trace = trace;
     history = history;
   }
 
-  -- the log leads to a position that waits for no write
-  log-leased : (log : List Happening) (q : Position) → position setting log ≡ q →
+  -- the log leads to a configuration that waits for no write
+  log-leased : (log : List BootEntry) (q : Configuration) → configuration setting log ≡ q →
       ((lease : ℕ) (within : lease < lease_count g) → Good w.rests time writes lease (leased.on lease within).standing boot None (q.holds (lease_at lease))) →
       LawfulAt g boot q.holds q.filled q.sample q.place → ((s : ℕ) → q.sample ≡ Some s → s ≤ time + 50) → Leased (with-log log)
   log-leased log q leads good lawful sampled = record {
@@ -135,8 +135,8 @@ module _ (w : World) (leased : Leased w) (a : ℕ) (below : a < w.appliances) (t
     seated = at-all (λ b s. b < w.appliances → IsLawfulSeat g time writes b s) w.seats a _
         (λ below'. record {
           boots = (leased.seated a below).boots;
-          lawful = (let P : Position → Type 0 = λ r. LawfulAt g boot r.holds r.filled r.sample r.place in subst P (sym leads) lawful);
-          sampled = (let P : Position → Type 0 = λ r. (s : ℕ) → r.sample ≡ Some s → s ≤ time + 50 in subst P (sym leads) sampled);
+          lawful = (let P : Configuration → Type 0 = λ r. LawfulAt g boot r.holds r.filled r.sample r.place in subst P (sym leads) lawful);
+          sampled = (let P : Configuration → Type 0 = λ r. (s : ℕ) → r.sample ≡ Some s → s ≤ time + 50 in subst P (sym leads) sampled);
           asked = λ n e. absurd (none-some n e);
         })
         (λ b ne below'. leased.seated b below');
@@ -144,17 +144,17 @@ module _ (w : World) (leased : Leased w) (a : ℕ) (below : a < w.appliances) (t
   }
 
   -- an ask was answered
-  went-leased : (log : List Happening) (known : Known) (command : Command) (holds : ℕ → Hold) (hand : List ℕ) (filled : List (ℕ × List ℕ)) (sample : Option ℕ) (found : Option (ℕ × List ℕ)) {latest : ℕ} (part : Part End) →
-      position setting log ≡ goes_to g known command holds hand filled sample found latest part →
+  went-leased : (log : List BootEntry) (known : Known) (command : Command) (holds : ℕ → Hold) (hand : List ℕ) (filled : List (ℕ × List ℕ)) (sample : Option ℕ) (found : Option (ℕ × List ℕ)) {latest : ℕ} (process : Process End) →
+      configuration setting log ≡ goes_to g known command holds hand filled sample found latest process →
       ((lease : ℕ) (within : lease < lease_count g) → Good w.rests time writes lease (leased.on lease within).standing boot None (holds (lease_at lease))) →
-      LawfulRest g boot command holds (filled_held g holds filled) sample part → ((s : ℕ) → sample ≡ Some s → s ≤ time + 50) → Leased (with-log log)
-  went-leased log known command holds hand filled sample found {latest} part leads good lawful sampled =
-      log-leased log (goes_to g known command holds hand filled sample found latest part) leads
-      (λ lease within. good-part w.rests time writes lease (leased.on lease within).standing boot part holds (lease_at lease) (good lease within))
-      (lawful-placed g boot known command holds filled sample part lawful) sampled
+      LawfulRest g boot command holds (filled_held g holds filled) sample process → ((s : ℕ) → sample ≡ Some s → s ≤ time + 50) → Leased (with-log log)
+  went-leased log known command holds hand filled sample found {latest} process leads good lawful sampled =
+      log-leased log (goes_to g known command holds hand filled sample found latest process) leads
+      (λ lease within. good-process w.rests time writes lease (leased.on lease within).standing boot process holds (lease_at lease) (good lease within))
+      (lawful-placed g boot known command holds filled sample process lawful) sampled
 
-  abbrev p : Position
-  p = position setting seat.log
+  abbrev p : Configuration
+  p = configuration setting seat.log
 
   lawful-at : (place : Place) → p.place ≡ place → LawfulAt g boot p.holds p.filled p.sample place
   lawful-at place here = let P : Place → Type 0 = λ q. LawfulAt g boot p.holds p.filled p.sample q in subst P here (leased.seated a below).lawful
@@ -179,7 +179,7 @@ module _ (w : World) (leased : Leased w) (a : ℕ) (below : a < w.appliances) (t
   begin-leased known command reading here is =
       let free = not-waiting g time writes a seat (Begins known command) (leased.seated a below) here (λ b x no'. no') in
       went-leased (Asked ask.Clock [] (answer.Reading reading) ∷ seat.log) known command (after_first g known reading p.holds) _ [] (Some reading) _
-      (first_part setting known reading command p)
+      (first_process setting known reading command p)
       (ap (went_on setting ask.Clock [] (answer.Reading reading) p) here)
       (λ lease within. good-first w.rests time writes lease (leased.on lease within).standing boot (session_at g known (lease_at lease)) reading (p.holds (lease_at lease))
       (good-free g w.rests w.appliances time w.surface.device writes w.seats lease (leased.on lease within) a below free))
@@ -187,7 +187,7 @@ module _ (w : World) (leased : Leased w) (a : ℕ) (below : a < w.appliances) (t
       (λ s e. let f = some-same reading s e in let l = is.early in omega (arith, f, l))
 
   module _ (known : Known) (command : Command) where
-    pub read-leased : (block : ℕ) (rest : List ℕ → Part End) (fault : Part End) → p.place ≡ In known command (ReadThen block rest fault) →
+    pub read-leased : (block : ℕ) (rest : List ℕ → Process End) (fault : Process End) → p.place ≡ In known command (ReadThen block rest fault) →
         Leased (with-log (Asked (ask.Read (record { 0 = block })) [] (answer.Bytes (w.surface.device block)) ∷ seat.log))
     read-leased block rest fault here =
         let free = not-waiting g time writes a seat _ (leased.seated a below) here (λ b x no'. no') in
@@ -199,7 +199,7 @@ module _ (w : World) (leased : Leased w) (a : ℕ) (below : a < w.appliances) (t
         ((lawful-at (In known command (ReadThen block rest fault)) here).0 bytes)
         (λ s e. absurd (none-some s e))
 
-    pub fault-leased : (block : ℕ) (rest : List ℕ → Part End) (fault : Part End) → p.place ≡ In known command (ReadThen block rest fault) →
+    pub fault-leased : (block : ℕ) (rest : List ℕ → Process End) (fault : Process End) → p.place ≡ In known command (ReadThen block rest fault) →
         Leased (with-log (Asked (ask.Read (record { 0 = block })) [] answer.Fault ∷ seat.log))
     fault-leased block rest fault here =
         let free = not-waiting g time writes a seat _ (leased.seated a below) here (λ b x no'. no') in
@@ -209,7 +209,7 @@ module _ (w : World) (leased : Leased w) (a : ℕ) (below : a < w.appliances) (t
         (lawful-at (In known command (ReadThen block rest fault)) here).1
         (λ s e. absurd (none-some s e))
 
-    pub clock-leased : (rest : ℕ → Part End) (reading : ℕ) → p.place ≡ In known command (ClockThen rest) → IsReadingAt reading time →
+    pub clock-leased : (rest : ℕ → Process End) (reading : ℕ) → p.place ≡ In known command (ClockThen rest) → IsReadingAt reading time →
         Leased (with-log (Asked ask.Clock [] (answer.Reading reading) ∷ seat.log))
     clock-leased rest reading here is =
         let free = not-waiting g time writes a seat _ (leased.seated a below) here (λ b x no'. no') in
@@ -220,7 +220,7 @@ module _ (w : World) (leased : Leased w) (a : ℕ) (below : a < w.appliances) (t
         (lawful-at (In known command (ClockThen rest)) here reading (soon reading is))
         (λ s e. let f = some-same reading s e in let l = is.early in omega (arith, f, l))
 
-    pub wait-leased : (from : ℕ) (rest : ℕ → Part End) (reading : ℕ) → p.place ≡ In known command (UntilThen from rest) → IsReadingAt reading time → from ≤ reading →
+    pub wait-leased : (from : ℕ) (rest : ℕ → Process End) (reading : ℕ) → p.place ≡ In known command (UntilThen from rest) → IsReadingAt reading time → from ≤ reading →
         Leased (with-log (Asked (ask.Until from) [] (answer.Reading reading) ∷ seat.log))
     wait-leased from rest reading here is past =
         let free = not-waiting g time writes a seat _ (leased.seated a below) here (λ b x no'. no') in
@@ -232,7 +232,7 @@ module _ (w : World) (leased : Leased w) (a : ℕ) (below : a < w.appliances) (t
         (λ s e. let f = some-same reading s e in let l = is.early in omega (arith, f, l))
 
     -- a write is answered
-    module _ (what : WriteKind) (block : ℕ) (bytes : List ℕ) (guard : ℕ) (done fault : Part End) (missed : ℕ → Part End)
+    module _ (what : WriteKind) (block : ℕ) (bytes : List ℕ) (guard : ℕ) (done fault : Process End) (missed : ℕ → Process End)
         (here : p.place ≡ In known command (WriteThen what block bytes guard done fault missed)) where
       pub write-fault-leased : Leased (with-log (Asked (ask.Write what (record { 0 = block }) guard) bytes answer.Fault ∷ seat.log))
       write-fault-leased =
@@ -334,7 +334,7 @@ keeps-leases (world.reads {w = w} {appliance = a} known command block rest fault
 keeps-leases (world.read_faults {w = w} {appliance = a} known command block rest fault below here) leased = fault-leased w leased a.0 below _ _ known command block rest fault here
 keeps-leases (world.issues {w = w} {appliance = a} known command what block bytes guard done fault missed below here free) leased =
     let boot = boot_number a.0 (w.seats a.0).boots in
-    let p = position (setting_at w.geometry a.0 (w.seats a.0).boots) (w.seats a.0).log in
+    let p = configuration (setting_at w.geometry a.0 (w.seats a.0).boots) (w.seats a.0).log in
     let leases = rests_on w.geometry command p.holds p.filled what block bytes in
     let P : Place → Type 0 = λ q. LawfulAt w.geometry boot p.holds p.filled p.sample q in
     let may : MayIssue w.geometry boot p.holds leases what block bytes guard = (subst P here (leased.seated a.0 below).lawful).0 in

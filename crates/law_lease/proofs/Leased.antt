@@ -10,8 +10,8 @@ use Rattle.plx_base.specs.declared.write_kind.WriteKind.TheVariants as kind
 use Rattle.plx_disk.specs.Writes.{Issued, all_sectors}
 use Rattle.plx_disk.specs.declared.ask.Ask.TheVariants as ask
 use Rattle.plx_disk.specs.declared.ask.Answer.TheVariants as answer
-use Rattle.plx_rules.specs.Part.{Part, Ends, ReadThen, WriteThen, ClockThen, UntilThen}
-use Rattle.plx_rules.specs.Boot.{Place, Idle, Begins, In, Position, position}
+use Rattle.plx_rules.specs.Process.{Process, Ends, ReadThen, WriteThen, ClockThen, UntilThen}
+use Rattle.plx_rules.specs.Boot.{Place, Idle, Begins, In, Configuration, configuration}
 use Rattle.plx_rules.specs.Claims.{claim_of}
 use Rattle.plx_rules.specs.Commands.{IsWellFormed}
 use Rattle.plx_rules.specs.Rests.{AreWithin, IsUnder, extents_of, rests_on}
@@ -123,7 +123,7 @@ MayIssue g boot holds rests kind.Log block bytes guard = ⊥
 
 -- however a rest of a command is answered, each write that it asks is allowed and is a block; `At` holds at each end, of what is held and was filled there
 abbrev pub Lawful : {E : Type 0} → (At : E → (ℕ → Hold) → List (ℕ × List ℕ) → Option ℕ → Type 0) → Geometry → ℕ → Command → (ℕ → Hold) →
-    (filled : List (ℕ × List ℕ)) → Option ℕ → Part E → Type 0
+    (filled : List (ℕ × List ℕ)) → Option ℕ → Process E → Type 0
 Lawful At g boot command holds filled sample (Ends end) = At end holds filled sample
 Lawful At g boot command holds filled sample (ReadThen block rest fault) =
     ((bytes : List ℕ) → Lawful At g boot command (after_answer sample (ask.Read (record { 0 = block })) [] (answer.Bytes bytes) holds)
@@ -142,14 +142,14 @@ Lawful At g boot command holds filled sample (UntilThen from rest) =
     Lawful At g boot command (λ block. hold_after_reading reading (holds block)) (filled_held g (λ block. hold_after_reading reading (holds block)) filled) (Some reading) (rest reading)
 
 -- the same, where nothing is asked of the ends
-abbrev pub LawfulRest : {E : Type 0} → Geometry → ℕ → Command → (ℕ → Hold) → (filled : List (ℕ × List ℕ)) → Option ℕ → Part E → Type 0
-LawfulRest g boot command holds filled sample part = Lawful (λ end held fresh last. Unit {0}) g boot command holds filled sample part
+abbrev pub LawfulRest : {E : Type 0} → Geometry → ℕ → Command → (ℕ → Hold) → (filled : List (ℕ × List ℕ)) → Option ℕ → Process E → Type 0
+LawfulRest g boot command holds filled sample process = Lawful (λ end held fresh last. Unit {0}) g boot command holds filled sample process
 
 -- the place of a boot
 abbrev pub LawfulAt : Geometry → ℕ → (ℕ → Hold) → (filled : List (ℕ × List ℕ)) → Option ℕ → Place → Type 0
 LawfulAt g boot holds filled sample (Idle known) = Unit {0}
 LawfulAt g boot holds filled sample (Begins known command) = IsWellFormed command
-LawfulAt g boot holds filled sample (In known command part) = LawfulRest g boot command holds filled sample part
+LawfulAt g boot holds filled sample (In known command process) = LawfulRest g boot command holds filled sample process
 
 -- ---- the writes that may still change something under a lease
 
@@ -259,14 +259,14 @@ grip_at (In known command (WriteThen kind block bytes guard done fault missed)) 
 grip_at other pending lease hold = hold
 
 -- what an appliance's present boot holds of a lease is right
-abbrev pub GoodAt : (rests : ℕ → List ℕ) → ℕ → List Issued → ℕ → LeaseRecord → ℕ → Option ℕ → Position → Type 0
+abbrev pub GoodAt : (rests : ℕ → List ℕ) → ℕ → List Issued → ℕ → LeaseRecord → ℕ → Option ℕ → Configuration → Type 0
 GoodAt rests time writes lease standing boot pending p =
     Good rests time writes lease standing boot pending (grip_at p.place (pending_write writes pending) (lease_at lease) (p.holds (lease_at lease)))
 
 -- the same, of an appliance
 abbrev pub GoodSeat : Geometry → (rests : ℕ → List ℕ) → ℕ → List Issued → ℕ → LeaseRecord → ℕ → Seat → Type 0
 GoodSeat g rests time writes lease standing appliance seat =
-    GoodAt rests time writes lease standing (boot_number appliance seat.boots) seat.pending (position (setting_at g appliance seat.boots) seat.log)
+    GoodAt rests time writes lease standing (boot_number appliance seat.boots) seat.pending (configuration (setting_at g appliance seat.boots) seat.log)
 
 -- all that holds of one lease
 pub record LeaseOn (g : Geometry) (rests : ℕ → List ℕ) (appliances time : ℕ) (device : Device) (writes : List Issued) (seats : ℕ → Seat) (lease : ℕ) : Type 0 where
@@ -296,11 +296,11 @@ IsAskedAt other boot write = ⊥
 -- an appliance
 pub record IsLawfulSeat (g : Geometry) (time : ℕ) (writes : List Issued) (appliance : ℕ) (seat : Seat) : Type 0 where
   pub boots : seat.boots < 2 ^ 32
-  pub lawful : LawfulAt g (boot_number appliance seat.boots) (position (setting_at g appliance seat.boots) seat.log).holds
-      (position (setting_at g appliance seat.boots) seat.log).filled (position (setting_at g appliance seat.boots) seat.log).sample (position (setting_at g appliance seat.boots) seat.log).place
-  pub sampled : (sample : ℕ) → (position (setting_at g appliance seat.boots) seat.log).sample ≡ Some sample → sample ≤ time + 50
+  pub lawful : LawfulAt g (boot_number appliance seat.boots) (configuration (setting_at g appliance seat.boots) seat.log).holds
+      (configuration (setting_at g appliance seat.boots) seat.log).filled (configuration (setting_at g appliance seat.boots) seat.log).sample (configuration (setting_at g appliance seat.boots) seat.log).place
+  pub sampled : (sample : ℕ) → (configuration (setting_at g appliance seat.boots) seat.log).sample ≡ Some sample → sample ≤ time + 50
   pub asked : (number : ℕ) → seat.pending ≡ Some number →
-      (write : Issued) × (slice_get writes number ≡ Some write) × IsAskedAt (position (setting_at g appliance seat.boots) seat.log).place (boot_number appliance seat.boots) write
+      (write : Issued) × (slice_get writes number ≡ Some write) × IsAskedAt (configuration (setting_at g appliance seat.boots) seat.log).place (boot_number appliance seat.boots) write
 
 -- all that holds of a world
 pub record Leased (w : World) : Type 0 where

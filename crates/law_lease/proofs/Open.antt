@@ -7,8 +7,8 @@ use Rattle.plx_commands.proofs.Places.{at-all}
 use Rattle.plx_commands.specs.Places.{at}
 use Rattle.plx_disk.specs.Writes.{Issued, MayLand}
 use Rattle.plx_geom.specs.Geometry.{Geometry, lease_count, lease_at}
-use Rattle.plx_rules.specs.Part.{Ends, ReadThen, WriteThen, ClockThen, UntilThen}
-use Rattle.plx_rules.specs.Boot.{Place, Idle, Begins, In, position}
+use Rattle.plx_rules.specs.Process.{Ends, ReadThen, WriteThen, ClockThen, UntilThen}
+use Rattle.plx_rules.specs.Boot.{Place, Idle, Begins, In, configuration}
 use Rattle.plx_rules.specs.Holds.{Hold, Held}
 use Rattle.plx_rules.specs.Owners.{pending_write}
 use Rattle.plx_rules.specs.Rests.{IsUnder}
@@ -22,7 +22,7 @@ use Rattle.plx_base.proofs.Tests.{same-some}
 -- an appliance's boot holds a lease, in time
 abbrev pub GripsLease : Geometry → (time : ℕ) → List Issued → (appliance : ℕ) → Seat → (lease : ℕ) → Claim → (until : ℕ) → Type 0
 GripsLease g time writes a seat lease claim until =
-    (grip_at (position (setting_at g a seat.boots) seat.log).place (pending_write writes seat.pending) (lease_at lease) ((position (setting_at g a seat.boots) seat.log).holds (lease_at lease)) ≡ Held claim until)
+    (grip_at (configuration (setting_at g a seat.boots) seat.log).place (pending_write writes seat.pending) (lease_at lease) ((configuration (setting_at g a seat.boots) seat.log).holds (lease_at lease)) ≡ Held claim until)
     × (time ≤ until + 50)
 
 -- a boot waits for a write that rests on the lease, and holds the lease in time: the write was not answered yet, whether it has landed whole or not, and whatever its guard

@@ -13,13 +13,13 @@ use Rattle.plx_commands.specs.declared.event.Event.TheVariants as event
 use Rattle.plx_commands.specs.declared.event.Stop.{Stop}
 use Rattle.plx_disk.proofs.Flags.{all-eight}
 use Rattle.plx_disk.specs.Writes.{Issued, all_sectors}
-use Rattle.plx_rules.specs.Part.{Part, Ends, ReadThen, WriteThen, ClockThen, UntilThen}
+use Rattle.plx_rules.specs.Process.{Process, Ends, ReadThen, WriteThen, ClockThen, UntilThen}
 use Rattle.plx_rules.specs.Boot as boot
-use Rattle.plx_rules.specs.Boot.{Happening, Place, Idle, Begins, In, asks, writes_out, IsRun}
+use Rattle.plx_rules.specs.Boot.{BootEntry, Place, Idle, Begins, In, asks, writes_out, IsRun}
 use Rattle.plx_rules.specs.Boots.{BootsRun}
 use Rattle.plx_rules.specs.Ends.{End}
 use Rattle.plx_rules.specs.Sequences as play
-use Rattle.plx_rules.specs.Sequences.{missing_sector, next_sector, next_of_sector, next_landing, next_of_write, next_of_part, next_at, next_event, stops, Runs, RunsPartly, Makes, IsPlayed, Plays, MakesPartly, PlaysPartly, RunsGoOn, PlayedIsReached}
+use Rattle.plx_rules.specs.Sequences.{missing_sector, next_sector, next_of_sector, next_landing, next_of_write, next_of_process, next_at, next_event, stops, Runs, RunsPartly, Makes, IsPlayed, Plays, MakesPartly, PlaysPartly, RunsGoOn, PlayedIsReached}
 use Rattle.plx_rules.specs.Session.{Known}
 use Rattle.plx_rules.specs.Settings.{boot_number}
 use Rattle.plx_rules.specs.World as world
@@ -118,7 +118,7 @@ module _ (w : World) (leased : Leased w) (appliance : ApplianceNo) (below : appl
   now : IsReadingAt w.surface.time w.surface.time
   now = record { early = omega arith; late = omega arith }
 
-  module _ (known : Known) (command : Command) (kind : WriteKind) (block : ℕ) (bytes : List ℕ) (guard : ℕ) (done fault : Part End) (missed : ℕ → Part End)
+  module _ (known : Known) (command : Command) (kind : WriteKind) (block : ℕ) (bytes : List ℕ) (guard : ℕ) (done fault : Process End) (missed : ℕ → Process End)
       (here : (stands w appliance.0).place ≡ In known command (WriteThen kind block bytes guard done fault missed)) where
     -- a write that isn't issued
     issuing-possible : (w.seats appliance.0).pending ≡ None → (test : Bool) → nat_le w.surface.time guard ≡ test →
@@ -182,14 +182,14 @@ module _ (w : World) (leased : Leased w) (appliance : ApplianceNo) (below : appl
   same-possible : (one other : Event) → Some other ≡ Some one → Possible other → Possible one
   same-possible one other e p = subst (λ (x : Event). Possible x) (let f : other ≡ one = cc in f) p
 
-  part-possible : (known : Known) (command : Command) (part : Part End) → (stands w appliance.0).place ≡ In known command part → (one : Event) → next_of_part w appliance part ≡ Some one → Possible one
-  part-possible known command (Ends end) here one next = absurd (let P : ⊥ = cc in P)
-  part-possible known command (ReadThen block rest fault) here one next = same-possible one (event.Read appliance) next (_, world.reads known command block rest fault below here)
-  part-possible known command (WriteThen kind block bytes guard done fault missed) here one next =
+  process-possible : (known : Known) (command : Command) (process : Process End) → (stands w appliance.0).place ≡ In known command process → (one : Event) → next_of_process w appliance process ≡ Some one → Possible one
+  process-possible known command (Ends end) here one next = absurd (let P : ⊥ = cc in P)
+  process-possible known command (ReadThen block rest fault) here one next = same-possible one (event.Read appliance) next (_, world.reads known command block rest fault below here)
+  process-possible known command (WriteThen kind block bytes guard done fault missed) here one next =
       writing-possible known command kind block bytes guard done fault missed here one (w.seats appliance.0).pending refl next
-  part-possible known command (ClockThen rest) here one next =
+  process-possible known command (ClockThen rest) here one next =
       same-possible one (event.Reading appliance w.surface.time) next (_, world.clocks {reading = w.surface.time} known command rest below here now)
-  part-possible known command (UntilThen from rest) here one next = by_test (nat_le from w.surface.time) refl next
+  process-possible known command (UntilThen from rest) here one next = by_test (nat_le from w.surface.time) refl next
     where
       by_test : (test : Bool) → nat_le from w.surface.time ≡ test → (if test then Some (event.Reading appliance w.surface.time) else None) ≡ Some one → Possible one
       by_test false is next' = absurd (let P : ⊥ = cc in P)
@@ -203,7 +203,7 @@ module _ (w : World) (leased : Leased w) (appliance : ApplianceNo) (below : appl
   place-possible (Idle known) here one next = absurd (let P : ⊥ = cc in P)
   place-possible (Begins known command) here one next =
       same-possible one (event.Reading appliance w.surface.time) next (_, world.begins {reading = w.surface.time} known command below here now)
-  place-possible (In known command part) here one next = part-possible known command part here one next
+  place-possible (In known command process) here one next = process-possible known command process here one next
 
 -- a run is never stuck
 pub runs-go_on : RunsGoOn

@@ -24,10 +24,10 @@ use Rattle.plx_disk.specs.declared.ask.Ask.TheVariants as ask
 use Rattle.plx_disk.specs.declared.ask.Answer.{Answer}
 use Rattle.plx_disk.specs.declared.ask.Answer.TheVariants as answer
 use Rattle.plx_geom.specs.Geometry.{Geometry, block_count}
-use Rattle.plx_rules.specs.Part.{Part, Ends, ReadThen, WriteThen, ClockThen, UntilThen, answered}
-use Rattle.plx_rules.specs.Boot.{Happening, Began, Asked, Place, Idle, Begins, In, Position, position, place_after_begin, first_part, went_on, goes_to, after_part, place_of}
+use Rattle.plx_rules.specs.Process.{Process, Ends, ReadThen, WriteThen, ClockThen, UntilThen, answered}
+use Rattle.plx_rules.specs.Boot.{BootEntry, Began, Asked, Place, Idle, Begins, In, Configuration, configuration, place_after_begin, first_process, went_on, goes_to, after_process, place_of}
 use Rattle.plx_rules.specs.Hands.{filled_answered, found_by, hand_answered, hand_left}
-use Rattle.plx_rules.specs.Commands.{IsBuilt, IsWellFormed, command_part}
+use Rattle.plx_rules.specs.Commands.{IsBuilt, IsWellFormed, command_process}
 use Rattle.plx_rules.specs.Ends.{End}
 use Rattle.plx_rules.specs.Holds.{Hold, hold_after_read, after_answer, after_write, holds_after_reply, after_first, first_hold, session_at, sample_of, latest_after}
 use Rattle.plx_rules.specs.Session.{Known}
@@ -35,7 +35,7 @@ use Rattle.plx_rules.specs.Settings.{boot_number}
 use Rattle.plx_rules.specs.Histories.{Past, came, landing}
 use Rattle.plx_rules.specs.World as world
 use Rattle.plx_rules.specs.Rests.{rests_on}
-use Rattle.plx_rules.specs.World.{World, Seat, Step, Reached, IsReadingAt, IsBack, setting_at, setting_of, stands, with_reply_of, with_happening, goes_on, with_surface, after_start, after_issue, issued_by, is_boot_of}
+use Rattle.plx_rules.specs.World.{World, Seat, Step, Reached, IsReadingAt, IsBack, setting_at, setting_of, stands, with_reply_of, with_log_entry, goes_on, with_surface, after_start, after_issue, issued_by, is_boot_of}
 use Rattle.law_lease.proofs.LeaseSteps.{reached-leased}
 use Rattle.law_lease.proofs.Runs.{own-boot}
 
@@ -45,8 +45,8 @@ pub record Spot : Type 0 where
   pub sample : Option ℕ
   pub place : Place
 
--- a position of which this is known, of the lease in that block
-pub record IsSpot (lease : ℕ) (q : Position) (r : Spot) : Type 0 where
+-- a configuration of which this is known, of the lease in that block
+pub record IsSpot (lease : ℕ) (q : Configuration) (r : Spot) : Type 0 where
   pub hold : q.holds lease ≡ r.hold
   pub sample : q.sample ≡ r.sample
   pub place : q.place ≡ r.place
@@ -93,27 +93,27 @@ answer-alone lease sample (ask.Until from) bytes (answer.Missed reading) holds =
 answer-alone lease sample (ask.Until from) bytes answer.Fault holds = refl
 
 -- and so does a reply
-part-alone : (lease : ℕ) (part : Part End) (holds : ℕ → Hold) → after_part part holds lease ≡ after_part part (λ b. holds lease) lease
-part-alone lease (Ends end) holds = reply-alone end.reply
+process-alone : (lease : ℕ) (process : Process End) (holds : ℕ → Hold) → after_process process holds lease ≡ after_process process (λ b. holds lease) lease
+process-alone lease (Ends end) holds = reply-alone end.reply
   where
     reply-alone : (r : Reply) → holds_after_reply r holds lease ≡ holds_after_reply r (λ b. holds lease) lease
     reply-alone (reply.Lost name until reading) = refl
     reply-alone other = refl
-part-alone lease (ReadThen block rest fault) holds = refl
-part-alone lease (WriteThen what block bytes guard done fault missed) holds = refl
-part-alone lease (ClockThen rest) holds = refl
-part-alone lease (UntilThen from rest) holds = refl
+process-alone lease (ReadThen block rest fault) holds = refl
+process-alone lease (WriteThen what block bytes guard done fault missed) holds = refl
+process-alone lease (ClockThen rest) holds = refl
+process-alone lease (UntilThen from rest) holds = refl
 
 -- what is held of the lease after an answer that leads to this rest
-abbrev pub hold_next : (lease : ℕ) → Spot → Ask → List ℕ → Answer → Part End → Hold
-hold_next lease r asked bytes ans rest = after_part rest (λ b. after_answer r.sample asked bytes ans (λ c. r.hold) lease) lease
+abbrev pub hold_next : (lease : ℕ) → Spot → Ask → List ℕ → Answer → Process End → Hold
+hold_next lease r asked bytes ans rest = after_process rest (λ b. after_answer r.sample asked bytes ans (λ c. r.hold) lease) lease
 
-next-holds : (lease : ℕ) (q : Position) (r : Spot) → IsSpot lease q r → (asked : Ask) (bytes : List ℕ) (ans : Answer) (rest : Part End) →
-    after_part rest (after_answer q.sample asked bytes ans q.holds) lease ≡ hold_next lease r asked bytes ans rest
+next-holds : (lease : ℕ) (q : Configuration) (r : Spot) → IsSpot lease q r → (asked : Ask) (bytes : List ℕ) (ans : Answer) (rest : Process End) →
+    after_process rest (after_answer q.sample asked bytes ans q.holds) lease ≡ hold_next lease r asked bytes ans rest
 next-holds lease q r is asked bytes ans rest =
-    part-alone lease rest (after_answer q.sample asked bytes ans q.holds)
-    ∙ ((λ i. after_part rest (λ b. answer-alone lease q.sample asked bytes ans q.holds i) lease)
-    ∙ (λ i. after_part rest (λ b. after_answer (is.sample i) asked bytes ans (λ c. is.hold i) lease) lease))
+    process-alone lease rest (after_answer q.sample asked bytes ans q.holds)
+    ∙ ((λ i. after_process rest (λ b. answer-alone lease q.sample asked bytes ans q.holds i) lease)
+    ∙ (λ i. after_process rest (λ b. after_answer (is.sample i) asked bytes ans (λ c. is.hold i) lease) lease))
 
 -- eight flags, of which the first ones are set
 abbrev first_flags : ℕ → List Bool
@@ -134,8 +134,8 @@ module _ (g : Geometry) (appliances : ℕ) (few : appliances ≤ 8) (lease : ℕ
   }
 
   -- where an appliance stands in its boot
-  abbrev place_in : ℕ → Seat → Position
-  place_in b seat = position (setting_at g b seat.boots) seat.log
+  abbrev place_in : ℕ → Seat → Configuration
+  place_in b seat = configuration (setting_at g b seat.boots) seat.log
 
   -- a world that is reached at this time, with this device and this trace, in which each appliance stands so in its first boot and waits for no write
   pub record Stage (t : ℕ) (d : Device) (p : ℕ → Spot) (tr : List Entry) : Type 0 where
@@ -194,68 +194,68 @@ module _ (g : Geometry) (appliances : ℕ) (few : appliances ≤ 8) (lease : ℕ
     stands-at place here = (st.places a.0).place ∙ here
 
     -- something happens to the appliance
-    go : (happening : Happening) (history : List Past) (trace : List Entry) (q : Spot) →
-        Reached (world_at t st.device st.writes st.rests (at st.seats a.0 (with_happening (st.seats a.0) happening)) trace history) →
-        IsSpot lease (place_in a.0 (with_happening (st.seats a.0) happening)) q → Stage t d (at p a.0 q) trace
-    go happening history trace q reached is = record {
+    go : (entry : BootEntry) (history : List Past) (trace : List Entry) (q : Spot) →
+        Reached (world_at t st.device st.writes st.rests (at st.seats a.0 (with_log_entry (st.seats a.0) entry)) trace history) →
+        IsSpot lease (place_in a.0 (with_log_entry (st.seats a.0) entry)) q → Stage t d (at p a.0 q) trace
+    go entry history trace q reached is = record {
       device = st.device;
       writes = st.writes;
       rests = st.rests;
-      seats = at st.seats a.0 (with_happening (st.seats a.0) happening);
+      seats = at st.seats a.0 (with_log_entry (st.seats a.0) entry);
       history = history;
       reached = reached;
       same = st.same;
       places = at-all (λ b s. IsSpot lease (place_in b s) (at p a.0 q b)) st.seats a.0 _
-          (subst (λ (x : Spot). IsSpot lease (place_in a.0 (with_happening (st.seats a.0) happening)) x) (sym (at-same p a.0 q)) is)
+          (subst (λ (x : Spot). IsSpot lease (place_in a.0 (with_log_entry (st.seats a.0) entry)) x) (sym (at-same p a.0 q)) is)
           (λ b ne. subst (λ (x : Spot). IsSpot lease (place_in b (st.seats b)) x) (sym (at-other p a.0 b q ne)) (st.places b));
       free = at-all (λ b s. s.pending ≡ None) st.seats a.0 _ refl (λ b ne. st.free b);
       boots = at-all (λ b s. s.boots ≡ 0) st.seats a.0 _ (st.boots a.0) (λ b ne. st.boots b);
     }
 
     -- where an answered ask leads
-    abbrev pub spot_next : Known → Command → Hold → Answer → Part End → Spot
+    abbrev pub spot_next : Known → Command → Hold → Answer → Process End → Spot
     spot_next known command hold ans rest = record { hold = hold; sample = sample_of ans; place = place_of known command rest }
 
-    spot-next : (known : Known) (command : Command) (part : Part End) → r.place ≡ In known command part → (asked : Ask) (bytes : List ℕ) (ans : Answer) (rest : Part End) → answered part ans ≡ rest →
+    spot-next : (known : Known) (command : Command) (process : Process End) → r.place ≡ In known command process → (asked : Ask) (bytes : List ℕ) (ans : Answer) (rest : Process End) → answered process ans ≡ rest →
         (hold : Hold) → hold_next lease r asked bytes ans rest ≡ hold → (seat : Seat) → IsSpot lease (place_in a.0 seat) r →
-        IsSpot lease (place_in a.0 (with_happening seat (Asked asked bytes ans))) (spot_next known command hold ans rest)
-    spot-next known command part here asked bytes ans rest leads hold held seat is =
-        let q : Position = place_in a.0 seat in
-        let e : place_in a.0 (with_happening seat (Asked asked bytes ans)) ≡ goes_to g known command (after_answer q.sample asked bytes ans q.holds) (hand_left asked q.filled (hand_answered g q.found asked bytes ans q.hand)) (filled_answered asked bytes ans q.filled) (sample_of ans) (found_by asked ans) (latest_after ans q.latest) rest =
+        IsSpot lease (place_in a.0 (with_log_entry seat (Asked asked bytes ans))) (spot_next known command hold ans rest)
+    spot-next known command process here asked bytes ans rest leads hold held seat is =
+        let q : Configuration = place_in a.0 seat in
+        let e : place_in a.0 (with_log_entry seat (Asked asked bytes ans)) ≡ goes_to g known command (after_answer q.sample asked bytes ans q.holds) (hand_left asked q.filled (hand_answered g q.found asked bytes ans q.hand)) (filled_answered asked bytes ans q.filled) (sample_of ans) (found_by asked ans) (latest_after ans q.latest) rest =
         ap (went_on (setting_at g a.0 seat.boots) asked bytes ans q) (is.place ∙ here)
         ∙ ap (goes_to g known command (after_answer q.sample asked bytes ans q.holds) (hand_left asked q.filled (hand_answered g q.found asked bytes ans q.hand)) (filled_answered asked bytes ans q.filled) (sample_of ans) (found_by asked ans) (latest_after ans q.latest)) leads in
-        subst (λ (x : Position). IsSpot lease x (spot_next known command hold ans rest)) (sym e) (record {
+        subst (λ (x : Configuration). IsSpot lease x (spot_next known command hold ans rest)) (sym e) (record {
           hold = next-holds lease q r is asked bytes ans rest ∙ held;
           sample = refl;
           place = refl;
         })
 
     -- an ask of a command is answered
-    go-in : (known : Known) (command : Command) (part : Part End) → r.place ≡ In known command part → (one : Event) (asked : Ask) (bytes : List ℕ) (ans : Answer) (rest : Part End) →
-        answered part ans ≡ rest → (hold : Hold) → hold_next lease r asked bytes ans rest ≡ hold → Step w one (goes_on w one a asked bytes ans (answered part ans)) →
+    go-in : (known : Known) (command : Command) (process : Process End) → r.place ≡ In known command process → (one : Event) (asked : Ask) (bytes : List ℕ) (ans : Answer) (rest : Process End) →
+        answered process ans ≡ rest → (hold : Hold) → hold_next lease r asked bytes ans rest ≡ hold → Step w one (goes_on w one a asked bytes ans (answered process ans)) →
         Stage t d (at p a.0 (spot_next known command hold ans rest)) (with_reply_of a rest tr)
-    go-in known command part here one asked bytes ans rest leads hold held step =
+    go-in known command process here one asked bytes ans rest leads hold held step =
         go (Asked asked bytes ans) (came one ∷ st.history) (with_reply_of a rest tr) _
-        (world.later st.reached (subst (λ (x : Part End). Step w one (goes_on w one a asked bytes ans x)) leads step))
-        (spot-next known command part here asked bytes ans rest leads hold held (st.seats a.0) (st.places a.0))
+        (world.later st.reached (subst (λ (x : Process End). Step w one (goes_on w one a asked bytes ans x)) leads step))
+        (spot-next known command process here asked bytes ans rest leads hold held (st.seats a.0) (st.places a.0))
 
     -- the clock answers
-    pub stage-after-clock : (known : Known) (command : Command) (next : ℕ → Part End) → r.place ≡ In known command (ClockThen next) → (rest : Part End) → next t ≡ rest →
+    pub stage-after-clock : (known : Known) (command : Command) (next : ℕ → Process End) → r.place ≡ In known command (ClockThen next) → (rest : Process End) → next t ≡ rest →
         (hold : Hold) → hold_next lease r ask.Clock [] (answer.Reading t) rest ≡ hold → Stage t d (at p a.0 (spot_next known command hold (answer.Reading t) rest)) (with_reply_of a rest tr)
     stage-after-clock known command next here rest is hold held =
         go-in known command (ClockThen next) here (event.Reading a t) ask.Clock [] (answer.Reading t) rest is hold held
         (world.clocks {reading = t} known command next below (stands-at _ here) now)
 
     -- a wait is over
-    pub stage-after-wait : (known : Known) (command : Command) (from : ℕ) (next : ℕ → Part End) → r.place ≡ In known command (UntilThen from next) → from ≤ t → (rest : Part End) → next t ≡ rest →
+    pub stage-after-wait : (known : Known) (command : Command) (from : ℕ) (next : ℕ → Process End) → r.place ≡ In known command (UntilThen from next) → from ≤ t → (rest : Process End) → next t ≡ rest →
         (hold : Hold) → hold_next lease r (ask.Until from) [] (answer.Reading t) rest ≡ hold → Stage t d (at p a.0 (spot_next known command hold (answer.Reading t) rest)) (with_reply_of a rest tr)
     stage-after-wait known command from next here past rest is hold held =
         go-in known command (UntilThen from next) here (event.Reading a t) (ask.Until from) [] (answer.Reading t) rest is hold held
         (world.waits {reading = t} known command from next below (stands-at _ here) now past)
 
     -- a read is answered
-    pub stage-after-read : (known : Known) (command : Command) (block : ℕ) (next : List ℕ → Part End) (fault : Part End) → r.place ≡ In known command (ReadThen block next fault) →
-        (found : List ℕ) → d block ≡ found → (rest : Part End) → next found ≡ rest →
+    pub stage-after-read : (known : Known) (command : Command) (block : ℕ) (next : List ℕ → Process End) (fault : Process End) → r.place ≡ In known command (ReadThen block next fault) →
+        (found : List ℕ) → d block ≡ found → (rest : Process End) → next found ≡ rest →
         (hold : Hold) → hold_next lease r (ask.Read (record { 0 = block })) [] (answer.Bytes found) rest ≡ hold →
         Stage t d (at p a.0 (spot_next known command hold (answer.Bytes found) rest)) (with_reply_of a rest tr)
     stage-after-read known command block next fault here found there rest is hold held =
@@ -272,29 +272,29 @@ module _ (g : Geometry) (appliances : ℕ) (few : appliances ≤ 8) (lease : ℕ
         (record { hold = (st.places a.0).hold; sample = refl; place = ap (place_after_begin command) (stands-at _ here) })
 
     -- and its first reading comes: what it asks goes by what is held of the lease
-    pub first-reading : (known : Known) (command : Command) → r.place ≡ Begins known command → (rest : Part End) →
-        ((holds : ℕ → Hold) (hand : List ℕ) → holds lease ≡ r.hold → command_part (setting_at g a.0 0) known (after_first g known t holds) hand t command ≡ rest) →
-        (hold : Hold) → after_part rest (λ b. after_first g known t (λ c. r.hold) lease) lease ≡ hold →
+    pub first-reading : (known : Known) (command : Command) → r.place ≡ Begins known command → (rest : Process End) →
+        ((holds : ℕ → Hold) (hand : List ℕ) → holds lease ≡ r.hold → command_process (setting_at g a.0 0) known (after_first g known t holds) hand t command ≡ rest) →
+        (hold : Hold) → after_process rest (λ b. after_first g known t (λ c. r.hold) lease) lease ≡ hold →
         Stage t d (at p a.0 (spot_next known command hold (answer.Reading t) rest)) (with_reply_of a rest tr)
     first-reading known command here rest is hold held =
-        let q : Position = stands w a.0 in
+        let q : Configuration = stands w a.0 in
         let held-q : q.holds lease ≡ r.hold = (st.places a.0).hold in
-        let part : (boots : ℕ) → Part End = λ boots. first_part (setting_at g a.0 boots) known t command q in
-        let all : part (st.seats a.0).boots ≡ rest = ap part (st.boots a.0) ∙ is q.holds _ held-q in
-        let P : Part End → Type 0 = λ x. Step w (event.Reading a t) (goes_on w (event.Reading a t) a ask.Clock [] (answer.Reading t) x) in
-        let e : place_in a.0 (with_happening (st.seats a.0) (Asked ask.Clock [] (answer.Reading t))) ≡ goes_to g known command (after_first g known t q.holds) q.hand [] (Some t) None t rest =
+        let process : (boots : ℕ) → Process End = λ boots. first_process (setting_at g a.0 boots) known t command q in
+        let all : process (st.seats a.0).boots ≡ rest = ap process (st.boots a.0) ∙ is q.holds _ held-q in
+        let P : Process End → Type 0 = λ x. Step w (event.Reading a t) (goes_on w (event.Reading a t) a ask.Clock [] (answer.Reading t) x) in
+        let e : place_in a.0 (with_log_entry (st.seats a.0) (Asked ask.Clock [] (answer.Reading t))) ≡ goes_to g known command (after_first g known t q.holds) q.hand [] (Some t) None t rest =
         ap (went_on (setting_at g a.0 (st.seats a.0).boots) ask.Clock [] (answer.Reading t) q) (stands-at _ here)
         ∙ ap (goes_to g known command (after_first g known t q.holds) q.hand [] (Some t) None t) all in
         go (Asked ask.Clock [] (answer.Reading t)) (came (event.Reading a t) ∷ st.history) (with_reply_of a rest tr) _
         (world.later st.reached (subst P all (world.begins {reading = t} known command below (stands-at _ here) now)))
-        (subst (λ (x : Position). IsSpot lease x (spot_next known command hold (answer.Reading t) rest)) (sym e) (record {
-          hold = part-alone lease rest (after_first g known t q.holds) ∙ ((λ i. after_part rest (λ b. first_hold (session_at g known lease) t (held-q i)) lease) ∙ held);
+        (subst (λ (x : Configuration). IsSpot lease x (spot_next known command hold (answer.Reading t) rest)) (sym e) (record {
+          hold = process-alone lease rest (after_first g known t q.holds) ∙ ((λ i. after_process rest (λ b. first_hold (session_at g known lease) t (held-q i)) lease) ∙ held);
           sample = refl;
           place = refl;
         }))
 
     -- a write is issued, lands sector after sector, and is done
-    module _ (known : Known) (command : Command) (what : WriteKind) (block : ℕ) (bytes : List ℕ) (guard : ℕ) (done fault : Part End) (missed : ℕ → Part End)
+    module _ (known : Known) (command : Command) (what : WriteKind) (block : ℕ) (bytes : List ℕ) (guard : ℕ) (done fault : Process End) (missed : ℕ → Process End)
         (here : r.place ≡ In known command (WriteThen what block bytes guard done fault missed)) (early : t ≤ guard + 50) (long : length bytes ≡ 4096) where
       abbrev pub number : ℕ
       number = length st.writes
@@ -366,22 +366,22 @@ module _ (g : Geometry) (appliances : ℕ) (few : appliances ≤ 8) (lease : ℕ
       abbrev pub last : World
       last = world_at t landed-whole.device landed-whole.writes since waiting tr landed-whole.history
 
-      pub stage-after-write : (rest : Part End) → done ≡ rest → (hold : Hold) → hold_next lease r (ask.Write what (record { 0 = block }) guard) bytes answer.Done rest ≡ hold →
+      pub stage-after-write : (rest : Process End) → done ≡ rest → (hold : Hold) → hold_next lease r (ask.Write what (record { 0 = block }) guard) bytes answer.Done rest ≡ hold →
           Stage t (put d block bytes) (at p a.0 (spot_next known command hold answer.Done rest)) (with_reply_of a rest tr)
       stage-after-write rest is hold held = record {
         device = landed-whole.device;
         writes = landed-whole.writes;
         rests = since;
-        seats = at waiting a.0 (with_happening (waiting a.0) (Asked (ask.Write what (record { 0 = block }) guard) bytes answer.Done));
+        seats = at waiting a.0 (with_log_entry (waiting a.0) (Asked (ask.Write what (record { 0 = block }) guard) bytes answer.Done));
         history = came (event.Done a) ∷ landed-whole.history;
         reached = world.later landed-whole.reached
-            (subst (λ (x : Part End). Step last (event.Done a) (goes_on last (event.Done a) a (ask.Write what (record { 0 = block }) guard) bytes answer.Done x)) is
+            (subst (λ (x : Process End). Step last (event.Done a) (goes_on last (event.Done a) a (ask.Write what (record { 0 = block }) guard) bytes answer.Done x)) is
             (world.dones known command what block bytes guard done fault missed number below
             ((still-places a.0).place ∙ here) waits-for (write_of all_sectors, landed-whole.found, refl)));
         same = λ b. sym (put-all (λ c x. x ≡ landed-whole.device c) d block bytes (sym (mixed-all 8 bytes (st.device block) long old-long) ∙ sym landed-whole.there)
             (λ c ne. sym (landed-whole.others c ne ∙ st.same c)) b);
         places = at-all (λ b s. IsSpot lease (place_in b s) (at p a.0 q b)) waiting a.0 _
-            (subst (λ (x : Spot). IsSpot lease (place_in a.0 (with_happening (waiting a.0) (Asked (ask.Write what (record { 0 = block }) guard) bytes answer.Done))) x) (sym (at-same p a.0 q))
+            (subst (λ (x : Spot). IsSpot lease (place_in a.0 (with_log_entry (waiting a.0) (Asked (ask.Write what (record { 0 = block }) guard) bytes answer.Done))) x) (sym (at-same p a.0 q))
             (spot-next known command (WriteThen what block bytes guard done fault missed) here (ask.Write what (record { 0 = block }) guard) bytes answer.Done rest is hold held (waiting a.0) (still-places a.0)))
             (λ b ne. subst (λ (x : Spot). IsSpot lease (place_in b (waiting b)) x) (sym (at-other p a.0 b q ne)) (still-places b));
         free = at-all (λ b s. s.pending ≡ None) waiting a.0 _ refl (λ b ne. at-all (λ c s. c ≢ a.0 → s.pending ≡ None) st.seats a.0 _ (λ away. absurd (away refl)) (λ c ne' away. st.free c) b ne);

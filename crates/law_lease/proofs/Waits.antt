@@ -8,10 +8,10 @@ use Rattle.plx_commands.specs.Places.{at}
 use Rattle.plx_commands.specs.declared.command.Command.{Command}
 use Rattle.plx_commands.specs.declared.event.Event.{Event}
 use Rattle.plx_geom.specs.Geometry.{Geometry}
-use Rattle.plx_rules.specs.Boot.{In, Place, position}
+use Rattle.plx_rules.specs.Boot.{In, Place, configuration}
 use Rattle.plx_rules.specs.Ends.{End}
 use Rattle.plx_rules.specs.Owners.{RestsAsAsked, WaitsRestAsAsked}
-use Rattle.plx_rules.specs.Part.{Part, WriteThen}
+use Rattle.plx_rules.specs.Process.{Process, WriteThen}
 use Rattle.plx_rules.specs.Rests.{rests_on}
 use Rattle.plx_rules.specs.Session.{Known}
 use Rattle.plx_rules.specs.World as world
@@ -22,7 +22,7 @@ use Rattle.law_lease.proofs.Leased.{Leased}
 -- the same, of a seat
 abbrev SeatRests : Geometry → (rests : ℕ → List ℕ) → (appliance : ℕ) → Seat → Type 0
 SeatRests g rests a seat = (number : ℕ) → seat.pending ≡ Some number →
-    RestsAsAsked g (rests number) (position (setting_at g a seat.boots) seat.log) (position (setting_at g a seat.boots) seat.log).place
+    RestsAsAsked g (rests number) (configuration (setting_at g a seat.boots) seat.log) (configuration (setting_at g a seat.boots) seat.log).place
 
 abbrev AllRest : World → Type 0
 AllRest w = (a : ℕ) → a < w.appliances → SeatRests w.geometry w.rests a (w.seats a)
@@ -33,7 +33,7 @@ unwaited-rests w a seat free old b below = at-all (λ c s. c < w.appliances → 
     (λ under n waits. absurd (let e : None ≡ Some n = sym free ∙ waits in let P : ⊥ = cc in P)) (λ c ne under. old c under) b below
 
 -- a write is issued
-issued-rests : (w : World) (leased : Leased w) (a : ℕ) (known : Known) (command : Command) (k : WriteKind) (block : ℕ) (bytes : List ℕ) (guard : ℕ) (done fault : Part End) (missed : ℕ → Part End) →
+issued-rests : (w : World) (leased : Leased w) (a : ℕ) (known : Known) (command : Command) (k : WriteKind) (block : ℕ) (bytes : List ℕ) (guard : ℕ) (done fault : Process End) (missed : ℕ → Process End) →
     (stands w a).place ≡ In known command (WriteThen k block bytes guard done fault missed) → AllRest w → (b : ℕ) → b < w.appliances →
     SeatRests w.geometry (at w.rests (length w.surface.writes) (rests_on w.geometry command (stands w a).holds (stands w a).filled k block bytes)) b
     (at w.seats a (record (w.seats a) { pending = Some (length w.surface.writes) }) b)

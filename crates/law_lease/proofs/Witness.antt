@@ -25,18 +25,18 @@ use Rattle.plx_gate.specs.declared.descriptor.Descriptor.{Descriptor}
 use Rattle.plx_gate.specs.declared.image.ImageRecord.{ImageRecord}
 use Rattle.plx_gate.specs.declared.image.ImageRecord.TheVariants as image_is
 use Rattle.plx_geom.specs.Geometry.{Geometry, IsGeometry, image_lease, lease_at}
-use Rattle.plx_rules.specs.Part.{Part}
+use Rattle.plx_rules.specs.Process.{Process}
 use Rattle.plx_rules.specs.Journaled.{Journaled}
 use Rattle.plx_rules.specs.Attaching.{image_use, attach_ends, after_load, after_record, load_image, after_claim}
-use Rattle.plx_rules.specs.Boot.{Place, Idle, Begins, In, Position, position}
-use Rattle.plx_rules.specs.Claims.{claim_of, own_record, claim_part}
-use Rattle.plx_rules.specs.Commands.{record_part, journal_part, next_write}
-use Rattle.plx_rules.specs.Ends.{End, ends, ends_in_time, lost_part, write_then}
+use Rattle.plx_rules.specs.Boot.{Place, Idle, Begins, In, Configuration, configuration}
+use Rattle.plx_rules.specs.Claims.{claim_of, own_record, claim_process}
+use Rattle.plx_rules.specs.Commands.{record_process, journal_process, next_write}
+use Rattle.plx_rules.specs.Ends.{End, ends, ends_in_time, lost_process, write_then}
 use Rattle.plx_rules.specs.Holds.{Hold, Nothing, Held}
 use Rattle.plx_rules.specs.Journal.{finding_of}
-use Rattle.plx_rules.specs.Loading.{LoadEnd, load_read, load_found, load_part}
+use Rattle.plx_rules.specs.Loading.{LoadEnd, load_read, load_found, load_process}
 use Rattle.plx_rules.specs.Owners.{Owns, hold_at_place, pending_write}
-use Rattle.plx_rules.specs.Parts.{followed_by}
+use Rattle.plx_rules.specs.Processes.{followed_by}
 use Rattle.plx_rules.specs.Records.{made_record, plain_record}
 use Rattle.plx_rules.specs.Session.{Session, Known, nothing_known, with_claim, with_session, new_session, with_write, with_write_by_number}
 use Rattle.plx_rules.specs.Settings.{Setting}
@@ -182,8 +182,8 @@ t0 = record {
 }
 
 -- what is left of an attach that is about to claim the lease of its image
-abbrev claims : Setting → Part End
-claims s = followed_by (claim_part s.boot [] 1 0) (after_claim s k1 0)
+abbrev claims : Setting → Process End
+claims s = followed_by (claim_process s.boot [] 1 0) (after_claim s k1 0)
 
 -- ---- the one attaches the free slot
 
@@ -275,10 +275,10 @@ t6 = starts-now small_geometry 2 few 2 t5 one one-appliance-in k2 create refl (r
 
 -- the places once it has read its clock
 abbrev p7 : ℕ → Spot
-p7 = one_at p6 (Held mine 11000) (Some 1601) (In k2 create (record_part s0 k2 0 11000 made_image reply.Created))
+p7 = one_at p6 (Held mine 11000) (Some 1601) (In k2 create (record_process s0 k2 0 11000 made_image reply.Created))
 
 t7 : S 1601 d1 p7 (Start one create ∷ e2)
-t7 = first-reading small_geometry 2 few 2 t6 one one-appliance-in k2 create refl (record_part s0 k2 0 11000 made_image reply.Created) (λ holds hand e. rw e refl) (Held mine 11000) refl
+t7 = first-reading small_geometry 2 few 2 t6 one one-appliance-in k2 create refl (record_process s0 k2 0 11000 made_image reply.Created) (λ holds hand e. rw e refl) (Held mine 11000) refl
 
 -- the places once its record has landed
 abbrev p8 : ℕ → Spot
@@ -326,18 +326,18 @@ t10 = starts-now small_geometry 2 few 2 t9 one one-appliance-in k3 write refl le
 
 -- the places once it has read its clock
 abbrev p11 : ℕ → Spot
-p11 = one_at p10 (Held mine 11000) (Some 1601) (In k3 write (journal_part s0 k3 0 3 block made_session 11000))
+p11 = one_at p10 (Held mine 11000) (Some 1601) (In k3 write (journal_process s0 k3 0 3 block made_session 11000))
 
 t11 : S 1601 d2 p11 (Start one write ∷ e3)
-t11 = first-reading small_geometry 2 few 2 t10 one one-appliance-in k3 write refl (journal_part s0 k3 0 3 block made_session 11000) (λ holds hand e. rw e refl) (Held mine 11000) refl
+t11 = first-reading small_geometry 2 few 2 t10 one one-appliance-in k3 write refl (journal_process s0 k3 0 3 block made_session 11000) (λ holds hand e. rw e refl) (Held mine 11000) refl
 
 -- what is left once the descriptor has landed
-abbrev final_part : Part End
-final_part = ends_in_time s0 k3 (image_use 0 11000) (reply.Written 1) k4
+abbrev final_process : Process End
+final_process = ends_in_time s0 k3 (image_use 0 11000) (reply.Written 1) k4
 
 -- what is left once the data has landed
-abbrev commits : Part End
-commits = write_then s0 k3 (record { lease = 1; until = 11000 }) kind.JCommit 6 (descriptor_bytes d) final_part
+abbrev commits : Process End
+commits = write_then s0 k3 (record { lease = 1; until = 11000 }) kind.JCommit 6 (descriptor_bytes d) final_process
 
 -- the places once its data has landed
 abbrev p12 : ℕ → Spot
@@ -348,10 +348,10 @@ t12 = stage-after-write small_geometry 2 few 2 t11 one one-appliance-in k3 write
 
 -- the places once its descriptor has landed
 abbrev p13 : ℕ → Spot
-p13 = one_at p12 (Held mine 11000) None (In k3 write final_part)
+p13 = one_at p12 (Held mine 11000) None (In k3 write final_process)
 
 t13 : S 1601 d4 p13 (Start one write ∷ e3)
-t13 = stage-after-write small_geometry 2 few 2 t12 one one-appliance-in k3 write kind.JCommit 6 (descriptor_bytes d) 11000 _ _ _ refl (omega arith) (length-descriptor d) final_part refl (Held mine 11000) refl
+t13 = stage-after-write small_geometry 2 few 2 t12 one one-appliance-in k3 write kind.JCommit 6 (descriptor_bytes d) 11000 _ _ _ refl (omega arith) (length-descriptor d) final_process refl (Held mine 11000) refl
 
 -- the places once its write is answered
 abbrev p14 : ℕ → Spot
@@ -399,24 +399,24 @@ t18 : S 11702 d5 p18 e4
 t18 = lease-claimed small_geometry 2 few 1 t17 other other-appliance-in k0 (Attach slot) 2 0 (after_claim s1 k1 0) refl refl mine_bytes refl (Claimed mine 11000) mine-back refl its-is (omega arith) refl
 
 -- the journal: its first slot counts, and its second is empty
-abbrev then_end : LoadEnd → Part End
+abbrev then_end : LoadEnd → Process End
 then_end = after_load s1 k1 0 21101 made_image
 
 -- what is left once the other has read the record
-abbrev reads_journal : Part End
-reads_journal = followed_by (load_part small_geometry 0 made_image 2 0 []) then_end
+abbrev reads_journal : Process End
+reads_journal = followed_by (load_process small_geometry 0 made_image 2 0 []) then_end
 
 -- the one write of the journal
 abbrev witness_writes : List Journaled
 witness_writes = record { number = 1; vblock = 3; block = block } ∷ []
 
 -- what is left once it has read the first descriptor
-abbrev reads_data : Part End
-reads_data = followed_by (load_read 7 (λ data'. load_part small_geometry 0 made_image 1 1 (record { number = 1; vblock = 3; block = data' } ∷ []))) then_end
+abbrev reads_data : Process End
+reads_data = followed_by (load_read 7 (λ data'. load_process small_geometry 0 made_image 1 1 (record { number = 1; vblock = 3; block = data' } ∷ []))) then_end
 
 -- what is left once it has read the first slot
-abbrev reads_second : Part End
-reads_second = followed_by (load_part small_geometry 0 made_image 1 1 witness_writes) then_end
+abbrev reads_second : Process End
+reads_second = followed_by (load_process small_geometry 0 made_image 1 1 witness_writes) then_end
 
 -- the session with which it ends
 abbrev its_session : Session
@@ -441,8 +441,8 @@ p20 = other_at p19 (Held its 21101) None (In k0 (Attach slot) reads_data)
 
 t20 : S 11702 d5 p20 e4
 t20 = stage-after-read small_geometry 2 few 2 t19 other other-appliance-in k0 (Attach slot) 6 _ _ refl (descriptor_bytes d) refl reads_data
-    (ap (λ (found : Option (Option Descriptor)). followed_by (load_found 6 (finding_of made_image 2 0 found) (load_part small_geometry 0 made_image 1 1 [])
-    (λ number vblock. load_read 7 (λ data'. load_part small_geometry 0 made_image 1 1 (record { number = number; vblock = vblock; block = data' } ∷ [])))) then_end) d-back)
+    (ap (λ (found : Option (Option Descriptor)). followed_by (load_found 6 (finding_of made_image 2 0 found) (load_process small_geometry 0 made_image 1 1 [])
+    (λ number vblock. load_read 7 (λ data'. load_process small_geometry 0 made_image 1 1 (record { number = number; vblock = vblock; block = data' } ∷ [])))) then_end) d-back)
     (Held its 21101) refl
 
 -- the places once it has read the first slot's data
@@ -458,8 +458,8 @@ p22 = other_at p21 (Held its 21101) None (In k0 (Attach slot) (attach_ends s1 k1
 
 t22 : S 11702 d5 p22 e4
 t22 = stage-after-read small_geometry 2 few 2 t21 other other-appliance-in k0 (Attach slot) 8 _ _ refl zeros refl (attach_ends s1 k1 0 21101 its_session)
-    (ap (λ (found : Option (Option Descriptor)). followed_by (load_found 8 (finding_of made_image 2 1 found) (load_part small_geometry 0 made_image 0 2 witness_writes)
-    (λ number vblock. load_read 9 (λ data'. load_part small_geometry 0 made_image 0 2 (with_write_by_number (record { number = number; vblock = vblock; block = data' }) witness_writes)))) then_end) read-zeros)
+    (ap (λ (found : Option (Option Descriptor)). followed_by (load_found 8 (finding_of made_image 2 1 found) (load_process small_geometry 0 made_image 0 2 witness_writes)
+    (λ number vblock. load_read 9 (λ data'. load_process small_geometry 0 made_image 0 2 (with_write_by_number (record { number = number; vblock = vblock; block = data' }) witness_writes)))) then_end) read-zeros)
     (Held its 21101) refl
 
 -- the trace once its attach is answered
@@ -491,7 +491,7 @@ abbrev p25 : ℕ → Spot
 p25 = one_at p24 Nothing (Some 11702) (Idle (nothing_known 1))
 
 t25 : S 11702 d5 p25 trace_after
-t25 = first-reading small_geometry 2 few 2 t24 one one-appliance-in k4 again refl (lost_part s0 k4 (record { lease = 1; until = 11000 }) 11702) (λ holds hand e. rw e refl) Nothing refl
+t25 = first-reading small_geometry 2 few 2 t24 one one-appliance-in k4 again refl (lost_process s0 k4 (record { lease = 1; until = 11000 }) 11702) (λ holds hand e. rw e refl) Nothing refl
 
 -- ---- who owns
 
@@ -499,7 +499,7 @@ t25 = first-reading small_geometry 2 few 2 t24 one one-appliance-in k4 again ref
 owns-idle : {t : ℕ} {device : Device} {p : ℕ → Spot} {tr : List Entry} (st : S t device p tr) (a : ℕ) (known : Known) (claim : Claim) (until : ℕ) → (p a).place ≡ Idle known →
     (p a).hold ≡ Held claim until → t ≤ until + 50 → Owns (world_at small_geometry 2 few 2 t st.device st.writes st.rests st.seats tr st.history) a (image_lease 0)
 owns-idle st a known claim until here held early =
-    let q : Position = position (setting_at small_geometry a (st.seats a).boots) (st.seats a).log in
+    let q : Configuration = configuration (setting_at small_geometry a (st.seats a).boots) (st.seats a).log in
     record {
       within = omega arith;
       claim = claim;

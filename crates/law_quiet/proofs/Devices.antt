@@ -9,7 +9,7 @@ use Rattle.plx_base.proofs.Devices.{put-all, put-same, put-other}
 use Rattle.plx_base.proofs.Mixed.{mixed-all, mixed-landed, mixed-none}
 use Rattle.plx_disk.specs.Writes.{Surface, Issued, MayLand, HasLanded, all_sectors, fresh_write, with_issued, with_sector, after_landing, after_time}
 use Rattle.plx_disk.proofs.Lists.{push-last, set-same, set-other}
-use Rattle.plx_rules.specs.Part.{Part, Ends, ReadThen, WriteThen, ClockThen, UntilThen}
+use Rattle.plx_rules.specs.Process.{Process, Ends, ReadThen, WriteThen, ClockThen, UntilThen}
 use Rattle.law_lease.proofs.LeaseLands.{not-whole}
 use Rattle.law_lease.proofs.Lists.{push-cases}
 
@@ -39,14 +39,14 @@ pub record UnderWay (from : ℕ) (device : Device) (surface : Surface) (pending 
   pub landed : (m : ℕ) (x : Issued) → from ≤ m → m ≢ number → slice_get surface.writes m ≡ Some x → x.landed ≡ all_sectors
 
 -- by what is asked next
-abbrev pub OnDevice : {E : Type 0} → (from : ℕ) → Device → Surface → (pending : Option ℕ) → Part E → Type 0
+abbrev pub OnDevice : {E : Type 0} → (from : ℕ) → Device → Surface → (pending : Option ℕ) → Process E → Type 0
 OnDevice from device surface pending (Ends end) = AtRest from device surface pending
 OnDevice from device surface pending (ReadThen block rest fault) = AtRest from device surface pending
 OnDevice from device surface pending (WriteThen kind block bytes guard done fault missed) = AtRest from device surface pending ⊎ UnderWay from device surface pending block bytes
 OnDevice from device surface pending (ClockThen rest) = AtRest from device surface pending
 OnDevice from device surface pending (UntilThen from' rest) = AtRest from device surface pending
 
-pub rest-on : {E : Type 0} (from : ℕ) (device : Device) (surface : Surface) (pending : Option ℕ) (part : Part E) → AtRest from device surface pending → OnDevice from device surface pending part
+pub rest-on : {E : Type 0} (from : ℕ) (device : Device) (surface : Surface) (pending : Option ℕ) (process : Process E) → AtRest from device surface pending → OnDevice from device surface pending process
 rest-on from device surface pending (Ends end) rest = rest
 rest-on from device surface pending (ReadThen block next fault) rest = rest
 rest-on from device surface pending (WriteThen kind block bytes guard done fault missed) rest = inl rest
@@ -77,8 +77,8 @@ way-later from device surface by pending block bytes way = record {
   landed = way.landed;
 }
 
-pub on-later : {E : Type 0} (from : ℕ) (device : Device) (surface : Surface) (by : ℕ) (pending : Option ℕ) (part : Part E) → OnDevice from device surface pending part →
-    OnDevice from device (after_time surface by) pending part
+pub on-later : {E : Type 0} (from : ℕ) (device : Device) (surface : Surface) (by : ℕ) (pending : Option ℕ) (process : Process E) → OnDevice from device surface pending process →
+    OnDevice from device (after_time surface by) pending process
 on-later from device surface by pending (Ends end) on = rest-later from device surface by pending on
 on-later from device surface by pending (ReadThen block rest fault) on = rest-later from device surface by pending on
 on-later from device surface by pending (WriteThen kind block bytes guard done fault missed) (inl rest) = inl (rest-later from device surface by pending rest)

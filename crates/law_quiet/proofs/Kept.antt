@@ -1,7 +1,7 @@
 -- A command that nothing disturbs, over the steps of a world.
 use Rattle.plx_rules.specs.Settings.{Setting}
 use Rattle.plx_rules.specs.Hands.{hand_held}
-use Rattle.plx_rules.specs.Commands.{command_part}
+use Rattle.plx_rules.specs.Commands.{command_process}
 use Rattle.law_quiet.proofs.Walks.{Quietly}
 use Rattle.law_quiet.proofs.Unbusy.{Suits}
 use Rattle.std.proofs.Common.{◌≡◌, ℕ, ◌+◌, ◌≤◌, List, [], ◌∷◌, length, Some, refl, ap, sym, subst, ◌∙◌, arith}
@@ -11,14 +11,14 @@ use Rattle.plx_commands.specs.declared.event.Event.{Event}
 use Rattle.plx_disk.specs.Writes.{Surface, with_issued}
 use Rattle.plx_disk.specs.declared.ask.Ask.TheVariants as ask
 use Rattle.plx_disk.specs.declared.ask.Answer.TheVariants as answer
-use Rattle.plx_rules.specs.Boot.{Asked, Began, first_part}
+use Rattle.plx_rules.specs.Boot.{Asked, Began, first_process}
 use Rattle.plx_rules.specs.Histories.{Past}
 use Rattle.plx_rules.specs.Holds.{Hold, after_first}
-use Rattle.plx_rules.specs.Part.{ReadThen, WriteThen, ClockThen, UntilThen}
+use Rattle.plx_rules.specs.Process.{ReadThen, WriteThen, ClockThen, UntilThen}
 use Rattle.plx_rules.specs.Times.{drift}
 use Rattle.plx_rules.specs.Undisturbed.{LeavesAlone}
 use Rattle.plx_rules.specs.World as world
-use Rattle.plx_rules.specs.World.{World, Seat, Reached, Step, setting_at, setting_of, stands, with_happening, issued_write}
+use Rattle.plx_rules.specs.World.{World, Seat, Reached, Step, setting_at, setting_of, stands, with_log_entry, issued_write}
 use Rattle.law_quiet.proofs.Phases.{Watch, Phase, asked-phase, started-phase, first-phase, issued-phase, ticked-phase, landed-phase, read-goes, read-fault-goes, done-goes, fault-goes, missed-goes, clock-goes, wait-goes}
 
 -- how the watched command goes on in a world
@@ -34,7 +34,7 @@ abbrev pub EndsWell : Watch → World → Type 0
 EndsWell k w =
     (s : Setting) → s.geometry ≡ w.geometry → (reading : ℕ) → k.wanted ≡ Some reading →
     Quietly (Suits k.space) k.low k.device
-    (command_part s k.known (after_first s.geometry k.known reading k.holds) (hand_held s.geometry (after_first s.geometry k.known reading k.holds) k.hand) reading k.command)
+    (command_process s k.known (after_first s.geometry k.known reading k.holds) (hand_held s.geometry (after_first s.geometry k.known reading k.holds) k.hand) reading k.command)
 
 module _ (k : Watch) (w : World) (ready : EndsWell k w) where
   -- the answer to an ask of a command
@@ -54,10 +54,10 @@ module _ (k : Watch) (w : World) (ready : EndsWell k w) where
 
   -- the first reading of a command
   first-goes : (v : World) (a : ℕ) (reading : ℕ) → Kept k w a v → (one : Command) → k.command ≡ one → k.wanted ≡ Some reading →
-      (stands v a).holds ≡ k.holds → (stands v a).hand ≡ k.hand → Quietly (Suits k.space) k.low k.device (first_part (setting_of v a) k.known reading one (stands v a))
+      (stands v a).holds ≡ k.holds → (stands v a).hand ≡ k.hand → Quietly (Suits k.space) k.low k.device (first_process (setting_of v a) k.known reading one (stands v a))
   first-goes v a reading kept one is was holds hand =
       let F : Command → (ℕ → Hold) → List ℕ → Type 0 =
-      λ c h b. Quietly (Suits k.space) k.low k.device (command_part (setting_of v a) k.known (after_first v.geometry k.known reading h) (hand_held v.geometry (after_first v.geometry k.known reading h) b) reading c) in
+      λ c h b. Quietly (Suits k.space) k.low k.device (command_process (setting_of v a) k.known (after_first v.geometry k.known reading h) (hand_held v.geometry (after_first v.geometry k.known reading h) b) reading c) in
       subst (λ c. F c (stands v a).holds (stands v a).hand) is
       (subst (λ h. F k.command h (stands v a).hand) (sym holds) (subst (λ b. F k.command k.holds b) (sym hand) (ready (setting_of v a) kept.geometry reading was)))
 
@@ -72,22 +72,22 @@ module _ (k : Watch) (w : World) (ready : EndsWell k w) where
   }
   kept-step {u = u} {v = v} (world.starts {appliance = b} {command = command} known below at_place formed built) a alone kept =
       subst (λ n. Kept k w n u → Kept k w n v) (alone _ _ refl).own
-      (λ kept. answer-kept u v b.0 (with_happening (u.seats b.0) (Began command)) kept refl refl refl (at-same u.seats b.0 (with_happening (u.seats b.0) (Began command))) refl
+      (λ kept. answer-kept u v b.0 (with_log_entry (u.seats b.0) (Began command)) kept refl refl refl (at-same u.seats b.0 (with_log_entry (u.seats b.0) (Began command))) refl
       (started-phase k u.geometry b.0 u.surface (u.seats b.0) command known at_place kept.phase)) kept
   kept-step {u = u} {v = v} (world.begins {appliance = b} {reading = reading} known command below at_place now) a alone kept =
       subst (λ n. Kept k w n u → Kept k w n v) (alone _ _ refl).own
-      (λ kept. let seat = with_happening (u.seats b.0) (Asked ask.Clock [] (answer.Reading reading)) in
+      (λ kept. let seat = with_log_entry (u.seats b.0) (Asked ask.Clock [] (answer.Reading reading)) in
       answer-kept u v b.0 seat kept refl refl refl (at-same u.seats b.0 seat) refl
       (first-phase k u.geometry b.0 u.surface (u.seats b.0) reading known command at_place (first-goes u b.0 reading kept) kept.phase)) kept
   kept-step {u = u} {v = v} (world.reads {appliance = b} known command block rest fault below at_place) a alone kept =
       subst (λ n. Kept k w n u → Kept k w n v) (alone _ _ refl).own
-      (λ kept. let seat = with_happening (u.seats b.0) (Asked (ask.Read (record { 0 = block })) [] (answer.Bytes (u.surface.device block))) in
+      (λ kept. let seat = with_log_entry (u.seats b.0) (Asked (ask.Read (record { 0 = block })) [] (answer.Bytes (u.surface.device block))) in
       answer-kept u v b.0 seat kept refl refl refl (at-same u.seats b.0 seat) refl
       (asked-phase k u.geometry b.0 u.surface (u.seats b.0) (ask.Read (record { 0 = block })) [] (answer.Bytes (u.surface.device block)) known command (ReadThen block rest fault) at_place
       (read-goes k u.surface (u.seats b.0).pending block rest fault) kept.phase)) kept
   kept-step {u = u} {v = v} (world.read_faults {appliance = b} known command block rest fault below at_place) a alone kept =
       subst (λ n. Kept k w n u → Kept k w n v) (alone _ _ refl).own
-      (λ kept. let seat = with_happening (u.seats b.0) (Asked (ask.Read (record { 0 = block })) [] answer.Fault) in
+      (λ kept. let seat = with_log_entry (u.seats b.0) (Asked (ask.Read (record { 0 = block })) [] answer.Fault) in
       answer-kept u v b.0 seat kept refl refl refl (at-same u.seats b.0 seat) refl
       (asked-phase k u.geometry b.0 u.surface (u.seats b.0) (ask.Read (record { 0 = block })) [] answer.Fault known command (ReadThen block rest fault) at_place
       (read-fault-goes k u.surface (u.seats b.0).pending block rest fault) kept.phase)) kept
@@ -111,31 +111,31 @@ module _ (k : Watch) (w : World) (ready : EndsWell k w) where
   }
   kept-step {u = u} {v = v} (world.dones {appliance = b} known command kind block bytes guard done fault missed number below at_place waits landed) a alone kept =
       subst (λ n. Kept k w n u → Kept k w n v) (alone _ _ refl).own
-      (λ kept. let seat = with_happening (u.seats b.0) (Asked (ask.Write kind (record { 0 = block }) guard) bytes answer.Done) in
+      (λ kept. let seat = with_log_entry (u.seats b.0) (Asked (ask.Write kind (record { 0 = block }) guard) bytes answer.Done) in
       answer-kept u v b.0 seat kept refl refl refl (at-same u.seats b.0 seat) refl
       (asked-phase k u.geometry b.0 u.surface (u.seats b.0) (ask.Write kind (record { 0 = block }) guard) bytes answer.Done known command (WriteThen kind block bytes guard done fault missed) at_place
       (done-goes k u.surface (u.seats b.0).pending kind block bytes guard done fault missed number waits landed) kept.phase)) kept
   kept-step {u = u} {v = v} (world.write_faults {appliance = b} known command kind block bytes guard done fault missed below at_place) a alone kept =
       subst (λ n. Kept k w n u → Kept k w n v) (alone _ _ refl).own
-      (λ kept. let seat = with_happening (u.seats b.0) (Asked (ask.Write kind (record { 0 = block }) guard) bytes answer.Fault) in
+      (λ kept. let seat = with_log_entry (u.seats b.0) (Asked (ask.Write kind (record { 0 = block }) guard) bytes answer.Fault) in
       answer-kept u v b.0 seat kept refl refl refl (at-same u.seats b.0 seat) refl
       (asked-phase k u.geometry b.0 u.surface (u.seats b.0) (ask.Write kind (record { 0 = block }) guard) bytes answer.Fault known command (WriteThen kind block bytes guard done fault missed) at_place
       (fault-goes k u.surface (u.seats b.0).pending kind block bytes guard done fault missed) kept.phase)) kept
   kept-step {u = u} {v = v} (world.misses {appliance = b} {reading = reading} known command kind block bytes guard done fault missed below at_place free past now) a alone kept =
       subst (λ n. Kept k w n u → Kept k w n v) (alone _ _ refl).own
-      (λ kept. let seat = with_happening (u.seats b.0) (Asked (ask.Write kind (record { 0 = block }) guard) bytes (answer.Missed reading)) in
+      (λ kept. let seat = with_log_entry (u.seats b.0) (Asked (ask.Write kind (record { 0 = block }) guard) bytes (answer.Missed reading)) in
       answer-kept u v b.0 seat kept refl refl refl (at-same u.seats b.0 seat) refl
       (asked-phase k u.geometry b.0 u.surface (u.seats b.0) (ask.Write kind (record { 0 = block }) guard) bytes (answer.Missed reading) known command (WriteThen kind block bytes guard done fault missed) at_place
       (missed-goes k u.surface (u.seats b.0).pending kind block bytes guard done fault missed reading) kept.phase)) kept
   kept-step {u = u} {v = v} (world.clocks {appliance = b} {reading = reading} known command rest below at_place now) a alone kept =
       subst (λ n. Kept k w n u → Kept k w n v) (alone _ _ refl).own
-      (λ kept. let seat = with_happening (u.seats b.0) (Asked ask.Clock [] (answer.Reading reading)) in
+      (λ kept. let seat = with_log_entry (u.seats b.0) (Asked ask.Clock [] (answer.Reading reading)) in
       answer-kept u v b.0 seat kept refl refl refl (at-same u.seats b.0 seat) refl
       (asked-phase k u.geometry b.0 u.surface (u.seats b.0) ask.Clock [] (answer.Reading reading) known command (ClockThen rest) at_place
       (clock-goes k u.surface (u.seats b.0).pending rest reading (late-reading u b.0 reading kept now.late)) kept.phase)) kept
   kept-step {u = u} {v = v} (world.waits {appliance = b} {reading = reading} known command from rest below at_place now past) a alone kept =
       subst (λ n. Kept k w n u → Kept k w n v) (alone _ _ refl).own
-      (λ kept. let seat = with_happening (u.seats b.0) (Asked (ask.Until from) [] (answer.Reading reading)) in
+      (λ kept. let seat = with_log_entry (u.seats b.0) (Asked (ask.Until from) [] (answer.Reading reading)) in
       answer-kept u v b.0 seat kept refl refl refl (at-same u.seats b.0 seat) refl
       (asked-phase k u.geometry b.0 u.surface (u.seats b.0) (ask.Until from) [] (answer.Reading reading) known command (UntilThen from rest) at_place
       (wait-goes k u.surface (u.seats b.0).pending from rest reading past (late-reading u b.0 reading kept now.late)) kept.phase)) kept

@@ -2,7 +2,7 @@
 use Rattle.plx_geom.specs.Geometry.{Geometry, IsGeometry, image_lease, extent_lease, lease_at}
 use Rattle.plx_rules.specs.Holds.{Hold, after_first}
 use Rattle.plx_rules.specs.Hands.{hand_held}
-use Rattle.plx_rules.specs.Commands.{command_part}
+use Rattle.plx_rules.specs.Commands.{command_process}
 use Rattle.law_quiet.proofs.Walks.{Quietly}
 use Rattle.law_quiet.proofs.Takes.{reserves}
 use Rattle.law_quiet.proofs.Unbusy.{IsUnhindered, Suits, IsReady, is_reserve, fine-attach, fine-command}
@@ -28,7 +28,7 @@ use Rattle.plx_rules.specs.World as world
 use Rattle.plx_rules.specs.World.{World, Reached, Step, setting_at, setting_of, stands}
 use Rattle.law_lease.proofs.LeaseSteps.{reached-leased}
 use Rattle.law_run.specs.CommandLogs.{Exchange, Finished, CommandLog, Commands, Between, Within, WasAnswered, commands, log_of, first_reading}
-use Rattle.law_run.specs.Positions.{finished_of}
+use Rattle.law_run.specs.Configurations.{finished_of}
 use Rattle.law_run.specs.Replies.{Comes, IsReplied, refused, worked}
 use Rattle.law_run.specs.Replies as replies
 use Rattle.law_run.specs.Rules.{KeepsRules}
@@ -121,7 +121,7 @@ clear-ready w lease holds (inr held) = inr held
 
 -- with what is clear each command ends well
 ready-command : (w : World) (s : Setting) → IsGeometry w.geometry → s.geometry ≡ w.geometry → (known : Known) (holds : ℕ → Hold) (hand : List ℕ) (reading : ℕ) (command : Command) → CanClaim w holds hand command →
-    Quietly (Suits (is_reserve command)) w.surface.time w.surface.device (command_part s known holds hand reading command)
+    Quietly (Suits (is_reserve command)) w.surface.time w.surface.device (command_process s known holds hand reading command)
 ready-command w s geometry same known holds hand reading (Attach slot) clear =
     fine-attach w.surface.time w.surface.device s known holds hand reading slot (clear-ready w (image_lease slot.0) holds clear)
 ready-command w s geometry same known holds hand reading (Reserve count) clear =
@@ -151,7 +151,7 @@ replied-free k w a v finished done is was (idle place holds hand commands rest) 
     absurd (let e : Between (finished ∷ k.before) ≡ Between k.before = sym done ∙ commands in let f : finished ∷ k.before ≡ k.before = cc in let l = ap length f in omega (arith, l))
 replied-free k w a v finished done is was (begun one place holds hand commands rest) =
     absurd (let e : Between (finished ∷ k.before) ≡ Within (log_with k one []) = sym done ∙ commands in let P : ⊥ = cc in P)
-replied-free k w a v finished done is was (within known one part exchanges reading place commands first goes) =
+replied-free k w a v finished done is was (within known one process exchanges reading place commands first goes) =
     absurd (let e : Between (finished ∷ k.before) ≡ Within (log_with k one exchanges) = sym done ∙ commands in let P : ⊥ = cc in P)
 replied-free k w a v finished done is was (over more last told good) =
     let same : last ≡ finished = first-done more last finished k.before (sym (ap finished_of done) ∙ told) in

@@ -12,15 +12,15 @@ use Rattle.plx_extent.proofs.Maps.{length-map_bytes, length-bits_from}
 use Rattle.plx_geom.specs.Geometry.{Geometry, IsGeometry, extent_lease, lease_at, map_at}
 use Rattle.plx_geom.proofs.Places.{lease-map, map-map, extent-below}
 use Rattle.plx_gate.specs.Leases.{read_lease}
-use Rattle.plx_rules.specs.Claims.{ClaimEnd, ClaimHeld, ClaimBusy, ClaimLost, ClaimReadFault, ClaimWriteFault, ClaimDamaged, claim_part}
+use Rattle.plx_rules.specs.Claims.{ClaimEnd, ClaimHeld, ClaimBusy, ClaimLost, ClaimReadFault, ClaimWriteFault, ClaimDamaged, claim_process}
 use Rattle.plx_rules.specs.Ends.{End, ends}
 use Rattle.plx_rules.specs.Hands.{is_held}
 use Rattle.plx_rules.specs.Holds.{Hold, Nothing, Seen, Wrote, Waited, Held}
-use Rattle.plx_rules.specs.Part.{Part}
+use Rattle.plx_rules.specs.Process.{Process}
 use Rattle.plx_rules.specs.Rests.{extent_of}
 use Rattle.plx_rules.specs.Session.{Known}
 use Rattle.plx_rules.specs.Settings.{Setting}
-use Rattle.plx_rules.specs.Space.{Taking, first_taking, with_taken, with_claim_begun, with_claimed, extent_use, read_map, free_from, with_set, if_needed, set_part, take_found, take_here, take_if_held, take_held, after_extent_claim, claim_extent, claim_if_free, other_found, take_if_other, take_others, taken_part, shortage_part, reserve_part}
+use Rattle.plx_rules.specs.Space.{Taking, first_taking, with_taken, with_claim_begun, with_claimed, extent_use, read_map, free_from, with_set, if_needed, set_process, take_found, take_here, take_if_held, take_held, after_extent_claim, claim_extent, claim_if_free, other_found, take_if_other, take_others, taken_process, shortage_process, reserve_process}
 use Rattle.law_run.proofs.FreeBlocks.{has-take, take-all, free-within, map-bits}
 use Rattle.law_run.proofs.Hands.{extent-found}
 use Rattle.law_quiet.specs.Quiet.{free_count, free_blocks}
@@ -69,8 +69,8 @@ module _ (s : Setting) (geometry : IsGeometry s.geometry) (count : ℕ) (holds :
   abbrev free : ℕ → ℕ
   free e = free_count hand (map_at g e) (read_map g.extent_blocks (start (map_at g e)))
 
-  abbrev Unshort : Device → Part End → Type 0
-  Unshort device part = Quietly (Suits true) low device part
+  abbrev Unshort : Device → Process End → Type 0
+  Unshort device process = Quietly (Suits true) low device process
 
   some-blocks : 1 ≤ g.extent_blocks
   some-blocks = let low' = geometry.blocks_low in omega (arith, low')
@@ -92,7 +92,7 @@ module _ (s : Setting) (geometry : IsGeometry s.geometry) (count : ℕ) (holds :
     enough = enough;
   }
 
-  if-needed : (device : Device) (here rest : Taking → Part End) (t : Taking) → (count ≤ length t.hand → Unshort device (rest t)) → Unshort device (here t) → Unshort device (if_needed count here rest t)
+  if-needed : (device : Device) (here rest : Taking → Process End) (t : Taking) → (count ≤ length t.hand → Unshort device (rest t)) → Unshort device (here t) → Unshort device (if_needed count here rest t)
   if-needed device here rest t enough wanted = by-test (nat_le count (length t.hand)) refl
     where
       by-test : (b : Bool) → nat_le count (length t.hand) ≡ b → Unshort device (if b then rest t else here t)
@@ -100,10 +100,10 @@ module _ (s : Setting) (geometry : IsGeometry s.geometry) (count : ℕ) (holds :
       by-test false is = wanted
 
   -- blocks are taken of an extent that isn't among those to come
-  module _ (U : ℕ → Type 0) (e : ℕ) (below : e < g.extents) (apart : U e → ⊥) (until left : ℕ) (rest : Taking → Part End)
+  module _ (U : ℕ → Type 0) (e : ℕ) (below : e < g.extents) (apart : U e → ⊥) (until left : ℕ) (rest : Taking → Process End)
       (goes : (t : Taking) (device : Device) → Ahead U t device left → Unshort device (rest t)) where
     set-takes : (t : Taking) (device : Device) (bits : List Bool) → length bits ≡ g.extent_blocks → Ahead U t device (length (free_from t.hand (map_at g e) bits) + left) → (blocks : List ℕ) →
-        take (count - length t.hand) (free_from t.hand (map_at g e) bits) ≡ blocks → Unshort device (set_part s e until bits blocks rest t)
+        take (count - length t.hand) (free_from t.hand (map_at g e) bits) ≡ blocks → Unshort device (set_process s e until bits blocks rest t)
     set-takes t device bits long a [] are =
         goes t device (fewer U U t device (length (free_from t.hand (map_at g e) bits) + left) left (λ f u. u)
         (let n = a.enough in let l = ap length are in elim (take-length (count - length t.hand) (free_from t.hand (map_at g e) bits)) [
@@ -192,7 +192,7 @@ module _ (s : Setting) (geometry : IsGeometry s.geometry) (count : ℕ) (holds :
   past-other e t device left left' enough a =
       fewer (InOthers e) (InOthers (e + 1)) t device left left' (λ f u. let later = u.1 in (u.0, omega (arith, later))) enough a
 
-  takes-held : (left e : ℕ) → e + left ≡ g.extents → (rest : Taking → Part End) (after : ℕ) → ((t : Taking) (device : Device) → Ahead (InOthers 0) t device after → Unshort device (rest t)) →
+  takes-held : (left e : ℕ) → e + left ≡ g.extents → (rest : Taking → Process End) (after : ℕ) → ((t : Taking) (device : Device) → Ahead (InOthers 0) t device after → Unshort device (rest t)) →
       (t : Taking) (device : Device) → Ahead (InFirst e) t device (held-free left e + after) → Unshort device (take_held s count holds left e rest t)
   takes-held zero e all rest after goes t device a = goes t device (fewer (InFirst e) (InOthers 0) t device (0 + after) after (λ f u is. not-both (held f) is u.0) (let n = a.enough in omega (arith, n)) a)
   takes-held (suc left) e all rest after goes t device a =
@@ -224,7 +224,7 @@ module _ (s : Setting) (geometry : IsGeometry s.geometry) (count : ℕ) (holds :
   -- ---- the others
 
   -- a claim of an extent whose lease isn't held
-  module _ (e left : ℕ) (below : e < g.extents) (none : held e ≡ false) (rest : Taking → Part End)
+  module _ (e left : ℕ) (below : e < g.extents) (none : held e ≡ false) (rest : Taking → Process End)
       (goes : (t : Taking) (device : Device) → Ahead (InOthers (e + 1)) t device left → Unshort device (rest t)) where
     gone : (t : Taking) (end : ClaimEnd) → IsGone end → Always (Suits true) (after_extent_claim s count e rest t end)
     gone t (ClaimHeld claim until) is = absurd is
@@ -259,7 +259,7 @@ module _ (s : Setting) (geometry : IsGeometry s.geometry) (count : ℕ) (holds :
     claims t device a false = inl tt
     claims t device a true = elim (clear e below) [
       | inl open' ↦ tracked-followed IsGone (IsHeldOn device (extent_lease g e)) (Suits true) low (after_extent_claim s count e rest (with_claim_begun t)) (gone (with_claim_begun t)) (got t device a) device
-          (claim_part s.boot t.uses (extent_lease g e) t.known.claims)
+          (claim_process s.boot t.uses (extent_lease g e) t.known.claims)
           (claim-gets s.boot t.uses (extent_lease g e) t.known.claims low device open'.0 (ap read_lease (a.leases e below (none, omega arith)) ∙ open'.1) open'.2)
       | inr mine ↦ not-both (held e) (held-is e (Held mine.0 mine.1) mine.2) none
     ]
@@ -307,7 +307,7 @@ module _ (s : Setting) (geometry : IsGeometry s.geometry) (count : ℕ) (holds :
         )
     takes-other t device a (Held claim until) is = absurd (let P : ⊥ = cc in P)
 
-  takes-others : (left e : ℕ) → e + left ≡ g.extents → (rest : Taking → Part End) → ((t : Taking) (device : Device) → Ahead (InOthers g.extents) t device 0 → Unshort device (rest t)) →
+  takes-others : (left e : ℕ) → e + left ≡ g.extents → (rest : Taking → Process End) → ((t : Taking) (device : Device) → Ahead (InOthers g.extents) t device 0 → Unshort device (rest t)) →
       (t : Taking) (device : Device) → Ahead (InOthers e) t device (other-free left e) → Unshort device (take_others s count holds left e rest t)
   takes-others zero e all rest goes t device a =
       goes t device (fewer (InOthers e) (InOthers g.extents) t device 0 0 (λ f u. let later = u.1 in (u.0, omega (arith, later, all))) a.enough a)
@@ -335,12 +335,12 @@ module _ (s : Setting) (geometry : IsGeometry s.geometry) (count : ℕ) (holds :
           (let n = subst (λ b. count ≤ length t.hand + ((if b then 0 else free e) + other-free left (e + 1))) own a.enough in omega (arith, n)) a)
 
   -- a reserve
-  pub reserves : (known : Known) → count ≤ length hand + free_blocks g start hand g.extents 0 → Unshort start (reserve_part s known holds hand count)
+  pub reserves : (known : Known) → count ≤ length hand + free_blocks g start hand g.extents 0 → Unshort start (reserve_process s known holds hand count)
   reserves known room =
-      let over : Taking → Part End = λ t. ends reply.Reserved t.known in
-      takes-held g.extents 0 (omega arith) (take_others s count holds g.extents 0 (taken_part s count over)) (other-free g.extents 0)
-      (takes-others g.extents 0 (omega arith) (taken_part s count over)
-      (λ t device a. subst (λ b. Unshort device (if b then over t else shortage_part s t.known t.busy)) (sym (nat_le-true count (length t.hand) (let n = a.enough in omega (arith, n)))) (inl tt)))
+      let over : Taking → Process End = λ t. ends reply.Reserved t.known in
+      takes-held g.extents 0 (omega arith) (take_others s count holds g.extents 0 (taken_process s count over)) (other-free g.extents 0)
+      (takes-others g.extents 0 (omega arith) (taken_process s count over)
+      (λ t device a. subst (λ b. Unshort device (if b then over t else shortage_process s t.known t.busy)) (sym (nat_le-true count (length t.hand) (let n = a.enough in omega (arith, n)))) (inl tt)))
       (first_taking [] known hand) start
       (record {
         unbusy = refl;

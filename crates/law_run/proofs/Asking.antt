@@ -12,9 +12,9 @@ use Rattle.plx_disk.specs.declared.ask.Ask.{Ask}
 use Rattle.plx_disk.specs.declared.ask.Ask.TheVariants as ask
 use Rattle.plx_disk.specs.declared.ask.Answer.TheVariants as answer
 use Rattle.plx_geom.specs.Geometry.{Geometry, lease_count, lease_number, image_lease, lease_at, map_at}
-use Rattle.plx_rules.specs.Part.{Part}
+use Rattle.plx_rules.specs.Process.{Process}
 use Rattle.plx_rules.specs.Attaching.{image_use}
-use Rattle.plx_rules.specs.Ends.{End, ends, lost_part, write_then, ends_in_time}
+use Rattle.plx_rules.specs.Ends.{End, ends, lost_process, write_then, ends_in_time}
 use Rattle.plx_rules.specs.Holds.{Hold, Nothing, Held}
 use Rattle.plx_rules.proofs.InUse.{same-first}
 use Rattle.plx_rules.specs.InUse.{InUse, IsNamedFirst, lease_name}
@@ -90,7 +90,7 @@ missed-shows s before known command reading fine done lease until k block bytes 
 
 -- a write, which rests on a lease, where that is allowed
 pub asks-write : (May : List Exchange → Ask → List ℕ → Type 0) (s : Setting) (before : List Finished) (known : Known) (command : Command) (reading : ℕ) → IsFine s before command reading →
-    (done : List Exchange) (lease until : ℕ) (k : WriteKind) (block : ℕ) (bytes : List ℕ) (then_done : Part End) (n : ℕ) →
+    (done : List Exchange) (lease until : ℕ) (k : WriteKind) (block : ℕ) (bytes : List ℕ) (then_done : Process End) (n : ℕ) →
     first_reading done ≡ Some reading → known.claims ≡ claims_in s.geometry done + claims_begun s.geometry before →
     ((x : Exchange) → x.ask ≡ ask.Write k (record { 0 = block }) until → claims_in s.geometry (x ∷ done) ≡ claims_in s.geometry done) →
     lease < lease_count s.geometry → is_in lease (rests_by_log s before command done k block bytes) ≡ true → May done (ask.Write k (record { 0 = block }) until) bytes →
@@ -115,7 +115,7 @@ module _ (s : Setting) (before : List Finished) (known : Known) (command : Comma
 
   -- a reading has reached it
   pub lost-late : (done : List Exchange) (reading n : ℕ) → Going s before done slot.0 c → c.until ≤ reading →
-      Right s before command (clock reading ∷ done) (lost_part s known (record { lease = image_lease slot.0; until = c.until }) reading) n
+      Right s before command (clock reading ∷ done) (lost_process s known (record { lease = image_lease slot.0; until = c.until }) reading) n
   lost-late done reading n going' past =
       let after = going-clock s before done reading slot.0 c going' in
       subst (λ (name : LeaseName). Right s before command (clock reading ∷ done) (ends (reply.Lost name c.until reading) (nothing_known known.claims)) n) (sym (lease-name s.geometry slot.0 within)) (
@@ -154,7 +154,7 @@ module _ (s : Setting) (before : List Finished) (known : Known) (command : Comma
       Right s before command done (ends_in_time s known (image_use slot.0 c.until) r next) (suc n)
   asks-confirm done r next n going' on right = (
     ((going'.went, tt), on),
-    λ reading small. by-time (λ part. Right s before command (clock reading ∷ done) part n) s known slot.0 c.until reading (ends r next)
+    λ reading small. by-time (λ process. Right s before command (clock reading ∷ done) process n) s known slot.0 c.until reading (ends r next)
         (λ past. lost-late done reading n going' past)
         (λ below.
         let after = going-clock s before done reading slot.0 c going' in

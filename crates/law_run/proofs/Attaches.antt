@@ -7,9 +7,9 @@ use Rattle.plx_commands.specs.declared.command.Command.TheVariants.{Attach}
 use Rattle.plx_commands.specs.declared.reply.Reply.TheVariants as reply
 use Rattle.plx_disk.specs.declared.ask.Ask.TheVariants as ask
 use Rattle.plx_geom.specs.Geometry.{image_lease, lease_at}
-use Rattle.plx_rules.specs.Part.{Part}
-use Rattle.plx_rules.specs.Attaching.{claim_image, attach_held, attach_part}
-use Rattle.plx_rules.specs.Commands.{command_part}
+use Rattle.plx_rules.specs.Process.{Process}
+use Rattle.plx_rules.specs.Attaching.{claim_image, attach_held, attach_process}
+use Rattle.plx_rules.specs.Commands.{command_process}
 use Rattle.plx_rules.specs.Ends.{End}
 use Rattle.plx_rules.specs.Hands.{is_held}
 use Rattle.plx_rules.specs.Holds.{Hold, Nothing, Seen, Wrote, Waited, Held}
@@ -33,8 +33,8 @@ use Rattle.plx_base.proofs.Tests.{nat_lt-tells, clash, lt-cases, lt-isn't}
 use Rattle.law_run.proofs.Claiming.{attach-passed, right-claim}
 
 -- at most so many asks are answered after the first reading
-abbrev Within : Setting → List Finished → SlotNo → (reading : ℕ) → Part End → Type 0
-Within s before slot reading part = (left : ℕ) × (left ≤ 8 + 2 * s.geometry.slots) × Right s before (Attach slot) (clock reading ∷ []) part left
+abbrev Within : Setting → List Finished → SlotNo → (reading : ℕ) → Process End → Type 0
+Within s before slot reading process = (left : ℕ) × (left ≤ 8 + 2 * s.geometry.slots) × Right s before (Attach slot) (clock reading ∷ []) process left
 
 module _ (s : Setting) (boot_small : s.boot < 2 ^ 128) (before : List Finished) (known : Known) (slot : SlotNo) (reading : ℕ) (rests : Rests s before known) where
   -- the lease isn't held
@@ -89,7 +89,7 @@ module _ (s : Setting) (boot_small : s.boot < 2 ^ 128) (before : List Finished) 
   by-hold (Waited c u) is within missing = by-claims (Waited c u) is refl within missing
 
   by-slot : (test : Bool) → nat_lt slot.0 s.geometry.images ≡ test → is_attached before slot.0 ≡ false →
-      Within s before slot reading (attach_part s known slot.0 None test (start s before reading (lease_at (image_lease slot.0))))
+      Within s before slot reading (attach_process s known slot.0 None test (start s before reading (lease_at (image_lease slot.0))))
   by-slot true is missing = by-hold (start s before reading (lease_at (image_lease slot.0))) refl (nat_lt-tells slot.0 s.geometry.images is) missing
   by-slot false is missing = (
     0,
@@ -104,7 +104,7 @@ module _ (s : Setting) (boot_small : s.boot < 2 ^ 128) (before : List Finished) 
   )
 
   by-session : (found : Option Session) → known.sessions slot.0 ≡ found → FitsAt s before slot.0 found →
-      Within s before slot reading (attach_part s known slot.0 found (nat_lt slot.0 s.geometry.images) (start s before reading (lease_at (image_lease slot.0))))
+      Within s before slot reading (attach_process s known slot.0 found (nat_lt slot.0 s.geometry.images) (start s before reading (lease_at (image_lease slot.0))))
   by-session None is fits = by-slot (nat_lt slot.0 s.geometry.images) refl fits
   by-session (Some session) is fits = (
     0,
@@ -123,5 +123,5 @@ module _ (s : Setting) (boot_small : s.boot < 2 ^ 128) (before : List Finished) 
   )
 
 pub attach-begins : (s : Setting) → s.boot < 2 ^ 128 → (before : List Finished) (known : Known) (slot : SlotNo) (reading : ℕ) → Rests s before known →
-    Within s before slot reading (command_part s known (start s before reading) (hand_start s before reading) reading (Attach slot))
+    Within s before slot reading (command_process s known (start s before reading) (hand_start s before reading) reading (Attach slot))
 attach-begins s boot_small before known slot reading rests = by-session s boot_small before known slot reading rests (known.sessions slot.0) refl (rests.sessions slot.0)

@@ -14,13 +14,13 @@ use Rattle.plx_gate.specs.declared.descriptor.Descriptor.{Descriptor}
 use Rattle.plx_gate.specs.declared.image.ImageRecord.{ImageRecord}
 use Rattle.plx_geom.specs.Geometry.{Geometry, lease_count, image_lease, extents_start, record_at, descriptor_at, data_at, map_at}
 use Rattle.plx_geom.proofs.Places.{record-record, record-log, record-descriptor, record-data, log-descriptor, descriptor-descriptor, data-descriptor, descriptor-below, data-below, record-map, map-descriptor, map-data}
-use Rattle.plx_rules.specs.Part.{Part}
+use Rattle.plx_rules.specs.Process.{Process}
 use Rattle.plx_rules.specs.Journaled.{Journaled}
 use Rattle.plx_rules.specs.Attaching.{image_use, attach_ends, after_load, load_journal, after_record, load_image}
-use Rattle.plx_rules.specs.Ends.{End, read_then, damaged_part}
+use Rattle.plx_rules.specs.Ends.{End, read_then, damaged_process}
 use Rattle.plx_rules.specs.Journal.{journal_slot, Finding, Outside, Unused, Counts, finding, descriptor_of}
-use Rattle.plx_rules.specs.Loading.{LoadEnd, gap_found, load_found, load_read, load_part}
-use Rattle.plx_rules.specs.Parts.{followed_by}
+use Rattle.plx_rules.specs.Loading.{LoadEnd, gap_found, load_found, load_read, load_process}
+use Rattle.plx_rules.specs.Processes.{followed_by}
 use Rattle.plx_rules.specs.Records.{is_live, is_plain, size_of, applied_of, plain_record, attached_record}
 use Rattle.plx_rules.specs.Session.{Session, Known, with_session, with_write_by_number, first_gap, session_report}
 use Rattle.plx_rules.specs.Settings.{Setting}
@@ -158,7 +158,7 @@ module _ (s : Setting) (before : List Finished) (known next : Known) (slot : Slo
   clock-follows done block bytes past = (λ outside. refl, past-unbusy s (log_on before (Attach slot) (read_of block bytes ∷ done)) slot within refl block bytes refl past)
 
   -- a read past the leases, which may fail
-  pub asks-read : (done : List Exchange) (block : ℕ) (rest : List ℕ → Part End) (n : ℕ) → lease_count s.geometry < block → block < extents_start s.geometry → Going s before done slot.0 c →
+  pub asks-read : (done : List Exchange) (block : ℕ) (rest : List ℕ → Process End) (n : ℕ) → lease_count s.geometry < block → block < extents_start s.geometry → Going s before done slot.0 c →
       MayFollow s (log_on before (Attach slot) done) (ask.Read (record { 0 = block })) →
       ((bytes : List ℕ) → Going s before (read_of block bytes ∷ done) slot.0 c →
       Right s before (Attach slot) (read_of block bytes ∷ done) (rest bytes) n) →
@@ -180,7 +180,7 @@ module _ (s : Setting) (before : List Finished) (known next : Known) (slot : Slo
   right-damaged : (done : List Exchange) (block : ℕ) (bytes : List ℕ) → Going s before done slot.0 c → MayFollow s (log_on before (Attach slot) done) ask.Clock →
       IsIn (read_of block bytes) done → IsOutside s.geometry (told_now done) slot.0 block bytes →
       ((other : ℕ) → other < s.geometry.images → ReadRestsOn s.geometry block other → other ≡ slot.0) → (n : ℕ) →
-      Right s before (Attach slot) done (damaged_part s next (image_use slot.0 c.until) block) (suc n)
+      Right s before (Attach slot) done (damaged_process s next (image_use slot.0 c.until) block) (suc n)
   right-damaged done block bytes going on read outside own n =
       asks-confirm s before next (Attach slot) slot c (attach-one slot) within fine claims done (reply.Damaged (record { 0 = block })) next n going on
       (λ reading early after confirmed. (
@@ -238,7 +238,7 @@ module _ (s : Setting) (before : List Finished) (known next : Known) (slot : Slo
   own-descriptor place below other less (of_data t lt is) = absurd (data-descriptor s.geometry other slot.0 t place (sym is))
 
   module _ (kept : ImageRecord) (plain : is_plain kept ≡ true) where
-    abbrev after : LoadEnd → Part End
+    abbrev after : LoadEnd → Process End
     after = after_load s next slot.0 c.until kept
 
     -- all slots were read
@@ -300,7 +300,7 @@ module _ (s : Setting) (before : List Finished) (known next : Known) (slot : Slo
 
     abbrev Loads : (left place : ℕ) → List Journaled → List Exchange → Type 0
     Loads left place writes done =
-        Right s before (Attach slot) done (followed_by (load_part s.geometry slot.0 kept left place writes) (after_load s next slot.0 c.until kept)) (suc (twice left))
+        Right s before (Attach slot) done (followed_by (load_process s.geometry slot.0 kept left place writes) (after_load s next slot.0 c.until kept)) (suc (twice left))
 
     loads : (left place : ℕ) (done : List Exchange) (writes : List Journaled) → left + place ≡ s.geometry.slots → Going s before done slot.0 c →
         ((a : Ask) → MayFollow s (log_on before (Attach slot) done) a) → IsLoading place writes done → Loads left place writes done
@@ -327,9 +327,9 @@ module _ (s : Setting) (before : List Finished) (known next : Known) (slot : Slo
             IsLoading (place + 1) (with_read d data' writes) (after_data place data' (after_descriptor place bytes done)) →
             Loads left (place + 1) (with_read d data' writes) (after_data place data' (after_descriptor place bytes done))) →
             Right s before (Attach slot) (after_descriptor place bytes done)
-            (followed_by (load_found (descriptor_at s.geometry slot.0 place) f (load_part s.geometry slot.0 kept left (place + 1) writes)
+            (followed_by (load_found (descriptor_at s.geometry slot.0 place) f (load_process s.geometry slot.0 kept left (place + 1) writes)
             (λ number vblock. load_read (data_at s.geometry slot.0 place) (λ data'.
-            load_part s.geometry slot.0 kept left (place + 1) (with_write_by_number (record { number = number; vblock = vblock; block = data' }) writes)))) (after_load s next slot.0 c.until kept))
+            load_process s.geometry slot.0 kept left (place + 1) (with_write_by_number (record { number = number; vblock = vblock; block = data' }) writes)))) (after_load s next slot.0 c.until kept))
             (suc (suc (twice left)))
         by-finding bytes going1 Outside says' none counts =
             let g = s.geometry in
@@ -345,7 +345,7 @@ module _ (s : Setting) (before : List Finished) (known next : Known) (slot : Slo
             let done1 = read_of (descriptor_at g slot.0 place) bytes ∷ done in
             let whole = whole-spelled bytes says'.1.0 says'.1.1 in
             let sound = says'.2 in
-            meets-more (May s before (Attach slot)) (Shows s before (Attach slot)) (followed_by (load_part g slot.0 kept left (place + 1) writes) (after_load s next slot.0 c.until kept)) done1 (suc (twice left))
+            meets-more (May s before (Attach slot)) (Shows s before (Attach slot)) (followed_by (load_process g slot.0 kept left (place + 1) writes) (after_load s next slot.0 c.until kept)) done1 (suc (twice left))
             (none (loads-none g (told_now done) slot.0 kept place writes done l within (omega arith) bytes whole sound says'.0))
         by-finding bytes going1 (Counts d) says' none counts =
             let g = s.geometry in

@@ -3,10 +3,10 @@ use Rattle.std.proofs.Common.{◌≤◌, List, arith}
 use Rattle.plx_commands.specs.declared.command.Command.{Command}
 use Rattle.plx_commands.specs.declared.command.Command.TheVariants.{Attach, Detach, Create, Delete, Read, Write, Flush, Reserve, Renew, Retire, Reclaim}
 use Rattle.plx_rules.specs.Settings.{Setting}
-use Rattle.plx_rules.specs.Boot.{asks, position, writes_out}
+use Rattle.plx_rules.specs.Boot.{asks, configuration, writes_out}
 use Rattle.law_run.specs.Bounds.{bound, bound_of}
 use Rattle.law_run.specs.CommandLogs.{Exchange, Finished, CommandLog, commands}
-use Rattle.law_run.specs.Positions.{PositionsAgree}
+use Rattle.law_run.specs.Configurations.{ConfigurationsAgree}
 use Rattle.law_run.specs.Rules.{IsSetting, RunsKeepRules}
 use Rattle.law_run.proofs.Attaches.{attach-begins}
 use Rattle.law_run.proofs.Detaching.{detach-begins}
@@ -62,7 +62,7 @@ runs-keep-both = runs-keep begins-right some-bound
 -- and so in the local one
 pub runs-keep-rules : RunsKeepRules
 runs-keep-rules s log setting run =
-    keeps-in s IsAny IsLocal (λ sense is. tt) (commands s log) (asks (position s log).place) (writes_out (position s log).place) (runs-keep-both s log setting run)
+    keeps-in s IsAny IsLocal (λ sense is. tt) (commands s log) (asks (configuration s log).place) (writes_out (configuration s log).place) (runs-keep-both s log setting run)
 
-pub positions-agree : PositionsAgree
-positions-agree = runs.positions-agree begins-right
+pub configurations-agree : ConfigurationsAgree
+configurations-agree = runs.configurations-agree begins-right

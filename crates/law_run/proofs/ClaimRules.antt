@@ -9,8 +9,8 @@ use Rattle.plx_disk.specs.declared.ask.Answer.TheVariants as answer
 use Rattle.plx_gate.specs.Leases.{lease_bytes, read_lease}
 use Rattle.plx_gate.proofs.Leases.{lease-only}
 use Rattle.plx_geom.specs.Geometry.{lease_at}
-use Rattle.plx_rules.specs.Part.{Part, Ends, standing}
-use Rattle.plx_rules.specs.Claims.{ClaimEnd, ClaimLost, ClaimDamaged, claim_of, own_record, own_use, claim_in_time, claim_damaged, reread_by, reread_part, written_part, if_expired, seen_part, claim_part}
+use Rattle.plx_rules.specs.Process.{Process, Ends, standing}
+use Rattle.plx_rules.specs.Claims.{ClaimEnd, ClaimLost, ClaimDamaged, claim_of, own_record, own_use, claim_in_time, claim_damaged, reread_by, reread_process, written_process, if_expired, seen_process, claim_process}
 use Rattle.plx_rules.specs.Hands.{is_held}
 use Rattle.plx_rules.specs.Holds.{Held, hold_after_reread}
 use Rattle.plx_rules.specs.InUse.{InUse, first_reached, unless_reached}
@@ -30,7 +30,7 @@ use Rattle.law_run.proofs.Spelled.{lease-rest}
 use Rattle.plx_base.proofs.Tests.{clash}
 
 -- the rest by the leases that a reading has reached
-by-reached : (P : Part ClaimEnd → Type 0) (uses : List InUse) (reading : ℕ) (rest : Part ClaimEnd) → ((due : InUse) → first_reached uses reading ≡ Some due → P (Ends (ClaimLost due reading))) →
+by-reached : (P : Process ClaimEnd → Type 0) (uses : List InUse) (reading : ℕ) (rest : Process ClaimEnd) → ((due : InUse) → first_reached uses reading ≡ Some due → P (Ends (ClaimLost due reading))) →
     (first_reached uses reading ≡ None → P rest) → P (claim_in_time uses reading rest)
 by-reached P uses reading rest late early = go (first_reached uses reading) refl
   where
@@ -42,15 +42,15 @@ pub bytes-other : (a b : List ℕ) → bytes_eq a b ≡ false → a ≢ b
 bytes-other a b differ same = clash (bytes_eq a b) ((bytes_eq-Decides a b).1 same) differ
 
 module _ (s : Setting) (boot_small : s.boot < 2 ^ 128) (log : CommandLog) (others : List InUse) (lease number : ℕ) (may : MayBeginClaim s log lease number) (has : HasFirst log.exchanges) where
-  abbrev Claims : List Exchange → Part ClaimEnd → ℕ → Type 0
-  Claims done part n = MeetsWork s log (IsOfBlock (lease_at lease)) (ShowsClaim s others lease) done part n
+  abbrev Claims : List Exchange → Process ClaimEnd → ℕ → Type 0
+  Claims done process n = MeetsWork s log (IsOfBlock (lease_at lease)) (ShowsClaim s others lease) done process n
 
   -- bytes that are no lease end it after one more reading
   ends-damaged : (done : List Exchange) (bytes : List ℕ) (uses : List InUse) (n : ℕ) → WentOn done → IsIn (read_of_lease lease (answer.Bytes bytes)) done → read_lease bytes ≡ None →
       ((last : ℕ) → AreInUse (with_exchanges log (clock last ∷ done)) others lease uses) → Claims done (claim_damaged uses) (suc n)
   ends-damaged done bytes uses n went read none used = (
     ((went, tt), tt),
-    λ last small. by-reached (λ part. Claims (clock last ∷ done) part n) uses last (Ends ClaimDamaged)
+    λ last small. by-reached (λ process. Claims (clock last ∷ done) process n) uses last (Ends ClaimDamaged)
         (λ due is. reached uses (used last) (of_clock (done, refl)) is)
         (λ is. record { bytes = bytes; read = inr read; outside = none; reading = last; last = (done, refl); uses = uses; used = used last; early = is }),
   )
@@ -74,12 +74,12 @@ module _ (s : Setting) (boot_small : s.boot < 2 ^ 128) (log : CommandLog) (other
 
   -- the lease was read
   after-read : (sample : ℕ) → sample < 2 ^ 48 → (bytes : List ℕ) (found : Option LeaseRecord) → read_lease bytes ≡ found →
-      Claims (after_sight log.exchanges lease sample bytes) (seen_part others lease (claim_of s.boot number sample) found) 4
+      Claims (after_sight log.exchanges lease sample bytes) (seen_process others lease (claim_of s.boot number sample) found) 4
   after-read sample small bytes None sees = ends-damaged (after_sight log.exchanges lease sample bytes) bytes others 3 (tt, (tt, may.went)) (inl refl) sees (λ last. beside)
   after-read sample small bytes (Some seen) sees = by-expired (is_expired seen sample) refl
     where
       by-expired : (test : Bool) → is_expired seen sample ≡ test →
-          Claims (after_sight log.exchanges lease sample bytes) (if_expired test seen (written_part others lease (claim_of s.boot number sample))) 4
+          Claims (after_sight log.exchanges lease sample bytes) (if_expired test seen (written_process others lease (claim_of s.boot number sample))) 4
       by-expired false is = unexpired sample bytes log.exchanges refl sees is
       by-expired true is =
           let own = claim_of s.boot number sample in
@@ -107,8 +107,8 @@ module _ (s : Setting) (boot_small : s.boot < 2 ^ 128) (log : CommandLog) (other
                 ),
                 tt,
               ),
-              λ reading past small'. by-reached (λ part. Claims (after_waiting log.exchanges s.boot lease number sample bytes reading) part 2) (own_use lease own ∷ others) reading
-                  (reread_part (own_use lease own ∷ others) lease own)
+              λ reading past small'. by-reached (λ process. Claims (after_waiting log.exchanges s.boot lease number sample bytes reading) process 2) (own_use lease own ∷ others) reading
+                  (reread_process (own_use lease own ∷ others) lease own)
                   (λ due e. reached (own_use lease own ∷ others) (with_own own (inr (inl refl))) (of_wait (sample + wait) (after_claiming log.exchanges s.boot lease number sample bytes, refl)) e)
                   (λ e. (
                     (((tt, (tt, (tt, (tt, may.went)))), tt), refl),
@@ -120,10 +120,10 @@ module _ (s : Setting) (boot_small : s.boot < 2 ^ 128) (log : CommandLog) (other
             λ reading past small'. missed (lease_bytes (own_record own)) (after_sight log.exchanges lease sample bytes, refl) refl,
           )
 
-  claim-meets : Claims log.exchanges (claim_part s.boot others lease number) claim_bound
+  claim-meets : Claims log.exchanges (claim_process s.boot others lease number) claim_bound
   claim-meets = (
     ((may.went, tt), tt),
-    λ sample small. by-reached (λ part. Claims (clock sample ∷ log.exchanges) part 5) others sample _
+    λ sample small. by-reached (λ process. Claims (clock sample ∷ log.exchanges) process 5) others sample _
         (λ due e. reached others beside (of_clock (log.exchanges, refl)) e)
         (λ e. (
           (((tt, may.went), tt), refl),
@@ -137,12 +137,12 @@ begun-first done older x is = subst HasFirst (sym is) tt
 
 pub claims-keep-rules : ClaimsKeepRules
 claims-keep-rules s log others lease number is may =
-    meets-keeps s log (IsOfBlock (lease_at lease)) (ShowsClaim s others lease) (claim_part s.boot others lease number) claim_bound
+    meets-keeps s log (IsOfBlock (lease_at lease)) (ShowsClaim s others lease) (claim_process s.boot others lease number) claim_bound
     (claim-meets s is.boot log others lease number may (begun-first log.exchanges may.others may.first may.begun))
 
 -- so does each claim by where it stands
-pub claim-ask : (rest : Part ClaimEnd) (ask : Ask) → Some ask ≡ standing rest → IsClaimAsk rest ask
+pub claim-ask : (rest : Process ClaimEnd) (ask : Ask) → Some ask ≡ standing rest → IsClaimAsk rest ask
 claim-ask rest ask stands s log others lease number own is may leads = (claims-keep-rules s log others lease number is may).asks leads ask (sym stands)
 
-pub claim-end : (rest : Part ClaimEnd) (end : ClaimEnd) → rest ≡ Ends end → IsClaimEnd rest end
+pub claim-end : (rest : Process ClaimEnd) (end : ClaimEnd) → rest ≡ Ends end → IsClaimEnd rest end
 claim-end rest end over s log others lease number own is may leads = (claims-keep-rules s log others lease number is may).ends leads end over

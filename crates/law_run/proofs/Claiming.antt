@@ -22,13 +22,13 @@ use Rattle.plx_gate.specs.Leases.{lease_bytes, read_lease}
 use Rattle.plx_gate.proofs.Leases.{lease-only}
 use Rattle.plx_geom.specs.Geometry.{Geometry, lease_count, image_lease, lease_at, descriptor_at, record_at}
 use Rattle.plx_geom.proofs.Places.{image-below, lease-lease, lease-record, lease-log, lease-descriptor, lease-data, lease-map}
-use Rattle.plx_rules.specs.Part.{Part, Ends}
+use Rattle.plx_rules.specs.Process.{Process, Ends}
 use Rattle.plx_rules.specs.Attaching.{load_image, after_claim, claim_image}
-use Rattle.plx_rules.specs.Claims.{ClaimEnd, ClaimReadFault, ClaimDamaged, claim_of, own_record, own_use, claim_in_time, reread_by, reread_part, written_part, if_expired, seen_part}
-use Rattle.plx_rules.specs.Ends.{End, ends, lost_part}
+use Rattle.plx_rules.specs.Claims.{ClaimEnd, ClaimReadFault, ClaimDamaged, claim_of, own_record, own_use, claim_in_time, reread_by, reread_process, written_process, if_expired, seen_process}
+use Rattle.plx_rules.specs.Ends.{End, ends, lost_process}
 use Rattle.plx_rules.specs.Hands.{is_held}
 use Rattle.plx_rules.specs.Holds.{Hold, Nothing, Seen, Wrote, Waited, Held, hold_after_reread, hold_after_reading}
-use Rattle.plx_rules.specs.Parts.{followed_by}
+use Rattle.plx_rules.specs.Processes.{followed_by}
 use Rattle.plx_rules.specs.Session.{Known, with_claim, nothing_known}
 use Rattle.plx_rules.specs.Settings.{Setting}
 use Rattle.plx_rules.specs.Times.{window, wait, term, is_expired}
@@ -411,13 +411,13 @@ module _ (s : Setting) (boot_small : s.boot < 2 ^ 128) (before : List Finished) 
 
   -- a reading has reached the end of the claim
   lost-name : (done : List Exchange) (until last n : ℕ) → Right s before (Attach slot) done (ends (reply.Lost (lease.Image slot) until last) (nothing_known (known.claims + 1))) n →
-      Right s before (Attach slot) done (lost_part s (with_claim known) (record { lease = image_lease slot.0; until = until }) last) n
+      Right s before (Attach slot) done (lost_process s (with_claim known) (record { lease = image_lease slot.0; until = until }) last) n
   lost-name done until last n right =
       subst (λ (name : LeaseName). Right s before (Attach slot) done (ends (reply.Lost name until last) (nothing_known (known.claims + 1))) n) (sym (lease-name s.geometry slot.0 within)) right
 
   -- the rest by the end of the claim's own lease
-  by-own-rest : (P : Part End → Type 0) (sample last : ℕ) (rest : Part ClaimEnd) →
-      (sample + term ≤ last → P (lost_part s (with_claim known) (record { lease = image_lease slot.0; until = sample + term }) last)) →
+  by-own-rest : (P : Process End → Type 0) (sample last : ℕ) (rest : Process ClaimEnd) →
+      (sample + term ≤ last → P (lost_process s (with_claim known) (record { lease = image_lease slot.0; until = sample + term }) last)) →
       (last < sample + term → P (followed_by rest (after_claim s (with_claim known) slot.0))) →
       P (followed_by (claim_in_time (own_use (image_lease slot.0) (claim_of s.boot known.claims sample) ∷ []) last rest) (after_claim s (with_claim known) slot.0))
   by-own-rest P sample last rest late soon = elim (leb_tells (sample + term) last) [
@@ -459,7 +459,7 @@ module _ (s : Setting) (boot_small : s.boot < 2 ^ 128) (before : List Finished) 
         let until = sample + term in
         let done = d5 sample bytes reading' again in
         let n = suc (twice s.geometry.slots) in
-        let P : Part End → Type 0 = λ part. Right s before (Attach slot) (clock last ∷ done) part n in
+        let P : Process End → Type 0 = λ process. Right s before (Attach slot) (clock last ∷ done) process n in
         by-own-rest P sample last (Ends ClaimDamaged) (λ late. lost-name (clock last ∷ done) until last n (
           replied-fine s before (Attach slot) reading fine (clock last ∷ done) refl (reply.Lost (lease.Image slot) until last)
               (replies.reached (record { lease = image_lease slot.0; until = until }) (sym (lease-name s.geometry slot.0 within)) refl (of_clock (done, refl)) (in-use last) late
@@ -495,14 +495,14 @@ module _ (s : Setting) (boot_small : s.boot < 2 ^ 128) (before : List Finished) 
   after-wait : (sample : ℕ) (bytes : List ℕ) (reading' : ℕ) → sample < 2 ^ 48 → read_lease bytes ≢ None → sample + wait ≤ reading' →
       Right s before (Attach slot) (d4 sample bytes reading')
       (followed_by (claim_in_time (own_use (image_lease slot.0) (claim_of s.boot known.claims sample) ∷ []) reading'
-      (reread_part (own_use (image_lease slot.0) (claim_of s.boot known.claims sample) ∷ []) (image_lease slot.0) (claim_of s.boot known.claims sample))) (after_claim s (with_claim known) slot.0))
+      (reread_process (own_use (image_lease slot.0) (claim_of s.boot known.claims sample) ∷ []) (image_lease slot.0) (claim_of s.boot known.claims sample))) (after_claim s (with_claim known) slot.0))
       (suc (suc (suc (twice s.geometry.slots))))
   after-wait sample bytes reading' small some past =
       let own' = claim_of s.boot known.claims sample in
       let until = sample + term in
       let done = d4 sample bytes reading' in
       let n = suc (suc (suc (twice s.geometry.slots))) in
-      by-own-rest (λ part. Right s before (Attach slot) done part n) sample reading' _
+      by-own-rest (λ process. Right s before (Attach slot) done process n) sample reading' _
       (λ late. lost-name done until reading' n (
         replied-fine s before (Attach slot) reading fine done refl (reply.Lost (lease.Image slot) until reading')
             (replies.reached (record { lease = image_lease slot.0; until = until }) (sym (lease-name s.geometry slot.0 within)) refl (of_wait (sample + wait) (d3 sample bytes, refl))
@@ -532,7 +532,7 @@ module _ (s : Setting) (boot_small : s.boot < 2 ^ 128) (before : List Finished) 
 
   after-seen : (sample : ℕ) (bytes : List ℕ) → sample < 2 ^ 48 → (found : Option LeaseRecord) → read_lease bytes ≡ found →
       Right s before (Attach slot) (d2 sample bytes)
-      (followed_by (seen_part [] (image_lease slot.0) (claim_of s.boot known.claims sample) found) (after_claim s (with_claim known) slot.0))
+      (followed_by (seen_process [] (image_lease slot.0) (claim_of s.boot known.claims sample) found) (after_claim s (with_claim known) slot.0))
       (suc (suc (suc (suc (suc (twice s.geometry.slots))))))
   after-seen sample bytes small None sees = (
     ((went2 sample bytes, tt), (λ outside. refl, none-unbusy s (log_on before (Attach slot) (d2 sample bytes)) (lease_at (image_lease slot.0)) bytes refl sees)),
@@ -543,7 +543,7 @@ module _ (s : Setting) (boot_small : s.boot < 2 ^ 128) (before : List Finished) 
     where
       by-expired : (test : Bool) → is_expired seen sample ≡ test →
           Right s before (Attach slot) (d2 sample bytes)
-          (followed_by (if_expired test seen (written_part [] (image_lease slot.0) (claim_of s.boot known.claims sample))) (after_claim s (with_claim known) slot.0))
+          (followed_by (if_expired test seen (written_process [] (image_lease slot.0) (claim_of s.boot known.claims sample))) (after_claim s (with_claim known) slot.0))
           (suc (suc (suc (suc (suc (twice s.geometry.slots))))))
       by-expired false is =
           subst (λ (n : LeaseName). Right s before (Attach slot) (d2 sample bytes) (ends (reply.Busy n seen) (with_claim known)) (suc (suc (suc (suc (suc (twice s.geometry.slots)))))))

@@ -13,7 +13,7 @@ use Rattle.plx_commands.specs.declared.reply.Reply.{Reply}
 use Rattle.plx_disk.specs.declared.ask.Ask.{Ask}
 use Rattle.plx_gate.specs.declared.image.ImageRecord.{ImageRecord}
 use Rattle.plx_geom.specs.Geometry.{image_lease}
-use Rattle.plx_rules.specs.Part.{Part}
+use Rattle.plx_rules.specs.Process.{Process}
 use Rattle.plx_rules.specs.Commands.{unless}
 use Rattle.plx_rules.specs.Ends.{End, ends}
 use Rattle.plx_rules.specs.Records.{is_live, generation_of, size_of, applied_of}
@@ -37,10 +37,10 @@ use Rattle.law_run.proofs.Right.{clock, Rests, finish, log_on}
 use Rattle.plx_base.proofs.Tests.{eqb-true}
 
 -- the rest by a test that refuses
-pub by-unless : (P : Part End → Type 0) (refused : Bool) (refusal : Reply) (known : Known) (part : Part End) → (refused ≡ true → P (ends refusal known)) → (refused ≡ false → P part) →
-    P (unless refused refusal known part)
-by-unless P true refusal known part yes' no' = yes' refl
-by-unless P false refusal known part yes' no' = no' refl
+pub by-unless : (P : Process End → Type 0) (refused : Bool) (refusal : Reply) (known : Known) (process : Process End) → (refused ≡ true → P (ends refusal known)) → (refused ≡ false → P process) →
+    P (unless refused refusal known process)
+by-unless P true refusal known process yes' no' = yes' refl
+by-unless P false refusal known process yes' no' = no' refl
 
 -- no fact on the image of a session refuses a command before this place
 pub record Clear (slots : ℕ) (command : Command) (session : Session) (n : ℕ) : Type 0 where

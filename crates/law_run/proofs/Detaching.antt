@@ -11,7 +11,7 @@ use Rattle.plx_disk.specs.declared.ask.Answer.TheVariants as answer
 use Rattle.plx_gate.specs.Leases.{lease_bytes}
 use Rattle.plx_geom.specs.Geometry.{image_lease, lease_at}
 use Rattle.plx_geom.proofs.Places.{image-below}
-use Rattle.plx_rules.specs.Commands.{detach_part, command_part}
+use Rattle.plx_rules.specs.Commands.{detach_process, command_process}
 use Rattle.plx_rules.specs.Ends.{ends}
 use Rattle.plx_rules.specs.Session.{Session, Known, with_session}
 use Rattle.plx_rules.specs.Settings.{Setting}
@@ -57,7 +57,7 @@ lease-apart image other apart same = apart (omega (arith, same))
 
 right-detach : (s : Setting) (before : List Finished) (known : Known) (slot : SlotNo) (reading : ℕ) (rests : Rests s before known) (session : Session) (claim : Claim) (until : ℕ) →
     Ready s before known (Detach slot) slot reading (on-detach slot) rests session claim until →
-    Right s before (Detach slot) (clock reading ∷ []) (detach_part s known slot.0 session until) 1
+    Right s before (Detach slot) (clock reading ∷ []) (detach_process s known slot.0 session until) 1
 right-detach s before known slot reading rests session claim until ready =
     let command = Detach slot in
     let on = on-detach slot in
@@ -79,7 +79,7 @@ right-detach s before known slot reading rests session claim until ready =
     )
 
 pub detach-begins : (s : Setting) (before : List Finished) (known : Known) (slot : SlotNo) (reading : ℕ) → Rests s before known →
-    Right s before (Detach slot) (clock reading ∷ []) (command_part s known (start s before reading) (hand_start s before reading) reading (Detach slot)) 1
+    Right s before (Detach slot) (clock reading ∷ []) (command_process s known (start s before reading) (hand_start s before reading) reading (Detach slot)) 1
 detach-begins s before known slot reading rests =
-    on-image s before known (Detach slot) slot reading (on-detach slot) rests 1 (detach_part s known slot.0)
+    on-image s before known (Detach slot) slot reading (on-detach slot) rests 1 (detach_process s known slot.0)
     (λ session claim until ready. right-detach s before known slot reading rests session claim until ready)

@@ -8,7 +8,7 @@ use Rattle.plx_disk.specs.declared.ask.Ask.{Ask}
 use Rattle.plx_gate.specs.Leases.{read_lease}
 use Rattle.plx_geom.proofs.Places.{image-below}
 use Rattle.plx_geom.specs.Geometry.{lease_count, image_lease, lease_at, map_at}
-use Rattle.plx_rules.specs.Part.{Part, Ends, ReadThen, WriteThen, ClockThen, UntilThen}
+use Rattle.plx_rules.specs.Process.{Process, Ends, ReadThen, WriteThen, ClockThen, UntilThen}
 use Rattle.plx_rules.specs.InUse.{InUse}
 use Rattle.plx_rules.specs.Settings.{Setting}
 use Rattle.plx_rules.specs.Space.{read_map}
@@ -117,8 +117,8 @@ no-attach s log other busy = other busy.slot busy.command
 
 module _ {E : Type 0} (May May' : List Exchange → Ask → List ℕ → Type 0) (Shows Shows' : List Exchange → E → Type 0) where
   -- a part that meets two rules meets both together; of the second one the ends show nothing
-  pub meets-two : (part : Part E) (done : List Exchange) (n m : ℕ) → Meets May Shows done part n → Meets May' Shows' done part m →
-      Meets (λ d a bytes. May d a bytes × May' d a bytes) Shows done part n
+  pub meets-two : (process : Process E) (done : List Exchange) (n m : ℕ) → Meets May Shows done process n → Meets May' Shows' done process m →
+      Meets (λ d a bytes. May d a bytes × May' d a bytes) Shows done process n
   meets-two (Ends end) done n m one other = one
   meets-two (ReadThen block rest fault) done zero m one other = absurd one
   meets-two (ReadThen block rest fault) done (suc n) zero one other = absurd other

@@ -43,8 +43,8 @@ in-free hand m bit bits b has = by-test (bit || is_in m hand)
     by-test true = has
     by-test false = has-tail b m (free_from hand (m + 1) bits) has
 
-free-parts : (hand : List ℕ) (m : ℕ) (bit : Bool) (bits : List Bool) (b : ℕ) → HasBlock (free_from hand m (bit ∷ bits)) b → (b ≡ m) ⊎ HasBlock (free_from hand (m + 1) bits) b
-free-parts hand m bit bits b has = by-test (bit || is_in m hand) has
+free-processes : (hand : List ℕ) (m : ℕ) (bit : Bool) (bits : List Bool) (b : ℕ) → HasBlock (free_from hand m (bit ∷ bits)) b → (b ≡ m) ⊎ HasBlock (free_from hand (m + 1) bits) b
+free-processes hand m bit bits b has = by-test (bit || is_in m hand) has
   where
     by-test : (test : Bool) → HasBlock (if test then free_from hand (m + 1) bits else m ∷ free_from hand (m + 1) bits) b → (b ≡ m) ⊎ HasBlock (free_from hand (m + 1) bits) b
     by-test true has' = inr has'
@@ -53,7 +53,7 @@ free-parts hand m bit bits b has = by-test (bit || is_in m hand) has
 -- they stand for bits of the map
 pub free-within : (hand : List ℕ) (m : ℕ) (bits : List Bool) (b : ℕ) → HasBlock (free_from hand m bits) b → (m ≤ b) × (b < m + length bits)
 free-within hand m [] b has = absurd (let P : ⊥ = cc in P)
-free-within hand m (bit ∷ bits) b has = elim (free-parts hand m bit bits b has) [
+free-within hand m (bit ∷ bits) b has = elim (free-processes hand m bit bits b has) [
   | inl same ↦ (omega (arith, same), omega (arith, same))
   | inr there ↦ (let r = free-within hand (m + 1) bits b there in (omega (arith, r.0), omega (arith, r.1)))
 ]

@@ -19,11 +19,11 @@ use Rattle.plx_rules.specs.Ends.{End}
 use Rattle.plx_rules.specs.Hands.{is_held}
 use Rattle.plx_rules.specs.Holds.{Hold, Nothing, Seen, Wrote, Waited, Held}
 use Rattle.plx_rules.specs.InUse.{InUse, lease_name, first_reached}
-use Rattle.plx_rules.specs.Part.{Part}
+use Rattle.plx_rules.specs.Process.{Process}
 use Rattle.plx_rules.specs.Rests.{extent_of}
 use Rattle.plx_rules.specs.Session.{Known, nothing_known}
 use Rattle.plx_rules.specs.Settings.{Setting}
-use Rattle.plx_rules.specs.Space.{extent_use, read_map, with_clear, release_then, in_extent, give_part, retire_extent, retire_extents}
+use Rattle.plx_rules.specs.Space.{extent_use, read_map, with_clear, release_then, in_extent, give_process, retire_extent, retire_extents}
 use Rattle.law_run.specs.AllowedAsks.{MayAsk, release_of_lease}
 use Rattle.law_run.specs.CommandLogs.{Exchange, Finished}
 use Rattle.law_run.specs.Holdings.{hold_by_log, hand_by_log}
@@ -77,18 +77,18 @@ module _ (s : Setting) (before : List Finished) (from : List Exchange) (spares :
       (pool : (b : ℕ) → HasBlock (hand_by_log s before from) b → (extent : ℕ) → b ≢ map_at s.geometry extent)
       (allowed : (done : List Exchange) (a : Ask) (bytes : List ℕ) → MayAsk s (log_on before command done) a bytes → IsOfOneMap s.geometry a → May done a bytes)
       (endings : Endings s before from spares uses known Shows) where
-    abbrev MeetsGivingUp : (own : List Exchange) → Part End → ℕ → Type 0
-    MeetsGivingUp own part n = Meets May Shows (own ++ from) part n
+    abbrev MeetsGivingUp : (own : List Exchange) → Process End → ℕ → Type 0
+    MeetsGivingUp own process n = Meets May Shows (own ++ from) process n
 
     -- what is met with so many answers left is met with one more
-    pub more : (n : ℕ) (part : Part End) (own : List Exchange) → MeetsGivingUp own part n → MeetsGivingUp own part (suc n)
-    more n part own meets = meets-more May Shows part (own ++ from) n meets
+    pub more : (n : ℕ) (process : Process End) (own : List Exchange) → MeetsGivingUp own process n → MeetsGivingUp own process (suc n)
+    more n process own meets = meets-more May Shows process (own ++ from) n meets
 
     -- the blocks in hand of an extent are given back, and the work goes on
-    pub gives : (P : ℕ → Type 0) (own : List Exchange) (extent until n : ℕ) (claim : Claim) (blocks : List ℕ) (rest : Part End) → extent < s.geometry.extents → ¬ P (extent_lease s.geometry extent) →
+    pub gives : (P : ℕ → Type 0) (own : List Exchange) (extent until n : ℕ) (claim : Claim) (blocks : List ℕ) (rest : Process End) → extent < s.geometry.extents → ¬ P (extent_lease s.geometry extent) →
         Work P (GivenBack extent) own → hold_by_log s before (own ++ from) (extent_lease s.geometry extent) ≡ Held claim until → in_extent s.geometry extent (hand_by_log s before from) ≡ blocks →
         ((own' : List Exchange) → Work P (GivenBack (extent + 1)) own' → hold_by_log s before (own' ++ from) (extent_lease s.geometry extent) ≡ Held claim until → MeetsGivingUp own' rest n) →
-        MeetsGivingUp own (give_part s known uses extent until blocks rest) (suc (suc n))
+        MeetsGivingUp own (give_process s known uses extent until blocks rest) (suc (suc n))
     gives P own extent until n claim [] rest below left r held among next =
         let one = next own (given-more s before from spares inside P own extent r (none-among s before from spares inside P (GivenBack extent) own extent r among)) held in
         more (suc n) rest own (more n rest own one)
@@ -139,7 +139,7 @@ module _ (s : Setting) (before : List Finished) (from : List Exchange) (spares :
       ]
 
       -- an extent's lease is released
-      release-extent : (own : List Exchange) (extent until n : ℕ) (claim : Claim) (rest : Part End) → extent < s.geometry.extents → Work (PastExtent s extent) (GivenBack (extent + 1)) own →
+      release-extent : (own : List Exchange) (extent until n : ℕ) (claim : Claim) (rest : Process End) → extent < s.geometry.extents → Work (PastExtent s extent) (GivenBack (extent + 1)) own →
           hold_by_log s before (own ++ from) (extent_lease s.geometry extent) ≡ Held claim until →
           ((own' : List Exchange) → Work (PastExtent s (extent + 1)) (GivenBack (extent + 1)) own' → MeetsGivingUp own' rest n) →
           MeetsGivingUp own (release_then s known (extent_use s.geometry extent until) rest) (suc n)
@@ -155,7 +155,7 @@ module _ (s : Setting) (before : List Finished) (from : List Exchange) (spares :
           )
 
       -- the extents from one on
-      pub retires : (left extent : ℕ) (own : List Exchange) (n : ℕ) (rest : Part End) → left + extent ≡ s.geometry.extents → Work (PastExtent s extent) (GivenBack extent) own →
+      pub retires : (left extent : ℕ) (own : List Exchange) (n : ℕ) (rest : Process End) → left + extent ≡ s.geometry.extents → Work (PastExtent s extent) (GivenBack extent) own →
           ((own' : List Exchange) → Work (PastExtent s s.geometry.extents) (GivenBack s.geometry.extents) own' → MeetsGivingUp own' rest n) →
           MeetsGivingUp own (retire_extents s known uses holds hand left extent rest) (retire_asks left n)
       retires zero extent own n rest all r right =
@@ -165,7 +165,7 @@ module _ (s : Setting) (before : List Finished) (from : List Exchange) (spares :
           (r.later (extent_lease s.geometry extent) (extent-below s.geometry extent (omega arith)) (λ p. omega (arith, p.1)) ∙ sym (held_here extent (omega arith)))
           (λ own' r'. retires left (extent + 1) own' n rest (omega arith) r' right)
         where
-          tail : Part End
+          tail : Process End
           tail = retire_extents s known uses holds hand left (extent + 1) rest
 
           m : ℕ

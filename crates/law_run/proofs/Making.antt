@@ -20,7 +20,7 @@ use Rattle.plx_gate.specs.declared.image.ImageRecord.TheVariants as image_is
 use Rattle.plx_gate.proofs.Images.{image-back, image-only}
 use Rattle.plx_geom.specs.Geometry.{Geometry, image_lease, record_at, descriptor_at, journal_start}
 use Rattle.plx_geom.proofs.Places.{image-below}
-use Rattle.plx_rules.specs.Commands.{create_part, delete_part, record_part, command_part}
+use Rattle.plx_rules.specs.Commands.{create_process, delete_process, record_process, command_process}
 use Rattle.plx_rules.specs.Ends.{ends_in_time}
 use Rattle.plx_rules.specs.Records.{is_live, generation_of, is_plain, made_record}
 use Rattle.plx_rules.specs.Session.{Session, Known, with_session, new_session}
@@ -99,7 +99,7 @@ module _ (s : Setting) (before : List Finished) (known : Known) (command : Comma
       IsConfirmed s (log_on before command done) slot.0 →
       ((sense : Sense) → Stores s.geometry (seen_in sense s.geometry (known_before s.geometry (log_on before command done) slot.0)) slot.0 (stored_by_session session)) →
       ((sense : Sense) → Stores s.geometry (seen_in sense s.geometry (known_in s.geometry (log_on before command done) slot.0)) slot.0 (stored_by_session (new_session made))) → Comes s IsAny (log_on before command done) r) →
-      Right s before command (clock reading ∷ []) (record_part s known slot.0 until made r) 2
+      Right s before command (clock reading ∷ []) (record_process s known slot.0 until made r) 2
   right-record may shows =
       let x = exchange (ask.Write kind.Record (record { 0 = record_at s.geometry slot.0 }) until) (image_bytes made) answer.Done in
       let c : Course = record { reading = reading; claim = claim; until = until; begun = 0 } in
@@ -164,7 +164,7 @@ size-parts size is = let both = and-parts (nat_lt 0 size) (nat_le size greatest_
 
 right-create : (s : Setting) (before : List Finished) (known : Known) (slot : SlotNo) (size : ℕ) (label : Label) (reading : ℕ) (rests : Rests s before known) → IsLabel label →
     (session : Session) (claim : Claim) (until : ℕ) → Ready s before known (Create slot size label) slot reading (on-create slot size label) rests session claim until →
-    Right s before (Create slot size label) (clock reading ∷ []) (create_part s known slot.0 size label session until) 2
+    Right s before (Create slot size label) (clock reading ∷ []) (create_process s known slot.0 size label session until) 2
 right-create s before known slot size label reading rests labelled session claim until ready =
     let command = Create slot size label in
     let on = on-create slot size label in
@@ -177,19 +177,19 @@ right-create s before known slot size label reading rests labelled session claim
     let place : (n : ℕ) → (6 ≤ n → is_live session.image ≡ false) → (7 ≤ n → is_size size ≡ true) → (10 ≤ n → generation < last_generation) → (done : List Exchange) → first_reading done ≡ Some reading →
     Passed s (log_on before command done) n =
     λ n free sized fresh done first. clear s before known command slot reading on rests session claim until ready done n first (create-clear s.geometry.slots slot size label session n free sized fresh) in
-    by-unless (λ part. Right s before command (clock reading ∷ []) part 2) (is_live session.image) reply.Exists known _
+    by-unless (λ process. Right s before command (clock reading ∷ []) process 2) (is_live session.image) reply.Exists known _
     (λ live. (
       refused 5 (reading, refl) (exists slot size label session.image refl found live)
           (λ p other refuses. passed-at-most s log 5 p other (place 5 (λ lt. absurd (omega arith)) (λ lt. absurd (omega arith)) (λ lt. absurd (omega arith)) (clock reading ∷ []) refl) refuses),
       still s before known command slot reading on rests reply.Exists (λ other b. refl) (λ h. refl),
     ))
-    (λ free. by-unless (λ part. Right s before command (clock reading ∷ []) part 2) (not (is_size size)) (reply.OutOfRange greatest_size) known _
+    (λ free. by-unless (λ process. Right s before command (clock reading ∷ []) process 2) (not (is_size size)) (reply.OutOfRange greatest_size) known _
     (λ wrong. (
       refused 6 (reading, refl) (out_of_limits slot size label refl ready.attached (opposite-true (is_size size) wrong))
           (λ p other refuses. passed-at-most s log 6 p other (place 6 (λ lt. free) (λ lt. absurd (omega arith)) (λ lt. absurd (omega arith)) (clock reading ∷ []) refl) refuses),
       still s before known command slot reading on rests (reply.OutOfRange greatest_size) (λ other b. refl) (λ h. refl),
     ))
-    (λ sized. by-unless (λ part. Right s before command (clock reading ∷ []) part 2) (is_worn last_generation generation) (reply.WornOut last_generation) known _
+    (λ sized. by-unless (λ process. Right s before command (clock reading ∷ []) process 2) (is_worn last_generation generation) (reply.WornOut last_generation) known _
     (λ worn. (
       refused 9 (reading, refl) (generations slot size label session.image refl found (nat_le-tells last_generation generation worn))
           (λ p other refuses. passed-at-most s log 9 p other (place 9 (λ lt. free) (λ lt. not-false (is_size size) sized) (λ lt. absurd (omega arith)) (clock reading ∷ []) refl) refuses),
@@ -227,9 +227,9 @@ right-create s before known slot size label reading rests labelled session claim
     }))))
 
 pub create-begins : (s : Setting) (before : List Finished) (known : Known) (slot : SlotNo) (size : ℕ) (label : Label) (reading : ℕ) → Rests s before known → IsLabel label →
-    Right s before (Create slot size label) (clock reading ∷ []) (command_part s known (start s before reading) (hand_start s before reading) reading (Create slot size label)) 2
+    Right s before (Create slot size label) (clock reading ∷ []) (command_process s known (start s before reading) (hand_start s before reading) reading (Create slot size label)) 2
 create-begins s before known slot size label reading rests labelled =
-    on-image s before known (Create slot size label) slot reading (on-create slot size label) rests 2 (create_part s known slot.0 size label)
+    on-image s before known (Create slot size label) slot reading (on-create slot size label) rests 2 (create_process s known slot.0 size label)
     (λ session claim until ready. right-create s before known slot size label reading rests labelled session claim until ready)
 
 -- ---- delete
@@ -259,7 +259,7 @@ generation-below (image_is.Live live) is = is.generation_high
 
 right-delete : (s : Setting) (before : List Finished) (known : Known) (slot : SlotNo) (reading : ℕ) (rests : Rests s before known) (session : Session) (claim : Claim) (until : ℕ) →
     Ready s before known (Delete slot) slot reading (on-delete slot) rests session claim until →
-    Right s before (Delete slot) (clock reading ∷ []) (delete_part s known slot.0 session until) 2
+    Right s before (Delete slot) (clock reading ∷ []) (delete_process s known slot.0 session until) 2
 right-delete s before known slot reading rests session claim until ready =
     let command = Delete slot in
     let on = on-delete slot in
@@ -270,7 +270,7 @@ right-delete s before known slot reading rests session claim until ready =
     let found1 = ap (λ (g : Given). record_on s.geometry g slot.0) known1 ∙ ready.fits.found in
     let place : (n : ℕ) → (5 ≤ n → is_live session.image ≡ true) → (done : List Exchange) → first_reading done ≡ Some reading → Passed s (log_on before command done) n =
     λ n live done first. clear s before known command slot reading on rests session claim until ready done n first (delete-clear s.geometry.slots slot session n live) in
-    by-unless (λ part. Right s before command (clock reading ∷ []) part 2) (not (is_live session.image)) reply.NoImage known _
+    by-unless (λ process. Right s before command (clock reading ∷ []) process 2) (not (is_live session.image)) reply.NoImage known _
     (λ dead. (
       refused 4 (reading, refl) (no_image slot.0 session.image (of_delete slot refl refl) found (opposite-true (is_live session.image) dead))
           (λ p other refuses. passed-at-most s log 4 p other (place 4 (λ lt. absurd (omega arith)) (clock reading ∷ []) refl) refuses),
@@ -296,7 +296,7 @@ right-delete s before known slot reading rests session claim until ready =
     }))
 
 pub delete-begins : (s : Setting) (before : List Finished) (known : Known) (slot : SlotNo) (reading : ℕ) → Rests s before known →
-    Right s before (Delete slot) (clock reading ∷ []) (command_part s known (start s before reading) (hand_start s before reading) reading (Delete slot)) 2
+    Right s before (Delete slot) (clock reading ∷ []) (command_process s known (start s before reading) (hand_start s before reading) reading (Delete slot)) 2
 delete-begins s before known slot reading rests =
-    on-image s before known (Delete slot) slot reading (on-delete slot) rests 2 (delete_part s known slot.0)
+    on-image s before known (Delete slot) slot reading (on-delete slot) rests 2 (delete_process s known slot.0)
     (λ session claim until ready. right-delete s before known slot reading rests session claim until ready)

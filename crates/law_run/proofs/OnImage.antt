@@ -11,10 +11,10 @@ use Rattle.plx_commands.specs.declared.command.Command.TheVariants.{Attach}
 use Rattle.plx_commands.specs.declared.reply.Reply.{Reply}
 use Rattle.plx_commands.specs.declared.reply.Reply.TheVariants as reply
 use Rattle.plx_geom.specs.Geometry.{Geometry, image_lease, lease_at}
-use Rattle.plx_rules.specs.Part.{Part}
+use Rattle.plx_rules.specs.Process.{Process}
 use Rattle.plx_rules.specs.Attaching.{image_use}
-use Rattle.plx_rules.specs.Commands.{attached_part, of_attached}
-use Rattle.plx_rules.specs.Ends.{End, ends, lost_part, in_time}
+use Rattle.plx_rules.specs.Commands.{attached_process, of_attached}
+use Rattle.plx_rules.specs.Ends.{End, ends, lost_process, in_time}
 use Rattle.plx_rules.specs.Holds.{Held}
 use Rattle.plx_rules.proofs.InUse.{same-first}
 use Rattle.plx_rules.specs.InUse.{InUse, IsNamedFirst, lease_name}
@@ -115,10 +115,10 @@ lease-name g image within =
     let e : image_lease image ≡ suc image = omega arith in ap (lease_name g) e ∙ rw (nat_lt-true image g.images within) refl
 
 -- the rest by one lease in use
-pub by-time : (P : Part End → Type 0) (s : Setting) (known : Known) (image until reading : ℕ) (part : Part End) →
-    (until ≤ reading → P (lost_part s known (record { lease = image_lease image; until = until }) reading)) → (reading < until → P part) →
-    P (in_time s known (image_use image until) reading part)
-by-time P s known image until reading part late early = elim (leb_tells until reading) [
+pub by-time : (P : Process End → Type 0) (s : Setting) (known : Known) (image until reading : ℕ) (process : Process End) →
+    (until ≤ reading → P (lost_process s known (record { lease = image_lease image; until = until }) reading)) → (reading < until → P process) →
+    P (in_time s known (image_use image until) reading process)
+by-time P s known image until reading process late early = elim (leb_tells until reading) [
   | inl past ↦ rw past.0 (late past.1)
   | inr below ↦ rw below.0 (early (omega (arith, below.1)))
 ]
@@ -148,7 +148,7 @@ module _ (s : Setting) (before : List Finished) (known : Known) (command : Comma
 
   -- the first reading has reached the end of the lease
   late : (claim : Claim) (until : ℕ) → slot.0 < s.geometry.images → is_attached before slot.0 ≡ true → holds_after s.geometry before (lease_at (image_lease slot.0)) ≡ Held claim until → until ≤ reading → (left : ℕ) →
-      Right s before command (clock reading ∷ []) (lost_part s known (record { lease = image_lease slot.0; until = until }) reading) left
+      Right s before command (clock reading ∷ []) (lost_process s known (record { lease = image_lease slot.0; until = until }) reading) left
   late claim until within attached held past left =
       subst (λ (n : LeaseName). Right s before command (clock reading ∷ []) (ends (reply.Lost n until reading) (nothing_known known.claims)) left) (sym (lease-name s.geometry slot.0 within)) (
         refused 3 (reading, refl)
@@ -176,20 +176,20 @@ module _ (s : Setting) (before : List Finished) (known : Known) (command : Comma
     pub below : reading < until
     pub is : known.sessions slot.0 ≡ Some session
 
-  with-session : (left : ℕ) (rest : Session → (until : ℕ) → Part End) →
+  with-session : (left : ℕ) (rest : Session → (until : ℕ) → Process End) →
       ((session : Session) (claim : Claim) (until : ℕ) → Ready session claim until → Right s before command (clock reading ∷ []) (rest session until) left) →
       (found : Option Session) → known.sessions slot.0 ≡ found → FitsAt s before slot.0 found →
-      Right s before command (clock reading ∷ []) (attached_part s known slot.0 found (nat_lt slot.0 s.geometry.images) (start s before reading (lease_at (image_lease slot.0))) reading rest) left
+      Right s before command (clock reading ∷ []) (attached_process s known slot.0 found (nat_lt slot.0 s.geometry.images) (start s before reading (lease_at (image_lease slot.0))) reading rest) left
   with-session left rest right None is fits = not-attached fits left
   with-session left rest right (Some session) is fits =
       let h = fits.2 in
-      let P : Part End → Type 0 = λ part. Right s before command (clock reading ∷ []) part left in
+      let P : Process End → Type 0 = λ process. Right s before command (clock reading ∷ []) process left in
       let now = hold-after-first s before reading slot.0 h.0 h.1 fits.1.within fits.0 h.2 in
       rw (nat_lt-true slot.0 s.geometry.images fits.1.within, now)
       (by-time P s known slot.0 h.1 reading (rest session h.1) (λ past. late h.0 h.1 fits.1.within fits.0 h.2 past left)
       (λ below. right session h.0 h.1 (record { attached = fits.0; fits = fits.1; held = h.2; now = now; below = below; is = is })))
 
-  pub on-image : (left : ℕ) (rest : Session → (until : ℕ) → Part End) →
+  pub on-image : (left : ℕ) (rest : Session → (until : ℕ) → Process End) →
       ((session : Session) (claim : Claim) (until : ℕ) → Ready session claim until → Right s before command (clock reading ∷ []) (rest session until) left) →
       Right s before command (clock reading ∷ []) (of_attached s known (start s before reading) reading slot.0 rest) left
   on-image left rest right = with-session left rest right (known.sessions slot.0) refl (rests.sessions slot.0)

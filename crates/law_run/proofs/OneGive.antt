@@ -11,11 +11,11 @@ use Rattle.plx_disk.specs.declared.ask.Ask.TheVariants as ask
 use Rattle.plx_disk.specs.declared.ask.Answer.TheVariants as answer
 use Rattle.plx_extent.specs.Maps.{map_bytes, IsMap}
 use Rattle.plx_geom.specs.Geometry.{extent_lease, map_at}
-use Rattle.plx_rules.specs.Ends.{End, ends, lost_part, read_then}
+use Rattle.plx_rules.specs.Ends.{End, ends, lost_process, read_then}
 use Rattle.plx_rules.specs.Hands.{is_held}
 use Rattle.plx_rules.specs.Holds.{Held}
 use Rattle.plx_rules.specs.InUse.{InUse, lease_name, first_reached, unless_reached}
-use Rattle.plx_rules.specs.Part.{Part}
+use Rattle.plx_rules.specs.Process.{Process}
 use Rattle.plx_rules.specs.Rests.{extent_of}
 use Rattle.plx_rules.specs.Session.{Known, nothing_known}
 use Rattle.plx_rules.specs.Settings.{Setting}
@@ -85,7 +85,7 @@ module _ (s : Setting) (before : List Finished) (command : Command) (uses : List
       (not-true (is_in (map_at s.geometry extent) blocks) (λ has. can.pool (map_at s.geometry extent) has refl)) (map-is s.geometry.extent_blocks read bits is)
 
   -- bytes that are no map end it after one more reading
-  by-map : (rest : Part End) (n : ℕ) → ((read : List ℕ) (bits : List Bool) → read_map s.geometry.extent_blocks read ≡ Some bits →
+  by-map : (rest : Process End) (n : ℕ) → ((read : List ℕ) (bits : List Bool) → read_map s.geometry.extent_blocks read ≡ Some bits →
       Meets May Shows (exchange (give_ask s extent until) (map_bytes (with_clear blocks (map_at s.geometry extent) bits)) answer.Done ∷ read_of (map_at s.geometry extent) read ∷ done) rest n) →
       (read : List ℕ) (found : Option (List Bool)) → read_map s.geometry.extent_blocks read ≡ found →
       Meets May Shows (read_of (map_at s.geometry extent) read ∷ done) (give_found s known uses extent until blocks found rest) (suc n)
@@ -102,7 +102,7 @@ module _ (s : Setting) (before : List Finished) (command : Command) (uses : List
 
       by-reached : (last : ℕ) (found : Option InUse) → first_reached in_use last ≡ found →
           Meets May Shows (clock last ∷ read_of (map_at s.geometry extent) read ∷ done)
-          (unless_reached found (λ due. lost_part s known due last) (ends (reply.Damaged (record { 0 = map_at s.geometry extent })) known)) n
+          (unless_reached found (λ due. lost_process s known due last) (ends (reply.Damaged (record { 0 = map_at s.geometry extent })) known)) n
       by-reached last (Some due) found = endings.reached read last due is (now last) found
       by-reached last None found = endings.damaged read last is (now last) found
   by-map rest n next read (Some bits) is =
@@ -115,7 +115,7 @@ module _ (s : Setting) (before : List Finished) (command : Command) (uses : List
       )
 
   -- they are given back, and the command goes on
-  pub one-gives : (rest : Part End) (n : ℕ) → ((read : List ℕ) (bits : List Bool) → read_map s.geometry.extent_blocks read ≡ Some bits →
+  pub one-gives : (rest : Process End) (n : ℕ) → ((read : List ℕ) (bits : List Bool) → read_map s.geometry.extent_blocks read ≡ Some bits →
       Meets May Shows (exchange (give_ask s extent until) (map_bytes (with_clear blocks (map_at s.geometry extent) bits)) answer.Done ∷ read_of (map_at s.geometry extent) read ∷ done) rest n) →
       Meets May Shows done (read_then (map_at s.geometry extent) known (λ bytes. give_found s known uses extent until blocks (read_map s.geometry.extent_blocks bytes) rest)) (suc (suc n))
   one-gives rest n next = (

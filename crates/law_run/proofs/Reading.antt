@@ -9,7 +9,7 @@ use Rattle.plx_base.proofs.Canonical.{bytes_of-payload_of}
 use Rattle.plx_commands.specs.declared.command.Command.TheVariants.{Read}
 use Rattle.plx_commands.specs.declared.reply.Reply.TheVariants as reply
 use Rattle.plx_disk.specs.declared.ask.Ask.TheVariants as ask
-use Rattle.plx_rules.specs.Commands.{read_part, command_part}
+use Rattle.plx_rules.specs.Commands.{read_process, command_process}
 use Rattle.plx_rules.specs.Records.{is_live, size_of}
 use Rattle.plx_rules.specs.Session.{Session, Known, content}
 use Rattle.plx_rules.specs.Settings.{Setting}
@@ -56,20 +56,20 @@ module _ (s : Setting) (before : List Finished) (known : Known) (slot : SlotNo) 
   place n live below done first =
       clear s before known (Read slot vblock) slot reading (on-read slot vblock) rests session claim until ready done n first (read-clear s.geometry.slots slot vblock session n live below)
 
-  right-read : Right s before (Read slot vblock) (clock reading ∷ []) (read_part s known slot.0 vblock session until) 1
+  right-read : Right s before (Read slot vblock) (clock reading ∷ []) (read_process s known slot.0 vblock session until) 1
   right-read =
       let command = Read slot vblock in
       let on = on-read slot vblock in
       let log = log_on before command (clock reading ∷ []) in
       let here = known-here s before known command slot reading on rests session claim until ready in
       let record' = ap (λ (g : Given). record_on s.geometry g slot.0) (here (clock reading ∷ [])) ∙ ready.fits.found in
-      by-unless (λ part. Right s before command (clock reading ∷ []) part 1) (not (is_live session.image)) reply.NoImage known _
+      by-unless (λ process. Right s before command (clock reading ∷ []) process 1) (not (is_live session.image)) reply.NoImage known _
       (λ dead. (
         refused 4 (reading, refl) (no_image slot.0 session.image (of_block vblock (of_read slot refl refl)) record' (opposite-true (is_live session.image) dead))
             (λ p other refuses. passed-at-most s log 4 p other (place 4 (λ lt. absurd (omega arith)) (λ lt. absurd (omega arith)) (clock reading ∷ []) refl) refuses),
         still s before known command slot reading on rests reply.NoImage (λ other b. refl) (λ h. refl),
       ))
-      (λ live. by-unless (λ part. Right s before command (clock reading ∷ []) part 1) (nat_le (size_of session.image) vblock) (reply.OutOfRange (size_of session.image)) known _
+      (λ live. by-unless (λ process. Right s before command (clock reading ∷ []) process 1) (nat_le (size_of session.image) vblock) (reply.OutOfRange (size_of session.image)) known _
       (λ past. (
         refused 6 (reading, refl) (out_of_range slot.0 vblock session.image (of_read slot refl refl) record' refl (nat_le-tells (size_of session.image) vblock past))
             (λ p other refuses. passed-at-most s log 6 p other (place 6 (λ lt. not-false (is_live session.image) live) (λ lt. absurd (omega arith)) (clock reading ∷ []) refl) refuses),
@@ -100,7 +100,7 @@ module _ (s : Setting) (before : List Finished) (known : Known) (slot : SlotNo) 
       ))))
 
 pub read-begins : (s : Setting) (before : List Finished) (known : Known) (slot : SlotNo) (vblock reading : ℕ) → Rests s before known →
-    Right s before (Read slot vblock) (clock reading ∷ []) (command_part s known (start s before reading) (hand_start s before reading) reading (Read slot vblock)) 1
+    Right s before (Read slot vblock) (clock reading ∷ []) (command_process s known (start s before reading) (hand_start s before reading) reading (Read slot vblock)) 1
 read-begins s before known slot vblock reading rests =
-    on-image s before known (Read slot vblock) slot reading (on-read slot vblock) rests 1 (read_part s known slot.0 vblock)
+    on-image s before known (Read slot vblock) slot reading (on-read slot vblock) rests 1 (read_process s known slot.0 vblock)
     (λ session claim until ready. right-read s before known slot vblock reading rests session claim until ready)

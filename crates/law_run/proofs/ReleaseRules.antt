@@ -9,12 +9,12 @@ use Rattle.plx_disk.specs.declared.ask.Answer.TheVariants as answer
 use Rattle.plx_gate.specs.Leases.{lease_bytes}
 use Rattle.plx_geom.specs.Geometry.{lease_at}
 use Rattle.plx_rules.specs.Holds.{Hold, Nothing}
-use Rattle.plx_rules.specs.Part.{Part, Ends, standing}
+use Rattle.plx_rules.specs.Process.{Process, Ends, standing}
 use Rattle.plx_rules.specs.Settings.{Setting}
 use Rattle.law_run.specs.AllowedAsks.{release_of_lease}
 use Rattle.law_run.specs.CommandLogs.{Exchange, CommandLog}
 use Rattle.law_run.specs.Holdings.{hold_by_log, holds_along, holds_after}
-use Rattle.law_run.specs.Releases.{ReleaseEnd, release_part, ShowsRelease, IsReleaseAsk, IsReleaseEnd, ReleasesKeepRules}
+use Rattle.law_run.specs.Releases.{ReleaseEnd, release_process, ShowsRelease, IsReleaseAsk, IsReleaseEnd, ReleasesKeepRules}
 use Rattle.law_run.specs.Sessions.{is_attached}
 use Rattle.law_run.proofs.ClaimRules.{begun-first}
 use Rattle.law_run.specs.Machines.{IsOfBlock}
@@ -34,7 +34,7 @@ held-none s log lease until has =
 
 pub releases-keep-rules : ReleasesKeepRules
 releases-keep-rules s log lease until may =
-    meets-keeps s log (IsOfBlock (lease_at lease)) (ShowsRelease s lease until) (release_part lease until) 1 (
+    meets-keeps s log (IsOfBlock (lease_at lease)) (ShowsRelease s lease until) (release_process lease until) 1 (
       ((may.went, release_of_lease lease may.claim may.within refl may.held refl), refl),
       ((lease_bytes Free, (log.exchanges, refl)), held-none s log lease until (begun-first log.exchanges may.others may.first may.begun)),
       (lease_bytes Free, (log.exchanges, refl)),
@@ -42,8 +42,8 @@ releases-keep-rules s log lease until may =
     )
 
 -- so does each release by where it stands
-pub release-ask : (rest : Part ReleaseEnd) (ask : Ask) → Some ask ≡ standing rest → IsReleaseAsk rest ask
+pub release-ask : (rest : Process ReleaseEnd) (ask : Ask) → Some ask ≡ standing rest → IsReleaseAsk rest ask
 release-ask rest ask stands s log lease until own may leads = (releases-keep-rules s log lease until may).asks leads ask (sym stands)
 
-pub release-end : (rest : Part ReleaseEnd) (end : ReleaseEnd) → rest ≡ Ends end → IsReleaseEnd rest end
+pub release-end : (rest : Process ReleaseEnd) (end : ReleaseEnd) → rest ≡ Ends end → IsReleaseEnd rest end
 release-end rest end over s log lease until own may leads = (releases-keep-rules s log lease until may).ends leads end over

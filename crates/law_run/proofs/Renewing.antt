@@ -16,8 +16,8 @@ use Rattle.plx_disk.specs.declared.ask.Answer.TheVariants as answer
 use Rattle.plx_gate.specs.Leases.{lease_bytes, read_lease, IsClaimed}
 use Rattle.plx_gate.proofs.Leases.{lease-back}
 use Rattle.plx_geom.specs.Geometry.{lease_count, image_lease, lease_at}
-use Rattle.plx_rules.specs.Commands.{later_of, renewal, renew_part, attached_uses, command_part}
-use Rattle.plx_rules.specs.Ends.{ends, lost_part}
+use Rattle.plx_rules.specs.Commands.{later_of, renewal, renew_process, attached_uses, command_process}
+use Rattle.plx_rules.specs.Ends.{ends, lost_process}
 use Rattle.plx_rules.specs.Holds.{Hold, Nothing, Seen, Wrote, Waited, Held, hold_after_renewal}
 use Rattle.plx_rules.specs.InUse.{InUse, IsNamedFirst, IsUse, lease_name, first_reached, unless_reached}
 use Rattle.plx_rules.specs.Session.{Session, Known, nothing_known}
@@ -234,18 +234,18 @@ module _ (s : Setting) (before : List Finished) (known : Known) (reading : ℕ) 
   }
 
   renews : (left lease : ℕ) (done : List Exchange) → left + lease ≡ lease_count s.geometry → Renewing s before done reading lease →
-      Right s before Renew done (renew_part s known (start s before reading) reading left lease) (renewals (start s before reading) left lease)
+      Right s before Renew done (renew_process s known (start s before reading) reading left lease) (renewals (start s before reading) left lease)
   renews zero lease done all r = all-renewed done (subst (λ l. Renewing s before done reading l) (let e : lease ≡ lease_count s.geometry = omega arith in e) r)
   renews (suc left) lease done all r = by-hold (start s before reading (lease_at lease)) (r.later lease (omega arith)) (λ done' r'. renews left (lease + 1) done' (omega arith) r')
     where
       by-hold : (hold : Hold) → hold_by_log s before done lease ≡ hold →
           ((done' : List Exchange) → Renewing s before done' reading (lease + 1) →
-          Right s before Renew done' (renew_part s known (start s before reading) reading left (lease + 1)) (renewals (start s before reading) left (lease + 1))) →
-          Right s before Renew done (renewal s known reading lease hold (renew_part s known (start s before reading) reading left (lease + 1)))
+          Right s before Renew done' (renew_process s known (start s before reading) reading left (lease + 1)) (renewals (start s before reading) left (lease + 1))) →
+          Right s before Renew done (renewal s known reading lease hold (renew_process s known (start s before reading) reading left (lease + 1)))
           (asks_of_hold hold (renewals (start s before reading) left (lease + 1)))
       by-hold (Held claim until) held rest =
           asks-write (May s before Renew) s before known Renew reading fine done lease until kind.Renew (lease_at lease) (lease_bytes (lease_is.Claimed claim (later_of until (reading + term))))
-          (renew_part s known (start s before reading) reading left (lease + 1)) (renewals (start s before reading) left (lease + 1)) r.first
+          (renew_process s known (start s before reading) reading left (lease + 1)) (renewals (start s before reading) left (lease + 1)) r.first
           (let c = rests.claims in let b = r.begun in omega arith) (λ y e. claims-more s.geometry done y (rw e refl)) (omega arith) (in-one lease _ (sym (lease-place-found lease)))
           ((r.went, renewal_of_lease lease claim reading (omega arith) refl held r.first (renewal-limits s before done lease claim until reading small held) refl), r.follows _)
           (rest _ (one-renewal done lease claim until (omega arith) r held))
@@ -276,12 +276,12 @@ module _ (s : Setting) (before : List Finished) (known : Known) (reading : ℕ) 
 
   -- what the one to be named tells
   due-expired : (due : InUse) → IsFirstDue (attached_uses known (start s before reading) s.geometry.images 0) reading due → (left : ℕ) →
-      Right s before Renew (clock reading ∷ []) (lost_part s known due reading) left
+      Right s before Renew (clock reading ∷ []) (lost_process s known due reading) left
   due-expired due f left =
       let o = of-session known (start s before reading) s.geometry.images 0 due f.among in
       by-session o (rests.sessions o.image)
     where
-      by-session : (o : OfSession known (start s before reading) 0 due) → FitsAt s before o.image (known.sessions o.image) → Right s before Renew (clock reading ∷ []) (lost_part s known due reading) left
+      by-session : (o : OfSession known (start s before reading) 0 due) → FitsAt s before o.image (known.sessions o.image) → Right s before Renew (clock reading ∷ []) (lost_process s known due reading) left
       by-session o at_image =
           let fits = subst (λ (found : Option Session). FitsAt s before o.image found) o.has at_image in
           let h = fits.2 in
@@ -311,7 +311,7 @@ module _ (s : Setting) (before : List Finished) (known : Known) (reading : ℕ) 
 
   by-due : reading < 2 ^ 48 → (found : Option InUse) → TellsFirstDue (attached_uses known (start s before reading) s.geometry.images 0) reading found →
       Right s before Renew (clock reading ∷ [])
-      (unless_reached found (λ due. lost_part s known due reading) (renew_part s known (start s before reading) reading (lease_count s.geometry) 0))
+      (unless_reached found (λ due. lost_process s known due reading) (renew_process s known (start s before reading) reading (lease_count s.geometry) 0))
       (renewals (start s before reading) (lease_count s.geometry) 0)
   by-due small (Some due) tells = due-expired due tells (renewals (start s before reading) (lease_count s.geometry) 0)
   by-due small None tells =
@@ -328,7 +328,7 @@ module _ (s : Setting) (before : List Finished) (known : Known) (reading : ℕ) 
 
 pub renew-begins : (s : Setting) (before : List Finished) (known : Known) (reading : ℕ) → Rests s before known → reading < 2 ^ 48 →
     (left : ℕ) × (left ≤ count_held (holds_after s.geometry before) (lease_count s.geometry) 0)
-    × Right s before Renew (clock reading ∷ []) (command_part s known (start s before reading) (hand_start s before reading) reading Renew) left
+    × Right s before Renew (clock reading ∷ []) (command_process s known (start s before reading) (hand_start s before reading) reading Renew) left
 renew-begins s before known reading rests small = (
   renewals (start s before reading) (lease_count s.geometry) 0,
   renewals-fewer (start s before reading) (holds_after s.geometry before) (λ block. first-fewer _ reading (holds_after s.geometry before block)) (lease_count s.geometry) 0,

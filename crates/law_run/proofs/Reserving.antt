@@ -11,7 +11,7 @@ use Rattle.plx_disk.specs.declared.ask.Answer.{Answer}
 use Rattle.plx_disk.specs.declared.ask.Answer.TheVariants as answer
 use Rattle.plx_geom.proofs.Places.{image-below, image-extent}
 use Rattle.plx_geom.specs.Geometry.{IsGeometry, image_lease, extent_lease, lease_at}
-use Rattle.plx_rules.specs.Commands.{command_part}
+use Rattle.plx_rules.specs.Commands.{command_process}
 use Rattle.plx_rules.specs.Ends.{End, ends}
 use Rattle.plx_rules.specs.Hands.{is_held}
 use Rattle.plx_rules.specs.Holds.{Hold, Nothing, Seen, Wrote, Waited, Held}
@@ -206,7 +206,7 @@ module _ (s : Setting) (before : List Finished) (known : Known) (count reading :
 
 pub reserve-begins : (s : Setting) → IsGeometry s.geometry → s.boot < 2 ^ 128 → (before : List Finished) (known : Known) (count reading : ℕ) → AllKept s IsAny before → Rests s before known →
     (left : ℕ) × (left ≤ 8 * s.geometry.extents)
-    × Right s before (Reserve count) (clock reading ∷ []) (command_part s known (start s before reading) (hand_start s before reading) reading (Reserve count)) left
+    × Right s before (Reserve count) (clock reading ∷ []) (command_process s known (start s before reading) (hand_start s before reading) reading (Reserve count)) left
 reserve-begins s geometry small before known count reading older rests = (
   take_bound s.geometry + 0,
   omega arith,

@@ -7,7 +7,7 @@ use Rattle.plx_geom.specs.Geometry.{IsGeometry, extent_lease}
 use Rattle.plx_rules.specs.Ends.{End}
 use Rattle.plx_rules.specs.Holds.{Hold}
 use Rattle.plx_rules.specs.InUse.{InUse}
-use Rattle.plx_rules.specs.Part.{Part, Ends, standing}
+use Rattle.plx_rules.specs.Process.{Process, Ends, standing}
 use Rattle.plx_rules.specs.Rests.{extent_of}
 use Rattle.plx_rules.specs.Session.{Known}
 use Rattle.plx_rules.specs.Settings.{Setting}
@@ -71,8 +71,8 @@ retires-keep-rules s log known uses holds hand follows geometry may =
     (retire-meets s geometry log known uses holds hand follows may)
 
 -- so does it by where it stands
-pub retire-ask : (rest : Part End) (ask : Ask) → Some ask ≡ standing rest → IsRetireAsk rest ask
+pub retire-ask : (rest : Process End) (ask : Ask) → Some ask ≡ standing rest → IsRetireAsk rest ask
 retire-ask rest ask stands s log known uses holds hand follows own geometry may leads = (retires-keep-rules s log known uses holds hand follows geometry may).asks leads ask (sym stands)
 
-pub retire-end : (rest : Part End) (end : End) → rest ≡ Ends end → IsRetireEnd rest end
+pub retire-end : (rest : Process End) (end : End) → rest ≡ Ends end → IsRetireEnd rest end
 retire-end rest end over s log known uses holds hand follows own geometry may leads = (retires-keep-rules s log known uses holds hand follows geometry may).ends leads end over

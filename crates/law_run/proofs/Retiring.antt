@@ -12,15 +12,15 @@ use Rattle.plx_disk.specs.declared.ask.Answer.TheVariants as answer
 use Rattle.plx_gate.specs.Leases.{lease_bytes}
 use Rattle.plx_geom.proofs.Places.{image-below, extent-below}
 use Rattle.plx_geom.specs.Geometry.{IsGeometry, lease_count, root_lease, image_lease, extent_lease, lease_at, map_at}
-use Rattle.plx_rules.specs.Part.{Part}
-use Rattle.plx_rules.specs.Commands.{command_part}
+use Rattle.plx_rules.specs.Process.{Process}
+use Rattle.plx_rules.specs.Commands.{command_process}
 use Rattle.plx_rules.specs.Ends.{End, ends}
 use Rattle.plx_rules.specs.Holds.{Hold, Nothing, Seen, Wrote, Waited, Held}
 use Rattle.plx_rules.specs.Rests.{extent_of}
 use Rattle.plx_rules.specs.InUse.{lease_name}
 use Rattle.plx_rules.specs.Session.{Session, Known}
 use Rattle.plx_rules.specs.Settings.{Setting}
-use Rattle.plx_rules.specs.Space.{retire_lease, retire_images, retire_part}
+use Rattle.plx_rules.specs.Space.{retire_lease, retire_images, retire_process}
 use Rattle.law_run.specs.AllowedAsks.{release_of_lease}
 use Rattle.law_run.specs.CommandLogs.{Exchange, Finished, IsIn, first_reading}
 use Rattle.law_run.specs.Holdings.{hold_by_log, hand_by_log, claims_in, claims_begun, begins_claim}
@@ -69,8 +69,8 @@ module _ (s : Setting) (geometry : IsGeometry s.geometry) (before : List Finishe
   abbrev Work : (P K : ℕ → Type 0) → (own : List Exchange) → Type 0
   Work P K own = Retiring s before from Spares P K own
 
-  abbrev MeetsRetiring : (own : List Exchange) → Part End → ℕ → Type 0
-  MeetsRetiring own part n = Meets (MayByRules s before Retire) (Shows s before Retire) (own ++ from) part n
+  abbrev MeetsRetiring : (own : List Exchange) → Process End → ℕ → Type 0
+  MeetsRetiring own process n = Meets (MayByRules s before Retire) (Shows s before Retire) (own ++ from) process n
 
   -- the blocks in hand are of extents of the geometry
   within : (b : ℕ) → HasBlock (hand_start s before reading) b → extent_of s.geometry b < s.geometry.extents
@@ -143,8 +143,8 @@ module _ (s : Setting) (geometry : IsGeometry s.geometry) (before : List Finishe
   }
 
   -- what is met with so many answers left is met with one more
-  more : (n : ℕ) (part : Part End) (own : List Exchange) → MeetsRetiring own part n → MeetsRetiring own part (suc n)
-  more n part own right = meets-more (MayByRules s before Retire) (Shows s before Retire) part (own ++ from) n right
+  more : (n : ℕ) (process : Process End) (own : List Exchange) → MeetsRetiring own process n → MeetsRetiring own process (suc n)
+  more n process own right = meets-more (MayByRules s before Retire) (Shows s before Retire) process (own ++ from) n right
 
   -- ---- the leases of images, and the root's
 
@@ -157,7 +157,7 @@ module _ (s : Setting) (geometry : IsGeometry s.geometry) (before : List Finishe
       by-session (Some session) fits = fits.1.within
 
   -- a lease that no attached image has is released where it is held
-  right-lease : (P Q K : ℕ → Type 0) (own : List Exchange) (l n : ℕ) (hold : Hold) (rest : Part End) → l < lease_count s.geometry → Work P K own → hold_by_log s before (own ++ from) l ≡ hold →
+  right-lease : (P Q K : ℕ → Type 0) (own : List Exchange) (l n : ℕ) (hold : Hold) (rest : Process End) → l < lease_count s.geometry → Work P K own → hold_by_log s before (own ++ from) l ≡ hold →
       ((other : ℕ) → P other → Q other) → ((other : ℕ) → Q other → P other ⊎ (other ≡ l)) → Q l → ((image : ℕ) → image < s.geometry.images → is_attached before image ≡ true → image_lease image ≢ l) →
       ((own' : List Exchange) → Work Q K own' → MeetsRetiring own' rest n) → MeetsRetiring own (retire_lease s known l None hold rest) (suc n)
   right-lease P Q K own l n hold rest below r held wider split here free right = by-hold hold held
@@ -189,7 +189,7 @@ module _ (s : Setting) (geometry : IsGeometry s.geometry) (before : List Finishe
   wider-image image other (inr p) = inr (p.0, omega (arith, p.1))
 
   -- the images from one on
-  images : (K : ℕ → Type 0) (left image : ℕ) (own : List Exchange) (n : ℕ) (rest : Part End) → left + image ≡ s.geometry.images → Work (PastImage s image) K own →
+  images : (K : ℕ → Type 0) (left image : ℕ) (own : List Exchange) (n : ℕ) (rest : Process End) → left + image ≡ s.geometry.images → Work (PastImage s image) K own →
       ((own' : List Exchange) → Work (PastImage s s.geometry.images) K own' → MeetsRetiring own' rest n) →
       MeetsRetiring own (retire_images s known (start s before reading) left image rest) (image_asks left n)
   images K zero image own n rest all r right =
@@ -199,7 +199,7 @@ module _ (s : Setting) (geometry : IsGeometry s.geometry) (before : List Finishe
       (r.later (image_lease image) (image-below s.geometry image (omega arith)) (not-yet image (omega arith)))
       (λ own' r'. images K left (image + 1) own' n rest (omega arith) r' right)
     where
-      tail : Part End
+      tail : Process End
       tail = retire_images s known (start s before reading) left (image + 1) rest
 
       not-yet : (i : ℕ) → i < s.geometry.images → ¬ PastImage s i (image_lease i)
@@ -234,7 +234,7 @@ module _ (s : Setting) (geometry : IsGeometry s.geometry) (before : List Finishe
     still (own ++ from) reply.Retired (λ other b. refl) (λ h. refl) (leases-spared own r.along) (let c = rests.claims in let b = r.along.begun in omega arith),
   )
 
-  allowed-retire : Meets (MayByRules s before Retire) (Shows s before Retire) from (retire_part s known (start s before reading) (hand_start s before reading)) (retire_asks s.geometry.extents (image_asks s.geometry.images 1))
+  allowed-retire : Meets (MayByRules s before Retire) (Shows s before Retire) from (retire_process s known (start s before reading) (hand_start s before reading)) (retire_asks s.geometry.extents (image_asks s.geometry.images 1))
   allowed-retire =
       retires s before from Spares within geometry.blocks_high (omega (arith, geometry.blocks_low)) Retire [] known (MayByRules s before Retire) (Shows s before Retire) (hand-no-maps s before Retire from older ((tt, tt), tt)) (λ done a bytes may place. may) endings
       (start s before reading) (λ extent below. refl) (hand_start s before reading) refl (λ done a bytes extent may below place. may)
@@ -264,11 +264,11 @@ module _ (s : Setting) (geometry : IsGeometry s.geometry) (before : List Finishe
 
 pub retire-begins : (s : Setting) → IsGeometry s.geometry → (before : List Finished) (known : Known) (reading : ℕ) → AllKept s IsAny before → Rests s before known →
     (left : ℕ) × (left ≤ 1 + 3 * s.geometry.extents + s.geometry.images)
-    × Right s before Retire (clock reading ∷ []) (command_part s known (start s before reading) (hand_start s before reading) reading Retire) left
+    × Right s before Retire (clock reading ∷ []) (command_process s known (start s before reading) (hand_start s before reading) reading Retire) left
 retire-begins s geometry before known reading older rests = (
   retire_asks s.geometry.extents (image_asks s.geometry.images 1),
   (let e = retire-asks-are s.geometry.extents (image_asks s.geometry.images 1) in let i = image-asks-are s.geometry.images 1 in omega arith),
-  meets-two (MayByRules s before Retire) (MayByCauses s before Retire) (Shows s before Retire) (λ done end. Unit {0}) (retire_part s known (start s before reading) (hand_start s before reading))
+  meets-two (MayByRules s before Retire) (MayByCauses s before Retire) (Shows s before Retire) (λ done end. Unit {0}) (retire_process s known (start s before reading) (hand_start s before reading))
       (clock reading ∷ []) (retire_asks s.geometry.extents (image_asks s.geometry.images 1)) (retire_asks s.geometry.extents (image_asks s.geometry.images 1))
       (allowed-retire s geometry before known reading rests older) (retire-follows s before known (start s before reading) (hand_start s before reading) reading),
 )

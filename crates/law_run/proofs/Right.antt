@@ -10,7 +10,7 @@ use Rattle.plx_disk.specs.declared.ask.Ask.TheVariants as ask
 use Rattle.plx_disk.specs.declared.ask.Answer.TheVariants as answer
 use Rattle.plx_gate.specs.declared.descriptor.Descriptor.{Descriptor}
 use Rattle.plx_geom.specs.Geometry.{Geometry, image_lease, lease_at, descriptor_at, data_at}
-use Rattle.plx_rules.specs.Part.{Part}
+use Rattle.plx_rules.specs.Process.{Process}
 use Rattle.plx_rules.specs.Journaled.{Journaled}
 use Rattle.plx_rules.specs.Ends.{End}
 use Rattle.plx_rules.specs.Holds.{Hold, Held}
@@ -89,5 +89,5 @@ May s before command done a bytes = MayByRules s before command done a bytes × 
 abbrev pub Shows : Setting → List Finished → Command → List Exchange → End → Type 0
 Shows s before command done end = IsReplied s IsAny (log_on before command done) end.reply × Rests s (finish command done end.reply ∷ before) end.known
 
-abbrev pub Right : Setting → List Finished → Command → List Exchange → Part End → ℕ → Type 0
-Right s before command done part n = Meets (May s before command) (Shows s before command) done part n
+abbrev pub Right : Setting → List Finished → Command → List Exchange → Process End → ℕ → Type 0
+Right s before command done process n = Meets (May s before command) (Shows s before command) done process n

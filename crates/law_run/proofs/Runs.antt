@@ -8,10 +8,10 @@ use Rattle.plx_disk.specs.declared.ask.Ask.TheVariants as ask
 use Rattle.plx_disk.specs.declared.ask.Answer.{Answer}
 use Rattle.plx_disk.specs.declared.ask.Answer.TheVariants as answer
 use Rattle.plx_geom.specs.Geometry.{Geometry}
-use Rattle.plx_rules.specs.Part.{Part, Ends, ReadThen, WriteThen, ClockThen, UntilThen, answered, standing, bytes_out}
+use Rattle.plx_rules.specs.Process.{Process, Ends, ReadThen, WriteThen, ClockThen, UntilThen, answered, standing, bytes_out}
 use Rattle.plx_rules.specs.Boot as boot
-use Rattle.plx_rules.specs.Boot.{Happening, Place, Idle, Begins, In, Position, position, goes_to, place_after_begin, went_on, asks, writes_out, reply_of, replies_at, Fits, IsRun}
-use Rattle.plx_rules.specs.Commands.{IsBuilt, IsWellFormed, command_part}
+use Rattle.plx_rules.specs.Boot.{BootEntry, Place, Idle, Begins, In, Configuration, configuration, goes_to, place_after_begin, went_on, asks, writes_out, reply_of, replies_at, Fits, IsRun}
+use Rattle.plx_rules.specs.Commands.{IsBuilt, IsWellFormed, command_process}
 use Rattle.plx_rules.specs.Ends.{End}
 use Rattle.plx_rules.specs.Hands.{found_by, filled_answered, filled_held, hand_answered, hand_held, hand_left}
 use Rattle.plx_rules.specs.Holds.{Hold, Nothing, Seen, Wrote, Waited, Held, after_answer, sample_of, holds_after_reply, first_hold, after_first}
@@ -22,7 +22,7 @@ use Rattle.law_run.specs.Bounds.{bound, bound_of}
 use Rattle.law_run.specs.Causes.{MayGoOnWith, MayFollow, AllFollow}
 use Rattle.law_run.specs.CommandLogs.{Exchange, Finished, CommandLog, Commands, Between, Within, commands_after_start, commands_after_exchange, commands, with_exchange}
 use Rattle.law_run.specs.Holdings.{at_first, after_first_answer, holds_along, holds_after, last_found, hand_told, hand_along, hand_after, hand_by_log, filled_told, filled_along, filled_by_log}
-use Rattle.law_run.specs.Positions.{known_at, IsByCommands, PositionsAgree}
+use Rattle.law_run.specs.Configurations.{known_at, IsByCommands, ConfigurationsAgree}
 use Rattle.law_run.specs.Rules.{AllAllowed, AllKept, KeepsFullRules, IsSetting}
 use Rattle.law_run.specs.Sessions.{is_attached}
 use Rattle.law_run.proofs.Meets.{exchange, meets-next}
@@ -41,7 +41,7 @@ hand_start s before reading = hand_by_log s before (clock reading ∷ [])
 abbrev pub BeginsRight : Setting → Type 0
 BeginsRight s = (before : List Finished) (known : Known) (command : Command) (reading : ℕ) → IsWellFormed command → IsBuilt command → AllKept s IsAny before → Rests s before known → reading < 2 ^ 48 →
     (left : ℕ) × (1 + left ≤ bound_of s before command (clock reading ∷ []))
-    × Right s before command (clock reading ∷ []) (command_part s known (start s before reading) (hand_start s before reading) reading command) left
+    × Right s before command (clock reading ∷ []) (command_process s known (start s before reading) (hand_start s before reading) reading command) left
 
 -- ---- the first reading
 
@@ -105,12 +105,12 @@ filled-more g attached before x (y ∷ older) has = refl
 -- ---- where a boot stands
 
 -- a command runs of which this is the rest
-pub record RunsWithRest (s : Setting) (log : CommandLog) (part : Part End) : Type 0 where
+pub record RunsWithRest (s : Setting) (log : CommandLog) (process : Process End) : Type 0 where
   pub older : AllKept s IsAny log.before
   pub allowed : AllAllowed s log.before log.command log.exchanges
   pub at_once : AllFollow s log.before log.command log.exchanges
   pub left : ℕ
-  pub right : Right s log.before log.command log.exchanges part left
+  pub right : Right s log.before log.command log.exchanges process left
   pub bounded : length log.exchanges + left ≤ bound s log
 
 -- a command has begun
@@ -129,12 +129,12 @@ held_in s log = holds_along s.geometry (is_attached log.before) (holds_after s.g
 abbrev pub Agree : Setting → (ℕ → Hold) → List ℕ → List (ℕ × List ℕ) → Option ℕ → Option (ℕ × List ℕ) → Place → Commands → Type 0
 Agree s holds hand filled sample found (Idle known) (Between before) = AllKept s IsAny before × Rests s before known × (holds ≡ holds_after s.geometry before) × (hand ≡ hand_after s.geometry before)
 Agree s holds hand filled sample found (Begins known command) (Within log) = Begun s known command log × (holds ≡ holds_after s.geometry log.before) × (hand ≡ hand_after s.geometry log.before)
-Agree s holds hand filled sample found (In known command part) (Within log) =
-    RunsWithRest s log part × (holds ≡ held_in s log) × (sample ≡ last_sample log.exchanges) × HasFirst log.exchanges × Rests s log.before known
+Agree s holds hand filled sample found (In known command process) (Within log) =
+    RunsWithRest s log process × (holds ≡ held_in s log) × (sample ≡ last_sample log.exchanges) × HasFirst log.exchanges × Rests s log.before known
     × (hand ≡ hand_by_log s log.before log.exchanges) × (found ≡ last_found log.exchanges) × (filled ≡ filled_by_log s log.before log.exchanges)
 Agree s holds hand filled sample found place commands = ⊥
 
-abbrev pub AgreeAt : Setting → Position → Commands → Type 0
+abbrev pub AgreeAt : Setting → Configuration → Commands → Type 0
 AgreeAt s p commands = Agree s p.holds p.hand p.filled p.sample p.found p.place commands
 
 -- what a command meets lowers its bound by nothing
@@ -152,13 +152,13 @@ bound-grows s before Retire x done = omega arith
 bound-grows s before Reclaim x done = omega arith
 
 -- an answered ask is one more exchange
-along : (s : Setting) (log : CommandLog) (x : Exchange) (known : Known) (command : Command) (holds : ℕ → Hold) (hand : List ℕ) (filled : List (ℕ × List ℕ)) (part : Part End) (left : ℕ) → AllKept s IsAny log.before → Rests s log.before known →
-    AllAllowed s log.before log.command log.exchanges → AllFollow s log.before log.command log.exchanges → MayAsk s log x.ask x.bytes × MayFollow s log x.ask → Right s log.before log.command (x ∷ log.exchanges) part left →
+along : (s : Setting) (log : CommandLog) (x : Exchange) (known : Known) (command : Command) (holds : ℕ → Hold) (hand : List ℕ) (filled : List (ℕ × List ℕ)) (process : Process End) (left : ℕ) → AllKept s IsAny log.before → Rests s log.before known →
+    AllAllowed s log.before log.command log.exchanges → AllFollow s log.before log.command log.exchanges → MayAsk s log x.ask x.bytes × MayFollow s log x.ask → Right s log.before log.command (x ∷ log.exchanges) process left →
     length log.exchanges + suc left ≤ bound s (with_exchange x log) →
     holds ≡ holds_along s.geometry (is_attached log.before) (holds_after s.geometry log.before) (x ∷ log.exchanges) →
     hand ≡ hand_told s.geometry (is_attached log.before) (holds_after s.geometry log.before) (hand_after s.geometry log.before) (x ∷ log.exchanges) →
     filled ≡ filled_told s.geometry (is_attached log.before) (holds_after s.geometry log.before) (x ∷ log.exchanges) →
-    AgreeAt s (goes_to s.geometry known command holds hand filled (sample_of x.answer) (found_by x.ask x.answer) 0 part) (commands_after_exchange x (reply_of part) (Within log))
+    AgreeAt s (goes_to s.geometry known command holds hand filled (sample_of x.answer) (found_by x.ask x.answer) 0 process) (commands_after_exchange x (reply_of process) (Within log))
 along s log x known command holds hand filled (Ends end) left older rests allowed at_once may right bounded same told fills =
     ((record { allowed = (may.0, allowed); at_once = (may.1, at_once); replied = right.0; bounded = omega arith }, older), right.1, ap (holds_after_reply end.reply) same, λ i. hand_held s.geometry (holds_after_reply end.reply (same i)) (told i))
 along s log x known command holds hand filled (ReadThen block rest fault) left older rests allowed at_once may right bounded same told fills =
@@ -171,29 +171,29 @@ along s log x known command holds hand filled (UntilThen from rest) left older r
     (record { older = older; allowed = (may.0, allowed); at_once = (may.1, at_once); left = left; right = right; bounded = omega arith }, same, refl, tt, rests, λ i. hand_held s.geometry (same i) (told i), refl, λ i. filled_held s.geometry (same i) (fills i))
 
 -- what follows the answer to the ask that stands
-follows : (s : Setting) (log : CommandLog) (known : Known) (command : Command) (holds : ℕ → Hold) (hand : List ℕ) (filled : List (ℕ × List ℕ)) (sample : Option ℕ) (found : Option (ℕ × List ℕ)) (part : Part End) (a : Ask) (x : Answer) →
-    Agree s holds hand filled sample found (In known command part) (Within log) → standing part ≡ Some a → Fits a x →
-    AgreeAt s (goes_to s.geometry known command (after_answer sample a (bytes_out part) x holds) (hand_left a filled (hand_answered s.geometry found a (bytes_out part) x hand)) (filled_answered a (bytes_out part) x filled) (sample_of x) (found_by a x) 0 (answered part x))
-    (commands_after_exchange (exchange a (bytes_out part) x) (reply_of (answered part x)) (Within log))
-follows s log known command holds hand filled sample found part a x agree stands fits =
+follows : (s : Setting) (log : CommandLog) (known : Known) (command : Command) (holds : ℕ → Hold) (hand : List ℕ) (filled : List (ℕ × List ℕ)) (sample : Option ℕ) (found : Option (ℕ × List ℕ)) (process : Process End) (a : Ask) (x : Answer) →
+    Agree s holds hand filled sample found (In known command process) (Within log) → standing process ≡ Some a → Fits a x →
+    AgreeAt s (goes_to s.geometry known command (after_answer sample a (bytes_out process) x holds) (hand_left a filled (hand_answered s.geometry found a (bytes_out process) x hand)) (filled_answered a (bytes_out process) x filled) (sample_of x) (found_by a x) 0 (answered process x))
+    (commands_after_exchange (exchange a (bytes_out process) x) (reply_of (answered process x)) (Within log))
+follows s log known command holds hand filled sample found process a x agree stands fits =
     let r = agree.0 in
-    let next = meets-next (May s log.before log.command) (Shows s log.before log.command) part log.exchanges a r.left r.right stands in
-    along s log (exchange a (bytes_out part) x) known command (after_answer sample a (bytes_out part) x holds) (hand_left a filled (hand_answered s.geometry found a (bytes_out part) x hand)) (filled_answered a (bytes_out part) x filled) (answered part x) next.left r.older agree.4 r.allowed r.at_once next.allowed
+    let next = meets-next (May s log.before log.command) (Shows s log.before log.command) process log.exchanges a r.left r.right stands in
+    along s log (exchange a (bytes_out process) x) known command (after_answer sample a (bytes_out process) x holds) (hand_left a filled (hand_answered s.geometry found a (bytes_out process) x hand)) (filled_answered a (bytes_out process) x filled) (answered process x) next.left r.older agree.4 r.allowed r.at_once next.allowed
     (next.follows x fits)
-    (let within = r.bounded in let fewer = next.fewer in let grows = bound-grows s log.before log.command (exchange a (bytes_out part) x) log.exchanges in omega arith)
-    (ap (λ h. after_answer sample a (bytes_out part) x h) agree.1
-    ∙ (ap (λ o. after_answer o a (bytes_out part) x (held_in s log)) agree.2
-    ∙ sym (along-more s.geometry (is_attached log.before) (holds_after s.geometry log.before) (exchange a (bytes_out part) x) log.exchanges agree.3)))
-    ((λ i. hand_left a (agree.7 i) (hand_answered s.geometry (agree.6 i) a (bytes_out part) x (agree.5 i)))
-    ∙ sym (told-more s.geometry (is_attached log.before) (holds_after s.geometry log.before) (hand_after s.geometry log.before) (exchange a (bytes_out part) x) log.exchanges agree.3))
-    (ap (filled_answered a (bytes_out part) x) agree.7
-    ∙ sym (filled-more s.geometry (is_attached log.before) (holds_after s.geometry log.before) (exchange a (bytes_out part) x) log.exchanges agree.3))
+    (let within = r.bounded in let fewer = next.fewer in let grows = bound-grows s log.before log.command (exchange a (bytes_out process) x) log.exchanges in omega arith)
+    (ap (λ h. after_answer sample a (bytes_out process) x h) agree.1
+    ∙ (ap (λ o. after_answer o a (bytes_out process) x (held_in s log)) agree.2
+    ∙ sym (along-more s.geometry (is_attached log.before) (holds_after s.geometry log.before) (exchange a (bytes_out process) x) log.exchanges agree.3)))
+    ((λ i. hand_left a (agree.7 i) (hand_answered s.geometry (agree.6 i) a (bytes_out process) x (agree.5 i)))
+    ∙ sym (told-more s.geometry (is_attached log.before) (holds_after s.geometry log.before) (hand_after s.geometry log.before) (exchange a (bytes_out process) x) log.exchanges agree.3))
+    (ap (filled_answered a (bytes_out process) x) agree.7
+    ∙ sym (filled-more s.geometry (is_attached log.before) (holds_after s.geometry log.before) (exchange a (bytes_out process) x) log.exchanges agree.3))
 
 -- where the first reading of a command leads
 abbrev first_at : Setting → CommandLog → Known → Command → (reading : ℕ) → (ℕ → Hold) → List ℕ → Type 0
 first_at s log known command reading holds hand =
-    AgreeAt s (goes_to s.geometry known command holds hand [] (Some reading) None reading (command_part s known holds (hand_held s.geometry holds hand) reading command))
-    (commands_after_exchange (clock reading) (reply_of (command_part s known holds (hand_held s.geometry holds hand) reading command)) (Within log))
+    AgreeAt s (goes_to s.geometry known command holds hand [] (Some reading) None reading (command_process s known holds (hand_held s.geometry holds hand) reading command))
+    (commands_after_exchange (clock reading) (reply_of (command_process s known holds (hand_held s.geometry holds hand) reading command)) (Within log))
 
 -- the first reading of a command
 right-at-first : (s : Setting) → BeginsRight s → (log : CommandLog) (known : Known) (command : Command) (holds : ℕ → Hold) (hand : List ℕ) (reading : ℕ) →
@@ -205,23 +205,23 @@ right-at-first s right log known command holds hand reading b same in_hand small
     ap (after_first s.geometry known reading) same ∙ first-is s log.before known reading b.rests H in
     let next = right log.before known command reading b.formed b.built b.older b.rests small in
     let Q : List Exchange → Type 0 = λ done. AllAllowed s log.before log.command done in
-    let part = command_part s known (start s log.before reading) (hand_start s log.before reading) reading command in
-    let R : Command → List Exchange → Type 0 = λ c done. Right s log.before c (clock reading ∷ done) part next.0 in
+    let process = command_process s known (start s log.before reading) (hand_start s log.before reading) reading command in
+    let R : Command → List Exchange → Type 0 = λ c done. Right s log.before c (clock reading ∷ done) process next.0 in
     let moved : R log.command log.exchanges = subst (λ c. R c log.exchanges) (sym b.is) (subst (λ done. R command done) (sym b.none_yet) next.2) in
     let size : length log.exchanges ≡ 0 = ap (λ (d : List Exchange). length d) b.none_yet in
     let limit : bound_of s log.before log.command (clock reading ∷ log.exchanges) ≡ bound_of s log.before command (clock reading ∷ []) =
     (λ i. bound_of s log.before (b.is i) (clock reading ∷ b.none_yet i)) in
     subst (λ (h : ℕ → Hold). first_at s log known command reading h hand) (sym here)
     (subst (λ (k : List ℕ). first_at s log known command reading (start s log.before reading) k) (sym in_hand)
-    (along s log (clock reading) known command (start s log.before reading) (hand_after s.geometry log.before) [] part next.0 b.older b.rests
+    (along s log (clock reading) known command (start s log.before reading) (hand_after s.geometry log.before) [] process next.0 b.older b.rests
     (subst Q (sym b.none_yet) tt) (subst (λ done. AllFollow s log.before log.command done) (sym b.none_yet) tt)
     (subst (λ done. WentOn done × Unit {0}) (sym b.none_yet) (tt, tt), subst (λ done. MayGoOnWith s log ask.Clock done) (sym b.none_yet) tt) moved (let n = next.1 in omega arith)
     (ap (λ done. holds_along s.geometry (is_attached log.before) H (clock reading ∷ done)) (sym b.none_yet))
     (ap (λ done. hand_told s.geometry (is_attached log.before) H (hand_after s.geometry log.before) (clock reading ∷ done)) (sym b.none_yet))
     (ap (λ done. filled_told s.geometry (is_attached log.before) H (clock reading ∷ done)) (sym b.none_yet))))
 
--- a happening of a run keeps where the boot stands and its commands in step
-goes-on : (s : Setting) → BeginsRight s → (p : Position) (place : Place) (so_far : Commands) (a : Ask) (bytes : List ℕ) (x : Answer) →
+-- a entry of a run keeps where the boot stands and its commands in step
+goes-on : (s : Setting) → BeginsRight s → (p : Configuration) (place : Place) (so_far : Commands) (a : Ask) (bytes : List ℕ) (x : Answer) →
     Agree s p.holds p.hand p.filled p.sample p.found place so_far → asks place ≡ Some a → writes_out place ≡ bytes → Fits a x →
     AgreeAt s (went_on s a bytes x p place) (commands_after_exchange (exchange a bytes x) (replies_at s x p place) so_far)
 goes-on s right p (Idle known) so_far a bytes x agree stands writes fits = absurd (let P : ⊥ = cc in P)
@@ -241,10 +241,10 @@ goes-on s right p (Begins known command) (Within log) a bytes x agree stands wri
     by-bytes out e small =
         subst (λ (o : List ℕ). AgreeAt s (went_on s ask.Clock o x p (Begins known command)) (commands_after_exchange (exchange ask.Clock o x) (replies_at s x p (Begins known command)) (Within log))) e
         (by-answer x small)
-goes-on s right p (In known command part) (Between before) a bytes x agree stands writes fits = absurd agree
-goes-on s right p (In known command part) (Within log) a bytes x agree stands writes fits =
-    let P : List ℕ → Type 0 = λ out. AgreeAt s (went_on s a out x p (In known command part)) (commands_after_exchange (exchange a out x) (reply_of (answered part x)) (Within log)) in
-    subst P writes (follows s log known command p.holds p.hand p.filled p.sample p.found part a x agree stands fits)
+goes-on s right p (In known command process) (Between before) a bytes x agree stands writes fits = absurd agree
+goes-on s right p (In known command process) (Within log) a bytes x agree stands writes fits =
+    let P : List ℕ → Type 0 = λ out. AgreeAt s (went_on s a out x p (In known command process)) (commands_after_exchange (exchange a out x) (reply_of (answered process x)) (Within log)) in
+    subst P writes (follows s log known command p.holds p.hand p.filled p.sample p.found process a x agree stands fits)
 
 begins : (s : Setting) (holds : ℕ → Hold) (hand : List ℕ) (filled : List (ℕ × List ℕ)) (sample : Option ℕ) (found : Option (ℕ × List ℕ)) (known : Known) (so_far : Commands) (command : Command) → IsWellFormed command → IsBuilt command →
     Agree s holds hand filled sample found (Idle known) so_far → Agree s holds hand filled None None (Begins known command) (commands_after_start command so_far)
@@ -252,15 +252,15 @@ begins s holds hand filled sample found known (Between before) command formed bu
     (record { older = agree.0; rests = agree.1; is = refl; none_yet = refl; formed = formed; built = built }, agree.2, agree.3)
 begins s holds hand filled sample found known (Within log) command formed built agree = absurd agree
 
-pub agrees : (s : Setting) → BeginsRight s → (log : List Happening) → IsRun s log → AgreeAt s (position s log) (commands s log)
+pub agrees : (s : Setting) → BeginsRight s → (log : List BootEntry) → IsRun s log → AgreeAt s (configuration s log) (commands s log)
 agrees s right log boot.empty = (tt, record { sessions = λ image. refl; claims = refl }, refl, refl)
 agrees s right log (boot.begins {log = older} {command = command} known run idle formed built) =
-    let p = position s older in
+    let p = configuration s older in
     let P : Place → Type 0 = λ here. Agree s p.holds p.hand p.filled p.sample p.found here (commands s older) in
     let Q : Place → Type 0 = λ here. Agree s p.holds p.hand p.filled None None (place_after_begin command here) (commands_after_start command (commands s older)) in
     subst Q (sym idle) (begins s p.holds p.hand p.filled p.sample p.found known (commands s older) command formed built (subst P idle (agrees s right older run)))
 agrees s right log (boot.goes_on {log = older} {ask = a} {bytes = bytes} {answer = x} run stands writes fits) =
-    let p = position s older in
+    let p = configuration s older in
     goes-on s right p p.place (commands s older) a bytes x (agrees s right older run) stands writes fits
 
 keeps-rules : (s : Setting) (holds : ℕ → Hold) (hand : List ℕ) (filled : List (ℕ × List ℕ)) (sample : Option ℕ) (found : Option (ℕ × List ℕ)) (here : Place) (so_far : Commands) → ((log : CommandLog) → so_far ≡ Within log → 1 ≤ bound s log) →
@@ -277,28 +277,28 @@ keeps-rules s holds hand filled sample found (Begins known command) (Within log)
       follows = λ a stands. subst (λ done. MayGoOnWith s log a done) (sym b.none_yet) tt;
       bounded = λ a stands. (let size : length log.exchanges ≡ 0 = ap (λ (d : List Exchange). length d) b.none_yet in let one = least log refl in omega arith);
     }
-keeps-rules s holds hand filled sample found (In known command part) (Between before) least agree = absurd agree
-keeps-rules s holds hand filled sample found (In known command part) (Within log) least agree =
+keeps-rules s holds hand filled sample found (In known command process) (Between before) least agree = absurd agree
+keeps-rules s holds hand filled sample found (In known command process) (Within log) least agree =
     let r = agree.0 in record {
       older = r.older;
       allowed = r.allowed;
       at_once = r.at_once;
-      stands = λ a stands. (meets-next (May s log.before log.command) (Shows s log.before log.command) part log.exchanges a r.left r.right stands).allowed.0;
-      follows = λ a stands. (meets-next (May s log.before log.command) (Shows s log.before log.command) part log.exchanges a r.left r.right stands).allowed.1;
+      stands = λ a stands. (meets-next (May s log.before log.command) (Shows s log.before log.command) process log.exchanges a r.left r.right stands).allowed.0;
+      follows = λ a stands. (meets-next (May s log.before log.command) (Shows s log.before log.command) process log.exchanges a r.left r.right stands).allowed.1;
       bounded = λ a stands. (
-          let fewer = (meets-next (May s log.before log.command) (Shows s log.before log.command) part log.exchanges a r.left r.right stands).fewer in
+          let fewer = (meets-next (May s log.before log.command) (Shows s log.before log.command) process log.exchanges a r.left r.right stands).fewer in
           let within = r.bounded in omega arith);
     }
 
 -- each log that is a run keeps the rules in both senses: no tree is read by a command that is built
 abbrev pub RunsKeepBoth : Type 0
-RunsKeepBoth = (s : Setting) (log : List Happening) → IsSetting s → IsRun s log →
-    KeepsFullRules s (commands s log) (asks (position s log).place) (writes_out (position s log).place)
+RunsKeepBoth = (s : Setting) (log : List BootEntry) → IsSetting s → IsRun s log →
+    KeepsFullRules s (commands s log) (asks (configuration s log).place) (writes_out (configuration s log).place)
 
 -- so it does where each command that begins does
 pub runs-keep : ((s : Setting) → IsSetting s → BeginsRight s) → ((s : Setting) (log : CommandLog) → 1 ≤ bound s log) → RunsKeepBoth
 runs-keep right least s log setting run =
-    let p = position s log in
+    let p = configuration s log in
     keeps-rules s p.holds p.hand p.filled p.sample p.found p.place (commands s log) (λ l e. least s l) (agrees s (right s setting) log run)
 
 -- ---- leases and sessions
@@ -307,7 +307,7 @@ attached-same : (s : Setting) (before : List Finished) (image : ℕ) (found : Op
 attached-same s before image None fits = sym fits
 attached-same s before image (Some session) fits = sym fits.0
 
-by-commands : (s : Setting) (p : Position) (place : Place) (so_far : Commands) → p.place ≡ place → Agree s p.holds p.hand p.filled p.sample p.found place so_far →
+by-commands : (s : Setting) (p : Configuration) (place : Place) (so_far : Commands) → p.place ≡ place → Agree s p.holds p.hand p.filled p.sample p.found place so_far →
     IsByCommands s p so_far
 by-commands s p (Idle known) (Between before) ps agree = record {
   holds = λ block i. agree.2 i block;
@@ -324,8 +324,8 @@ by-commands s p (Begins known command) (Within log) ps agree =
       attached = λ image. ap (λ (here : Place). is_some ((known_at here).sessions image)) ps ∙ attached-same s log.before image (known.sessions image) (b.rests.sessions image);
       claims = ap (λ (here : Place). (known_at here).claims) ps ∙ b.rests.claims;
     }
-by-commands s p (In known command part) (Between before) ps agree = absurd agree
-by-commands s p (In known command part) (Within log) ps agree = record {
+by-commands s p (In known command process) (Between before) ps agree = absurd agree
+by-commands s p (In known command process) (Within log) ps agree = record {
   holds = λ block i. agree.1 i block;
   hand = agree.5;
   attached = λ image. ap (λ (here : Place). is_some ((known_at here).sessions image)) ps ∙ attached-same s log.before image (known.sessions image) (agree.4.sessions image);
@@ -333,6 +333,6 @@ by-commands s p (In known command part) (Within log) ps agree = record {
 }
 
 -- of each run, where each command that begins keeps the rules
-pub positions-agree : ((s : Setting) → IsSetting s → BeginsRight s) → PositionsAgree
-positions-agree right s log setting run =
-    let p = position s log in by-commands s p p.place (commands s log) refl (agrees s (right s setting) log run)
+pub configurations-agree : ((s : Setting) → IsSetting s → BeginsRight s) → ConfigurationsAgree
+configurations-agree right s log setting run =
+    let p = configuration s log in by-commands s p p.place (commands s log) refl (agrees s (right s setting) log run)

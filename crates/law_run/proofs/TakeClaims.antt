@@ -16,10 +16,10 @@ use Rattle.plx_gate.proofs.Leases.{lease-only}
 use Rattle.plx_gate.specs.Leases.{lease_bytes, read_lease}
 use Rattle.plx_geom.proofs.Places.{lease-lease, lease-map, extent-extent, extent-below}
 use Rattle.plx_geom.specs.Geometry.{IsGeometry, lease_count, extent_lease, lease_at, map_at}
-use Rattle.plx_rules.specs.Part.{Part, Ends}
-use Rattle.plx_rules.specs.Parts.{followed_by}
-use Rattle.plx_rules.specs.Claims.{ClaimEnd, ClaimLost, ClaimDamaged, claim_of, own_record, own_use, claim_in_time, reread_by, reread_part, written_part, if_expired, seen_part, claim_part}
-use Rattle.plx_rules.specs.Ends.{End, ends, lost_part}
+use Rattle.plx_rules.specs.Process.{Process, Ends}
+use Rattle.plx_rules.specs.Processes.{followed_by}
+use Rattle.plx_rules.specs.Claims.{ClaimEnd, ClaimLost, ClaimDamaged, claim_of, own_record, own_use, claim_in_time, reread_by, reread_process, written_process, if_expired, seen_process, claim_process}
+use Rattle.plx_rules.specs.Ends.{End, ends, lost_process}
 use Rattle.plx_rules.specs.Hands.{is_held}
 use Rattle.plx_rules.specs.Holds.{Hold, Nothing, Seen, Wrote, Waited, Held, seen_by, hold_after_read, hold_after_reading, hold_after_reread}
 use Rattle.plx_rules.specs.InUse.{InUse, IsUse, first_reached, unless_reached}
@@ -89,17 +89,17 @@ module _ (s : Setting) (geometry : IsGeometry s.geometry) (small : s.boot < 2 ^ 
   abbrev TakenSo : (M : ℕ → Type 0) → (tried : ℕ) → List Exchange → Taking → Type 0
   TakenSo M tried done t = HasTaken s geometry first holds known count work M tried done t
 
-  abbrev GoesSo : (M : ℕ → Type 0) → (tried : ℕ) → (Taking → Part End) → (n : ℕ) → Type 0
+  abbrev GoesSo : (M : ℕ → Type 0) → (tried : ℕ) → (Taking → Process End) → (n : ℕ) → Type 0
   GoesSo M tried rest n = MeetsTaking s geometry first holds known count work M tried rest n
 
-  abbrev RightSo : List Exchange → Part End → ℕ → Type 0
-  RightSo done part n = Keeping s geometry first holds known count work done part n
+  abbrev RightSo : List Exchange → Process End → ℕ → Type 0
+  RightSo done process n = Keeping s geometry first holds known count work done process n
 
   abbrev log : List Exchange → CommandLog
   log done = with_work first done
 
   -- the rest by the leases that a reading has reached
-  by-uses : (P : Part End → Type 0) (next : ClaimEnd → Part End) (uses : List InUse) (last : ℕ) (rest : Part ClaimEnd) → ((due : InUse) → first_reached uses last ≡ Some due → P (next (ClaimLost due last))) →
+  by-uses : (P : Process End → Type 0) (next : ClaimEnd → Process End) (uses : List InUse) (last : ℕ) (rest : Process ClaimEnd) → ((due : InUse) → first_reached uses last ≡ Some due → P (next (ClaimLost due last))) →
       (first_reached uses last ≡ None → P (followed_by rest next)) → P (followed_by (claim_in_time uses last rest) next)
   by-uses P next uses last rest late early = go (first_reached uses last) refl
     where
@@ -211,9 +211,9 @@ module _ (s : Setting) (geometry : IsGeometry s.geometry) (small : s.boot < 2 ^ 
     busy-end None x older seen none is = (e, below, refl, inl (is, none))
     busy-end (Some met) x older seen other is = (other.0, other.1, other.2, inr other.3)
 
-    module _ (M' : ℕ → Type 0) (new : ¬ M e) (split : (other : ℕ) → M' other → M other ⊎ (other ≡ e)) (needed : length t.hand < count) (rest : Taking → Part End) (m : ℕ)
+    module _ (M' : ℕ → Type 0) (new : ¬ M e) (split : (other : ℕ) → M' other → M other ⊎ (other ≡ e)) (needed : length t.hand < count) (rest : Taking → Process End) (m : ℕ)
         (goes : GoesSo M' (e + 1) rest m) where
-      abbrev next : ClaimEnd → Part End
+      abbrev next : ClaimEnd → Process End
       next end = after_extent_claim s count e rest (with_claim_begun t) end
 
       abbrev own : ℕ → Claim
@@ -279,7 +279,7 @@ module _ (s : Setting) (geometry : IsGeometry s.geometry) (small : s.boot < 2 ^ 
       lost-counted : (done : List Exchange) (last : ℕ) (uses' : List InUse) (due : InUse) (n : ℕ) → BesideSo done → claims_in s.geometry (after_work first done) ≡ 1 + claims_in s.geometry (after_work first d0) →
           IsLastReading (after_work first done) last →
           ((one : InUse) → IsUse one uses' → IsInUse s (log done) one) → ((one : InUse) → IsInUse s (log done) one → IsUse one uses') → first_reached uses' last ≡ Some due →
-          RightSo done (lost_part s (with_claim t.known) due last) n
+          RightSo done (lost_process s (with_claim t.known) due last) n
       lost-counted done last uses' due n b begun is sound complete reached =
           lost-reading s geometry first holds known count work done last (with_claim t.known) uses' due n is
           (counted done begun) sound complete reached
@@ -410,16 +410,16 @@ module _ (s : Setting) (geometry : IsGeometry s.geometry) (small : s.boot < 2 ^ 
                 ∙ own-back s small first.before (after_work first d0) r.has own_lease t.known.claims small-number sample early-sample again in
                 let q = sym spells ∙ none in let P : ⊥ = cc in P))) (held5 again true is) goes
             after-again again false is (Some other) reads =
-                let part = rest (with_busy (with_claim_begun t) own_lease other) in
+                let process = rest (with_busy (with_claim_begun t) own_lease other) in
                 let done = d5 sample bytes last again in
-                more s geometry first holds known count work (suc m) part done (more s geometry first holds known count work m part done
+                more s geometry first holds known count work (suc m) process done (more s geometry first holds known count work m process done
                 (goes-past (read_of_lease own_lease (answer.Bytes again)) (d4 sample bytes last) other (b5 sample bytes last again) (begun5 again) (held5 again false is) busy4
                 (taken (own sample) (sample + term) again (after_work first (d4 sample bytes last)) refl waited reads
                 (λ same. bytes-other again (lease_bytes (own_record (own sample))) is ((lease-only again other reads).1 ∙ ap lease_bytes same)))
                 (lease-goes-on s first (d4 sample bytes last) own_lease again lease-within (λ none. (let q = sym reads ∙ none in let P : ⊥ = cc in P)))))
             after-again again false is None reads = (
               work.may (d5 sample bytes last again) _ _ ((b5 sample bytes last again).went r.went, tt) tt (λ outside. refl),
-              λ later small'. by-uses (λ part. RightSo (clock later ∷ d5 sample bytes last again) part (suc m)) next (in_use sample) later (Ends ClaimDamaged)
+              λ later small'. by-uses (λ process. RightSo (clock later ∷ d5 sample bytes last again) process (suc m)) next (in_use sample) later (Ends ClaimDamaged)
                   (λ due reached. lost-counted (clock later ∷ d5 sample bytes last again) later (in_use sample) due (suc m) (b6 again later) (begun6 again later) (of_clock (after_work first (d5 sample bytes last again), refl))
                   (sound6 again later is reads) (complete6 again later is) reached)
                   (λ none. no-lease (d4 sample bytes last) again later (suc m) (b5 sample bytes last again) reads (begun6 again later)),
@@ -451,9 +451,9 @@ module _ (s : Setting) (geometry : IsGeometry s.geometry) (small : s.boot < 2 ^ 
           complete4 one (uses.unread claim bytes' later older' below' at_end waited' none' gone) = let c : false ≡ true = ap clock_newest at_end in absurd (clash true refl (sym c))
           complete4 one (uses.rested e' claim bytes' later older' below' at at_end none' held) = let c : false ≡ true = ap clock_newest at_end in absurd (clash true refl (sym c))
 
-          after-wait : RightSo (d4 sample bytes last) (followed_by (claim_in_time (in_use sample) last (reread_part (in_use sample) own_lease (own sample))) next) (suc (suc (suc m)))
+          after-wait : RightSo (d4 sample bytes last) (followed_by (claim_in_time (in_use sample) last (reread_process (in_use sample) own_lease (own sample))) next) (suc (suc (suc m)))
           after-wait =
-              by-uses (λ part. RightSo (d4 sample bytes last) part (suc (suc (suc m)))) next (in_use sample) last (reread_part (in_use sample) own_lease (own sample))
+              by-uses (λ process. RightSo (d4 sample bytes last) process (suc (suc (suc m)))) next (in_use sample) last (reread_process (in_use sample) own_lease (own sample))
               (λ due reached. lost-counted (d4 sample bytes last) last (in_use sample) due (suc (suc (suc m))) (b4 sample bytes last) begun4 (of_wait (sample + wait) (after_work first (d3 sample bytes), refl)) sound4 complete4 reached)
               (λ none. (
                 work.may (d4 sample bytes last) _ _ ((b4 sample bytes last).went r.went, tt) (e, below, inr refl) (
@@ -492,14 +492,14 @@ module _ (s : Setting) (geometry : IsGeometry s.geometry) (small : s.boot < 2 ^ 
 
       -- the lease was read
       after-seen : (sample : ℕ) (bytes : List ℕ) → sample < 2 ^ 48 → (found' : Option LeaseRecord) → read_lease bytes ≡ found' →
-          RightSo (d2 sample bytes) (followed_by (seen_part t.uses own_lease (own sample) found') next) (suc (suc (suc (suc (suc m)))))
+          RightSo (d2 sample bytes) (followed_by (seen_process t.uses own_lease (own sample) found') next) (suc (suc (suc (suc (suc m)))))
       after-seen sample bytes early None sees = (
         work.may (d2 sample bytes) _ _ ((b2 sample bytes).went r.went, tt) tt (λ outside. refl),
         λ later small'.
             let done = clock later ∷ d2 sample bytes in
             let b = beside-next (d2 sample bytes) (clock later) tt (b2 sample bytes) in
             let begun = claims-more s.geometry (after_work first (d2 sample bytes)) (clock later) (no-map s.geometry (lease_at own_lease) bytes (λ e''. lease-map s.geometry own_lease e'' lease-within)) ∙ begun2 sample (answer.Bytes bytes) in
-            by-uses (λ part. RightSo done part (suc (suc (suc (suc m))))) next t.uses later (Ends ClaimDamaged)
+            by-uses (λ process. RightSo done process (suc (suc (suc (suc m))))) next t.uses later (Ends ClaimDamaged)
             (λ due reached. lost-counted done later t.uses due (suc (suc (suc (suc m)))) b begun (of_clock (after_work first (d2 sample bytes), refl))
             (λ one is. others-use done b one is) (complete2 sample bytes later sees) reached)
             (λ none. no-lease (d1 sample) bytes later (suc (suc (suc (suc m)))) (b2 sample bytes) sees begun),
@@ -507,11 +507,11 @@ module _ (s : Setting) (geometry : IsGeometry s.geometry) (small : s.boot < 2 ^ 
       after-seen sample bytes early (Some seen) sees = by-expired (is_expired seen sample) refl
         where
           by-expired : (test : Bool) → is_expired seen sample ≡ test →
-              RightSo (d2 sample bytes) (followed_by (if_expired test seen (written_part t.uses own_lease (own sample))) next) (suc (suc (suc (suc (suc m)))))
+              RightSo (d2 sample bytes) (followed_by (if_expired test seen (written_process t.uses own_lease (own sample))) next) (suc (suc (suc (suc (suc m)))))
           by-expired false is =
-              let part = rest (with_busy (with_claim_begun t) own_lease seen) in
+              let process = rest (with_busy (with_claim_begun t) own_lease seen) in
               let done = d2 sample bytes in
-              let up : (n : ℕ) → RightSo done part n → RightSo done part (suc n) = λ n right. more s geometry first holds known count work n part done right in
+              let up : (n : ℕ) → RightSo done process n → RightSo done process (suc n) = λ n right. more s geometry first holds known count work n process done right in
               up (suc (suc (suc (suc m)))) (up (suc (suc (suc m))) (up (suc (suc m)) (up (suc m) (up m
               (goes-past (read_of_lease own_lease (answer.Bytes bytes)) (d1 sample) seen (b2 sample bytes) (begun2 sample (answer.Bytes bytes))
               (shown2 sample bytes ∙ (ap (λ f. seen_by f sample) sees ∙ ap (λ b. if b then Seen sample else Nothing) is)) (busy1 sample)
@@ -553,10 +553,10 @@ module _ (s : Setting) (geometry : IsGeometry s.geometry) (small : s.boot < 2 ^ 
           absurd (let P : ⊥ = cc in P)
 
       -- the lease is claimed
-      pub right-claim : RightSo d0 (followed_by (claim_part s.boot t.uses own_lease t.known.claims) next) (suc (suc (suc (suc (suc (suc (suc m)))))))
+      pub right-claim : RightSo d0 (followed_by (claim_process s.boot t.uses own_lease t.known.claims) next) (suc (suc (suc (suc (suc (suc (suc m)))))))
       right-claim = (
         work.may d0 _ _ (r.went, tt) tt (map-goes-on s first d e found (λ none. (let q = sym is_map ∙ none in let P : ⊥ = cc in P)) _),
-        λ sample early. by-uses (λ part. RightSo (d1 sample) part (suc (suc (suc (suc (suc (suc m))))))) next t.uses sample _
+        λ sample early. by-uses (λ process. RightSo (d1 sample) process (suc (suc (suc (suc (suc (suc m))))))) next t.uses sample _
             (λ due reached. lost-reading s geometry first holds known count work (d1 sample) sample (with_claim t.known) t.uses due (suc (suc (suc (suc (suc (suc m)))))) (of_clock (after_work first d0, refl))
             (
             let f = map-is-found s.geometry e found bits (some-blocks s geometry first holds known count work) is_map in

@@ -15,10 +15,10 @@ use Rattle.plx_rules.specs.Ends.{End, ends}
 use Rattle.plx_rules.specs.Hands.{is_held}
 use Rattle.plx_rules.specs.Holds.{Hold, Nothing, Seen, Wrote, Waited, Held}
 use Rattle.plx_rules.specs.InUse.{InUse, lease_name}
-use Rattle.plx_rules.specs.Part.{Part, Ends, standing}
+use Rattle.plx_rules.specs.Process.{Process, Ends, standing}
 use Rattle.plx_rules.specs.Session.{Known}
 use Rattle.plx_rules.specs.Settings.{Setting}
-use Rattle.plx_rules.specs.Space.{Taking, first_taking, read_map, free_from, take_if_held, take_held, claim_extent, claim_if_free, other_found, take_if_other, take_others, shortage_part, taken_part, take_part}
+use Rattle.plx_rules.specs.Space.{Taking, first_taking, read_map, free_from, take_if_held, take_held, claim_extent, claim_if_free, other_found, take_if_other, take_others, shortage_process, taken_process, take_process}
 use Rattle.law_lease.proofs.LawfulCommands.{IsRest}
 use Rattle.law_run.specs.Bounds.{one_held}
 use Rattle.law_run.specs.Busy.{FirstBusy}
@@ -120,11 +120,11 @@ module _ (s : Setting) (geometry : IsGeometry s.geometry) (small : s.boot < 2 ^ 
   abbrev TakenSo : (M : ℕ → Type 0) → (tried : ℕ) → List Exchange → Taking → Type 0
   TakenSo M tried done t = HasTaken s geometry first holds known count work M tried done t
 
-  abbrev GoesSo : (M : ℕ → Type 0) → (tried : ℕ) → (Taking → Part End) → (n : ℕ) → Type 0
+  abbrev GoesSo : (M : ℕ → Type 0) → (tried : ℕ) → (Taking → Process End) → (n : ℕ) → Type 0
   GoesSo M tried rest n = MeetsTaking s geometry first holds known count work M tried rest n
 
-  abbrev RightSo : List Exchange → Part End → ℕ → Type 0
-  RightSo done part n = Keeping s geometry first holds known count work done part n
+  abbrev RightSo : List Exchange → Process End → ℕ → Type 0
+  RightSo done process n = Keeping s geometry first holds known count work done process n
 
   -- ---- the extents whose leases are held
 
@@ -139,30 +139,30 @@ module _ (s : Setting) (geometry : IsGeometry s.geometry) (small : s.boot < 2 ^ 
   abbrev PassedBefore : (last e : ℕ) → Type 0
   PassedBefore last e = ((e < s.geometry.extents) × (is_held (first_hold e) ≡ true)) ⊎ (e < last)
 
-  lift-held : (hold : Hold) (n : ℕ) (part : Part End) (done : List Exchange) → RightSo done part n → RightSo done part (held_need hold n)
-  lift-held Nothing n part done right = right
-  lift-held (Seen sample) n part done right = right
-  lift-held (Wrote claim until) n part done right = right
-  lift-held (Waited claim until) n part done right = right
-  lift-held (Held claim until) n part done right = more s geometry first holds known count work (suc n) part done (more s geometry first holds known count work n part done right)
+  lift-held : (hold : Hold) (n : ℕ) (process : Process End) (done : List Exchange) → RightSo done process n → RightSo done process (held_need hold n)
+  lift-held Nothing n process done right = right
+  lift-held (Seen sample) n process done right = right
+  lift-held (Wrote claim until) n process done right = right
+  lift-held (Waited claim until) n process done right = right
+  lift-held (Held claim until) n process done right = more s geometry first holds known count work (suc n) process done (more s geometry first holds known count work n process done right)
 
-  lift-seven : (n : ℕ) (part : Part End) (done : List Exchange) → RightSo done part n → RightSo done part (suc (suc (suc (suc (suc (suc (suc n)))))))
-  lift-seven n part done right =
-      let up : (k : ℕ) → RightSo done part k → RightSo done part (suc k) = λ k right'. more s geometry first holds known count work k part done right' in
+  lift-seven : (n : ℕ) (process : Process End) (done : List Exchange) → RightSo done process n → RightSo done process (suc (suc (suc (suc (suc (suc (suc n)))))))
+  lift-seven n process done right =
+      let up : (k : ℕ) → RightSo done process k → RightSo done process (suc k) = λ k right'. more s geometry first holds known count work k process done right' in
       up (suc (suc (suc (suc (suc (suc n)))))) (up (suc (suc (suc (suc (suc n))))) (up (suc (suc (suc (suc n)))) (up (suc (suc (suc n))) (up (suc (suc n)) (up (suc n) (up n right))))))
 
-  lift-other : (hold : Hold) (n : ℕ) (part : Part End) (done : List Exchange) → RightSo done part n → RightSo done part (other_need hold n)
-  lift-other Nothing n part done right = more s geometry first holds known count work _ part done (lift-seven n part done right)
-  lift-other (Seen sample) n part done right = more s geometry first holds known count work _ part done (lift-seven n part done right)
-  lift-other (Wrote claim until) n part done right = more s geometry first holds known count work _ part done (lift-seven n part done right)
-  lift-other (Waited claim until) n part done right = more s geometry first holds known count work _ part done (lift-seven n part done right)
-  lift-other (Held claim until) n part done right = right
+  lift-other : (hold : Hold) (n : ℕ) (process : Process End) (done : List Exchange) → RightSo done process n → RightSo done process (other_need hold n)
+  lift-other Nothing n process done right = more s geometry first holds known count work _ process done (lift-seven n process done right)
+  lift-other (Seen sample) n process done right = more s geometry first holds known count work _ process done (lift-seven n process done right)
+  lift-other (Wrote claim until) n process done right = more s geometry first holds known count work _ process done (lift-seven n process done right)
+  lift-other (Waited claim until) n process done right = more s geometry first holds known count work _ process done (lift-seven n process done right)
+  lift-other (Held claim until) n process done right = right
 
   -- where enough are in hand no map matters
   enough-maps : (M M' : ℕ → Type 0) (tried : ℕ) (done : List Exchange) (t : Taking) → TakenSo M tried done t → count ≤ length t.hand → TakenSo M' tried done t
   enough-maps M M' tried done t r enough = with-maps s geometry first holds known count work M M' tried done t r (λ few e m. absurd (omega (arith, few, enough)))
 
-  one-held : (e n : ℕ) (rest : Taking → Part End) → e < s.geometry.extents → GoesSo (HeldBefore (e + 1)) 0 rest n → (t : Taking) (done : List Exchange) → TakenSo (HeldBefore e) 0 done t → Calm s first done → length t.hand < count →
+  one-held : (e n : ℕ) (rest : Taking → Process End) → e < s.geometry.extents → GoesSo (HeldBefore (e + 1)) 0 rest n → (t : Taking) (done : List Exchange) → TakenSo (HeldBefore e) 0 done t → Calm s first done → length t.hand < count →
       RightSo done (take_if_held s count e (first_hold e) rest t) (held_need (first_hold e) n)
   one-held e n rest below goes t done r calm few = by-hold (first_hold e) refl
     where
@@ -185,7 +185,7 @@ module _ (s : Setting) (geometry : IsGeometry s.geometry) (small : s.boot < 2 ^ 
       by-hold (Wrote c u) is = unheld (ap is_held is)
       by-hold (Waited c u) is = unheld (ap is_held is)
 
-  holds-pass : (left e m : ℕ) (rest : Taking → Part End) → left + e ≡ s.geometry.extents → GoesSo (HeldBefore s.geometry.extents) 0 rest m →
+  holds-pass : (left e m : ℕ) (rest : Taking → Process End) → left + e ≡ s.geometry.extents → GoesSo (HeldBefore s.geometry.extents) 0 rest m →
       GoesSo (HeldBefore e) 0 (take_held s count holds left e rest) (held_asks s.geometry holds left e m)
   holds-pass zero e m rest all goes t done r calm = goes t done (subst (λ n. TakenSo (HeldBefore n) 0 done t) (let same : e ≡ s.geometry.extents = omega arith in same) r) calm
   holds-pass (suc left) e m rest all goes t done r calm =
@@ -197,7 +197,7 @@ module _ (s : Setting) (geometry : IsGeometry s.geometry) (small : s.boot < 2 ^ 
 
   -- ---- the others
 
-  one-other : (e n : ℕ) (rest : Taking → Part End) → e < s.geometry.extents → GoesSo (PassedBefore (e + 1)) (e + 1) rest n → (t : Taking) (done : List Exchange) → TakenSo (PassedBefore e) e done t → Calm s first done →
+  one-other : (e n : ℕ) (rest : Taking → Process End) → e < s.geometry.extents → GoesSo (PassedBefore (e + 1)) (e + 1) rest n → (t : Taking) (done : List Exchange) → TakenSo (PassedBefore e) e done t → Calm s first done →
       length t.hand < count → RightSo done (take_if_other s count e (first_hold e) rest t) (other_need (first_hold e) n)
   one-other e n rest below goes t done r calm few = by-hold (first_hold e) refl
     where
@@ -279,7 +279,7 @@ module _ (s : Setting) (geometry : IsGeometry s.geometry) (small : s.boot < 2 ^ 
       by-hold (Wrote c u) is = absurd (resting (Wrote c u) is)
       by-hold (Waited c u) is = absurd (resting (Waited c u) is)
 
-  others-pass : (left e m : ℕ) (rest : Taking → Part End) → left + e ≡ s.geometry.extents → GoesSo (PassedBefore s.geometry.extents) s.geometry.extents rest m →
+  others-pass : (left e m : ℕ) (rest : Taking → Process End) → left + e ≡ s.geometry.extents → GoesSo (PassedBefore s.geometry.extents) s.geometry.extents rest m →
       GoesSo (PassedBefore e) e (take_others s count holds left e rest) (other_asks s.geometry holds left e m)
   others-pass zero e m rest all goes t done r calm = goes t done (subst (λ n. TakenSo (PassedBefore n) n done t) (let same : e ≡ s.geometry.extents = omega arith in same) r) calm
   others-pass (suc left) e m rest all goes t done r calm =
@@ -293,10 +293,10 @@ module _ (s : Setting) (geometry : IsGeometry s.geometry) (small : s.boot < 2 ^ 
   -- ---- the end
 
   -- what follows once enough blocks are in hand
-  abbrev Follows : (Taking → Part End) → (n : ℕ) → Type 0
+  abbrev Follows : (Taking → Process End) → (n : ℕ) → Type 0
   Follows rest n = (t : Taking) (own : List Exchange) → HasEnough s first (with_work first own) known count t → RightSo own (rest t) n
 
-  right-end : (rest : Taking → Part End) (n : ℕ) → Follows rest n → GoesSo (PassedBefore s.geometry.extents) s.geometry.extents (taken_part s count rest) n
+  right-end : (rest : Taking → Process End) (n : ℕ) → Follows rest n → GoesSo (PassedBefore s.geometry.extents) s.geometry.extents (taken_process s count rest) n
   right-end rest n follows t done r calm = elim (leb_tells count (length t.hand)) [
     | inl enough ↦ rw enough.0 (follows t done (record {
       told = record {
@@ -316,7 +316,7 @@ module _ (s : Setting) (geometry : IsGeometry s.geometry) (small : s.boot < 2 ^ 
       failed : length t.hand < count → HasFailed s (with_work first done) done count
       failed few = record { few = (let h = ap (λ (l : List ℕ). length l) r.hand in omega (arith, few, h)); read = λ e below. (r.maps few e (inr below)).0 }
 
-      by-busy : length t.hand < count → (b : Option (ℕ × LeaseRecord)) → t.busy ≡ b → BusyIs s geometry first holds known count work b done → RightSo done (shortage_part s t.known b) n
+      by-busy : length t.hand < count → (b : Option (ℕ × LeaseRecord)) → t.busy ≡ b → BusyIs s geometry first holds known count work b done → RightSo done (shortage_process s t.known b) n
       by-busy few None is none =
           refuses-taken s geometry first holds known count work (PassedBefore s.geometry.extents) s.geometry.extents done t reply.Full n r (takes.full (record {
             failed = failed few;
@@ -358,9 +358,9 @@ module _ (s : Setting) (geometry : IsGeometry s.geometry) (small : s.boot < 2 ^ 
         omega arith
 
     -- a take, from its start on, and what follows it
-    pub take-meets : (rest : Taking → Part End) (n : ℕ) → Follows rest n → RightSo [] (take_part s holds count rest (first_taking uses' known hand)) (take_bound s.geometry + n)
+    pub take-meets : (rest : Taking → Process End) (n : ℕ) → Follows rest n → RightSo [] (take_process s holds count rest (first_taking uses' known hand)) (take_bound s.geometry + n)
     take-meets rest n follows =
-        meets-within work.May work.Shows (take_part s holds count rest (first_taking uses' known hand)) first.exchanges (needed n) (take_bound s.geometry + n) (within-bound n)
+        meets-within work.May work.Shows (take_process s holds count rest (first_taking uses' known hand)) first.exchanges (needed n) (take_bound s.geometry + n) (within-bound n)
         (holds-pass s.geometry.extents 0 (other_asks s.geometry holds s.geometry.extents 0 n) _ (omega arith)
         (λ t done r calm. others-pass s.geometry.extents 0 n _ (omega arith) (right-end rest n follows) t done
         (with-maps s geometry first holds known count work (HeldBefore s.geometry.extents) (PassedBefore 0) 0 done t r (λ few e m. elim m [
@@ -411,8 +411,8 @@ takes-keep-rules s log holds count follows uses' known hand is begins =
     (take-work-meets s is log holds count follows uses' known hand begins)
 
 -- so does each take by where it stands
-pub take-ask : (rest : Part End) (ask : Ask) → Some ask ≡ standing rest → IsTakeAsk rest ask
+pub take-ask : (rest : Process End) (ask : Ask) → Some ask ≡ standing rest → IsTakeAsk rest ask
 take-ask rest ask stands s log holds count follows uses' known hand own is begins leads = (takes-keep-rules s log holds count follows uses' known hand is begins).asks leads ask (sym stands)
 
-pub take-end : (rest : Part End) (end : End) → rest ≡ Ends end → IsTakeEnd rest end
+pub take-end : (rest : Process End) (end : End) → rest ≡ Ends end → IsTakeEnd rest end
 take-end rest end over s log holds count follows uses' known hand own is begins leads = (takes-keep-rules s log holds count follows uses' known hand is begins).ends leads end over

@@ -19,15 +19,15 @@ use Rattle.plx_extent.proofs.Maps.{bits-back, length-bits_from}
 use Rattle.plx_extent.specs.Maps.{bits_of, map_bytes}
 use Rattle.plx_geom.proofs.Places.{lease-map, map-map, extent-below}
 use Rattle.plx_geom.specs.Geometry.{IsGeometry, lease_count, extent_lease, lease_at, map_at}
-use Rattle.plx_rules.specs.Part.{Part}
-use Rattle.plx_rules.specs.Ends.{End, ends, lost_part, damaged_part}
+use Rattle.plx_rules.specs.Process.{Process}
+use Rattle.plx_rules.specs.Ends.{End, ends, lost_process, damaged_process}
 use Rattle.plx_rules.specs.Hands.{is_held, set_since, hand_answered, hand_held, hand_left}
 use Rattle.plx_rules.specs.Holds.{Hold, Held}
 use Rattle.plx_rules.specs.InUse.{InUse, IsUse, lease_name, first_reached, unless_reached}
 use Rattle.plx_rules.specs.Rests.{extent_of}
 use Rattle.plx_rules.specs.Session.{Known, nothing_known}
 use Rattle.plx_rules.specs.Settings.{Setting}
-use Rattle.plx_rules.specs.Space.{Taking, with_taken, extent_use, read_map, free_from, with_set, set_part, take_found, take_here}
+use Rattle.plx_rules.specs.Space.{Taking, with_taken, extent_use, read_map, free_from, with_set, set_process, take_found, take_here}
 use Rattle.law_lease.proofs.LawfulCommands.{IsRest}
 use Rattle.law_lease.proofs.LawfulSpace.{timed-rests}
 use Rattle.law_run.specs.AllowedAsks.{GoesOn, WentOn, take_of_blocks, MayAsk}
@@ -276,8 +276,8 @@ module _ (s : Setting) (geometry : IsGeometry s.geometry) (first : CommandLog) (
     pub take-full : k ≡ count - length t.hand → length (t.hand ++ blocks) < count → FullAt s (write_so ∷ read_so) (t.hand ++ blocks) e
     take-full all few =
         let sum = length-append t.hand blocks in
-        let part = ap (λ (l : List ℕ). length l) same in
-        let every : take k (free_from t.hand (map_at s.geometry e) bits) ≡ free_from t.hand (map_at s.geometry e) bits = take-all k (free_from t.hand (map_at s.geometry e) bits) (omega (arith, all, few, sum, part)) in (
+        let process = ap (λ (l : List ℕ). length l) same in
+        let every : take k (free_from t.hand (map_at s.geometry e) bits) ≡ free_from t.hand (map_at s.geometry e) bits = take-all k (free_from t.hand (map_at s.geometry e) bits) (omega (arith, all, few, sum, process)) in (
           out_so,
           with-block-same (given_after_exchanges read_so nothing_given) (map_at s.geometry e) out_so,
           ap (free_from (t.hand ++ blocks) (map_at s.geometry e)) out-bits
@@ -288,8 +288,8 @@ module _ (s : Setting) (geometry : IsGeometry s.geometry) (first : CommandLog) (
   -- ---- ends
 
   -- after these exchanges, with so many answers left, the rest of the take keeps the rules
-  abbrev pub Keeping : List Exchange → Part End → (n : ℕ) → Type 0
-  Keeping done part n = Meets work.May work.Shows (after_work first done) part n
+  abbrev pub Keeping : List Exchange → Process End → (n : ℕ) → Type 0
+  Keeping done process n = Meets work.May work.Shows (after_work first done) process n
 
   -- what is known by now is what the log shows
   pub known-by-log : (done : List Exchange) (k : Known) → ((image : ℕ) → k.sessions image ≡ known.sessions image) →
@@ -336,18 +336,18 @@ module _ (s : Setting) (geometry : IsGeometry s.geometry) (first : CommandLog) (
   pub lost-reading : (done : List Exchange) (last : ℕ) (k : Known) (uses' : List InUse) (due : InUse) (n : ℕ) → IsLastReading (after_work first done) last →
       k.claims ≡ claims_in s.geometry (after_work first done) + claims_begun s.geometry first.before →
       ((one : InUse) → IsUse one uses' → IsInUse s (log done) one) → ((one : InUse) → IsInUse s (log done) one → IsUse one uses') → first_reached uses' last ≡ Some due →
-      Keeping done (lost_part s k due last) n
+      Keeping done (lost_process s k due last) n
   lost-reading done last k uses' due n is counted sound complete reached =
       let f : IsFirstDue uses' last due = subst (TellsFirstDue uses' last) reached (first-tells uses' last) in
       loses done (lease_name s.geometry due.lease) due.until last k.claims n counted
       (replies.reached due refl refl is (sound due f.among) f.past (λ other its le. f.first other (complete other its) le))
 
   -- a take goes on rightly from there
-  abbrev pub MeetsTaking : (M : ℕ → Type 0) → (tried : ℕ) → (Taking → Part End) → (n : ℕ) → Type 0
+  abbrev pub MeetsTaking : (M : ℕ → Type 0) → (tried : ℕ) → (Taking → Process End) → (n : ℕ) → Type 0
   MeetsTaking M tried rest n = (t : Taking) (done : List Exchange) → HasTaken M tried done t → Calm s first done → Keeping done (rest t) n
 
-  pub more : (n : ℕ) (part : Part End) (done : List Exchange) → Keeping done part n → Keeping done part (suc n)
-  more n part done right = meets-more work.May work.Shows part (after_work first done) n right
+  pub more : (n : ℕ) (process : Process End) (done : List Exchange) → Keeping done process n → Keeping done process (suc n)
+  more n process done right = meets-more work.May work.Shows process (after_work first done) n right
 
   -- one more map was read
   pub extended : (M M' : ℕ → Type 0) (tried : ℕ) (done : List Exchange) (t : Taking) (e : ℕ) → HasTaken M tried done t → ((other : ℕ) → M' other → M other ⊎ (other ≡ e)) →
@@ -374,7 +374,7 @@ module _ (s : Setting) (geometry : IsGeometry s.geometry) (first : CommandLog) (
       ((last : ℕ) (one : InUse) → IsUse one uses' → IsInUse s (log (clock last ∷ read_of (map_at s.geometry e) bytes ∷ d)) one) →
       ((one : InUse) → IsUse one t.uses → IsUse one uses') →
       ((last : ℕ) (claim : Claim) (until : ℕ) → hold_by_log s first.before (after_work first (clock last ∷ read_of (map_at s.geometry e) bytes ∷ d)) (extent_lease s.geometry e) ≡ Held claim until → IsUse (extent_use s.geometry e until) uses') →
-      Keeping (read_of (map_at s.geometry e) bytes ∷ d) (damaged_part s t.known uses' (map_at s.geometry e)) (suc n)
+      Keeping (read_of (map_at s.geometry e) bytes ∷ d) (damaged_process s t.known uses' (map_at s.geometry e)) (suc n)
   right-damaged M tried d t e n bytes uses' r none sound wider own = (work.may (read_of (map_at s.geometry e) bytes ∷ d) _ _ (r.went, tt) tt (λ outside. refl), λ last small. go last (first_reached uses' last) refl)
     where
       done : List Exchange
@@ -389,7 +389,7 @@ module _ (s : Setting) (geometry : IsGeometry s.geometry) (first : CommandLog) (
           (own last claim one.until (ap (hold_by_log s first.before (after_work first (clock last ∷ done))) same ∙ held))
 
       go : (last : ℕ) (found : Option InUse) → first_reached uses' last ≡ found →
-          Keeping (clock last ∷ done) (unless_reached found (λ due. lost_part s t.known due last) (ends (reply.Damaged (record { 0 = map_at s.geometry e })) t.known)) n
+          Keeping (clock last ∷ done) (unless_reached found (λ due. lost_process s t.known due last) (ends (reply.Damaged (record { 0 = map_at s.geometry e })) t.known)) n
       go last (Some due) is =
           let r2 = clock-taken M tried done t last (bad-map s.geometry (map_at s.geometry e) bytes none) r in
           lost-reading (clock last ∷ done) last t.known uses' due n (of_clock (after_work first done, refl))
@@ -410,7 +410,7 @@ module _ (s : Setting) (geometry : IsGeometry s.geometry) (first : CommandLog) (
           }))
 
   -- blocks are taken of an extent whose lease is held
-  pub right-here : (M M' : ℕ → Type 0) (tried e until m : ℕ) (claim : Claim) (rest : Taking → Part End) (t : Taking) (done : List Exchange) → e < s.geometry.extents → ¬ M e →
+  pub right-here : (M M' : ℕ → Type 0) (tried e until m : ℕ) (claim : Claim) (rest : Taking → Process End) (t : Taking) (done : List Exchange) → e < s.geometry.extents → ¬ M e →
       ((other : ℕ) → M' other → M other ⊎ (other ≡ e)) → length t.hand < count → HasTaken M tried done t → Calm s first done → hold_by_log s first.before (after_work first done) (extent_lease s.geometry e) ≡ Held claim until → MeetsTaking M' tried rest m →
       Keeping done (take_here s count e until rest t) (suc (suc m))
   right-here M M' tried e until m claim rest t done below new split few r calm held goes = (
@@ -429,7 +429,7 @@ module _ (s : Setting) (geometry : IsGeometry s.geometry) (first : CommandLog) (
       now bytes = hold-stays s first.before (after_work first done) (read_of place bytes) (extent_lease s.geometry e) claim until r.has tt held
 
       by-blocks : (bytes : List ℕ) (bits : List Bool) → read_map s.geometry.extent_blocks bytes ≡ Some bits → (blocks : List ℕ) →
-          take (count - length t.hand) (free_from t.hand place bits) ≡ blocks → Keeping (read_of place bytes ∷ done) (set_part s e until bits blocks rest t) (suc m)
+          take (count - length t.hand) (free_from t.hand place bits) ≡ blocks → Keeping (read_of place bytes ∷ done) (set_process s e until bits blocks rest t) (suc m)
       by-blocks bytes bits is [] same =
           let r1 = map-taken M tried done t e bytes new r in
           more m (rest t) (read_of place bytes ∷ done) (goes t (read_of place bytes ∷ done)

@@ -20,10 +20,10 @@ use Rattle.plx_gate.specs.declared.image.ImageRecord.TheVariants as image_is
 use Rattle.plx_gate.proofs.Descriptors.{descriptor-back}
 use Rattle.plx_geom.specs.Geometry.{Geometry, image_lease, descriptor_at, data_at}
 use Rattle.plx_geom.proofs.Places.{image-below}
-use Rattle.plx_rules.specs.Part.{Part}
+use Rattle.plx_rules.specs.Process.{Process}
 use Rattle.plx_rules.specs.Journaled.{Journaled}
 use Rattle.plx_rules.specs.Attaching.{image_use}
-use Rattle.plx_rules.specs.Commands.{next_write, next_descriptor, write_part, journal_part, command_part}
+use Rattle.plx_rules.specs.Commands.{next_write, next_descriptor, write_process, journal_process, command_process}
 use Rattle.plx_rules.specs.Ends.{End, ends_in_time, write_then}
 use Rattle.plx_rules.specs.Journal.{journal_slot, descriptor_of}
 use Rattle.plx_rules.specs.Records.{is_live, generation_of, size_of, applied_of}
@@ -127,7 +127,7 @@ module _ (s : Setting) (some : 1 ≤ s.geometry.slots) (before : List Finished) 
   }
 
   right-journal : is_live session.image ≡ true → vblock < size_of session.image → write_count session < last_write → length session.writes < s.geometry.slots →
-      Right s before (Write slot vblock payload) (clock reading ∷ []) (journal_part s known slot.0 vblock (bytes_of payload) session until) 3
+      Right s before (Write slot vblock payload) (clock reading ∷ []) (journal_process s known slot.0 vblock (bytes_of payload) session until) 3
   right-journal live below counted room =
       let command = Write slot vblock payload in
       let on = on-write slot vblock payload in
@@ -156,11 +156,11 @@ module _ (s : Setting) (some : 1 ≤ s.geometry.slots) (before : List Finished) 
       let given2 = given_with given1 commit (descriptor_bytes d) in
       let known0 : known_in g (log_on before command done0) slot.0 ≡ given = rw (names-own command slot.0 on.named, ready.attached) refl in
       let known1 : known_in g (log_on before command done1) slot.0 ≡ given1 = rw (names-own command slot.0 on.named, ready.attached) refl in
-      let parts = live-parts session.image (limits g given slot.0 session ready.fits) live in
+      let processes = live-parts session.image (limits g given slot.0 session ready.fits) live in
       let limit : IsDescriptor (descriptor_of session.image write) = record {
-        generation_low = parts.0;
-        generation_high = parts.1;
-        vblock = (let high = parts.2 in omega (arith, below));
+        generation_low = processes.0;
+        generation_high = processes.1;
+        vblock = (let high = processes.2 in omega (arith, below));
         number_low = omega arith;
         number_high = omega (arith, counted);
       } in
@@ -168,14 +168,14 @@ module _ (s : Setting) (some : 1 ≤ s.geometry.slots) (before : List Finished) 
       let fits2 : FitsSession g given2 slot.0 (with_write session write) =
       fits-more g given1 slot.0 session write fits1 limit live some room refl (with-block-same given block bytes) in
       let next = with_session known slot.0 (Some (with_write session write)) in
-      let end_part = ends_in_time s known (image_use slot.0 until) (reply.Written (write_count session + 1)) next in
-      let commit_part = write_then s known (record { lease = lease; until = until }) kind.JCommit commit (descriptor_bytes d) end_part in
-      asks-write (May s before command) s before known command reading fine done0 lease until kind.JData block bytes commit_part 2 refl (let a = rests.claims in omega arith) (λ y e. rw e refl) held_lease
+      let end_process = ends_in_time s known (image_use slot.0 until) (reply.Written (write_count session + 1)) next in
+      let commit_process = write_then s known (record { lease = lease; until = until }) kind.JCommit commit (descriptor_bytes d) end_process in
+      asks-write (May s before command) s before known command reading fine done0 lease until kind.JData block bytes commit_process 2 refl (let a = rests.claims in omega arith) (λ y e. rw e refl) held_lease
       (in-one lease _ (sym (ap image_lease (data-found g slot.0 at slot_below)))) (
         (going0.went, data_of_write slot vblock payload (write_count session + 1) refl (claim, going0.held) (is-next done0 given known0 ready.fits live room) refl refl long),
         ready-follows s before known command slot reading on rests session claim until ready fine ask.Clock,
       )
-      (asks-write (May s before command) s before known command reading fine done1 lease until kind.JCommit commit (descriptor_bytes d) end_part 1 refl (let a = rests.claims in omega arith) (λ y e. rw e refl) held_lease
+      (asks-write (May s before command) s before known command reading fine done1 lease until kind.JCommit commit (descriptor_bytes d) end_process 1 refl (let a = rests.claims in omega arith) (λ y e. rw e refl) held_lease
       (in-one lease _ (sym (ap image_lease (descriptor-place-found g slot.0 at slot_below)))) (
         (
           going1.went,
@@ -210,7 +210,7 @@ module _ (s : Setting) (some : 1 ≤ s.geometry.slots) (before : List Finished) 
             (let a = rests.claims in let b = going.begun in omega arith) rests,
       ))))
 
-  right-write : Right s before (Write slot vblock payload) (clock reading ∷ []) (write_part s known slot.0 vblock (bytes_of payload) session until) 3
+  right-write : Right s before (Write slot vblock payload) (clock reading ∷ []) (write_process s known slot.0 vblock (bytes_of payload) session until) 3
   right-write =
       let command = Write slot vblock payload in
       let on = on-write slot vblock payload in
@@ -220,7 +220,7 @@ module _ (s : Setting) (some : 1 ≤ s.geometry.slots) (before : List Finished) 
       let found = ap (λ (g : Given). record_on s.geometry g slot.0) (here done) ∙ ready.fits.found in
       let counts = subst (λ (g : Given). IsWriteCount s.geometry g slot.0 session.image (write_count session)) (sym (here done))
       (write-count s.geometry (given_after s.geometry before slot.0) slot.0 session ready.fits) in
-      let P : Part End → Type 0 = λ part. Right s before command (clock reading ∷ []) part 3 in
+      let P : Process End → Type 0 = λ process. Right s before command (clock reading ∷ []) process 3 in
       by-unless P (not (is_live session.image)) reply.NoImage known _
       (λ dead. (
         refused 4 (reading, refl) (no_image slot.0 session.image (of_block vblock (of_write slot payload refl refl)) found (opposite-true (is_live session.image) dead))
@@ -255,7 +255,7 @@ module _ (s : Setting) (some : 1 ≤ s.geometry.slots) (before : List Finished) 
 
 pub write-begins : (s : Setting) → 1 ≤ s.geometry.slots → (before : List Finished) (known : Known) (slot : SlotNo) (vblock : ℕ) (payload : Payload) (reading : ℕ) → Rests s before known →
     length (bytes_of payload) ≡ 4096 →
-    Right s before (Write slot vblock payload) (clock reading ∷ []) (command_part s known (start s before reading) (hand_start s before reading) reading (Write slot vblock payload)) 3
+    Right s before (Write slot vblock payload) (clock reading ∷ []) (command_process s known (start s before reading) (hand_start s before reading) reading (Write slot vblock payload)) 3
 write-begins s some before known slot vblock payload reading rests long =
-    on-image s before known (Write slot vblock payload) slot reading (on-write slot vblock payload) rests 3 (write_part s known slot.0 vblock (bytes_of payload))
+    on-image s before known (Write slot vblock payload) slot reading (on-write slot vblock payload) rests 3 (write_process s known slot.0 vblock (bytes_of payload))
     (λ session claim until ready. right-write s some before known slot vblock payload reading rests long session claim until ready)

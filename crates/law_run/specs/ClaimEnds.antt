@@ -8,10 +8,10 @@ use Rattle.plx_disk.specs.declared.ask.Ask.TheVariants as ask
 use Rattle.plx_disk.specs.declared.ask.Answer.TheVariants as answer
 use Rattle.plx_gate.specs.Leases.{lease_bytes, read_lease}
 use Rattle.plx_geom.specs.Geometry.{lease_count, lease_at}
-use Rattle.plx_rules.specs.Claims.{ClaimEnd, ClaimHeld, ClaimBusy, ClaimLost, ClaimReadFault, ClaimWriteFault, ClaimDamaged, own_use, claim_part}
+use Rattle.plx_rules.specs.Claims.{ClaimEnd, ClaimHeld, ClaimBusy, ClaimLost, ClaimReadFault, ClaimWriteFault, ClaimDamaged, own_use, claim_process}
 use Rattle.plx_rules.specs.Holds.{Nothing}
 use Rattle.plx_rules.specs.InUse.{InUse, first_reached}
-use Rattle.plx_rules.specs.Part.{Part, bytes_out}
+use Rattle.plx_rules.specs.Process.{Process, bytes_out}
 use Rattle.plx_rules.specs.Settings.{Setting}
 use Rattle.plx_rules.specs.Times.{window, term}
 use Rattle.law_run.specs.AllowedAsks.{WentOn}
@@ -71,16 +71,16 @@ abbrev pub claim_bound : ℕ
 claim_bound = 6
 
 -- an ask of a claim that has come to this rest keeps the rules, by each log that leads there, within any command in which the claim may begin
-abbrev pub IsClaimAsk : (rest : Part ClaimEnd) → Ask → Type 0
+abbrev pub IsClaimAsk : (rest : Process ClaimEnd) → Ask → Type 0
 IsClaimAsk rest ask = (s : Setting) (log : CommandLog) (others : List InUse) (lease number : ℕ) (own : List Exchange) → IsSetting s → MayBeginClaim s log lease number →
-    HasCome (claim_part s.boot others lease number) own rest → IsRightAsk s log (IsOfBlock (lease_at lease)) claim_bound own ask (bytes_out rest)
+    HasCome (claim_process s.boot others lease number) own rest → IsRightAsk s log (IsOfBlock (lease_at lease)) claim_bound own ask (bytes_out rest)
 
 -- the same of its end
-abbrev pub IsClaimEnd : (rest : Part ClaimEnd) → ClaimEnd → Type 0
+abbrev pub IsClaimEnd : (rest : Process ClaimEnd) → ClaimEnd → Type 0
 IsClaimEnd rest end = (s : Setting) (log : CommandLog) (others : List InUse) (lease number : ℕ) (own : List Exchange) → IsSetting s → MayBeginClaim s log lease number →
-    HasCome (claim_part s.boot others lease number) own rest → IsRightEnd s log claim_bound (ShowsClaim s others lease) own end
+    HasCome (claim_process s.boot others lease number) own rest → IsRightEnd s log claim_bound (ShowsClaim s others lease) own end
 
 -- each claim keeps the rules, whatever its answers are: its asks are allowed, at most six are answered, and its end has its cause
 abbrev pub ClaimsKeepRules : Type 0
 ClaimsKeepRules = (s : Setting) (log : CommandLog) (others : List InUse) (lease number : ℕ) → IsSetting s → MayBeginClaim s log lease number →
-    Keeps s log (IsOfBlock (lease_at lease)) claim_bound (ShowsClaim s others lease) (claim_part s.boot others lease number)
+    Keeps s log (IsOfBlock (lease_at lease)) claim_bound (ShowsClaim s others lease) (claim_process s.boot others lease number)

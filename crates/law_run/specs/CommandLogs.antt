@@ -4,7 +4,7 @@ use Rattle.plx_commands.specs.declared.command.Command.{Command}
 use Rattle.plx_commands.specs.declared.reply.Reply.{Reply}
 use Rattle.plx_disk.specs.declared.ask.Ask.{Ask}
 use Rattle.plx_disk.specs.declared.ask.Answer.{Answer}
-use Rattle.plx_rules.specs.Boot.{Happening, Began, Asked, position, replies}
+use Rattle.plx_rules.specs.Boot.{BootEntry, Began, Asked, configuration, replies}
 use Rattle.plx_rules.specs.Holds.{sample_of}
 use Rattle.plx_rules.specs.Settings.{Setting}
 
@@ -47,12 +47,12 @@ commands_after_exchange exchange None (Within log) = Within (with_exchange excha
 commands_after_exchange exchange (Some reply) (Within log) =
     Between ((record { command = log.command; exchanges = exchange ∷ log.exchanges; reply = reply }) ∷ log.before)
 
--- the commands of a boot log, whose newest happening stands first
-abbrev pub commands : Setting → List Happening → Commands
+-- the commands of a boot log, whose newest entry stands first
+abbrev pub commands : Setting → List BootEntry → Commands
 commands s [] = Between []
 commands s (Began command ∷ older) = commands_after_start command (commands s older)
 commands s (Asked ask bytes answer ∷ older) =
-    commands_after_exchange (record { ask = ask; bytes = bytes; answer = answer }) (replies s answer (position s older)) (commands s older)
+    commands_after_exchange (record { ask = ask; bytes = bytes; answer = answer }) (replies s answer (configuration s older)) (commands s older)
 
 -- the log of a command that has its reply
 abbrev pub log_of : Finished → List Finished → CommandLog

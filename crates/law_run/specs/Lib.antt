@@ -15,7 +15,7 @@ pub mod Causes
 pub mod Completeness
 pub mod OneImage
 pub mod Rules
-pub mod Positions
+pub mod Configurations
 pub mod Worlds
 pub mod Machines
 pub mod ClaimEnds

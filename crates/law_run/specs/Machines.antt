@@ -3,7 +3,7 @@ use Rattle.std.specs.Prelude.{◌≡◌, ◌≤◌, ◌<◌, ℕ, List, [], ◌�
 use Rattle.plx_disk.specs.declared.ask.Ask.{Ask}
 use Rattle.plx_disk.specs.declared.ask.Ask.TheVariants as ask
 use Rattle.plx_disk.specs.declared.ask.Answer.{Answer}
-use Rattle.plx_rules.specs.Part.{Part, Ends, answered, standing, bytes_out}
+use Rattle.plx_rules.specs.Process.{Process, Ends, answered, standing, bytes_out}
 use Rattle.plx_rules.specs.Boot.{Fits}
 use Rattle.plx_rules.specs.Settings.{Setting}
 use Rattle.law_run.specs.AllowedAsks.{MayAsk}
@@ -11,15 +11,15 @@ use Rattle.law_run.specs.CommandLogs.{Exchange, CommandLog, with_exchanges}
 use Rattle.law_run.specs.Rules.{AllAllowed}
 
 -- some work that began as `start` has come, by exchanges of its own, the newest first, to this rest of it
-pub data HasCome {E : Type 0} (start : Part E) : List Exchange → Part E → Type 0 where
+pub data HasCome {E : Type 0} (start : Process E) : List Exchange → Process E → Type 0 where
   begins : HasCome start [] start
-  goes_on : {own : List Exchange} {rest : Part E} (ask : Ask) (answer : Answer) → HasCome start own rest → standing rest ≡ Some ask → Fits ask answer →
+  goes_on : {own : List Exchange} {rest : Process E} (ask : Ask) (answer : Answer) → HasCome start own rest → standing rest ≡ Some ask → Fits ask answer →
       HasCome start ((record { ask = ask; bytes = bytes_out rest; answer = answer }) ∷ own) (answered rest answer)
 
 -- an answer that fits moves on from one rest to another: work that has come to the first has come, with this exchange, to the second
-abbrev pub MovesOn : {E : Type 0} → (old : Part E) → Answer → (new : Part E) → Type 0
+abbrev pub MovesOn : {E : Type 0} → (old : Process E) → Answer → (new : Process E) → Type 0
 MovesOn old answer new =
-    (start : Part _) (own : List Exchange) (ask : Ask) → HasCome start own old → standing old ≡ Some ask → Fits ask answer →
+    (start : Process _) (own : List Exchange) (ask : Ask) → HasCome start own old → standing old ≡ Some ask → Fits ask answer →
     HasCome start ((record { ask = ask; bytes = bytes_out old; answer = answer }) ∷ own) new
 
 -- the log of a command with those of some work within it
@@ -47,6 +47,6 @@ pub record IsRightEnd {E : Type 0} (s : Setting) (log : CommandLog) (most : ℕ)
   pub shown : Shows (with_work log own) end
 
 -- some work on a place, begun after the exchanges of this log, keeps the rules, however it is answered
-pub record Keeps {E : Type 0} (s : Setting) (log : CommandLog) (Place : Ask → Type 0) (most : ℕ) (Shows : CommandLog → E → Type 0) (start : Part E) : Type 0 where
-  pub asks : {own : List Exchange} {rest : Part E} → HasCome start own rest → (ask : Ask) → standing rest ≡ Some ask → IsRightAsk s log Place most own ask (bytes_out rest)
-  pub ends : {own : List Exchange} {rest : Part E} → HasCome start own rest → (end : E) → rest ≡ Ends end → IsRightEnd s log most Shows own end
+pub record Keeps {E : Type 0} (s : Setting) (log : CommandLog) (Place : Ask → Type 0) (most : ℕ) (Shows : CommandLog → E → Type 0) (start : Process E) : Type 0 where
+  pub asks : {own : List Exchange} {rest : Process E} → HasCome start own rest → (ask : Ask) → standing rest ≡ Some ask → IsRightAsk s log Place most own ask (bytes_out rest)
+  pub ends : {own : List Exchange} {rest : Process E} → HasCome start own rest → (end : E) → rest ≡ Ends end → IsRightEnd s log most Shows own end

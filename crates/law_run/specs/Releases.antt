@@ -11,7 +11,7 @@ use Rattle.plx_gate.specs.Leases.{lease_bytes}
 use Rattle.plx_geom.specs.Geometry.{lease_count, lease_at}
 use Rattle.plx_rules.specs.Holds.{Nothing}
 use Rattle.plx_rules.specs.InUse.{InUse}
-use Rattle.plx_rules.specs.Part.{Part, Ends, WriteThen, bytes_out}
+use Rattle.plx_rules.specs.Process.{Process, Ends, WriteThen, bytes_out}
 use Rattle.plx_rules.specs.Settings.{Setting}
 use Rattle.law_run.specs.AllowedAsks.{WentOn}
 use Rattle.law_run.specs.CommandLogs.{Exchange, CommandLog, LastAnswered}
@@ -25,8 +25,8 @@ pub data ReleaseEnd : Type 0 where
   ReleaseWriteFault : ReleaseEnd
 
 -- the release of a lease that is held up to `until`
-abbrev pub release_part : (lease until : ℕ) → Part ReleaseEnd
-release_part lease until =
+abbrev pub release_process : (lease until : ℕ) → Process ReleaseEnd
+release_process lease until =
     WriteThen kind.Release (lease_at lease) (lease_bytes Free) until (Ends Released) (Ends ReleaseWriteFault)
     (λ reading. Ends (ReleaseLost (record { lease = lease; until = until }) reading))
 
@@ -51,16 +51,16 @@ ShowsRelease s lease until log (ReleaseLost due past) = ReleaseAnswered log leas
 ShowsRelease s lease until log ReleaseWriteFault = ReleaseAnswered log lease until answer.Fault
 
 -- an ask of a release that has come to this rest keeps the rules, by each log that leads there, within any command in which the release may begin
-abbrev pub IsReleaseAsk : (rest : Part ReleaseEnd) → Ask → Type 0
+abbrev pub IsReleaseAsk : (rest : Process ReleaseEnd) → Ask → Type 0
 IsReleaseAsk rest ask = (s : Setting) (log : CommandLog) (lease until : ℕ) (own : List Exchange) → MayBeginRelease s log lease until →
-    HasCome (release_part lease until) own rest → IsRightAsk s log (IsOfBlock (lease_at lease)) 1 own ask (bytes_out rest)
+    HasCome (release_process lease until) own rest → IsRightAsk s log (IsOfBlock (lease_at lease)) 1 own ask (bytes_out rest)
 
 -- the same of its end
-abbrev pub IsReleaseEnd : (rest : Part ReleaseEnd) → ReleaseEnd → Type 0
+abbrev pub IsReleaseEnd : (rest : Process ReleaseEnd) → ReleaseEnd → Type 0
 IsReleaseEnd rest end = (s : Setting) (log : CommandLog) (lease until : ℕ) (own : List Exchange) → MayBeginRelease s log lease until →
-    HasCome (release_part lease until) own rest → IsRightEnd s log 1 (ShowsRelease s lease until) own end
+    HasCome (release_process lease until) own rest → IsRightEnd s log 1 (ShowsRelease s lease until) own end
 
 -- each release keeps the rules, whatever its answer is: its write is allowed, it is the one ask, and its end has its cause
 abbrev pub ReleasesKeepRules : Type 0
 ReleasesKeepRules = (s : Setting) (log : CommandLog) (lease until : ℕ) → MayBeginRelease s log lease until →
-    Keeps s log (IsOfBlock (lease_at lease)) 1 (ShowsRelease s lease until) (release_part lease until)
+    Keeps s log (IsOfBlock (lease_at lease)) 1 (ShowsRelease s lease until) (release_process lease until)

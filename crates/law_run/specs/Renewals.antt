@@ -11,7 +11,7 @@ use Rattle.plx_gate.specs.Leases.{lease_bytes}
 use Rattle.plx_geom.specs.Geometry.{lease_count, lease_at}
 use Rattle.plx_rules.specs.Commands.{later_of}
 use Rattle.plx_rules.specs.InUse.{InUse}
-use Rattle.plx_rules.specs.Part.{Part, Ends, WriteThen, bytes_out}
+use Rattle.plx_rules.specs.Process.{Process, Ends, WriteThen, bytes_out}
 use Rattle.plx_rules.specs.Settings.{Setting}
 use Rattle.plx_rules.specs.Times.{term}
 use Rattle.law_run.specs.AllowedAsks.{WentOn}
@@ -26,8 +26,8 @@ pub data RenewalEnd : Type 0 where
   RenewalWriteFault : RenewalEnd
 
 -- the renewal of a lease that is held by this claim up to `until`: from then on it is held up to `later`
-abbrev pub renewal_part : (lease : ℕ) → Claim → (until later : ℕ) → Part RenewalEnd
-renewal_part lease claim until later =
+abbrev pub renewal_process : (lease : ℕ) → Claim → (until later : ℕ) → Process RenewalEnd
+renewal_process lease claim until later =
     WriteThen kind.Renew (lease_at lease) (lease_bytes (Claimed claim later)) until (Ends Renewed) (Ends RenewalWriteFault)
     (λ reading. Ends (RenewalLost (record { lease = lease; until = until }) reading))
 
@@ -54,16 +54,16 @@ ShowsRenewal s lease claim until reading log (RenewalLost due past) = RenewalAns
 ShowsRenewal s lease claim until reading log RenewalWriteFault = RenewalAnswered log lease until answer.Fault
 
 -- an ask of a renewal that has come to this rest keeps the rules, by each log that leads there, within any command in which the renewal may begin
-abbrev pub IsRenewalAsk : (rest : Part RenewalEnd) → Ask → Type 0
+abbrev pub IsRenewalAsk : (rest : Process RenewalEnd) → Ask → Type 0
 IsRenewalAsk rest ask = (s : Setting) (log : CommandLog) (lease : ℕ) (claim : Claim) (until reading : ℕ) (own : List Exchange) → MayBeginRenewal s log lease claim until reading →
-    HasCome (renewal_part lease claim until (renewal_until until reading)) own rest → IsRightAsk s log (IsOfBlock (lease_at lease)) 1 own ask (bytes_out rest)
+    HasCome (renewal_process lease claim until (renewal_until until reading)) own rest → IsRightAsk s log (IsOfBlock (lease_at lease)) 1 own ask (bytes_out rest)
 
 -- the same of its end
-abbrev pub IsRenewalEnd : (rest : Part RenewalEnd) → RenewalEnd → Type 0
+abbrev pub IsRenewalEnd : (rest : Process RenewalEnd) → RenewalEnd → Type 0
 IsRenewalEnd rest end = (s : Setting) (log : CommandLog) (lease : ℕ) (claim : Claim) (until reading : ℕ) (own : List Exchange) → MayBeginRenewal s log lease claim until reading →
-    HasCome (renewal_part lease claim until (renewal_until until reading)) own rest → IsRightEnd s log 1 (ShowsRenewal s lease claim until reading) own end
+    HasCome (renewal_process lease claim until (renewal_until until reading)) own rest → IsRightEnd s log 1 (ShowsRenewal s lease claim until reading) own end
 
 -- each renewal keeps the rules, whatever its answer is: its write is allowed, it is the one ask, and its end has its cause
 abbrev pub RenewalsKeepRules : Type 0
 RenewalsKeepRules = (s : Setting) (log : CommandLog) (lease : ℕ) (claim : Claim) (until reading : ℕ) → MayBeginRenewal s log lease claim until reading →
-    Keeps s log (IsOfBlock (lease_at lease)) 1 (ShowsRenewal s lease claim until reading) (renewal_part lease claim until (renewal_until until reading))
+    Keeps s log (IsOfBlock (lease_at lease)) 1 (ShowsRenewal s lease claim until reading) (renewal_process lease claim until (renewal_until until reading))

@@ -5,7 +5,7 @@ use Rattle.plx_geom.specs.Geometry.{Geometry, IsGeometry, extent_lease}
 use Rattle.plx_rules.specs.Ends.{End}
 use Rattle.plx_rules.specs.Holds.{Hold}
 use Rattle.plx_rules.specs.InUse.{InUse}
-use Rattle.plx_rules.specs.Part.{Part, Ends, bytes_out}
+use Rattle.plx_rules.specs.Process.{Process, Ends, bytes_out}
 use Rattle.plx_rules.specs.Session.{Known}
 use Rattle.plx_rules.specs.Settings.{Setting}
 use Rattle.plx_rules.specs.Space.{retire_extents}
@@ -16,7 +16,7 @@ use Rattle.law_run.specs.OnHand.{IsOfOneExtent, MayBeginOnHand, ShowsOnHand}
 
 -- what is asked until all extents are given up; then the command ends so
 abbrev pub retire_work : Setting → Known → (uses : List InUse) → (holds : ℕ → Hold) →
-    (hand : List ℕ) → (follows : End) → Part End
+    (hand : List ℕ) → (follows : End) → Process End
 retire_work s known uses holds hand follows =
     retire_extents s known uses holds hand s.geometry.extents 0 (Ends follows)
 
@@ -32,7 +32,7 @@ pub record AreGivenUp (s : Setting) (start log : CommandLog) : Type 0 where
       hold_by_log s log.before log.exchanges lease ≡ hold_by_log s start.before start.exchanges lease
 
 -- an ask of it that has come to this rest keeps the rules, by each log that leads there, within any command in which it may begin
-abbrev pub IsRetireAsk : (rest : Part End) → Ask → Type 0
+abbrev pub IsRetireAsk : (rest : Process End) → Ask → Type 0
 IsRetireAsk rest ask = (s : Setting) (log : CommandLog) (known : Known) (uses : List InUse)
     (holds : ℕ → Hold) (hand : List ℕ) (follows : End) (own : List Exchange) →
     IsGeometry s.geometry → MayBeginOnHand s log holds hand →
@@ -40,7 +40,7 @@ IsRetireAsk rest ask = (s : Setting) (log : CommandLog) (known : Known) (uses : 
     IsRightAsk s log (IsOfOneExtent s.geometry) (retire_bound s.geometry) own ask (bytes_out rest)
 
 -- the same of its end
-abbrev pub IsRetireEnd : (rest : Part End) → End → Type 0
+abbrev pub IsRetireEnd : (rest : Process End) → End → Type 0
 IsRetireEnd rest end = (s : Setting) (log : CommandLog) (known : Known) (uses : List InUse)
     (holds : ℕ → Hold) (hand : List ℕ) (follows : End) (own : List Exchange) →
     IsGeometry s.geometry → MayBeginOnHand s log holds hand →

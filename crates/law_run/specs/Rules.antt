@@ -3,7 +3,7 @@ use Rattle.std.specs.Prelude.{◌≡◌, ◌^◌, ◌≤◌, ◌<◌, ℕ, List,
 use Rattle.plx_commands.specs.declared.command.Command.{Command}
 use Rattle.plx_disk.specs.declared.ask.Ask.{Ask}
 use Rattle.plx_geom.specs.Geometry.{IsGeometry}
-use Rattle.plx_rules.specs.Boot.{Happening, position, asks, writes_out, IsRun}
+use Rattle.plx_rules.specs.Boot.{BootEntry, configuration, asks, writes_out, IsRun}
 use Rattle.plx_rules.specs.Settings.{Setting}
 use Rattle.law_run.specs.AllowedAsks.{MayAsk}
 use Rattle.law_run.specs.Bounds.{bound}
@@ -63,5 +63,5 @@ pub record IsSetting (s : Setting) : Type 0 where
 
 -- each log that is a run keeps the rules in the local sense, whatever its answers were
 abbrev pub RunsKeepRules : Type 0
-RunsKeepRules = (s : Setting) (log : List Happening) → IsSetting s → IsRun s log →
-    KeepsRules s (commands s log) (asks (position s log).place) (writes_out (position s log).place)
+RunsKeepRules = (s : Setting) (log : List BootEntry) → IsSetting s → IsRun s log →
+    KeepsRules s (commands s log) (asks (configuration s log).place) (writes_out (configuration s log).place)

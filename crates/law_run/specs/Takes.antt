@@ -17,11 +17,11 @@ use Rattle.plx_geom.specs.Geometry.{Geometry, lease_count, extent_lease, lease_a
 use Rattle.plx_rules.specs.Ends.{End}
 use Rattle.plx_rules.specs.Holds.{Hold, Nothing, Held}
 use Rattle.plx_rules.specs.InUse.{InUse}
-use Rattle.plx_rules.specs.Part.{Part, Ends, bytes_out}
+use Rattle.plx_rules.specs.Process.{Process, Ends, bytes_out}
 use Rattle.plx_rules.specs.Rests.{extent_of}
 use Rattle.plx_rules.specs.Session.{Known, nothing_known}
 use Rattle.plx_rules.specs.Settings.{Setting}
-use Rattle.plx_rules.specs.Space.{Taking, first_taking, take_part}
+use Rattle.plx_rules.specs.Space.{Taking, first_taking, take_process}
 use Rattle.law_run.specs.AllowedAsks.{WentOn}
 use Rattle.law_run.specs.CommandLogs.{Exchange, CommandLog, LastAnswered}
 use Rattle.law_run.specs.Holdings.{hold_by_log, hand_by_log, claims_in, claims_begun}
@@ -33,9 +33,9 @@ use Rattle.law_run.specs.Uses.{AreUsed}
 
 -- what is asked until so many fresh blocks are in hand, where the leases are held so as it begins; the command ends so after that
 abbrev pub take_work : Setting → (holds : ℕ → Hold) → (count : ℕ) → (follows : Taking → End) →
-    (uses : List InUse) → Known → (hand : List ℕ) → Part End
+    (uses : List InUse) → Known → (hand : List ℕ) → Process End
 take_work s holds count follows uses known hand =
-    take_part s holds count (λ t. Ends (follows t)) (first_taking uses known hand)
+    take_process s holds count (λ t. Ends (follows t)) (first_taking uses known hand)
 
 -- ---- where it may begin
 
@@ -159,7 +159,7 @@ TakesKeepRules = (s : Setting) (log : CommandLog) (holds : ℕ → Hold) (count 
     (ShowsTake s log known count follows) (take_work s holds count follows uses known hand)
 
 -- an ask of it that has come to this rest keeps the rules, by each log that leads there, within any command in which it may begin
-abbrev pub IsTakeAsk : (rest : Part End) → Ask → Type 0
+abbrev pub IsTakeAsk : (rest : Process End) → Ask → Type 0
 IsTakeAsk rest ask = (s : Setting) (log : CommandLog) (holds : ℕ → Hold) (count : ℕ)
     (follows : Taking → End) (uses : List InUse) (known : Known) (hand : List ℕ)
     (own : List Exchange) →
@@ -168,7 +168,7 @@ IsTakeAsk rest ask = (s : Setting) (log : CommandLog) (holds : ℕ → Hold) (co
     IsRightAsk s log (IsOfExtents s.geometry) (take_bound s.geometry) own ask (bytes_out rest)
 
 -- the same of its end
-abbrev pub IsTakeEnd : (rest : Part End) → End → Type 0
+abbrev pub IsTakeEnd : (rest : Process End) → End → Type 0
 IsTakeEnd rest end = (s : Setting) (log : CommandLog) (holds : ℕ → Hold) (count : ℕ)
     (follows : Taking → End) (uses : List InUse) (known : Known) (hand : List ℕ)
     (own : List Exchange) →

@@ -8,7 +8,7 @@
 ghost use Rattle.law_run.specs.ClaimEnds.{ClaimsKeepRules};
 ghost use Rattle.law_run.specs.Completeness.{OkWithoutCause};
 ghost use Rattle.law_run.specs.OneImage.{StoresOneImage};
-ghost use Rattle.law_run.specs.Positions.{PositionsAgree};
+ghost use Rattle.law_run.specs.Configurations.{ConfigurationsAgree};
 ghost use Rattle.law_run.specs.Releases.{ReleasesKeepRules};
 ghost use Rattle.law_run.specs.Renewals.{RenewalsKeepRules};
 ghost use Rattle.law_run.specs.RetireRules.{RetiresKeepRules};
@@ -33,8 +33,8 @@ pub fn stores_one_image()
 
 /// What a boot holds and has in hand, which images have a session, and how many claims were begun, is the same by a
 /// log's commands and by where the log leads.
-pub fn positions_agree()
-    ensures { PositionsAgree }
+pub fn configurations_agree()
+    ensures { ConfigurationsAgree }
 {}
 
 /// The log of each boot keeps the rules, in every world that events lead to.

@@ -6,10 +6,10 @@ use Rattle.plx_commands.specs.Replies.{is_in}
 use Rattle.plx_disk.specs.Writes.{Issued}
 use Rattle.plx_extent.specs.Maps.{bit_of}
 use Rattle.plx_geom.specs.Geometry.{Geometry, extent_lease, map_at}
-use Rattle.plx_rules.specs.Boot.{Place, Idle, Begins, In, Position}
+use Rattle.plx_rules.specs.Boot.{Place, Idle, Begins, In, Configuration}
 use Rattle.plx_rules.specs.Hands.{hand_from}
 use Rattle.plx_rules.specs.Owners.{pending_write}
-use Rattle.plx_rules.specs.Part.{Ends, ReadThen, WriteThen, ClockThen, UntilThen}
+use Rattle.plx_rules.specs.Process.{Ends, ReadThen, WriteThen, ClockThen, UntilThen}
 use Rattle.plx_rules.specs.Pools.{HandsAllocated, HandsApart, hand_at}
 use Rattle.plx_rules.specs.Rests.{extent_of}
 use Rattle.plx_rules.specs.World.{setting_of, stands}
@@ -73,7 +73,7 @@ hands-allocated w reached a block below has = by_pending (w.seats a).pending ref
     within : extent_of w.geometry block < w.geometry.extents
     within = let l = has.owns.within in omega arith
 
-    p : Position
+    p : Configuration
     p = stands w a
 
     now : List ℕ

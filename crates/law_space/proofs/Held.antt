@@ -16,11 +16,11 @@ use Rattle.plx_disk.specs.declared.ask.Answer.{Answer}
 use Rattle.plx_disk.specs.declared.ask.Answer.TheVariants as answer
 use Rattle.plx_gate.specs.Leases.{read_lease}
 use Rattle.plx_geom.specs.Geometry.{Geometry, extent_lease, lease_at}
-use Rattle.plx_rules.specs.Boot.{Happening, Began, Asked, Place, Idle, Begins, In, Position, position, after_part, first_part, first_read, goes_to, went_on}
+use Rattle.plx_rules.specs.Boot.{BootEntry, Began, Asked, Place, Idle, Begins, In, Configuration, configuration, after_process, first_process, first_read, goes_to, went_on}
 use Rattle.plx_rules.specs.Ends.{End}
 use Rattle.plx_rules.specs.Hands.{found_by, filled_answered, hand_answered, hand_left, is_held}
 use Rattle.plx_rules.specs.Holds.{Hold, Nothing, Seen, Wrote, Waited, Held, after_answer, after_first, after_write, hold_after_renewal, sample_of, hold_after_read, hold_after_claim}
-use Rattle.plx_rules.specs.Part.{Part, answered}
+use Rattle.plx_rules.specs.Process.{Process, answered}
 use Rattle.plx_rules.specs.Rests.{extent_of}
 use Rattle.plx_rules.specs.Session.{Known}
 use Rattle.plx_rules.specs.Settings.{Setting}
@@ -29,29 +29,29 @@ use Rattle.law_lease.proofs.Leased.{grip_while}
 use Rattle.law_space.proofs.Lists.{in-filter}
 
 -- each block in hand lies in an extent whose lease is held
-abbrev pub HandHeld : Geometry → Position → Type 0
+abbrev pub HandHeld : Geometry → Configuration → Type 0
 HandHeld g p = (block : ℕ) → is_in block p.hand ≡ true → is_held (p.holds (lease_at (extent_lease g (extent_of g block)))) ≡ true
 
-hand-goes : (g : Geometry) (known : Known) (command : Command) (holds : ℕ → Hold) (hand : List ℕ) (filled : List (ℕ × List ℕ)) (sample : Option ℕ) (found : Option (ℕ × List ℕ)) (part : Part End) →
-    HandHeld g (goes_to g known command holds hand filled sample found 0 part)
-hand-goes g known command holds hand filled sample found part block is =
-    (in-filter (λ block. is_held (after_part part holds (lease_at (extent_lease g (extent_of g block))))) block hand is).1
+hand-goes : (g : Geometry) (known : Known) (command : Command) (holds : ℕ → Hold) (hand : List ℕ) (filled : List (ℕ × List ℕ)) (sample : Option ℕ) (found : Option (ℕ × List ℕ)) (process : Process End) →
+    HandHeld g (goes_to g known command holds hand filled sample found 0 process)
+hand-goes g known command holds hand filled sample found process block is =
+    (in-filter (λ block. is_held (after_process process holds (lease_at (extent_lease g (extent_of g block))))) block hand is).1
 
-hand-first : (s : Setting) (known : Known) (command : Command) (answer : Answer) (p : Position) → HandHeld s.geometry p → HandHeld s.geometry (first_read s known command answer p)
-hand-first s known command (answer.Reading reading) p held = hand-goes s.geometry known command (after_first s.geometry known reading p.holds) p.hand [] (Some reading) None (first_part s known reading command p)
+hand-first : (s : Setting) (known : Known) (command : Command) (answer : Answer) (p : Configuration) → HandHeld s.geometry p → HandHeld s.geometry (first_read s known command answer p)
+hand-first s known command (answer.Reading reading) p held = hand-goes s.geometry known command (after_first s.geometry known reading p.holds) p.hand [] (Some reading) None (first_process s known reading command p)
 hand-first s known command other p held = held
 
-hand-went : (s : Setting) (ask : Ask) (bytes : List ℕ) (answer : Answer) (p : Position) (place : Place) → HandHeld s.geometry p → HandHeld s.geometry (went_on s ask bytes answer p place)
+hand-went : (s : Setting) (ask : Ask) (bytes : List ℕ) (answer : Answer) (p : Configuration) (place : Place) → HandHeld s.geometry p → HandHeld s.geometry (went_on s ask bytes answer p place)
 hand-went s ask bytes answer p (Idle known) held = held
 hand-went s ask bytes answer p (Begins known command) held = hand-first s known command answer p held
-hand-went s ask bytes answer p (In known command part) held =
-    hand-goes s.geometry known command (after_answer p.sample ask bytes answer p.holds) (hand_left ask p.filled (hand_answered s.geometry p.found ask bytes answer p.hand)) (filled_answered ask bytes answer p.filled) (sample_of answer) (found_by ask answer) (answered part answer)
+hand-went s ask bytes answer p (In known command process) held =
+    hand-goes s.geometry known command (after_answer p.sample ask bytes answer p.holds) (hand_left ask p.filled (hand_answered s.geometry p.found ask bytes answer p.hand)) (filled_answered ask bytes answer p.filled) (sample_of answer) (found_by ask answer) (answered process answer)
 
 -- so it is wherever a boot stands
-pub hand-held : (s : Setting) (log : List Happening) → HandHeld s.geometry (position s log)
+pub hand-held : (s : Setting) (log : List BootEntry) → HandHeld s.geometry (configuration s log)
 hand-held s [] = λ block is. absurd (let P : ⊥ = cc in P)
 hand-held s (Began command ∷ older) = hand-held s older
-hand-held s (Asked ask bytes answer ∷ older) = hand-went s ask bytes answer (position s older) (position s older).place (hand-held s older)
+hand-held s (Asked ask bytes answer ∷ older) = hand-went s ask bytes answer (configuration s older) (configuration s older).place (hand-held s older)
 
 -- ---- what is held after an answer was held before
 

@@ -9,7 +9,7 @@ use Rattle.plx_commands.specs.Replies.{is_in}
 use Rattle.plx_disk.specs.Writes.{Issued, all_sectors}
 use Rattle.plx_extent.specs.Maps.{bit_of}
 use Rattle.plx_geom.specs.Geometry.{Geometry, extent_lease, lease_at, map_at}
-use Rattle.plx_rules.specs.Boot.{Place, Idle, Begins, In, Position, position}
+use Rattle.plx_rules.specs.Boot.{Place, Idle, Begins, In, Configuration, configuration}
 use Rattle.plx_rules.specs.Holds.{Held}
 use Rattle.plx_rules.specs.Owners.{pending_write}
 use Rattle.plx_rules.specs.Rests.{extent_of}
@@ -35,26 +35,26 @@ pub record MapKept (g : Geometry) (extent : ℕ) (now : List ℕ) (pending : Opt
   pub shown : (bytes : List ℕ) → found ≡ Some (map_at g extent, bytes) → base ≡ bytes
   pub laid_now : now ≡ bytes_with_landed pending (map_at g extent) base
 
--- the same at a position, as long as its boot holds the extent's lease
-abbrev pub KeptAt : Geometry → (time extent : ℕ) → (now : List ℕ) → Option Issued → Position → Type 0
+-- the same at a configuration, as long as its boot holds the extent's lease
+abbrev pub KeptAt : Geometry → (time extent : ℕ) → (now : List ℕ) → Option Issued → Configuration → Type 0
 KeptAt g time extent now pending p = (claim : Claim) (until : ℕ) → grip_at p.place pending (lease_block g extent) (p.holds (lease_block g extent)) ≡ Held claim until → time ≤ until + 50 →
     MapKept g extent now pending p.hand p.found
 
 -- the same of an appliance
 abbrev pub KeptSeat : Geometry → (time extent : ℕ) → (now : List ℕ) → List Issued → ℕ → Seat → Type 0
 KeptSeat g time extent now writes appliance seat =
-    KeptAt g time extent now (pending_write writes seat.pending) (position (setting_at g appliance seat.boots) seat.log)
+    KeptAt g time extent now (pending_write writes seat.pending) (configuration (setting_at g appliance seat.boots) seat.log)
 
 -- a place asks its writes of maps carefully
 abbrev pub CarefulAt : Option (ℕ × List ℕ) → Place → Type 0
 CarefulAt found (Idle known) = Unit {0}
 CarefulAt found (Begins known command) = Unit {0}
-CarefulAt found (In known command part) = Careful found part
+CarefulAt found (In known command process) = Careful found process
 
 -- the same of an appliance
 abbrev pub CarefulSeat : Geometry → ℕ → Seat → Type 0
 CarefulSeat g appliance seat =
-    CarefulAt (position (setting_at g appliance seat.boots) seat.log).found (position (setting_at g appliance seat.boots) seat.log).place
+    CarefulAt (configuration (setting_at g appliance seat.boots) seat.log).found (configuration (setting_at g appliance seat.boots) seat.log).place
 
 -- a take clears no bit of the map that stood before it, and a give or a sweep sets none
 abbrev pub OneWay : WriteKind → (base bytes : List ℕ) → Type 0

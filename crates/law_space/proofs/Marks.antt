@@ -5,7 +5,7 @@ use Rattle.plx_base.specs.declared.write_kind.WriteKind.{WriteKind}
 use Rattle.plx_base.specs.declared.write_kind.WriteKind.TheVariants as kind
 use Rattle.plx_extent.proofs.Maps.{length-bits_from, map_bytes-bit}
 use Rattle.plx_extent.specs.Maps.{bit_of, bits_of, map_bytes}
-use Rattle.plx_rules.specs.Part.{Part, Ends, ReadThen, WriteThen, ClockThen, UntilThen}
+use Rattle.plx_rules.specs.Process.{Process, Ends, ReadThen, WriteThen, ClockThen, UntilThen}
 use Rattle.plx_rules.specs.Space.{is_own_set, read_map, with_clear, with_set}
 use Rattle.plx_rules.proofs.Maps.{clear-was, length-with_clear, length-with_set}
 
@@ -24,7 +24,7 @@ MayMark kind.Sweep found block bytes = ⊥
 MayMark other found block bytes = Unit {0}
 
 -- however a rest of a command is answered, each map that it writes is so written; with what was read directly before
-abbrev pub Careful : {E : Type 0} → Option (ℕ × List ℕ) → Part E → Type 0
+abbrev pub Careful : {E : Type 0} → Option (ℕ × List ℕ) → Process E → Type 0
 Careful found (Ends end) = Unit {0}
 Careful found (ReadThen block rest fault) = ((bytes : List ℕ) → Careful (Some (block, bytes)) (rest bytes)) × Careful None fault
 Careful found (WriteThen kind block bytes guard done fault missed) =

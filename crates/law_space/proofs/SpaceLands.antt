@@ -12,7 +12,7 @@ use Rattle.plx_disk.proofs.Lists.{set-same, set-other}
 use Rattle.plx_disk.specs.Writes.{Issued, MayLand, with_sector}
 use Rattle.plx_geom.proofs.Places.{extent-below}
 use Rattle.plx_geom.specs.Geometry.{Geometry, extent_lease, map_at}
-use Rattle.plx_rules.specs.Boot.{Position, position}
+use Rattle.plx_rules.specs.Boot.{Configuration, configuration}
 use Rattle.plx_rules.specs.Holds.{Hold, Held}
 use Rattle.plx_rules.specs.Owners.{first_landed, pending_write, is_set}
 use Rattle.plx_rules.specs.Settings.{boot_number}
@@ -73,8 +73,8 @@ module _ (w : World) (leased : Leased w) (spaced : Spaced w) (number sector : �
     abbrev boot : ℕ
     boot = boot_number b (w.seats b).boots
 
-    abbrev p : Position
-    p = position (setting_at w.geometry b (w.seats b).boots) (w.seats b).log
+    abbrev p : Configuration
+    p = configuration (setting_at w.geometry b (w.seats b).boots) (w.seats b).log
 
     abbrev lease : ℕ
     lease = lease_block w.geometry extent

@@ -16,12 +16,12 @@ use Rattle.plx_disk.specs.declared.ask.Ask.TheVariants as ask
 use Rattle.plx_disk.specs.declared.ask.Answer.TheVariants as answer
 use Rattle.plx_extent.specs.Maps.{bit_of}
 use Rattle.plx_geom.specs.Geometry.{Geometry, extent_lease, lease_at, map_at}
-use Rattle.plx_rules.specs.Boot.{Happening, Began, Asked, Place, Idle, Begins, In, Position, position, place_of, after_part, goes_to, place_after_begin, first_part, went_on}
+use Rattle.plx_rules.specs.Boot.{BootEntry, Began, Asked, Place, Idle, Begins, In, Configuration, configuration, place_of, after_process, goes_to, place_after_begin, first_process, went_on}
 use Rattle.plx_rules.specs.Ends.{End}
 use Rattle.plx_rules.specs.Hands.{filled_done, hand_from, hand_held, hand_unlinked, is_held}
 use Rattle.plx_rules.specs.Holds.{Hold, Held, no_holds, after_answer, after_write, after_first, session_at, hold_after_reading}
 use Rattle.plx_rules.specs.Owners.{first_landed, pending_write}
-use Rattle.plx_rules.specs.Part.{Part, Ends, ReadThen, WriteThen, ClockThen, UntilThen}
+use Rattle.plx_rules.specs.Process.{Process, Ends, ReadThen, WriteThen, ClockThen, UntilThen}
 use Rattle.plx_rules.specs.Rests.{extent_of, rests_on}
 use Rattle.plx_rules.specs.Session.{Known}
 use Rattle.plx_rules.specs.Settings.{Setting, boot_number}
@@ -40,9 +40,9 @@ use Rattle.law_space.proofs.Lists.{in-filter, unlinked-in}
 use Rattle.law_space.proofs.MapWrites.{kept-done, kept-fewer, map-kept-issued, kept-read, kept-unread, map-of, marking-issued}
 use Rattle.law_space.proofs.Marks.{Careful, IsOfMap, MayMark}
 use Rattle.law_space.proofs.SpaceLands.{marking-lands, seat-landed}
-use Rattle.plx_rules.proofs.Holds.{first-held, timed-held, nothing-held, part-held}
+use Rattle.plx_rules.proofs.Holds.{first-held, timed-held, nothing-held, process-held}
 
-careful-placed : (found : Option (ℕ × List ℕ)) (known : Known) (command : Command) (part : Part End) → Careful found part → CarefulAt found (place_of known command part)
+careful-placed : (found : Option (ℕ × List ℕ)) (known : Known) (command : Command) (process : Process End) → Careful found process → CarefulAt found (place_of known command process)
 careful-placed found known command (Ends end) careful = tt
 careful-placed found known command (ReadThen block rest fault) careful = careful
 careful-placed found known command (WriteThen k block bytes guard done fault missed) careful = careful
@@ -65,46 +65,46 @@ module _ (w : World) (leased : Leased w) (spaced : Spaced w) (a : ℕ) (below : 
   abbrev setting : Setting
   setting = setting_at w.geometry a (w.seats a).boots
 
-  abbrev p : Position
-  p = position setting (w.seats a).log
+  abbrev p : Configuration
+  p = configuration setting (w.seats a).log
 
   -- the map of an extent as it stands
   abbrev map_now : ℕ → List ℕ
   map_now extent = w.surface.device (map_at w.geometry extent)
 
-  abbrev with-log : List Happening → World
+  abbrev with-log : List BootEntry → World
   with-log log = record w {
     seats = at w.seats a (record { boots = (w.seats a).boots; log = log; pending = None });
     trace = trace;
     history = history;
   }
 
-  -- the log leads to a position that waits for no write
-  log-spaced : (log : List Happening) (q : Position) → position setting log ≡ q → CarefulAt q.found q.place →
+  -- the log leads to a configuration that waits for no write
+  log-spaced : (log : List BootEntry) (q : Configuration) → configuration setting log ≡ q → CarefulAt q.found q.place →
       ((extent : ℕ) → extent < g.extents → KeptAt g time extent (map_now extent) None q) → Spaced (with-log log)
   log-spaced log q leads careful kept = record {
     careful = at-all (λ b s. b < w.appliances → CarefulSeat g b s) w.seats a _
-        (λ below'. let P : Position → Type 0 = λ r. CarefulAt r.found r.place in subst P (sym leads) careful)
+        (λ below'. let P : Configuration → Type 0 = λ r. CarefulAt r.found r.place in subst P (sym leads) careful)
         (λ b ne below'. spaced.careful b below');
     kept = λ b below' extent within. at-all (λ c s. c < w.appliances → KeptSeat g time extent (map_now extent) writes c s) w.seats a _
-        (λ under. let P : Position → Type 0 = λ r. KeptAt g time extent (map_now extent) None r in subst P (sym leads) (kept extent within))
+        (λ under. let P : Configuration → Type 0 = λ r. KeptAt g time extent (map_now extent) None r in subst P (sym leads) (kept extent within))
         (λ c ne under. spaced.kept c under extent within) b below';
     marking = spaced.marking;
   }
 
   -- an ask was answered
-  went-spaced : (log : List Happening) (known : Known) (command : Command) (holds : ℕ → Hold) (hand : List ℕ) (filled : List (ℕ × List ℕ)) (sample : Option ℕ) (found : Option (ℕ × List ℕ)) {latest : ℕ} (part : Part End) →
-      position setting log ≡ goes_to g known command holds hand filled sample found latest part → Careful found part →
+  went-spaced : (log : List BootEntry) (known : Known) (command : Command) (holds : ℕ → Hold) (hand : List ℕ) (filled : List (ℕ × List ℕ)) (sample : Option ℕ) (found : Option (ℕ × List ℕ)) {latest : ℕ} (process : Process End) →
+      configuration setting log ≡ goes_to g known command holds hand filled sample found latest process → Careful found process →
       ((extent : ℕ) → extent < g.extents → (claim : Claim) (until : ℕ) → holds (lease_block g extent) ≡ Held claim until → time ≤ until + 50 → MapKept g extent (map_now extent) None hand found) →
       Spaced (with-log log)
-  went-spaced log known command holds hand filled sample found {latest} part leads careful kept =
-      log-spaced log (goes_to g known command holds hand filled sample found latest part) leads (careful-placed found known command part careful)
+  went-spaced log known command holds hand filled sample found {latest} process leads careful kept =
+      log-spaced log (goes_to g known command holds hand filled sample found latest process) leads (careful-placed found known command process careful)
       (λ extent within claim until e live.
       let lease = lease_block g extent in
       let held : holds lease ≡ Held claim until =
-      part-held part holds lease claim until (sym (grip-open (place_of known command part) None lease (after_part part holds lease) refl) ∙ e) in
-      kept-fewer g extent (map_now extent) None hand (hand_held g (after_part part holds) hand) found
-      (λ block is. (in-filter (λ b. is_held (after_part part holds (lease_at (extent_lease g (extent_of g b))))) block hand is).0)
+      process-held process holds lease claim until (sym (grip-open (place_of known command process) None lease (after_process process holds lease) refl) ∙ e) in
+      kept-fewer g extent (map_now extent) None hand (hand_held g (after_process process holds) hand) found
+      (λ block is. (in-filter (λ b. is_held (after_process process holds (lease_at (extent_lease g (extent_of g b))))) block hand is).0)
       (kept extent within claim until held live))
 
   careful-at : (place : Place) → p.place ≡ place → CarefulAt p.found place
@@ -134,14 +134,14 @@ module _ (w : World) (leased : Leased w) (spaced : Spaced w) (a : ℕ) (below : 
   begin-spaced known command reading here =
       let free = not-waiting g time writes a seat (Begins known command) (leased.seated a below) here (λ b x no'. no') in
       went-spaced (Asked ask.Clock [] (answer.Reading reading) ∷ seat.log) known command (after_first g known reading p.holds) p.hand [] (Some reading) None
-      (first_part setting known reading command p)
+      (first_process setting known reading command p)
       (ap (went_on setting ask.Clock [] (answer.Reading reading) p) here)
       (careful-command setting leased.geometry known (after_first g known reading p.holds) (hand_held g (after_first g known reading p.holds) p.hand) reading command None)
       (λ extent within claim until e live. kept-since free extent within claim until
       (first-held (session_at g known (lease_block g extent)) reading (p.holds (lease_block g extent)) claim until e) live)
 
   module _ (known : Known) (command : Command) where
-    pub read-spaced : (block : ℕ) (rest : List ℕ → Part End) (fault : Part End) → p.place ≡ In known command (ReadThen block rest fault) →
+    pub read-spaced : (block : ℕ) (rest : List ℕ → Process End) (fault : Process End) → p.place ≡ In known command (ReadThen block rest fault) →
         Spaced (with-log (Asked (ask.Read (record { 0 = block })) [] (answer.Bytes (w.surface.device block)) ∷ seat.log))
     read-spaced block rest fault here =
         let free = not-waiting g time writes a seat _ (leased.seated a below) here (λ b x no'. no') in
@@ -163,7 +163,7 @@ module _ (w : World) (leased : Leased w) (spaced : Spaced w) (a : ℕ) (below : 
         marked free extent within claim until live (inr not_held) b is lies =
             absurd (let f : true ≡ false = sym (hand-held setting seat.log b is) ∙ (ap (λ (n : ℕ). is_held (p.holds (lease_block g n))) lies ∙ not_held) in let P : ⊥ = cc in P)
 
-    pub fault-spaced : (block : ℕ) (rest : List ℕ → Part End) (fault : Part End) → p.place ≡ In known command (ReadThen block rest fault) →
+    pub fault-spaced : (block : ℕ) (rest : List ℕ → Process End) (fault : Process End) → p.place ≡ In known command (ReadThen block rest fault) →
         Spaced (with-log (Asked (ask.Read (record { 0 = block })) [] answer.Fault ∷ seat.log))
     fault-spaced block rest fault here =
         let free = not-waiting g time writes a seat _ (leased.seated a below) here (λ b x no'. no') in
@@ -172,7 +172,7 @@ module _ (w : World) (leased : Leased w) (spaced : Spaced w) (a : ℕ) (below : 
         (careful-at (In known command (ReadThen block rest fault)) here).1
         (λ extent within claim until e live. kept-since free extent within claim until e live)
 
-    pub clock-spaced : (rest : ℕ → Part End) (reading : ℕ) → p.place ≡ In known command (ClockThen rest) →
+    pub clock-spaced : (rest : ℕ → Process End) (reading : ℕ) → p.place ≡ In known command (ClockThen rest) →
         Spaced (with-log (Asked ask.Clock [] (answer.Reading reading) ∷ seat.log))
     clock-spaced rest reading here =
         let free = not-waiting g time writes a seat _ (leased.seated a below) here (λ b x no'. no') in
@@ -181,7 +181,7 @@ module _ (w : World) (leased : Leased w) (spaced : Spaced w) (a : ℕ) (below : 
         (careful-at (In known command (ClockThen rest)) here reading)
         (λ extent within claim until e live. kept-since free extent within claim until (timed-held reading (p.holds (lease_block g extent)) claim until e) live)
 
-    pub wait-spaced : (from : ℕ) (rest : ℕ → Part End) (reading : ℕ) → p.place ≡ In known command (UntilThen from rest) →
+    pub wait-spaced : (from : ℕ) (rest : ℕ → Process End) (reading : ℕ) → p.place ≡ In known command (UntilThen from rest) →
         Spaced (with-log (Asked (ask.Until from) [] (answer.Reading reading) ∷ seat.log))
     wait-spaced from rest reading here =
         let free = not-waiting g time writes a seat _ (leased.seated a below) here (λ b x no'. no') in
@@ -191,7 +191,7 @@ module _ (w : World) (leased : Leased w) (spaced : Spaced w) (a : ℕ) (below : 
         (λ extent within claim until e live. kept-since free extent within claim until (timed-held reading (p.holds (lease_block g extent)) claim until e) live)
 
     -- a write is answered
-    module _ (what : WriteKind) (block : ℕ) (bytes : List ℕ) (guard : ℕ) (done fault : Part End) (missed : ℕ → Part End)
+    module _ (what : WriteKind) (block : ℕ) (bytes : List ℕ) (guard : ℕ) (done fault : Process End) (missed : ℕ → Process End)
         (here : p.place ≡ In known command (WriteThen what block bytes guard done fault missed)) where
       pub write-fault-spaced : Spaced (with-log (Asked (ask.Write what (record { 0 = block }) guard) bytes answer.Fault ∷ seat.log))
       write-fault-spaced =
@@ -265,8 +265,8 @@ issue-spaced w leased spaced a below k block bytes guard free b below' extent wi
     longer : List Issued
     longer = w.surface.writes ++ write ∷ []
 
-    p : Position
-    p = position (setting_at w.geometry a (w.seats a).boots) (w.seats a).log
+    p : Configuration
+    p = configuration (setting_at w.geometry a (w.seats a).boots) (w.seats a).log
 
     lease : ℕ
     lease = lease_block w.geometry extent
@@ -282,7 +282,7 @@ issue-spaced w leased spaced a below k block bytes guard free b below' extent wi
 
     other : (c : ℕ) → c < w.appliances → (q : Option ℕ) → (w.seats c).pending ≡ q → KeptSeat w.geometry w.surface.time extent now longer c (w.seats c)
     other c under q is =
-        let pc = position (setting_at w.geometry c (w.seats c).boots) (w.seats c).log in
+        let pc = configuration (setting_at w.geometry c (w.seats c).boots) (w.seats c).log in
         let K : Option Issued → Type 0 = λ o. KeptAt w.geometry w.surface.time extent now o pc in
         subst K (ap (pending_write w.surface.writes) is ∙ (same q is ∙ ap (pending_write longer) (sym is))) (spaced.kept c under extent within)
       where
@@ -303,7 +303,7 @@ map-granted g boot holds rests other block bytes guard of_map may = absurd of_ma
 
 -- the writes of maps, once one more write is issued
 issue-marking : (w : World) (leased : Leased w) (spaced : Spaced w) (a : ℕ) (below : a < w.appliances) (known : Known) (command : Command) (k : WriteKind) (block : ℕ) (bytes : List ℕ) (guard : ℕ)
-    (done fault : Part End) (missed : ℕ → Part End) → (position (setting_at w.geometry a (w.seats a).boots) (w.seats a).log).place ≡ In known command (WriteThen k block bytes guard done fault missed) →
+    (done fault : Process End) (missed : ℕ → Process End) → (configuration (setting_at w.geometry a (w.seats a).boots) (w.seats a).log).place ≡ In known command (WriteThen k block bytes guard done fault missed) →
     (w.seats a).pending ≡ None →
     AreMarking w.surface.time w.surface.device (w.surface.writes ++ fresh_write (boot_number a (w.seats a).boots) k block bytes guard ∷ [])
 issue-marking w leased spaced a below known command k block bytes guard done fault missed here free n x there of_map missing live =
@@ -311,7 +311,7 @@ issue-marking w leased spaced a below known command k block bytes guard done fau
       | inl old ↦ spaced.marking n x old of_map missing live
       | inr fresh ↦
           let boot = boot_number a (w.seats a).boots in
-          let p = position (setting_at w.geometry a (w.seats a).boots) (w.seats a).log in
+          let p = configuration (setting_at w.geometry a (w.seats a).boots) (w.seats a).log in
           let L : Place → Type 0 = λ q. LawfulAt w.geometry boot p.holds p.filled p.sample q in
           let C : Place → Type 0 = λ q. CarefulAt p.found q in
           let may = (subst L here (leased.seated a below).lawful).0 in

@@ -20,22 +20,22 @@ use Rattle.plx_extent.proofs.Maps.{bits-back, get_or-bits_of, length-bits_from, 
 use Rattle.plx_extent.specs.Maps.{bit_of, bits_of, empty_bits, map_bytes}
 use Rattle.plx_gate.specs.Leases.{lease_bytes}
 use Rattle.plx_geom.specs.Geometry.{extent_lease, lease_at}
-use Rattle.plx_rules.specs.Boot.{Began, Asked, Place, In, Position, position, goes_to, went_on}
-use Rattle.plx_rules.specs.Claims.{ClaimEnd, claim_part}
+use Rattle.plx_rules.specs.Boot.{Began, Asked, Place, In, Configuration, configuration, goes_to, went_on}
+use Rattle.plx_rules.specs.Claims.{ClaimEnd, claim_process}
 use Rattle.plx_rules.specs.Ends.{End, ends}
 use Rattle.plx_rules.specs.Formatted.{empty_map}
 use Rattle.plx_rules.specs.Hands.{hand_from, is_held, set_since}
 use Rattle.plx_rules.specs.Holds.{Nothing, Held, after_write}
 use Rattle.plx_rules.specs.Owners.{hold_at_place, pending_write}
-use Rattle.plx_rules.specs.Part.{Part, ReadThen}
-use Rattle.plx_rules.specs.Parts.{followed_by}
+use Rattle.plx_rules.specs.Process.{Process, ReadThen}
+use Rattle.plx_rules.specs.Processes.{followed_by}
 use Rattle.plx_rules.specs.Pools.{HasInHand, hand_at}
 use Rattle.plx_rules.specs.Rests.{extent_of}
 use Rattle.plx_rules.specs.Session.{with_claim}
-use Rattle.plx_rules.specs.Space.{Taking, after_extent_claim, extent_use, first_taking, is_own_set, other_found, read_map, take_found, take_here, taken_part, with_claim_begun, with_claimed, with_set}
+use Rattle.plx_rules.specs.Space.{Taking, after_extent_claim, extent_use, first_taking, is_own_set, other_found, read_map, take_found, take_here, taken_process, with_claim_begun, with_claimed, with_set}
 use Rattle.plx_rules.specs.Histories.{came}
 use Rattle.plx_rules.specs.World as world
-use Rattle.plx_rules.specs.World.{World, Seat, Reached, first_seat, goes_on, setting_at, stands, with_happening}
+use Rattle.plx_rules.specs.World.{World, Seat, Reached, first_seat, goes_on, setting_at, stands, with_log_entry}
 use Rattle.law_lease.proofs.FirstDevice.{formatted-is}
 use Rattle.law_lease.specs.TakenOver.{one}
 use Rattle.law_lease.proofs.ClaimStages.{lease-claimed}
@@ -68,11 +68,11 @@ map-back =
 abbrev taken_bits : List Bool
 taken_bits = with_set (11 ∷ []) 10 (empty_bits 16)
 
--- ---- the parts of the command
+-- ---- the processes of the command
 
 -- the command ends with enough in hand
-abbrev then_taken : Taking → Part End
-then_taken = taken_part s0 1 (λ t. ends reply.Reserved t.known)
+abbrev then_taken : Taking → Process End
+then_taken = taken_process s0 1 (λ t. ends reply.Reserved t.known)
 
 -- the take as it begins
 abbrev none_taken : Taking
@@ -87,27 +87,27 @@ abbrev held_taken : Taking
 held_taken = with_claimed begun_taken (extent_use small_geometry 0 11000)
 
 -- what follows the claim
-abbrev then_take : ClaimEnd → Part End
+abbrev then_take : ClaimEnd → Process End
 then_take = after_extent_claim s0 1 0 then_taken begun_taken
 
 -- it reads the map under no lease
-abbrev reads_map : Part End
+abbrev reads_map : Process End
 reads_map = ReadThen 10 (λ bytes. other_found s0 1 0 (read_map 16 bytes) then_taken none_taken) (ends (reply.ReadFault (record { 0 = 10 })) k0)
 
 -- it claims_extent the lease of the extent
-abbrev claims_extent : Part End
-claims_extent = followed_by (claim_part 1 [] 2 0) then_take
+abbrev claims_extent : Process End
+claims_extent = followed_by (claim_process 1 [] 2 0) then_take
 
 -- it reads the map of the extent that it holds
-abbrev takes : Part End
+abbrev takes : Process End
 takes = take_here s0 1 0 11000 then_taken held_taken
 
 -- it writes the map
-abbrev writes_map : Part End
+abbrev writes_map : Process End
 writes_map = take_found s0 1 0 11000 (Some (empty_bits 16)) then_taken held_taken
 
 -- it is over
-abbrev reserve_end : Part End
+abbrev reserve_end : Process End
 reserve_end = ends reply.Reserved (with_claim k0)
 
 -- ---- the stages
@@ -128,11 +128,11 @@ trace = Start one reserve ∷ []
 
 -- the appliance once it has begun the command
 abbrev begun_seat : Seat
-begun_seat = with_happening first_seat (Began reserve)
+begun_seat = with_log_entry first_seat (Began reserve)
 
 -- and once it has read its clock
 abbrev clock_seat : Seat
-clock_seat = with_happening begun_seat (Asked ask.Clock [] (answer.Reading 1000))
+clock_seat = with_log_entry begun_seat (Asked ask.Clock [] (answer.Reading 1000))
 
 -- the places once it has read its clock
 abbrev map_places : ℕ → Spot
@@ -157,9 +157,9 @@ map-stage = record {
       (world.starts {appliance = one} {command = reserve} k0 appliance-in refl (omega arith, omega arith) tt))
       (world.begins {appliance = one} {reading = 1000} k0 reserve appliance-in refl (record { early = omega arith; late = omega arith }));
   same = λ b. refl;
-  places = at-all (λ b s. IsSpot 3 (position (setting_at small_geometry b s.boots) s.log) (map_places b)) seats1 0 clock_seat (record { hold = refl; sample = refl; place = refl })
-      (λ b ne. subst (λ (x : Spot). IsSpot 3 (position (setting_at small_geometry b (seats1 b).boots) (seats1 b).log) x) (sym (at-other p0 0 b _ ne))
-      (subst (λ (s : Seat). IsSpot 3 (position (setting_at small_geometry b s.boots) s.log) (p0 b)) (sym (at-other (λ c. first_seat) 0 b begun_seat ne))
+  places = at-all (λ b s. IsSpot 3 (configuration (setting_at small_geometry b s.boots) s.log) (map_places b)) seats1 0 clock_seat (record { hold = refl; sample = refl; place = refl })
+      (λ b ne. subst (λ (x : Spot). IsSpot 3 (configuration (setting_at small_geometry b (seats1 b).boots) (seats1 b).log) x) (sym (at-other p0 0 b _ ne))
+      (subst (λ (s : Seat). IsSpot 3 (configuration (setting_at small_geometry b s.boots) s.log) (p0 b)) (sym (at-other (λ c. first_seat) 0 b begun_seat ne))
       (record { hold = refl; sample = refl; place = refl })));
   free = at-all (λ b s. s.pending ≡ None) seats1 0 clock_seat refl (at-all (λ b s. b ≢ 0 → s.pending ≡ None) (λ b. first_seat) 0 begun_seat (λ ne. refl) (λ b ne away. refl));
   boots = at-all (λ b s. s.boots ≡ 0) seats1 0 clock_seat refl (at-all (λ b s. b ≢ 0 → s.boots ≡ 0) (λ b. first_seat) 0 begun_seat (λ ne. refl) (λ b ne away. refl));
@@ -200,8 +200,8 @@ abbrev taken_bytes : List ℕ
 taken_bytes = map_bytes taken_bits
 
 -- where the appliance stands as it writes the map
-abbrev q : Position
-q = position (setting_at small_geometry 0 (write-stage.seats 0).boots) (write-stage.seats 0).log
+abbrev q : Configuration
+q = configuration (setting_at small_geometry 0 (write-stage.seats 0).boots) (write-stage.seats 0).log
 
 writes-there : q.place ≡ In k0 reserve writes_map
 writes-there = (write-stage.places 0).place
@@ -257,7 +257,7 @@ after-reached =
     (_, (landed-whole small_geometry 1 one-appliance 3 write-stage one appliance-in k0 reserve kind.Take 10 taken_bytes 11000 _ _ _ refl (omega arith) (length-map_bytes taken_bits)).found, refl))
 
 -- where the appliance stands then
-abbrev q_after : Position
+abbrev q_after : Configuration
 q_after =
     goes_to small_geometry k0 reserve (after_write kind.Take 10 taken_bytes q.holds) (hand_from small_geometry q.found kind.Take 10 taken_bytes q.hand) q.filled None None q.latest reserve_end
 
@@ -270,10 +270,10 @@ has-block = record {
     within = omega arith;
     claim = mine;
     until = 11000;
-    held = (let H : Position → Type 0 = λ r. hold_at_place r.place (pending_write after.surface.writes (after.seats 0).pending) 3 (r.holds 3) ≡ Held mine 11000 in subst H (sym stands-after) held-there);
+    held = (let H : Configuration → Type 0 = λ r. hold_at_place r.place (pending_write after.surface.writes (after.seats 0).pending) 3 (r.holds 3) ≡ Held mine 11000 in subst H (sym stands-after) held-there);
     time = omega arith;
   };
-  here = (let H : Position → Type 0 = λ r. is_in 11 (hand_at small_geometry r.place r.found r.filled r.hand) ≡ true in
+  here = (let H : Configuration → Type 0 = λ r. is_in 11 (hand_at small_geometry r.place r.found r.filled r.hand) ≡ true in
       subst H (sym stands-after)
       (filter-in (λ block. is_held (q.holds (lease_at (extent_lease small_geometry (extent_of small_geometry block))))) 11 (hand_from small_geometry q.found kind.Take 10 taken_bytes q.hand) in-hand-written
       (ap is_held held-there)));

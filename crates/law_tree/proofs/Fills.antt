@@ -23,7 +23,7 @@ use Rattle.plx_commands.specs.Replies.{is_in}
 use Rattle.plx_disk.specs.Writes.{Issued, MayLand, with_sector}
 use Rattle.plx_disk.proofs.Lists.{set-same, set-other}
 use Rattle.plx_geom.specs.Geometry.{Geometry, extent_lease}
-use Rattle.plx_rules.specs.Boot.{position}
+use Rattle.plx_rules.specs.Boot.{configuration}
 use Rattle.plx_rules.specs.Rests.{extent_of}
 use Rattle.plx_rules.specs.World.{World, Seat, Reached, setting_at}
 use Rattle.law_lease.proofs.Frame.{grips-before}
@@ -58,7 +58,7 @@ IsNotPending writes pending block = (n : ℕ) (x : Issued) → pending ≡ Some 
 -- a block that a boot has filled, and that is in its hand, holds those bytes
 abbrev pub FilledSeat : Geometry → (time : ℕ) → Device → List Issued → (appliance : ℕ) → Seat → Type 0
 FilledSeat g time d writes a seat =
-    (block : ℕ) (bytes : List ℕ) → IsFilled block bytes (position (setting_at g a seat.boots) seat.log).filled → IsNotPending writes seat.pending block →
+    (block : ℕ) (bytes : List ℕ) → IsFilled block bytes (configuration (setting_at g a seat.boots) seat.log).filled → IsNotPending writes seat.pending block →
     is_in block (due_at_seat g a seat) ≡ true → (claim : Claim) (until : ℕ) → GripsLease g time writes a seat (extent_lease g (extent_of g block)) claim until → d block ≡ bytes
 
 -- the landing of a sector leaves it

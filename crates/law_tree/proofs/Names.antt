@@ -13,9 +13,9 @@ use Rattle.plx_commands.specs.Replies.{is_in}
 use Rattle.plx_commands.specs.declared.event.Event.{Event}
 use Rattle.plx_disk.specs.Writes.{Issued}
 use Rattle.plx_geom.specs.Geometry.{Geometry}
-use Rattle.plx_rules.specs.Boot.{Place, In, position}
+use Rattle.plx_rules.specs.Boot.{Place, In, configuration}
 use Rattle.plx_rules.specs.Hands.{blocks_without}
-use Rattle.plx_rules.specs.Part.{WriteThen}
+use Rattle.plx_rules.specs.Process.{WriteThen}
 use Rattle.plx_rules.specs.Rests.{filled_blocks}
 use Rattle.plx_rules.specs.World as world
 use Rattle.plx_rules.specs.World.{World, Seat, Step, Reached, setting_at}
@@ -62,7 +62,7 @@ hand-unlinked g other found filled hand block is there = let P : ⊥ = cc in P
 
 pub names-spare : (w : World) → SparesHands (named_in w) w
 names-spare w number b block below waits is named =
-    let p = position (setting_at w.geometry b (w.seats b).boots) (w.seats b).log in
+    let p = configuration (setting_at w.geometry b (w.seats b).boots) (w.seats b).log in
     let D : Option ℕ → Type 0 = λ o. is_in block (due w.geometry o p.place p.found p.filled p.hand) ≡ true in
     hand-unlinked w.geometry p.place p.found p.filled p.hand block (subst D waits is) (named b below waits)
 

@@ -12,10 +12,10 @@ use Rattle.plx_geom.specs.Geometry.{Geometry, extent_lease, lease_at, map_at}
 use Rattle.plx_geom.proofs.Places.{map-map}
 use Rattle.plx_radix.specs.Paths.{Unreachable}
 use Rattle.plx_rules.proofs.Maps.{length-with_clear}
-use Rattle.plx_rules.specs.Boot.{Happening, Place, In, Position, position, IsRun}
+use Rattle.plx_rules.specs.Boot.{BootEntry, Place, In, Configuration, configuration, IsRun}
 use Rattle.plx_rules.specs.Ends.{End}
 use Rattle.plx_rules.specs.Hands.{hand_from, set_since}
-use Rattle.plx_rules.specs.Part.{WriteThen, Part}
+use Rattle.plx_rules.specs.Process.{WriteThen, Process}
 use Rattle.plx_rules.specs.Rests.{extent_of}
 use Rattle.plx_rules.specs.Session.{Known}
 use Rattle.plx_rules.specs.Settings.{Setting}
@@ -47,26 +47,26 @@ use Rattle.law_tree.proofs.Treed.{Treed, IsFree, due}
 
 -- ---- the rule of the write that stands, by the exchanges of its command
 
-pub record WriteAsked (s : Setting) (p : Position) (k : WriteKind) (block : ℕ) (bytes : List ℕ) (guard : ℕ) : Type 0 where
+pub record WriteAsked (s : Setting) (p : Configuration) (k : WriteKind) (block : ℕ) (bytes : List ℕ) (guard : ℕ) : Type 0 where
   pub of : CommandLog
   pub may : MayWrite s of k block bytes guard
   pub hand : p.hand ≡ hand_by_log s of.before of.exchanges
   pub found : p.found ≡ last_found of.exchanges
 
-pub write-asked : (s : Setting) (log : List Happening) → IsSetting s → IsRun s log → (known : Known) (command : Command) (k : WriteKind) (block : ℕ) (bytes : List ℕ) (guard : ℕ) (done fault : Part End) (missed : ℕ → Part End) →
-    (position s log).place ≡ In known command (WriteThen k block bytes guard done fault missed) → WriteAsked s (position s log) k block bytes guard
+pub write-asked : (s : Setting) (log : List BootEntry) → IsSetting s → IsRun s log → (known : Known) (command : Command) (k : WriteKind) (block : ℕ) (bytes : List ℕ) (guard : ℕ) (done fault : Process End) (missed : ℕ → Process End) →
+    (configuration s log).place ≡ In known command (WriteThen k block bytes guard done fault missed) → WriteAsked s (configuration s log) k block bytes guard
 write-asked s log setting run known command k block bytes guard done fault missed here =
-    by_log (commands s log) (let P : Place → Type 0 = λ q. Agree s (position s log).holds (position s log).hand (position s log).filled (position s log).sample (position s log).found q (commands s log) in subst P here (agrees s (begins-right s setting) log run))
+    by_log (commands s log) (let P : Place → Type 0 = λ q. Agree s (configuration s log).holds (configuration s log).hand (configuration s log).filled (configuration s log).sample (configuration s log).found q (commands s log) in subst P here (agrees s (begins-right s setting) log run))
   where
-    p : Position
-    p = position s log
+    p : Configuration
+    p = configuration s log
 
     by_left : (of : CommandLog) (left : ℕ) → Right s of.before of.command of.exchanges (WriteThen k block bytes guard done fault missed) left →
-        (position s log).hand ≡ hand_by_log s of.before of.exchanges → (position s log).found ≡ last_found of.exchanges → WriteAsked s (position s log) k block bytes guard
+        (configuration s log).hand ≡ hand_by_log s of.before of.exchanges → (configuration s log).found ≡ last_found of.exchanges → WriteAsked s (configuration s log) k block bytes guard
     by_left of zero right hand found = absurd right
     by_left of (suc left) right hand found = record { of = of; may = right.0.0.1; hand = hand; found = found }
 
-    by_log : (so_far : Commands) → Agree s (position s log).holds (position s log).hand (position s log).filled (position s log).sample (position s log).found (In known command (WriteThen k block bytes guard done fault missed)) so_far → WriteAsked s (position s log) k block bytes guard
+    by_log : (so_far : Commands) → Agree s (configuration s log).holds (configuration s log).hand (configuration s log).filled (configuration s log).sample (configuration s log).found (In known command (WriteThen k block bytes guard done fault missed)) so_far → WriteAsked s (configuration s log) k block bytes guard
     by_log (Between before) agree = absurd agree
     by_log (Within of) agree = by_left of agree.0.left agree.0.right agree.5 agree.6
 
@@ -96,7 +96,7 @@ module _ (names : ℕ → ℕ → Type 0) (w : World) (reached : Reached w) (tre
   abbrev d : Device
   d = w.surface.device
 
-  abbrev p : Position
+  abbrev p : Configuration
   p = stands w a
 
   abbrev leased : Leased w
@@ -116,7 +116,7 @@ module _ (names : ℕ → ℕ → Type 0) (w : World) (reached : Reached w) (tre
       let kept = kept-free w leased (reached-spaced reached) a below [] [] none extent within holds.0 holds.1 holds.2 holds.3 in
       kept.laid_now ∙ kept.shown read found
 
-  pub rule : (known : Known) (command : Command) (k : WriteKind) (block : ℕ) (bytes : List ℕ) (guard : ℕ) (done fault : Part End) (missed : ℕ → Part End) →
+  pub rule : (known : Known) (command : Command) (k : WriteKind) (block : ℕ) (bytes : List ℕ) (guard : ℕ) (done fault : Process End) (missed : ℕ → Process End) →
       p.place ≡ In known command (WriteThen k block bytes guard done fault missed) → WriteAsked (setting_of w a) p k block bytes guard
   rule known command k block bytes guard done fault missed here =
       write-asked (setting_of w a) (w.seats a).log (given-within w reached a below) (boots-run w reached a below) known command k block bytes guard done fault missed here

@@ -15,18 +15,18 @@ use Rattle.plx_disk.specs.declared.ask.Ask.TheVariants as ask
 use Rattle.plx_disk.specs.declared.ask.Answer.TheVariants as answer
 use Rattle.plx_extent.specs.Maps.{bits_of}
 use Rattle.plx_geom.specs.Geometry.{Geometry, extent_lease, lease_at}
-use Rattle.plx_rules.specs.Boot.{Happening, Began, Asked, Place, Idle, Begins, In, Position, position, place_of, after_part, goes_to, place_after_begin, first_part, went_on}
+use Rattle.plx_rules.specs.Boot.{BootEntry, Began, Asked, Place, Idle, Begins, In, Configuration, configuration, place_of, after_process, goes_to, place_after_begin, first_process, went_on}
 use Rattle.plx_rules.specs.Ends.{End}
 use Rattle.plx_rules.specs.Hands.{filled_done, hand_from, hand_unlinked, hand_written, is_held}
 use Rattle.plx_rules.specs.Holds.{Hold, Held, no_holds, after_answer, after_write, after_first, session_at, hold_after_reading}
 use Rattle.plx_rules.specs.Owners.{first_landed, pending_write}
-use Rattle.plx_rules.specs.Part.{Part, ReadThen, WriteThen, ClockThen, UntilThen}
+use Rattle.plx_rules.specs.Process.{Process, ReadThen, WriteThen, ClockThen, UntilThen}
 use Rattle.plx_rules.specs.Rests.{extent_of}
 use Rattle.plx_rules.specs.Session.{Known}
 use Rattle.plx_rules.specs.Settings.{Setting}
 use Rattle.plx_rules.specs.Histories.{Past}
 use Rattle.plx_rules.specs.World.{World, Seat, setting_at}
-use Rattle.plx_rules.proofs.Holds.{first-held, timed-held, nothing-held, part-held}
+use Rattle.plx_rules.proofs.Holds.{first-held, timed-held, nothing-held, process-held}
 use Rattle.law_lease.proofs.LeaseFrames.{grip-open}
 use Rattle.law_lease.proofs.LeaseLands.{first-set}
 use Rattle.law_lease.proofs.LeaseSteps.{not-waiting}
@@ -48,7 +48,7 @@ from-leaves leaves g k block bytes (Some x) hand c same is = by_test (x.0 == blo
     by_test false is' = is'
 
 -- by its kind: a give and a link leave blocks out, a take adds some
-done-due : (g : Geometry) (known : Known) (command : Command) (k : WriteKind) (block : ℕ) (bytes : List ℕ) (guard : ℕ) (done fault : Part End) (missed : ℕ → Part End) (found : Option (ℕ × List ℕ))
+done-due : (g : Geometry) (known : Known) (command : Command) (k : WriteKind) (block : ℕ) (bytes : List ℕ) (guard : ℕ) (done fault : Process End) (missed : ℕ → Process End) (found : Option (ℕ × List ℕ))
     (filled : List (ℕ × List ℕ)) (hand : List ℕ) (c : ℕ) → is_in c (hand_unlinked k filled (hand_from g found k block bytes hand)) ≡ true →
     is_in c (hand_while g (In known command (WriteThen k block bytes guard done fault missed)) found filled hand) ≡ true
 done-due g known command kind.Take block bytes guard done fault missed found filled hand c is = is
@@ -76,8 +76,8 @@ module _ (names : ℕ → ℕ → Type 0) (w : World) (leased : Leased w) (treed
   abbrev setting : Setting
   setting = setting_at w.geometry a (w.seats a).boots
 
-  abbrev p : Position
-  p = position setting (w.seats a).log
+  abbrev p : Configuration
+  p = configuration setting (w.seats a).log
 
   abbrev lease_of : ℕ → ℕ
   lease_of c = lease_at (extent_lease w.geometry (extent_of w.geometry c))
@@ -95,25 +95,25 @@ module _ (names : ℕ → ℕ → Type 0) (w : World) (leased : Leased w) (treed
     waits = λ n x found all. treed.waits n x found (λ lease under. open-elsewhere g w.rests w.appliances time writes w.seats lease a s free n x (all lease under));
   }
 
-  abbrev with-log : List Happening → Seat
+  abbrev with-log : List BootEntry → Seat
   with-log log = record { boots = (w.seats a).boots; log = log; pending = None }
 
-  log-treed : (log : List Happening) (q : Position) → position setting log ≡ q →
+  log-treed : (log : List BootEntry) (q : Configuration) → configuration setting log ≡ q →
       ((c : ℕ) → is_in c q.hand ≡ true → (claim : Claim) (until : ℕ) → grip_at q.place None (lease_of c) (q.holds (lease_of c)) ≡ Held claim until → time ≤ until + 50 → IsFree g w.surface.device c) →
       Treed names (with-seat (with-log log))
   log-treed log q leads free = seat-treed (with-log log) refl
       (λ c is claim until grips.
-      (let P : Position → Type 0 = λ r. is_in c r.hand ≡ true in
-      let Q : Position → Type 0 = λ r. grip_at r.place None (lease_of c) (r.holds (lease_of c)) ≡ Held claim until in
+      (let P : Configuration → Type 0 = λ r. is_in c r.hand ≡ true in
+      let Q : Configuration → Type 0 = λ r. grip_at r.place None (lease_of c) (r.holds (lease_of c)) ≡ Held claim until in
       free c (subst P leads is) claim until (subst Q leads grips.0) grips.1))
 
-  went-treed : (log : List Happening) (known : Known) (command : Command) (holds : ℕ → Hold) (hand : List ℕ) (filled : List (ℕ × List ℕ)) (sample : Option ℕ) (found : Option (ℕ × List ℕ)) {latest : ℕ} (part : Part End) →
-      position setting log ≡ goes_to g known command holds hand filled sample found latest part →
+  went-treed : (log : List BootEntry) (known : Known) (command : Command) (holds : ℕ → Hold) (hand : List ℕ) (filled : List (ℕ × List ℕ)) (sample : Option ℕ) (found : Option (ℕ × List ℕ)) {latest : ℕ} (process : Process End) →
+      configuration setting log ≡ goes_to g known command holds hand filled sample found latest process →
       ((c : ℕ) → is_in c hand ≡ true → (claim : Claim) (until : ℕ) → holds (lease_of c) ≡ Held claim until → time ≤ until + 50 → IsFree g w.surface.device c) → Treed names (with-seat (with-log log))
-  went-treed log known command holds hand filled sample found {latest} part leads free =
-      log-treed log (goes_to g known command holds hand filled sample found latest part) leads
-      (λ c is claim until e live. free c (in-filter (λ b. is_held (after_part part holds (lease_at (extent_lease g (extent_of g b))))) c hand is).0 claim until
-      (part-held part holds (lease_of c) claim until (sym (grip-open (place_of known command part) None (lease_of c) (after_part part holds (lease_of c)) refl) ∙ e)) live)
+  went-treed log known command holds hand filled sample found {latest} process leads free =
+      log-treed log (goes_to g known command holds hand filled sample found latest process) leads
+      (λ c is claim until e live. free c (in-filter (λ b. is_held (after_process process holds (lease_at (extent_lease g (extent_of g b))))) c hand is).0 claim until
+      (process-held process holds (lease_of c) claim until (sym (grip-open (place_of known command process) None (lease_of c) (after_process process holds (lease_of c)) refl) ∙ e)) live)
 
   -- what is in hand where no write is waited for
   free-hand : seat.pending ≡ None → (c : ℕ) → is_in c p.hand ≡ true → (claim : Claim) (until : ℕ) → p.holds (lease_of c) ≡ Held claim until → time ≤ until + 50 → IsFree g w.surface.device c
@@ -131,12 +131,12 @@ module _ (names : ℕ → ℕ → Type 0) (w : World) (leased : Leased w) (treed
   pub begin-treed : (known : Known) (command : Command) (reading : ℕ) → p.place ≡ Begins known command → Treed names (with-seat (with-log (Asked ask.Clock [] (answer.Reading reading) ∷ seat.log)))
   begin-treed known command reading here =
       let none = not-waiting g time writes a seat (Begins known command) (leased.seated a below) here (λ b x no'. no') in
-      went-treed (Asked ask.Clock [] (answer.Reading reading) ∷ seat.log) known command (after_first g known reading p.holds) p.hand [] (Some reading) None (first_part setting known reading command p)
+      went-treed (Asked ask.Clock [] (answer.Reading reading) ∷ seat.log) known command (after_first g known reading p.holds) p.hand [] (Some reading) None (first_process setting known reading command p)
       (ap (went_on setting ask.Clock [] (answer.Reading reading) p) here)
       (λ c is claim until e live. free-hand none c is claim until (first-held (session_at g known (lease_of c)) reading (p.holds (lease_of c)) claim until e) live)
 
   module _ (known : Known) (command : Command) where
-    pub read-treed : (block : ℕ) (rest : List ℕ → Part End) (fault : Part End) → p.place ≡ In known command (ReadThen block rest fault) →
+    pub read-treed : (block : ℕ) (rest : List ℕ → Process End) (fault : Process End) → p.place ≡ In known command (ReadThen block rest fault) →
         Treed names (with-seat (with-log (Asked (ask.Read (record { 0 = block })) [] (answer.Bytes (w.surface.device block)) ∷ seat.log)))
     read-treed block rest fault here =
         let none = not-waiting g time writes a seat _ (leased.seated a below) here (λ b x no'. no') in
@@ -148,28 +148,28 @@ module _ (names : ℕ → ℕ → Type 0) (w : World) (leased : Leased w) (treed
           | inr unheld ↦ absurd (let f : true ≡ false = sym (hand-held setting seat.log c is) ∙ unheld in let P : ⊥ = cc in P)
         ])
 
-    pub fault-treed : (block : ℕ) (rest : List ℕ → Part End) (fault : Part End) → p.place ≡ In known command (ReadThen block rest fault) →
+    pub fault-treed : (block : ℕ) (rest : List ℕ → Process End) (fault : Process End) → p.place ≡ In known command (ReadThen block rest fault) →
         Treed names (with-seat (with-log (Asked (ask.Read (record { 0 = block })) [] answer.Fault ∷ seat.log)))
     fault-treed block rest fault here =
         let none = not-waiting g time writes a seat _ (leased.seated a below) here (λ b x no'. no') in
         went-treed (Asked (ask.Read (record { 0 = block })) [] answer.Fault ∷ seat.log) known command p.holds p.hand p.filled None None fault
         (ap (went_on setting (ask.Read (record { 0 = block })) [] answer.Fault p) here) (λ c is claim until e live. free-hand none c is claim until e live)
 
-    pub clock-treed : (rest : ℕ → Part End) (reading : ℕ) → p.place ≡ In known command (ClockThen rest) → Treed names (with-seat (with-log (Asked ask.Clock [] (answer.Reading reading) ∷ seat.log)))
+    pub clock-treed : (rest : ℕ → Process End) (reading : ℕ) → p.place ≡ In known command (ClockThen rest) → Treed names (with-seat (with-log (Asked ask.Clock [] (answer.Reading reading) ∷ seat.log)))
     clock-treed rest reading here =
         let none = not-waiting g time writes a seat _ (leased.seated a below) here (λ b x no'. no') in
         went-treed (Asked ask.Clock [] (answer.Reading reading) ∷ seat.log) known command (λ block. hold_after_reading reading (p.holds block)) p.hand p.filled (Some reading) None (rest reading)
         (ap (went_on setting ask.Clock [] (answer.Reading reading) p) here)
         (λ c is claim until e live. free-hand none c is claim until (timed-held reading (p.holds (lease_of c)) claim until e) live)
 
-    pub wait-treed : (from : ℕ) (rest : ℕ → Part End) (reading : ℕ) → p.place ≡ In known command (UntilThen from rest) → Treed names (with-seat (with-log (Asked (ask.Until from) [] (answer.Reading reading) ∷ seat.log)))
+    pub wait-treed : (from : ℕ) (rest : ℕ → Process End) (reading : ℕ) → p.place ≡ In known command (UntilThen from rest) → Treed names (with-seat (with-log (Asked (ask.Until from) [] (answer.Reading reading) ∷ seat.log)))
     wait-treed from rest reading here =
         let none = not-waiting g time writes a seat _ (leased.seated a below) here (λ b x no'. no') in
         went-treed (Asked (ask.Until from) [] (answer.Reading reading) ∷ seat.log) known command (λ block. hold_after_reading reading (p.holds block)) p.hand p.filled (Some reading) None (rest reading)
         (ap (went_on setting (ask.Until from) [] (answer.Reading reading) p) here)
         (λ c is claim until e live. free-hand none c is claim until (timed-held reading (p.holds (lease_of c)) claim until e) live)
 
-    module _ (what : WriteKind) (block : ℕ) (bytes : List ℕ) (guard : ℕ) (done fault : Part End) (missed : ℕ → Part End)
+    module _ (what : WriteKind) (block : ℕ) (bytes : List ℕ) (guard : ℕ) (done fault : Process End) (missed : ℕ → Process End)
         (here : p.place ≡ In known command (WriteThen what block bytes guard done fault missed)) where
       pub write-fault-treed : Treed names (with-seat (with-log (Asked (ask.Write what (record { 0 = block }) guard) bytes answer.Fault ∷ seat.log)))
       write-fault-treed =

@@ -14,11 +14,11 @@ use Rattle.plx_commands.specs.declared.event.Event.{Event}
 use Rattle.plx_commands.specs.declared.event.Event.TheVariants as event
 use Rattle.plx_disk.specs.Writes.{Issued, fresh_write, no_sectors}
 use Rattle.plx_geom.specs.Geometry.{Geometry, extent_lease, lease_at}
-use Rattle.plx_rules.specs.Boot.{Place, In, Position, position}
+use Rattle.plx_rules.specs.Boot.{Place, In, Configuration, configuration}
 use Rattle.plx_rules.specs.Ends.{End}
 use Rattle.plx_rules.specs.Holds.{Hold, Held}
 use Rattle.plx_rules.specs.Owners.{pending_write}
-use Rattle.plx_rules.specs.Part.{Part, WriteThen}
+use Rattle.plx_rules.specs.Process.{Process, WriteThen}
 use Rattle.plx_rules.specs.Rests.{extent_of, home_of, rests_on}
 use Rattle.plx_rules.specs.Session.{Known}
 use Rattle.plx_rules.specs.Settings.{boot_number}
@@ -41,7 +41,7 @@ abbrev pub HoldsInTime : (holds : ℕ → Hold) → (time lease : ℕ) → Type 
 HoldsInTime holds time lease = (claim : Claim) × (until : ℕ) × (holds (lease_at lease) ≡ Held claim until) × (time ≤ until + 50)
 
 -- what a write of trees has to meet as it is issued, by what its boot holds then
-pub record MeetsTree (names : ℕ → Type 0) (g : Geometry) (time : ℕ) (d : Device) (p : Position) (leases : List ℕ) (k : WriteKind) (block : ℕ) (bytes : List ℕ) : Type 0 where
+pub record MeetsTree (names : ℕ → Type 0) (g : Geometry) (time : ℕ) (d : Device) (p : Configuration) (leases : List ℕ) (k : WriteKind) (block : ℕ) (bytes : List ℕ) : Type 0 where
   pub placed : (home : ℕ) → home_of leases ≡ Some home → HoldsInTime p.holds time home → TreePlaced k g d home block bytes
   pub waits : ((lease : ℕ) → is_in lease leases ≡ true → HoldsInTime p.holds time lease) → TreeWaits k g d leases names block bytes no_sectors
   pub taken : (c : ℕ) → is_in c (hand_while g p.place p.found p.filled p.hand) ≡ true → HoldsInTime p.holds time (extent_lease g (extent_of g c)) → IsFree g d c
@@ -73,10 +73,10 @@ granted g boot holds rests other block bytes guard may lease under = absurd may
 
 -- a write is issued
 module _ (names : ℕ → ℕ → Type 0) (w : World) (leased : Leased w) (treed : Treed names w) (a : ℕ) (below : a < w.appliances) (none : (w.seats a).pending ≡ None) (leases : List ℕ) (k : WriteKind) (block : ℕ) (bytes : List ℕ) (guard : ℕ)
-    (grants : (lease : ℕ) → is_in lease leases ≡ true → IsGranted (position (setting_at w.geometry a (w.seats a).boots) (w.seats a).log).holds lease guard)
-    (meets : MeetsTree (names (length w.surface.writes)) w.geometry w.surface.time w.surface.device (position (setting_at w.geometry a (w.seats a).boots) (w.seats a).log) leases k block bytes) where
-  abbrev p : Position
-  p = position (setting_at w.geometry a (w.seats a).boots) (w.seats a).log
+    (grants : (lease : ℕ) → is_in lease leases ≡ true → IsGranted (configuration (setting_at w.geometry a (w.seats a).boots) (w.seats a).log).holds lease guard)
+    (meets : MeetsTree (names (length w.surface.writes)) w.geometry w.surface.time w.surface.device (configuration (setting_at w.geometry a (w.seats a).boots) (w.seats a).log) leases k block bytes) where
+  abbrev p : Configuration
+  p = configuration (setting_at w.geometry a (w.seats a).boots) (w.seats a).log
 
   abbrev issued : Issued
   issued = fresh_write (boot_number a (w.seats a).boots) k block bytes guard
@@ -158,9 +158,9 @@ abbrev pub NamesIssued : (names : ℕ → ℕ → Type 0) → World → Event �
 NamesIssued names w (event.Issue a) = NamesLinked names w a.0
 NamesIssued names w other = Unit {0}
 
--- who knows the parts says what each write meets as it is issued
+-- who knows the processes says what each write meets as it is issued
 pub record RulesOfTrees (names : ℕ → ℕ → Type 0) (w : World) : Type 0 where
-  pub meets : (a : ℕ) (known : Known) (command : Command) (k : WriteKind) (block : ℕ) (bytes : List ℕ) (guard : ℕ) (done fault : Part End) (missed : ℕ → Part End) → a < w.appliances →
+  pub meets : (a : ℕ) (known : Known) (command : Command) (k : WriteKind) (block : ℕ) (bytes : List ℕ) (guard : ℕ) (done fault : Process End) (missed : ℕ → Process End) → a < w.appliances →
       (stands w a).place ≡ In known command (WriteThen k block bytes guard done fault missed) → (w.seats a).pending ≡ None → NamesLinked names w a →
       MeetsTree (names (length w.surface.writes)) w.geometry w.surface.time w.surface.device (stands w a) (rests_on w.geometry command (stands w a).holds (stands w a).filled k block bytes) k block bytes
   pub spared : SparesHands names w
@@ -188,7 +188,7 @@ keeps-trees names (world.issues {w = w} {appliance = a} known command what block
     leased : Leased w
     leased = reached-leased reached
 
-    p : Position
+    p : Configuration
     p = stands w a.0
 
     leases : List ℕ

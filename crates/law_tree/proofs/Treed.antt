@@ -8,9 +8,9 @@ use Rattle.plx_commands.specs.Replies.{is_in}
 use Rattle.plx_disk.specs.Writes.{Issued}
 use Rattle.plx_geom.specs.Geometry.{Geometry, extent_lease}
 use Rattle.plx_radix.specs.Paths.{Unreachable, Shared}
-use Rattle.plx_rules.specs.Boot.{Place, In, position}
+use Rattle.plx_rules.specs.Boot.{Place, In, configuration}
 use Rattle.plx_rules.specs.Hands.{hand_from, hand_unlinked}
-use Rattle.plx_rules.specs.Part.{WriteThen}
+use Rattle.plx_rules.specs.Process.{WriteThen}
 use Rattle.plx_rules.specs.Rests.{extent_of, filled_blocks, home_of}
 use Rattle.plx_rules.specs.World.{World, Seat, setting_at}
 use Rattle.law_lease.proofs.Frame.{AllStand}
@@ -31,8 +31,8 @@ due g (Some n) place found filled hand = hand_while g place found filled hand
 
 -- the same, of a seat
 abbrev pub due_at_seat : Geometry → (appliance : ℕ) → Seat → List ℕ
-due_at_seat g a seat = due g seat.pending (position (setting_at g a seat.boots) seat.log).place (position (setting_at g a seat.boots) seat.log).found
-    (position (setting_at g a seat.boots) seat.log).filled (position (setting_at g a seat.boots) seat.log).hand
+due_at_seat g a seat = due g seat.pending (configuration (setting_at g a seat.boots) seat.log).place (configuration (setting_at g a seat.boots) seat.log).found
+    (configuration (setting_at g a seat.boots) seat.log).filled (configuration (setting_at g a seat.boots) seat.log).hand
 
 -- the blocks that the write at a place links
 abbrev pub linked_at : Place → (filled : List (ℕ × List ℕ)) → List ℕ
@@ -42,7 +42,7 @@ linked_at other filled = []
 
 -- the same, of a seat
 abbrev pub linked_of : Geometry → (appliance : ℕ) → Seat → List ℕ
-linked_of g a seat = linked_at (position (setting_at g a seat.boots) seat.log).place (position (setting_at g a seat.boots) seat.log).filled
+linked_of g a seat = linked_at (configuration (setting_at g a seat.boots) seat.log).place (configuration (setting_at g a seat.boots) seat.log).filled
 
 -- a block that is free to be linked
 pub record IsFree (g : Geometry) (d : Device) (block : ℕ) : Type 0 where

@@ -7,7 +7,7 @@ use Rattle.plx_rules.specs.Ends.{End}
 use Rattle.plx_rules.specs.Hands.{is_held}
 use Rattle.plx_rules.specs.Holds.{Hold, Nothing, Seen, Wrote, Waited, Held}
 use Rattle.plx_rules.specs.InUse.{InUse}
-use Rattle.plx_rules.specs.Part.{Part, Ends, standing}
+use Rattle.plx_rules.specs.Process.{Process, Ends, standing}
 use Rattle.plx_rules.specs.Rests.{extent_of}
 use Rattle.plx_rules.specs.Session.{Known}
 use Rattle.plx_rules.specs.Settings.{Setting}
@@ -49,8 +49,8 @@ module _ (s : Setting) (geometry : IsGeometry s.geometry) (log : CommandLog) (kn
   abbrev Work : (K : ℕ → Type 0) → List Exchange → Type 0
   Work K own = Retiring s log.before log.exchanges NoLease NoLease K own
 
-  abbrev MeetsGivingBack : List Exchange → Part End → ℕ → Type 0
-  MeetsGivingBack own part n = MeetsWork s log (IsOfOneMap s.geometry) (ShowsOnHand s known uses follows (IsGivenBack s log)) (own ++ log.exchanges) part n
+  abbrev MeetsGivingBack : List Exchange → Process End → ℕ → Type 0
+  MeetsGivingBack own process n = MeetsWork s log (IsOfOneMap s.geometry) (ShowsOnHand s known uses follows (IsGivenBack s log)) (own ++ log.exchanges) process n
 
   abbrev MayGive : List Exchange → Ask → List ℕ → Type 0
   MayGive done a bytes = MayAsk s (with_exchanges log done) a bytes × IsOfOneMap s.geometry a
@@ -83,7 +83,7 @@ module _ (s : Setting) (geometry : IsGeometry s.geometry) (log : CommandLog) (kn
       (r.later (extent_lease s.geometry extent) (extent-below s.geometry extent (omega arith)) (λ p. p) ∙ sym (may.held extent (omega arith)))
       (λ own' r'. extents-given left (extent + 1) own' (omega arith) r')
     where
-      tail : Part End
+      tail : Process End
       tail = give_extents s known uses holds hand left (extent + 1) (Ends follows)
 
       m : ℕ
@@ -118,8 +118,8 @@ give-backs-keep-rules s log known uses holds hand follows geometry may =
     (give-back-meets s geometry log known uses holds hand follows may)
 
 -- so does it by where it stands
-pub give-back-ask : (rest : Part End) (ask : Ask) → Some ask ≡ standing rest → IsGiveBackAsk rest ask
+pub give-back-ask : (rest : Process End) (ask : Ask) → Some ask ≡ standing rest → IsGiveBackAsk rest ask
 give-back-ask rest ask stands s log known uses holds hand follows own geometry may leads = (give-backs-keep-rules s log known uses holds hand follows geometry may).asks leads ask (sym stands)
 
-pub give-back-end : (rest : Part End) (end : End) → rest ≡ Ends end → IsGiveBackEnd rest end
+pub give-back-end : (rest : Process End) (end : End) → rest ≡ Ends end → IsGiveBackEnd rest end
 give-back-end rest end over s log known uses holds hand follows own geometry may leads = (give-backs-keep-rules s log known uses holds hand follows geometry may).ends leads end over

@@ -5,7 +5,7 @@ use Rattle.plx_extent.specs.Maps.{map_bytes}
 use Rattle.plx_geom.specs.Geometry.{map_at}
 use Rattle.plx_rules.specs.Ends.{End}
 use Rattle.plx_rules.specs.InUse.{InUse}
-use Rattle.plx_rules.specs.Part.{Part, Ends, standing}
+use Rattle.plx_rules.specs.Process.{Process, Ends, standing}
 use Rattle.plx_rules.specs.Session.{Known}
 use Rattle.plx_rules.specs.Settings.{Setting}
 use Rattle.plx_rules.specs.Space.{with_clear}
@@ -65,7 +65,7 @@ extent-gives-keep-rules s log known uses extent until blocks follows may =
     (give-meets s log known uses extent until blocks follows may)
 
 -- so does each of its asks, by where it stands
-give-ask : (rest : Part End) (ask : Ask) → Some ask ≡ standing rest → IsGiveAsk rest ask
+give-ask : (rest : Process End) (ask : Ask) → Some ask ≡ standing rest → IsGiveAsk rest ask
 give-ask rest ask stands s log known uses extent until blocks follows own may leads = (extent-gives-keep-rules s log known uses extent until blocks follows may).asks leads ask (sym stands)
 
 give-asks : (place : GivingAt) (o : Around) (a : Allocator) (m : Giving) → IsGiveAsk (giving_at place o a m) (giving_ask_at place m)

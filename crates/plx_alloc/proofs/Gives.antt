@@ -7,10 +7,10 @@ use Rattle.plx_lease.specs.Uses.{uses_of}
 use Rattle.plx_rules.specs.Ends.{End, read_then}
 use Rattle.plx_rules.specs.InUse.{InUse}
 use Rattle.plx_rules.specs.Holds.{Hold, Nothing, Seen, Wrote, Waited, Held}
-use Rattle.plx_rules.specs.Part.{Part}
+use Rattle.plx_rules.specs.Process.{Process}
 use Rattle.plx_rules.specs.Session.{Known}
 use Rattle.plx_rules.specs.Settings.{Setting}
-use Rattle.plx_rules.specs.Space.{extent_use, give_found, give_part, in_extent, read_map}
+use Rattle.plx_rules.specs.Space.{extent_use, give_found, give_process, in_extent, read_map}
 use Rattle.plx_alloc.specs.Gives.{Around, around_known, give_extent, give_extents, give_from, giving_at, giving_rest, retire_use}
 use Rattle.plx_alloc.specs.Suiting.{IsHeldUntil, SuitsGiving}
 use Rattle.plx_alloc.specs.Tables.{first_extent, allocator_setting, hand_numbers, has_any, holds_of, extent_leases}
@@ -21,15 +21,15 @@ use Rattle.plx_alloc.proofs.Taking.{hold-here}
 use Rattle.plx_alloc.proofs.Passes.{extent_hold_at}
 
 -- blocks of the extent are in hand
-pub give-some : (s : Setting) (known : Known) (uses : List InUse) (extent until : ℕ) (blocks : List ℕ) (rest : Part End) → has_any blocks ≡ true →
-    give_part s known uses extent until blocks rest
+pub give-some : (s : Setting) (known : Known) (uses : List InUse) (extent until : ℕ) (blocks : List ℕ) (rest : Process End) → has_any blocks ≡ true →
+    give_process s known uses extent until blocks rest
     ≡ read_then (map_at s.geometry extent) known (λ bytes. give_found s known uses extent until blocks (read_map s.geometry.extent_blocks bytes) rest)
 give-some s known uses extent until [] rest z = let P : ⊥ = cc in absurd P
 give-some s known uses extent until (block ∷ blocks) rest some = refl
 
 -- or none
-pub give-none : (s : Setting) (known : Known) (uses : List InUse) (extent until : ℕ) (blocks : List ℕ) (rest : Part End) → has_any blocks ≡ false →
-    give_part s known uses extent until blocks rest ≡ rest
+pub give-none : (s : Setting) (known : Known) (uses : List InUse) (extent until : ℕ) (blocks : List ℕ) (rest : Process End) → has_any blocks ≡ false →
+    give_process s known uses extent until blocks rest ≡ rest
 give-none s known uses extent until [] rest none' = refl
 give-none s known uses extent until (block ∷ blocks) rest z = let P : ⊥ = cc in absurd P
 
@@ -45,7 +45,7 @@ kept-use g m lease = ap (λ n. due_of n m.until) lease
 -- blocks of the extent are in hand
 pub giving-first : (o : Around) (a : Allocator) (m : Giving) → m.at ≡ at.Map → m.map.0 ≡ map_at a.geometry m.extent.0 →
     has_any (in_extent a.geometry m.extent.0 (hand_numbers a)) ≡ true →
-    giving_rest o a m ≡ give_part (allocator_setting o.appliance a) (around_known o a) (uses_of m.uses) m.extent.0 m.until (in_extent a.geometry m.extent.0 (hand_numbers a)) o.rest
+    giving_rest o a m ≡ give_process (allocator_setting o.appliance a) (around_known o a) (uses_of m.uses) m.extent.0 m.until (in_extent a.geometry m.extent.0 (hand_numbers a)) o.rest
 giving-first o a m here map some =
     let s = allocator_setting o.appliance a in
     let known = around_known o a in
@@ -59,12 +59,12 @@ giving-first o a m here map some =
 -- ---- all of them
 
 -- what is asked at the first extent of which blocks are in hand
-abbrev pub give_first : Setting → Known → (uses : List InUse) → (holds : ℕ → Hold) → (hand : List ℕ) → Option ℕ → (rest : Part End) → Part End
+abbrev pub give_first : Setting → Known → (uses : List InUse) → (holds : ℕ → Hold) → (hand : List ℕ) → Option ℕ → (rest : Process End) → Process End
 give_first s known uses holds hand None rest = rest
 give_first s known uses holds hand (Some extent) rest =
     give_extent s known uses hand extent (extent_hold_at s.geometry holds extent) (give_extents s known uses holds hand (s.geometry.extents - (extent + 1)) (extent + 1) rest)
 
-none-of-map : (s : Setting) (known : Known) (uses : List InUse) (hand : List ℕ) (extent : ℕ) (hold : Hold) (rest : Part End) → has_any (in_extent s.geometry extent hand) ≡ false →
+none-of-map : (s : Setting) (known : Known) (uses : List InUse) (hand : List ℕ) (extent : ℕ) (hold : Hold) (rest : Process End) → has_any (in_extent s.geometry extent hand) ≡ false →
     give_extent s known uses hand extent hold rest ≡ rest
 none-of-map s known uses hand extent Nothing rest none' = refl
 none-of-map s known uses hand extent (Seen sample) rest none' = refl
@@ -72,13 +72,13 @@ none-of-map s known uses hand extent (Wrote claim until) rest none' = refl
 none-of-map s known uses hand extent (Waited claim until) rest none' = refl
 none-of-map s known uses hand extent (Held claim until) rest none' = give-none s known uses extent until (in_extent s.geometry extent hand) rest none'
 
-pub give-first : (s : Setting) (known : Known) (uses : List InUse) (holds : ℕ → Hold) (hand : List ℕ) (left from : ℕ) (rest : Part End) → from + left ≡ s.geometry.extents →
+pub give-first : (s : Setting) (known : Known) (uses : List InUse) (holds : ℕ → Hold) (hand : List ℕ) (left from : ℕ) (rest : Process End) → from + left ≡ s.geometry.extents →
     give_extents s known uses holds hand left from rest ≡ give_first s known uses holds hand (first_extent (λ extent. has_any (in_extent s.geometry extent hand)) left from) rest
 give-first s known uses holds hand zero from rest sum = refl
 give-first s known uses holds hand (suc left) from rest sum =
     go (give-first s known uses holds hand left (from + 1) rest (omega (arith, sum))) (has_any (in_extent s.geometry from hand)) refl
   where
-    next : Part End
+    next : Process End
     next = give_extents s known uses holds hand left (from + 1) rest
 
     go : next ≡ give_first s known uses holds hand (first_extent (λ extent. has_any (in_extent s.geometry extent hand)) left (from + 1)) rest →
@@ -115,7 +115,7 @@ give-here o a m extent here is suits held some =
     ∙ ap (λ (x : ExtentNo). give_first s known uses (holds_of a) (hand_numbers a) (Some x.0) o.rest) is)
 
 -- it goes by what is held and in hand of the extents from there on
-pub give-same : (s : Setting) (known : Known) (uses : List InUse) (holds others : ℕ → Hold) (hand blocks : List ℕ) (left from : ℕ) (rest : Part End) →
+pub give-same : (s : Setting) (known : Known) (uses : List InUse) (holds others : ℕ → Hold) (hand blocks : List ℕ) (left from : ℕ) (rest : Process End) →
     ((extent : ℕ) → from ≤ extent → extent_hold_at s.geometry holds extent ≡ extent_hold_at s.geometry others extent) →
     ((extent : ℕ) → from ≤ extent → in_extent s.geometry extent hand ≡ in_extent s.geometry extent blocks) →
     give_extents s known uses holds hand left from rest ≡ give_extents s known uses others blocks left from rest
@@ -132,4 +132,4 @@ give-same s known uses holds others hand blocks (suc left) from rest held same =
     by-hand (Seen sample) = refl
     by-hand (Wrote claim until) = refl
     by-hand (Waited claim until) = refl
-    by-hand (Held claim until) = ap (λ mine. give_part s known uses from until mine (give_extents s known uses others blocks left (from + 1) rest)) (same from (omega arith))
+    by-hand (Held claim until) = ap (λ mine. give_process s known uses from until mine (give_extents s known uses others blocks left (from + 1) rest)) (same from (omega arith))

@@ -5,7 +5,7 @@ use Rattle.plx_geom.specs.Geometry.{Geometry, extent_lease, lease_at}
 use Rattle.plx_rules.specs.Ends.{End}
 use Rattle.plx_rules.specs.Hands.{is_held}
 use Rattle.plx_rules.specs.Holds.{Hold, Nothing, Seen, Wrote, Waited, Held}
-use Rattle.plx_rules.specs.Part.{Part}
+use Rattle.plx_rules.specs.Process.{Process}
 use Rattle.plx_rules.specs.Settings.{Setting}
 use Rattle.plx_rules.specs.Space.{Taking, if_needed, take_held, take_if_held, take_if_other, take_others}
 use Rattle.plx_alloc.specs.Tables.{first_extent}
@@ -65,7 +65,7 @@ extent_hold_at g holds extent = holds (lease_at (extent_lease g extent))
 -- ---- a take
 
 -- enough is in hand
-pub held-enough : (s : Setting) (count : ℕ) (holds : ℕ → Hold) (left extent : ℕ) (rest : Taking → Part End) (t : Taking) →
+pub held-enough : (s : Setting) (count : ℕ) (holds : ℕ → Hold) (left extent : ℕ) (rest : Taking → Process End) (t : Taking) →
     nat_le count (length t.hand) ≡ true → take_held s count holds left extent rest t ≡ rest t
 held-enough s count holds zero extent rest t enough = refl
 held-enough s count holds (suc left) extent rest t enough =
@@ -73,7 +73,7 @@ held-enough s count holds (suc left) extent rest t enough =
     else take_if_held s count extent (extent_hold_at s.geometry holds extent) (take_held s count holds left (extent + 1) rest) t) enough
     ∙ held-enough s count holds left (extent + 1) rest t enough
 
-pub others-enough : (s : Setting) (count : ℕ) (holds : ℕ → Hold) (left extent : ℕ) (rest : Taking → Part End) (t : Taking) →
+pub others-enough : (s : Setting) (count : ℕ) (holds : ℕ → Hold) (left extent : ℕ) (rest : Taking → Process End) (t : Taking) →
     nat_le count (length t.hand) ≡ true → take_others s count holds left extent rest t ≡ rest t
 others-enough s count holds zero extent rest t enough = refl
 others-enough s count holds (suc left) extent rest t enough =
@@ -82,24 +82,24 @@ others-enough s count holds (suc left) extent rest t enough =
     ∙ others-enough s count holds left (extent + 1) rest t enough
 
 -- more are needed: what is asked at the first extent that is held, or isn't
-abbrev pub held_first : Setting → (count : ℕ) → (holds : ℕ → Hold) → Option ℕ → (rest : Taking → Part End) → Taking → Part End
+abbrev pub held_first : Setting → (count : ℕ) → (holds : ℕ → Hold) → Option ℕ → (rest : Taking → Process End) → Taking → Process End
 held_first s count holds None rest t = rest t
 held_first s count holds (Some extent) rest t =
     take_if_held s count extent (extent_hold_at s.geometry holds extent) (take_held s count holds (s.geometry.extents - (extent + 1)) (extent + 1) rest) t
 
-abbrev pub others_first : Setting → (count : ℕ) → (holds : ℕ → Hold) → Option ℕ → (rest : Taking → Part End) → Taking → Part End
+abbrev pub others_first : Setting → (count : ℕ) → (holds : ℕ → Hold) → Option ℕ → (rest : Taking → Process End) → Taking → Process End
 others_first s count holds None rest t = rest t
 others_first s count holds (Some extent) rest t =
     take_if_other s count extent (extent_hold_at s.geometry holds extent) (take_others s count holds (s.geometry.extents - (extent + 1)) (extent + 1) rest) t
 
-not-held : (s : Setting) (count extent : ℕ) (hold : Hold) (rest : Taking → Part End) (t : Taking) → is_held hold ≡ false → take_if_held s count extent hold rest t ≡ rest t
+not-held : (s : Setting) (count extent : ℕ) (hold : Hold) (rest : Taking → Process End) (t : Taking) → is_held hold ≡ false → take_if_held s count extent hold rest t ≡ rest t
 not-held s count extent Nothing rest t other = refl
 not-held s count extent (Seen sample) rest t other = refl
 not-held s count extent (Wrote claim until) rest t other = refl
 not-held s count extent (Waited claim until) rest t other = refl
 not-held s count extent (Held claim until) rest t z = let P : ⊥ = cc in absurd P
 
-not-other : (s : Setting) (count extent : ℕ) (hold : Hold) (rest : Taking → Part End) (t : Taking) → is_held hold ≡ true → take_if_other s count extent hold rest t ≡ rest t
+not-other : (s : Setting) (count extent : ℕ) (hold : Hold) (rest : Taking → Process End) (t : Taking) → is_held hold ≡ true → take_if_other s count extent hold rest t ≡ rest t
 not-other s count extent Nothing rest t z = let P : ⊥ = cc in absurd P
 not-other s count extent (Seen sample) rest t z = let P : ⊥ = cc in absurd P
 not-other s count extent (Wrote claim until) rest t z = let P : ⊥ = cc in absurd P
@@ -107,13 +107,13 @@ not-other s count extent (Waited claim until) rest t z = let P : ⊥ = cc in abs
 not-other s count extent (Held claim until) rest t held = refl
 
 pub held-first : (s : Setting) (count : ℕ) (holds : ℕ → Hold) (is : ℕ → Bool) → ((extent : ℕ) → is extent ≡ is_held (extent_hold_at s.geometry holds extent)) →
-    (left from : ℕ) (rest : Taking → Part End) (t : Taking) → from + left ≡ s.geometry.extents → nat_le count (length t.hand) ≡ false →
+    (left from : ℕ) (rest : Taking → Process End) (t : Taking) → from + left ≡ s.geometry.extents → nat_le count (length t.hand) ≡ false →
     take_held s count holds left from rest t ≡ held_first s count holds (first_extent is left from) rest t
 held-first s count holds is tells zero from rest t sum few = refl
 held-first s count holds is tells (suc left) from rest t sum few =
     ap (λ b. if b then next t else take_if_held s count from (extent_hold_at s.geometry holds from) next t) few ∙ go (held-first s count holds is tells left (from + 1) rest t (omega (arith, sum)) few) (is from) refl
   where
-    next : Taking → Part End
+    next : Taking → Process End
     next = take_held s count holds left (from + 1) rest
 
     go : next t ≡ held_first s count holds (first_extent is left (from + 1)) rest t → (b : Bool) → is from ≡ b → take_if_held s count from (extent_hold_at s.geometry holds from) next t
@@ -126,13 +126,13 @@ held-first s count holds is tells (suc left) from rest t sum few =
         ∙ later
 
 pub others-first : (s : Setting) (count : ℕ) (holds : ℕ → Hold) (is : ℕ → Bool) → ((extent : ℕ) → is extent ≡ not (is_held (extent_hold_at s.geometry holds extent))) →
-    (left from : ℕ) (rest : Taking → Part End) (t : Taking) → from + left ≡ s.geometry.extents → nat_le count (length t.hand) ≡ false →
+    (left from : ℕ) (rest : Taking → Process End) (t : Taking) → from + left ≡ s.geometry.extents → nat_le count (length t.hand) ≡ false →
     take_others s count holds left from rest t ≡ others_first s count holds (first_extent is left from) rest t
 others-first s count holds is tells zero from rest t sum few = refl
 others-first s count holds is tells (suc left) from rest t sum few =
     ap (λ b. if b then next t else take_if_other s count from (extent_hold_at s.geometry holds from) next t) few ∙ go (others-first s count holds is tells left (from + 1) rest t (omega (arith, sum)) few) (is from) refl
   where
-    next : Taking → Part End
+    next : Taking → Process End
     next = take_others s count holds left (from + 1) rest
 
     go : next t ≡ others_first s count holds (first_extent is left (from + 1)) rest t → (b : Bool) → is from ≡ b → take_if_other s count from (extent_hold_at s.geometry holds from) next t
@@ -145,12 +145,12 @@ others-first s count holds is tells (suc left) from rest t sum few =
         ∙ later
 
 -- the others go by what is held of the extents from there on
-pub others-same : (s : Setting) (count : ℕ) (holds others : ℕ → Hold) (left from : ℕ) (rest : Taking → Part End) →
+pub others-same : (s : Setting) (count : ℕ) (holds others : ℕ → Hold) (left from : ℕ) (rest : Taking → Process End) →
     ((extent : ℕ) → from ≤ extent → extent_hold_at s.geometry holds extent ≡ extent_hold_at s.geometry others extent) →
     take_others s count holds left from rest ≡ take_others s count others left from rest
 others-same s count holds others zero from rest same = refl
 others-same s count holds others (suc left) from rest same =
-    ap (λ (next : Taking → Part End). if_needed count (take_if_other s count from (extent_hold_at s.geometry holds from) next) next)
+    ap (λ (next : Taking → Process End). if_needed count (take_if_other s count from (extent_hold_at s.geometry holds from) next) next)
     (others-same s count holds others left (from + 1) rest (λ extent less. same extent (omega (arith, less))))
     ∙ ap (λ hold. if_needed count (take_if_other s count from hold (take_others s count others left (from + 1) rest)) (take_others s count others left (from + 1) rest))
     (same from (omega arith))

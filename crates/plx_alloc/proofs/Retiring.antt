@@ -7,10 +7,10 @@ use Rattle.plx_rules.specs.InUse.{InUse}
 use Rattle.plx_rules.specs.Ends.{End}
 use Rattle.plx_rules.specs.Hands.{is_held}
 use Rattle.plx_rules.specs.Holds.{Hold, Nothing, Seen, Wrote, Waited, Held}
-use Rattle.plx_rules.specs.Part.{Part}
+use Rattle.plx_rules.specs.Process.{Process}
 use Rattle.plx_rules.specs.Session.{Known}
 use Rattle.plx_rules.specs.Settings.{Setting}
-use Rattle.plx_rules.specs.Space.{extent_use, give_part, in_extent, release_then, retire_extent, retire_extents}
+use Rattle.plx_rules.specs.Space.{extent_use, give_process, in_extent, release_then, retire_extent, retire_extents}
 use Rattle.plx_alloc.specs.Gives.{Around, around_known}
 use Rattle.plx_alloc.specs.Retires.{release_next, retire_at, retire_extents_from}
 use Rattle.plx_alloc.specs.Suiting.{IsHeldUntil, SuitsGiving}
@@ -24,12 +24,12 @@ use Rattle.plx_alloc.proofs.Taking.{hold-here}
 use Rattle.plx_alloc.proofs.Passes.{extent_hold_at}
 
 -- what is asked at the first extent whose lease is held
-abbrev pub retire_first : Setting → Known → (uses : List InUse) → (holds : ℕ → Hold) → (hand : List ℕ) → Option ℕ → (rest : Part End) → Part End
+abbrev pub retire_first : Setting → Known → (uses : List InUse) → (holds : ℕ → Hold) → (hand : List ℕ) → Option ℕ → (rest : Process End) → Process End
 retire_first s known uses holds hand None rest = rest
 retire_first s known uses holds hand (Some extent) rest =
     retire_extent s known uses hand extent (extent_hold_at s.geometry holds extent) (retire_extents s known uses holds hand (s.geometry.extents - (extent + 1)) (extent + 1) rest)
 
-not-held : (s : Setting) (known : Known) (uses : List InUse) (hand : List ℕ) (extent : ℕ) (hold : Hold) (rest : Part End) → is_held hold ≡ false → retire_extent s known uses hand extent hold rest ≡ rest
+not-held : (s : Setting) (known : Known) (uses : List InUse) (hand : List ℕ) (extent : ℕ) (hold : Hold) (rest : Process End) → is_held hold ≡ false → retire_extent s known uses hand extent hold rest ≡ rest
 not-held s known uses hand extent Nothing rest other = refl
 not-held s known uses hand extent (Seen sample) rest other = refl
 not-held s known uses hand extent (Wrote claim until) rest other = refl
@@ -37,12 +37,12 @@ not-held s known uses hand extent (Waited claim until) rest other = refl
 not-held s known uses hand extent (Held claim until) rest z = let P : ⊥ = cc in absurd P
 
 pub retire-first : (s : Setting) (known : Known) (uses : List InUse) (holds : ℕ → Hold) (hand : List ℕ) (is : ℕ → Bool) → ((extent : ℕ) → is extent ≡ is_held (extent_hold_at s.geometry holds extent)) →
-    (left from : ℕ) (rest : Part End) → from + left ≡ s.geometry.extents →
+    (left from : ℕ) (rest : Process End) → from + left ≡ s.geometry.extents →
     retire_extents s known uses holds hand left from rest ≡ retire_first s known uses holds hand (first_extent is left from) rest
 retire-first s known uses holds hand is tells zero from rest sum = refl
 retire-first s known uses holds hand is tells (suc left) from rest sum = go (retire-first s known uses holds hand is tells left (from + 1) rest (omega (arith, sum))) (is from) refl
   where
-    next : Part End
+    next : Process End
     next = retire_extents s known uses holds hand left (from + 1) rest
 
     go : next ≡ retire_first s known uses holds hand (first_extent is left (from + 1)) rest → (b : Bool) → is from ≡ b → retire_extent s known uses hand from (extent_hold_at s.geometry holds from) next
@@ -55,7 +55,7 @@ retire-first s known uses holds hand is tells (suc left) from rest sum = go (ret
         ∙ later
 
 -- a retire goes by what is held and in hand of the extents from there on
-pub retire-same : (s : Setting) (known : Known) (uses : List InUse) (holds others : ℕ → Hold) (hand blocks : List ℕ) (left from : ℕ) (rest : Part End) →
+pub retire-same : (s : Setting) (known : Known) (uses : List InUse) (holds others : ℕ → Hold) (hand blocks : List ℕ) (left from : ℕ) (rest : Process End) →
     ((extent : ℕ) → from ≤ extent → extent_hold_at s.geometry holds extent ≡ extent_hold_at s.geometry others extent) →
     ((extent : ℕ) → from ≤ extent → in_extent s.geometry extent hand ≡ in_extent s.geometry extent blocks) →
     retire_extents s known uses holds hand left from rest ≡ retire_extents s known uses others blocks left from rest
@@ -73,7 +73,7 @@ retire-same s known uses holds others hand blocks (suc left) from rest held same
     by-hand (Wrote claim until) = refl
     by-hand (Waited claim until) = refl
     by-hand (Held claim until) =
-        ap (λ mine. give_part s known uses from until mine (release_then s known (extent_use s.geometry from until) (retire_extents s known uses others blocks left (from + 1) rest)))
+        ap (λ mine. give_process s known uses from until mine (release_then s known (extent_use s.geometry from until) (retire_extents s known uses others blocks left (from + 1) rest)))
         (same from (omega arith))
 
 -- ---- the machine of a retire
@@ -88,18 +88,18 @@ retire-extent-next o a uses from found low is =
     ∙ ap (λ found. retire_first (allocator_setting o.appliance a) (around_known o a) uses (holds_of a) (hand_numbers a) found o.rest) (sym is)
 
 -- the extent is given up
-abbrev pub gives_up : Around → Allocator → (uses : List InUse) → (extent : ℕ) → Part End
+abbrev pub gives_up : Around → Allocator → (uses : List InUse) → (extent : ℕ) → Process End
 gives_up o a uses extent = retire_first (allocator_setting o.appliance a) (around_known o a) uses (holds_of a) (hand_numbers a) (Some extent) o.rest
 
 held-up : (o : Around) (a : Allocator) (m : Giving) → SuitsGiving a m → IsHeldUntil a m.extent.0 m.until →
-    give_part (allocator_setting o.appliance a) (around_known o a) (uses_of m.uses) m.extent.0 m.until (in_extent a.geometry m.extent.0 (hand_numbers a)) (release_next o a m) ≡ gives_up o a (uses_of m.uses) m.extent.0
+    give_process (allocator_setting o.appliance a) (around_known o a) (uses_of m.uses) m.extent.0 m.until (in_extent a.geometry m.extent.0 (hand_numbers a)) (release_next o a m) ≡ gives_up o a (uses_of m.uses) m.extent.0
 held-up o a m suits held =
     let s = allocator_setting o.appliance a in
     let known = around_known o a in
     let e = m.extent.0 in
     let uses = uses_of m.uses in
     let next = retire_extents_from o a uses (e + 1) in
-    ap (λ due. give_part s known uses e m.until (in_extent a.geometry e (hand_numbers a)) (release_then s known due next)) (kept-use a.geometry m suits.lease)
+    ap (λ due. give_process s known uses e m.until (in_extent a.geometry e (hand_numbers a)) (release_then s known due next)) (kept-use a.geometry m suits.lease)
     ∙ ap (λ hold. retire_extent s known uses (hand_numbers a) e hold next) (sym (hold-here a e ∙ held.is))
 
 -- its blocks in hand are given back first

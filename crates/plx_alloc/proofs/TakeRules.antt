@@ -5,12 +5,12 @@ use Rattle.plx_commands.specs.Replies.{is_in}
 use Rattle.plx_commands.specs.declared.reply.Reply.TheVariants as reply
 use Rattle.plx_extent.specs.Maps.{map_bytes}
 use Rattle.plx_geom.specs.Geometry.{extent_lease, map_at}
-use Rattle.plx_rules.specs.Ends.{End, ends, lost_part}
+use Rattle.plx_rules.specs.Ends.{End, ends, lost_process}
 use Rattle.plx_rules.specs.Holds.{Held}
 use Rattle.plx_rules.specs.InUse.{InUse, first_reached, unless_reached}
-use Rattle.plx_rules.specs.Part.{Part, Ends}
+use Rattle.plx_rules.specs.Process.{Process, Ends}
 use Rattle.plx_rules.specs.Settings.{Setting}
-use Rattle.plx_rules.specs.Space.{Taking, extent_use, free_from, read_map, set_part, take_found, with_set}
+use Rattle.plx_rules.specs.Space.{Taking, extent_use, free_from, read_map, set_process, take_found, with_set}
 use Rattle.plx_rules.proofs.Maps.{set-is-map}
 use Rattle.law_run.specs.AllowedAsks.{take_of_blocks}
 use Rattle.law_run.specs.CommandLogs.{Exchange, CommandLog}
@@ -50,8 +50,8 @@ module _ (s : Setting) (log : CommandLog) (count extent until : ℕ) (t : Taking
   abbrev read : List ℕ → List Exchange
   read bytes = read_of place bytes ∷ log.exchanges
 
-  abbrev Takes : List Exchange → Part End → ℕ → Type 0
-  Takes done part n = MeetsWork s log (IsOfBlock place) (ShowsExtentTake s count extent until t follows) done part n
+  abbrev Takes : List Exchange → Process End → ℕ → Type 0
+  Takes done process n = MeetsWork s log (IsOfBlock place) (ShowsExtentTake s count extent until t follows) done process n
 
   has : HasFirst log.exchanges
   has = begun-first log.exchanges may.others may.first may.begun
@@ -72,12 +72,12 @@ module _ (s : Setting) (log : CommandLog) (count extent until : ℕ) (t : Taking
 
   -- the reading after bytes that are no map
   by-reading : (bytes : List ℕ) (last : ℕ) (found : Option InUse) → read_map s.geometry.extent_blocks bytes ≡ None → first_reached uses last ≡ found →
-      Takes (clock last ∷ read bytes) (unless_reached found (λ due. lost_part s t.known due last) (ends (reply.Damaged (record { 0 = place })) t.known)) 0
+      Takes (clock last ∷ read bytes) (unless_reached found (λ due. lost_process s t.known due last) (ends (reply.Damaged (record { 0 = place })) t.known)) 0
   by-reading bytes last (Some due) none is = reached due last (read bytes, refl) is
   by-reading bytes last None none is = damaged bytes last (inr (inl refl)) none (read bytes, refl) is
 
   by-blocks : (bytes : List ℕ) (bits : List Bool) → read_map s.geometry.extent_blocks bytes ≡ Some bits → (blocks : List ℕ) → blocks_taken s count extent t bits ≡ blocks →
-      Takes (read bytes) (set_part s extent until bits blocks (λ t. Ends (follows t)) t) 1
+      Takes (read bytes) (set_process s extent until bits blocks (λ t. Ends (follows t)) t) 1
   by-blocks bytes bits is [] same = none_taken bytes bits (log.exchanges, refl) is same
   by-blocks bytes bits is (block ∷ blocks) same = (
     (

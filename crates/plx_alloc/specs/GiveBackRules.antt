@@ -6,7 +6,7 @@ use Rattle.plx_geom.specs.Geometry.{Geometry, IsGeometry, lease_count}
 use Rattle.plx_rules.specs.Ends.{End}
 use Rattle.plx_rules.specs.Holds.{Hold}
 use Rattle.plx_rules.specs.InUse.{InUse}
-use Rattle.plx_rules.specs.Part.{Part, Ends, bytes_out}
+use Rattle.plx_rules.specs.Process.{Process, Ends, bytes_out}
 use Rattle.plx_rules.specs.Session.{Known}
 use Rattle.plx_rules.specs.Settings.{Setting}
 use Rattle.law_run.specs.CommandLogs.{Exchange, CommandLog}
@@ -17,7 +17,7 @@ use Rattle.plx_alloc.specs.Gives.{give_extents}
 
 -- what is asked until all blocks in hand are given back; then the command ends so
 abbrev pub give_back_work : Setting → Known → (uses : List InUse) → (holds : ℕ → Hold) →
-    (hand : List ℕ) → (follows : End) → Part End
+    (hand : List ℕ) → (follows : End) → Process End
 give_back_work s known uses holds hand follows =
     give_extents s known uses holds hand s.geometry.extents 0 (Ends follows)
 
@@ -35,7 +35,7 @@ pub record IsGivenBack (s : Setting) (start log : CommandLog) : Type 0 where
       hold_by_log s log.before log.exchanges lease ≡ hold_by_log s start.before start.exchanges lease
 
 -- an ask of it that has come to this rest keeps the rules, by each log that leads there, within any command in which it may begin
-abbrev pub IsGiveBackAsk : (rest : Part End) → Ask → Type 0
+abbrev pub IsGiveBackAsk : (rest : Process End) → Ask → Type 0
 IsGiveBackAsk rest ask = (s : Setting) (log : CommandLog) (known : Known) (uses : List InUse)
     (holds : ℕ → Hold) (hand : List ℕ) (follows : End) (own : List Exchange) →
     IsGeometry s.geometry → MayBeginOnHand s log holds hand →
@@ -43,7 +43,7 @@ IsGiveBackAsk rest ask = (s : Setting) (log : CommandLog) (known : Known) (uses 
     IsRightAsk s log (IsOfOneMap s.geometry) (give_back_bound s.geometry) own ask (bytes_out rest)
 
 -- the same of its end
-abbrev pub IsGiveBackEnd : (rest : Part End) → End → Type 0
+abbrev pub IsGiveBackEnd : (rest : Process End) → End → Type 0
 IsGiveBackEnd rest end = (s : Setting) (log : CommandLog) (known : Known) (uses : List InUse)
     (holds : ℕ → Hold) (hand : List ℕ) (follows : End) (own : List Exchange) →
     IsGeometry s.geometry → MayBeginOnHand s log holds hand →

@@ -12,7 +12,7 @@ use Rattle.plx_extent.specs.Maps.{map_bytes}
 use Rattle.plx_geom.specs.Geometry.{extent_lease, map_at}
 use Rattle.plx_rules.specs.Ends.{End, read_then}
 use Rattle.plx_rules.specs.InUse.{InUse, first_reached, lease_name}
-use Rattle.plx_rules.specs.Part.{Part, Ends, bytes_out}
+use Rattle.plx_rules.specs.Process.{Process, Ends, bytes_out}
 use Rattle.plx_rules.specs.Rests.{extent_of}
 use Rattle.plx_rules.specs.Session.{Known, nothing_known}
 use Rattle.plx_rules.specs.Settings.{Setting}
@@ -24,7 +24,7 @@ use Rattle.law_run.specs.Machines.{HasCome, IsOfBlock, IsRightAsk, Keeps}
 
 -- what is asked until these blocks of an extent are given back; then the command ends so
 abbrev pub give_work : Setting → Known → (uses : List InUse) → (extent until : ℕ) →
-    (blocks : List ℕ) → (follows : End) → Part End
+    (blocks : List ℕ) → (follows : End) → Process End
 give_work s known uses extent until blocks follows =
     read_then (map_at s.geometry extent) known
     (λ bytes. give_found s known uses extent until blocks (read_map s.geometry.extent_blocks bytes)
@@ -87,7 +87,7 @@ abbrev pub give_bound : ℕ
 give_bound = 2
 
 -- an ask of it that has come to this rest keeps the rules, by each log that leads there, within any command in which it may begin
-abbrev pub IsGiveAsk : (rest : Part End) → Ask → Type 0
+abbrev pub IsGiveAsk : (rest : Process End) → Ask → Type 0
 IsGiveAsk rest ask = (s : Setting) (log : CommandLog) (known : Known) (uses : List InUse)
     (extent until : ℕ) (blocks : List ℕ) (follows : End) (own : List Exchange) →
     MayBeginGive s log extent until blocks →

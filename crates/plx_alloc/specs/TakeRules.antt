@@ -10,7 +10,7 @@ use Rattle.plx_extent.specs.Maps.{map_bytes}
 use Rattle.plx_geom.specs.Geometry.{extent_lease, map_at}
 use Rattle.plx_rules.specs.Ends.{End}
 use Rattle.plx_rules.specs.InUse.{InUse, first_reached, lease_name}
-use Rattle.plx_rules.specs.Part.{Part, Ends}
+use Rattle.plx_rules.specs.Process.{Process, Ends}
 use Rattle.plx_rules.specs.Session.{nothing_known}
 use Rattle.plx_rules.specs.Settings.{Setting}
 use Rattle.plx_rules.specs.Space.{Taking, extent_use, free_from, read_map, take_here, with_set, with_taken}
@@ -20,7 +20,7 @@ use Rattle.law_run.specs.Holdings.{Holds, hand_by_log}
 use Rattle.law_run.specs.Machines.{IsOfBlock, Keeps}
 
 -- what is asked until blocks of an extent are taken; then the command ends so
-abbrev pub extent_take_work : Setting → (count extent until : ℕ) → Taking → (follows : Taking → End) → Part End
+abbrev pub extent_take_work : Setting → (count extent until : ℕ) → Taking → (follows : Taking → End) → Process End
 extent_take_work s count extent until t follows = take_here s count extent until (λ t. Ends (follows t)) t
 
 -- it may begin: the extent's lease is held up to `until`, the take knows what is in hand, and the command has had its first reading and goes on

@@ -4,14 +4,14 @@ use Rattle.plx_base.specs.declared.lease.LeaseRecord.{LeaseRecord}
 use Rattle.plx_base.specs.declared.write_kind.WriteKind.TheVariants as kind
 use Rattle.plx_lease.specs.Claiming.{claim_rest}
 use Rattle.plx_lease.specs.Uses.{uses_of}
-use Rattle.plx_rules.specs.Ends.{End, damaged_part, read_then, write_then}
+use Rattle.plx_rules.specs.Ends.{End, damaged_process, read_then, write_then}
 use Rattle.plx_rules.specs.Holds.{Hold}
 use Rattle.plx_rules.specs.InUse.{InUse, first_reached}
-use Rattle.plx_rules.specs.Part.{Part}
-use Rattle.plx_rules.specs.Parts.{followed_by}
+use Rattle.plx_rules.specs.Process.{Process}
+use Rattle.plx_rules.specs.Processes.{followed_by}
 use Rattle.plx_rules.specs.Session.{Session, Known}
 use Rattle.plx_rules.specs.Settings.{Setting}
-use Rattle.plx_rules.specs.Space.{Taking, after_extent_claim, extent_use, other_found, read_map, take_found, take_held, take_others, taken_part, with_taken}
+use Rattle.plx_rules.specs.Space.{Taking, after_extent_claim, extent_use, other_found, read_map, take_found, take_held, take_others, taken_process, with_taken}
 use Rattle.plx_alloc.specs.Tables.{allocator_setting, hand_numbers, holds_of, known_beside, numbers}
 use Rattle.plx_alloc.specs.declared.allocator.Allocator.{Allocator}
 use Rattle.plx_alloc.specs.declared.reserve.Met.{Met}
@@ -26,7 +26,7 @@ abbrev pub AreReachedAs : (uses others : List InUse) → Type 0
 AreReachedAs uses others = (reading : ℕ) → first_reached uses reading ≡ first_reached others reading
 
 -- what is asked after a take goes by the leases in use only as far as readings reach them
-abbrev pub GoesByReached : (Taking → Part End) → Type 0
+abbrev pub GoesByReached : (Taking → Process End) → Type 0
 GoesByReached rest = (t : Taking) (others : List InUse) → AreReachedAs t.uses others →
     rest t ≡ rest (record t { uses = others })
 
@@ -34,7 +34,7 @@ GoesByReached rest = (t : Taking) (others : List InUse) → AreReachedAs t.uses 
 pub record Outer : Type 0 where
   pub appliance : ℕ
   pub sessions : ℕ → Option Session
-  pub rest : Taking → Part End
+  pub rest : Taking → Process End
   pub goes : GoesByReached rest
 
 -- what is known
@@ -56,17 +56,17 @@ taking_of o a m = record {
 }
 
 -- what is asked of the extents from one on, in this pass and those after it
-abbrev pub pass_rest : Pass → Setting → (holds : ℕ → Hold) → (count from : ℕ) → (rest : Taking → Part End) → Taking → Part End
+abbrev pub pass_rest : Pass → Setting → (holds : ℕ → Hold) → (count from : ℕ) → (rest : Taking → Process End) → Taking → Process End
 pass_rest pass.Held s holds count from rest =
-    take_held s count holds (s.geometry.extents - from) from (take_others s count holds s.geometry.extents 0 (taken_part s count rest))
-pass_rest pass.Others s holds count from rest = take_others s count holds (s.geometry.extents - from) from (taken_part s count rest)
+    take_held s count holds (s.geometry.extents - from) from (take_others s count holds s.geometry.extents 0 (taken_process s count rest))
+pass_rest pass.Others s holds count from rest = take_others s count holds (s.geometry.extents - from) from (taken_process s count rest)
 
 -- what is asked past the extent at which a take stands
-abbrev pub next_rest : Outer → Allocator → Reserve → Taking → Part End
+abbrev pub next_rest : Outer → Allocator → Reserve → Taking → Process End
 next_rest o a m = pass_rest m.pass (allocator_setting o.appliance a) (holds_of a) m.count (m.extent.0 + 1) o.rest
 
 -- what a take still asks
-abbrev pub reserve_at : ReserveAt → Outer → Allocator → Reserve → Part End
+abbrev pub reserve_at : ReserveAt → Outer → Allocator → Reserve → Process End
 reserve_at at.Map o a m =
     read_then m.map.0 (outer_known o a) (λ bytes. take_found (allocator_setting o.appliance a) m.count m.extent.0 m.until
     (read_map a.geometry.extent_blocks bytes) (next_rest o a m) (taking_of o a m))
@@ -78,13 +78,13 @@ reserve_at at.Look o a m =
     (read_map a.geometry.extent_blocks bytes) (next_rest o a m) (taking_of o a m))
 reserve_at at.Claim o a m =
     followed_by (claim_rest m.claim) (after_extent_claim (allocator_setting o.appliance a) m.count m.extent.0 (next_rest o a m) (taking_of o a m))
-reserve_at at.Damaged o a m = damaged_part (allocator_setting o.appliance a) (outer_known o a)
+reserve_at at.Damaged o a m = damaged_process (allocator_setting o.appliance a) (outer_known o a)
     (uses_of m.uses) m.map.0
 
 -- in the claim what is known counts it already
-abbrev pub reserve_rest : Outer → Allocator → Reserve → Part End
+abbrev pub reserve_rest : Outer → Allocator → Reserve → Process End
 reserve_rest o a m = reserve_at m.at o a m
 
 -- what follows once enough blocks are in hand
-abbrev pub reserve_follows : Outer → Allocator → Reserve → Part End
+abbrev pub reserve_follows : Outer → Allocator → Reserve → Process End
 reserve_follows o a m = o.rest (taking_of o a m)

@@ -22,10 +22,10 @@ impl GiveBack {
     ghost use Rattle.plx_rules.specs.Ends.{End};
     ghost use Rattle.plx_rules.specs.Hands.{found_by, hand_answered};
     ghost use Rattle.plx_rules.specs.Machines.{AreWhole};
-    ghost use Rattle.plx_rules.specs.Part.{Ends, answered, standing, bytes_out};
+    ghost use Rattle.plx_rules.specs.Process.{Ends, answered, standing, bytes_out};
     ghost use Rattle.law_run.specs.Machines.{HasCome, MovesOn};
     ghost use Rattle.plx_alloc.specs.Asking.{IsOnDevice, SparesLeases};
-    ghost use Rattle.plx_alloc.specs.Ending.{after_space, space_part};
+    ghost use Rattle.plx_alloc.specs.Ending.{after_space, space_process};
     ghost use Rattle.plx_alloc.specs.GiveBackRules.{IsGiveBackAsk, IsGiveBackEnd};
     ghost use Rattle.plx_alloc.specs.Gives.{Around, around_known, give_back_after, give_back_rest, give_extents, give_from};
     ghost use Rattle.plx_alloc.specs.Moving.{TellsGiven, giving_ask};
@@ -40,14 +40,14 @@ impl GiveBack {
         space: &Allocator,
     ) -> Result<GiveBack, SpaceEnd>
         requires held { HoldsHand space.now }
-        ensures rest { (o : Around) → space_part (give_back_rest o space.now) o.rest
+        ensures rest { (o : Around) → space_process (give_back_rest o space.now) o.rest
             (around_known o space.now) result
             ≡ give_extents (allocator_setting o.appliance space.now) (around_known o space.now)
             (uses_of uses) (holds_of space.now) (hand_numbers space.now)
             space.now.geometry.extents 0 o.rest }
         ensures log { (o : Around) → HasCome (give_extents (allocator_setting o.appliance space.now)
             (around_known o space.now) (uses_of uses) (holds_of space.now) (hand_numbers space.now)
-            space.now.geometry.extents 0 o.rest) [] (space_part (give_back_rest o space.now) o.rest
+            space.now.geometry.extents 0 o.rest) [] (space_process (give_back_rest o space.now) o.rest
             (around_known o space.now) result) }
         ensures suits { IfOk result (λ m. SuitsGiveBack space.now m) }
         ensures tells { (g : Geometry) (found : Option (ℕ × List ℕ))

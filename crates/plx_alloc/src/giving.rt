@@ -46,7 +46,7 @@ impl Giving {
     ghost use Rattle.plx_rules.specs.Ends.{ends, in_time};
     ghost use Rattle.plx_rules.specs.Hands.{found_by, hand_answered};
     ghost use Rattle.plx_rules.specs.Machines.{AreWhole};
-    ghost use Rattle.plx_rules.specs.Part.{answered, standing, bytes_out};
+    ghost use Rattle.plx_rules.specs.Process.{answered, standing, bytes_out};
     ghost use Rattle.plx_rules.specs.Space.{give_found, in_extent, read_map};
     ghost use Rattle.plx_alloc.specs.Asking.{IsOnDevice, SparesLeases};
     ghost use Rattle.plx_alloc.specs.Ending.{after_space, space_end};

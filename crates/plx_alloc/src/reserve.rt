@@ -76,10 +76,10 @@ impl Reserve {
     ghost use Rattle.plx_rules.specs.Ends.{End, ends, in_time};
     ghost use Rattle.plx_token.specs.declared.kind.Extent.{Extent};
     ghost use Rattle.plx_rules.specs.Machines.{AreWhole, IsTimely};
-    ghost use Rattle.plx_rules.specs.Part.{Part, answered, standing, bytes_out};
-    ghost use Rattle.plx_rules.specs.Space.{Taking, after_extent_claim, extent_use, first_taking, other_found, read_map, shortage_part, take_found, take_part, with_taken};
+    ghost use Rattle.plx_rules.specs.Process.{Process, answered, standing, bytes_out};
+    ghost use Rattle.plx_rules.specs.Space.{Taking, after_extent_claim, extent_use, first_taking, other_found, read_map, shortage_process, take_found, take_process, with_taken};
     ghost use Rattle.plx_alloc.specs.Asking.{IsOnDevice, reserve_spares};
-    ghost use Rattle.plx_alloc.specs.Ending.{after_space, space_part, space_end};
+    ghost use Rattle.plx_alloc.specs.Ending.{after_space, space_process, space_end};
     ghost use Rattle.plx_alloc.specs.Suiting.{SuitsReserve};
     ghost use Rattle.plx_alloc.specs.Tables.{HoldsHand, IsSame, allocator_setting, hand_numbers, holds_of, extent_leases, numbers};
     ghost use Rattle.plx_alloc.specs.Moving.{GoesPast, ReadsFirst, TellsTaken, extent_leases_after_claim, found_tells, looked_starts, reserve_ask, reserve_moves};
@@ -100,10 +100,10 @@ impl Reserve {
     ) -> Result<Reserve, SpaceEnd>
         requires most { count ≤ 256 }
         requires held { HoldsHand space.now }
-        ensures rest { (o : Outer) → space_part (reserve_rest o space.now)
+        ensures rest { (o : Outer) → space_process (reserve_rest o space.now)
             (o.rest (first_taking (uses_of uses) (outer_known o space.now)
             (hand_numbers space.now)))
-            (outer_known o space.now) result ≡ take_part (allocator_setting o.appliance space.now)
+            (outer_known o space.now) result ≡ take_process (allocator_setting o.appliance space.now)
             (holds_of space.now) count o.rest
             (first_taking (uses_of uses) (outer_known o space.now) (hand_numbers space.now)) }
         ensures rules { (o : Outer) → BeginsRightly (take_asked o space.now uses count)
@@ -414,9 +414,9 @@ impl Reserve {
 
     // Too few blocks are in hand.
     fn refusal(&self, space: &Allocator) -> SpaceEnd
-        ensures { (o : Outer) (follows : Part End)
+        ensures { (o : Outer) (follows : Process End)
             → space_end follows (outer_known o space.now) result
-            ≡ shortage_part (allocator_setting o.appliance space.now) (outer_known o space.now)
+            ≡ shortage_process (allocator_setting o.appliance space.now) (outer_known o space.now)
             (busy_of self.now.busy) }
     {
         match self.busy {

@@ -40,12 +40,12 @@ impl Retire {
     ghost use Rattle.plx_lease.specs.Uses.{uses_of};
     ghost use Rattle.plx_rules.specs.Holds.{Nothing};
     ghost use Rattle.plx_rules.specs.Machines.{AreWhole};
-    ghost use Rattle.plx_rules.specs.Part.{Ends, answered, standing, bytes_out};
+    ghost use Rattle.plx_rules.specs.Process.{Ends, answered, standing, bytes_out};
     ghost use Rattle.plx_rules.specs.Space.{retire_extents};
     ghost use Rattle.law_run.specs.Machines.{HasCome, MovesOn};
     ghost use Rattle.law_run.specs.RetireRules.{IsRetireAsk, IsRetireEnd};
     ghost use Rattle.plx_alloc.specs.Asking.{IsOnDevice, retire_spares};
-    ghost use Rattle.plx_alloc.specs.Ending.{after_space, space_part};
+    ghost use Rattle.plx_alloc.specs.Ending.{after_space, space_process};
     ghost use Rattle.plx_alloc.specs.Gives.{Around, around_known};
     ghost use Rattle.plx_alloc.specs.Moving.{TellsRetired, released_at, retire_ask};
     ghost use Rattle.plx_alloc.specs.Retires.{retire_after, retire_extents_from, retire_extents_rest};
@@ -56,14 +56,14 @@ impl Retire {
     /// writes of maps and a block for its releases, or is over at once.
     pub fn begin(room: MapRoom, lease: Block, space: &Allocator) -> Result<Retire, SpaceEnd>
         requires held { HoldsHand space.now }
-        ensures rest { (o : Around) → space_part (retire_extents_rest o space.now) o.rest
+        ensures rest { (o : Around) → space_process (retire_extents_rest o space.now) o.rest
             (around_known o space.now) result
             ≡ retire_extents (allocator_setting o.appliance space.now) (around_known o space.now)
             [] (holds_of space.now) (hand_numbers space.now) space.now.geometry.extents 0 o.rest }
         ensures log { (o : Around) → HasCome (retire_extents
             (allocator_setting o.appliance space.now) (around_known o space.now) []
             (holds_of space.now) (hand_numbers space.now) space.now.geometry.extents 0 o.rest) []
-            (space_part (retire_extents_rest o space.now) o.rest (around_known o space.now)
+            (space_process (retire_extents_rest o space.now) o.rest (around_known o space.now)
             result) }
         ensures suits { IfOk result (λ m. SuitsRetire space.now m) }
         ensures tells { (g : Geometry) (found : Option (ℕ × List ℕ))

@@ -2,8 +2,8 @@
 ghost use Rattle.std.specs.Prelude.{◌≡◌};
 ghost use Rattle.plx_rules.specs.InUse.{lease_name as name_of_lease};
 ghost use Rattle.plx_lease.specs.Uses.{use_of};
-ghost use Rattle.plx_rules.specs.Ends.{End, lost_part};
-ghost use Rattle.plx_rules.specs.Part.{Part};
+ghost use Rattle.plx_rules.specs.Ends.{End, lost_process};
+ghost use Rattle.plx_rules.specs.Process.{Process};
 ghost use Rattle.plx_rules.specs.Session.{Known};
 ghost use Rattle.plx_alloc.specs.Ending.{space_end};
 ghost use Rattle.plx_rules.specs.Settings.{Setting};
@@ -38,8 +38,8 @@ pub fn lease_name(geometry: &Geometry, number: u32) -> LeaseName
 
 /// The end where a reading has reached a lease in use.
 pub(crate) fn lost(geometry: &Geometry, due: InUse, reading: u64) -> SpaceEnd
-    ensures { (s : Setting) (follows : Part End) (known : Known) → s.geometry ≡ geometry.now
-        → space_end follows known result ≡ lost_part s known (use_of due) reading }
+    ensures { (s : Setting) (follows : Process End) (known : Known) → s.geometry ≡ geometry.now
+        → space_end follows known result ≡ lost_process s known (use_of due) reading }
 {
     SpaceEnd::Refused(Reply::Lost {
         lease: lease_name(geometry, due.lease),

@@ -13,7 +13,7 @@ use Rattle.plx_alloc.specs.Tables.{extent_leases as extents_of}
 use Rattle.plx_alloc.specs.declared.allocator.Allocator.{Allocator}
 use Rattle.plx_rules.specs.Ends.{End}
 use Rattle.plx_rules.specs.Hands.{found_by, hand_answered}
-use Rattle.plx_rules.specs.Part.{Part, answered, bytes_out, standing}
+use Rattle.plx_rules.specs.Process.{Process, answered, bytes_out, standing}
 use Rattle.plx_rules.specs.Boot.{Fits}
 use Rattle.plx_rules.specs.Holds.{Hold, Nothing, after_answer, sample_of}
 use Rattle.plx_rules.specs.Machines.{Asks, AsksOnly, IsTimely}
@@ -431,4 +431,4 @@ work-fails lent (work.Retire r) = retire-fails lent r.stage r
 
 -- where it goes on, what is held stays
 pub work-kept : (lent later : Lent) (w new : Work) (q : Ask) (a : Answer) → Some q ≡ standing (work_rest lent w) → work_rest later new ≡ answered (work_rest lent w) a → DropsNothing q a
-work-kept lent later w new q a stands is = kept-asks (work_rest lent w) q a stands (work-fails lent w) (subst (λ (part : Part End). Asks part) is (work-asks later new))
+work-kept lent later w new q a stands is = kept-asks (work_rest lent w) q a stands (work-fails lent w) (subst (λ (process : Process End). Asks process) is (work-asks later new))

@@ -4,9 +4,9 @@ use Rattle.std.specs.Prelude.{Bool, nat_lt, if◌then◌else◌, IfOk, Result, E
 use Rattle.plx_commands.specs.declared.reply.Reply.{Reply}
 use Rattle.plx_commands.specs.declared.reply.Reply.TheVariants as reply
 use Rattle.plx_geom.specs.Geometry.{Geometry, extent_lease, image_lease, root_lease, lease_at}
-use Rattle.plx_rules.specs.Part.{Part}
-use Rattle.plx_rules.specs.Attaching.{attach_held, attach_part}
-use Rattle.plx_rules.specs.Commands.{held_part, of_attached}
+use Rattle.plx_rules.specs.Process.{Process}
+use Rattle.plx_rules.specs.Attaching.{attach_held, attach_process}
+use Rattle.plx_rules.specs.Commands.{held_process, of_attached}
 use Rattle.plx_rules.specs.Ends.{End, ends}
 use Rattle.plx_rules.specs.Holds.{Hold, Nothing}
 use Rattle.plx_rules.specs.Session.{Known, Session}
@@ -57,7 +57,7 @@ held-extent g leases extents extent =
 
 -- an attach of an image without a session, by what is held of the image's lease
 pub attach-within : (h : Holdings) (image : ℕ) → image < h.setting.geometry.images →
-    attach_part (rules_setting h.setting) (known_of h) image None
+    attach_process (rules_setting h.setting) (known_of h) image None
     (nat_lt image h.setting.geometry.images) (holds_in h (lease_at (image_lease image)))
     ≡ attach_held (rules_setting h.setting) (known_of h) image
     (image_leases h.leases.leases.items image)
@@ -67,24 +67,24 @@ attach-within h image within =
     rw (nat_lt-true image g.images within, held) refl
 
 -- an image without a session
-pub attached-none : (s : Setting) (known : Known) (holds : ℕ → Hold) (reading image : ℕ) (rest : Session → (until : ℕ) → Part End) →
+pub attached-none : (s : Setting) (known : Known) (holds : ℕ → Hold) (reading image : ℕ) (rest : Session → (until : ℕ) → Process End) →
     known.sessions image ≡ None → ends reply.NotAttached known ≡ of_attached s known holds reading image rest
 attached-none s known holds reading image rest none = rw none refl
 
 -- an image with a session
-pub attached-some : (s : Setting) (known : Known) (leases extents : ℕ → Hold) (reading image : ℕ) (session : Session) (rest : Session → (until : ℕ) → Part End) →
+pub attached-some : (s : Setting) (known : Known) (leases extents : ℕ → Hold) (reading image : ℕ) (session : Session) (rest : Session → (until : ℕ) → Process End) →
     known.sessions image ≡ Some session → image < s.geometry.images →
-    held_part s known image (leases image) reading (rest session) ≡ of_attached s known (lease_holds_at s.geometry leases extents) reading image rest
+    held_process s known image (leases image) reading (rest session) ≡ of_attached s known (lease_holds_at s.geometry leases extents) reading image rest
 attached-some s known leases extents reading image session rest some within =
     rw (some, nat_lt-true image s.geometry.images within, held-image s.geometry leases extents image within) refl
 
 -- a command of an image with a session, where the image's lease decides
 pub by-lease : (h : Holdings) (reading : ℕ) (slot : SlotNo) (session : Session)
-    (rest : Session → (until : ℕ) → Part End) {part : Part End} →
-    part ≡ held_part (rules_setting h.setting) (known_of h) slot.0
+    (rest : Session → (until : ℕ) → Process End) {process : Process End} →
+    process ≡ held_process (rules_setting h.setting) (known_of h) slot.0
     (image_leases h.leases.leases.items slot.0) reading (rest session) →
     (known_of h).sessions slot.0 ≡ Some session → slot.0 < h.sessions.count →
-    part ≡ of_attached (rules_setting h.setting) (known_of h) (holds_in h) reading slot.0 rest
+    process ≡ of_attached (rules_setting h.setting) (known_of h) (holds_in h) reading slot.0 rest
 by-lease h reading slot session rest held some within =
     let leases = image_leases h.leases.leases.items in
     let below = subst (λ (count : ℕ). slot.0 < count) h.images within in
@@ -92,12 +92,12 @@ by-lease h reading slot session rest held some within =
     reading slot.0 session rest some below
 
 -- what is entered over holdings that are only read
-pub enters : (h : Holdings) (result : Result Work Reply) {part : Part End} →
-    work_entered (lent_of h) result ≡ part → IfOk result (IsTied h.setting) →
+pub enters : (h : Holdings) (result : Result Work Reply) {process : Process End} →
+    work_entered (lent_of h) result ≡ process → IfOk result (IsTied h.setting) →
     IfOk result (StartsInside (leases_in h) (extents_in h)) → IfOk result (work_suits h.space) →
-    Enters h h part result
+    Enters h h process result
 enters h result is tied inside suits = record {
-  part = is;
+  process = is;
   leases = refl;
   extents = refl;
   hand = refl;
@@ -109,8 +109,8 @@ enters h result is tied inside suits = record {
 }
 
 -- a refusal
-pub refusal-enters : (h : Holdings) (reply : Reply) {part : Part End} →
-    ends reply (known_after reply (known_of h)) ≡ part → Enters h h part (Err reply)
+pub refusal-enters : (h : Holdings) (reply : Reply) {process : Process End} →
+    ends reply (known_after reply (known_of h)) ≡ process → Enters h h process (Err reply)
 refusal-enters h reply is = enters h (Err reply) is tt tt tt
 
 -- the machine of a command of an image is of the image's setting
@@ -132,11 +132,11 @@ image-begins h image (work.Retire r) same is = absurd is
 
 -- a command of an attached image enters as its machine does
 pub image-enters : (h : Holdings) (reading : ℕ) (slot : SlotNo) (session : Session) (image : Leased)
-    (command : Setting → (image : ℕ) → Session → (until : ℕ) → Part End) (result : Result Work Reply) →
+    (command : Setting → (image : ℕ) → Session → (until : ℕ) → Process End) (result : Result Work Reply) →
     work_entered (lent_of h) result ≡ command (rules_setting image.setting) image.slot.0 session image.until →
     IfOk result (IsOfImage image) → image.slot ≡ slot → image.setting ≡ h.setting →
-    ((rest : (until : ℕ) → Part End) → rest image.until
-    ≡ held_part (rules_setting h.setting) (known_of h) slot.0
+    ((rest : (until : ℕ) → Process End) → rest image.until
+    ≡ held_process (rules_setting h.setting) (known_of h) slot.0
     (image_leases h.leases.leases.items slot.0) reading rest) →
     (known_of h).sessions slot.0 ≡ Some session → slot.0 < h.sessions.count →
     Enters h h (of_attached (rules_setting h.setting) (known_of h) (holds_in h) reading slot.0

@@ -7,7 +7,7 @@ use Rattle.plx_rules.specs.Boot.{Fits}
 use Rattle.plx_rules.specs.Claims.{ClaimEnd, ClaimHeld, ClaimBusy, ClaimLost, ClaimReadFault, ClaimWriteFault, ClaimDamaged}
 use Rattle.plx_rules.specs.Holds.{Hold, Nothing, Held, after_answer, sample_of}
 use Rattle.plx_rules.specs.Machines.{AsksOnly}
-use Rattle.plx_rules.specs.Part.{bytes_out}
+use Rattle.plx_rules.specs.Process.{bytes_out}
 use Rattle.plx_lease.specs.ClaimEnds.{claim_end}
 use Rattle.plx_lease.specs.Claiming.{claim_rest}
 use Rattle.plx_lease.specs.Holding.{HoldsAtEnd, LeavesClaim, claim_ask}

@@ -10,8 +10,8 @@ use Rattle.plx_rules.specs.Ends.{End}
 use Rattle.plx_rules.specs.Holds.{Hold}
 use Rattle.plx_rules.specs.InUse.{InUse}
 use Rattle.plx_rules.specs.Machines.{Asks}
-use Rattle.plx_rules.specs.Part.{Part, Ends, ReadThen, WriteThen, ClockThen, UntilThen, answered, standing}
-use Rattle.plx_rules.specs.Parts.{followed_by}
+use Rattle.plx_rules.specs.Process.{Process, Ends, ReadThen, WriteThen, ClockThen, UntilThen, answered, standing}
+use Rattle.plx_rules.specs.Processes.{followed_by}
 use Rattle.plx_lease.specs.Claiming.{claim_at}
 use Rattle.plx_lease.specs.declared.claim.ClaimAt.{ClaimAt}
 use Rattle.plx_lease.specs.declared.claim.ClaimAt.TheVariants as claim
@@ -19,14 +19,14 @@ use Rattle.plx_lease.specs.declared.claim.LeaseClaim.{LeaseClaim}
 use Rattle.plx_appliance.specs.Holding.{DropsNothing, image_leases_after_write}
 
 -- a write that fails or is missed ends it
-abbrev pub EndsOnFailure : Part End → Type 0
+abbrev pub EndsOnFailure : Process End → Type 0
 EndsOnFailure (Ends end) = Unit {0}
 EndsOnFailure (ReadThen block rest fault) = Unit {0}
 EndsOnFailure (WriteThen kind block bytes guard done fault missed) = (Asks fault → ⊥) × ((reading : ℕ) → Asks (missed reading) → ⊥)
 EndsOnFailure (ClockThen rest) = Unit {0}
 EndsOnFailure (UntilThen from rest) = Unit {0}
 
-write-kept : (kind : WriteKind) (block : ℕ) (bytes : List ℕ) (guard : ℕ) (done fault : Part End) (missed : ℕ → Part End) (a : Answer) →
+write-kept : (kind : WriteKind) (block : ℕ) (bytes : List ℕ) (guard : ℕ) (done fault : Process End) (missed : ℕ → Process End) (a : Answer) →
     EndsOnFailure (WriteThen kind block bytes guard done fault missed) → Asks (answered (WriteThen kind block bytes guard done fault missed) a) → DropsNothing (ask.Write kind (record { 0 = block }) guard) a
 write-kept kind block bytes guard done fault missed (answer.Bytes b) fails asks = tt
 write-kept kind block bytes guard done fault missed answer.Done fails asks = tt
@@ -43,7 +43,7 @@ pub same-ask : (q r : Ask) → Some q ≡ Some r → q ≡ r
 same-ask q r e = ap ask_or e
 
 -- what still asks after an answer kept what is held
-pub kept-asks : (part : Part End) (q : Ask) (a : Answer) → Some q ≡ standing part → EndsOnFailure part → Asks (answered part a) → DropsNothing q a
+pub kept-asks : (process : Process End) (q : Ask) (a : Answer) → Some q ≡ standing process → EndsOnFailure process → Asks (answered process a) → DropsNothing q a
 kept-asks (Ends end) q a stands fails asks = absurd cc
 kept-asks (ReadThen block rest fault) q a stands fails asks = subst (λ (r : Ask). DropsNothing r a) (sym (same-ask q (ask.Read (record { 0 = block })) stands)) tt
 kept-asks (WriteThen kind block bytes guard done fault missed) q a stands fails asks =
@@ -63,7 +63,7 @@ kept-leases ask.Clock a leases kept = refl
 kept-leases (ask.Until from) a leases kept = refl
 
 -- a claim, where what follows its failure ends
-pub claim-fails : {K : Type 0} (place : ClaimAt) (c : LeaseClaim K) (next : ClaimEnd → Part End) → (Asks (next ClaimWriteFault) → ⊥) →
+pub claim-fails : {K : Type 0} (place : ClaimAt) (c : LeaseClaim K) (next : ClaimEnd → Process End) → (Asks (next ClaimWriteFault) → ⊥) →
     ((due : InUse) (reading : ℕ) → Asks (next (ClaimLost due reading)) → ⊥) → EndsOnFailure (followed_by (claim_at place c) next)
 claim-fails claim.Sample c next failed lost = tt
 claim-fails claim.Read c next failed lost = tt

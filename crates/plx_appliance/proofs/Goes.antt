@@ -10,12 +10,12 @@ use Rattle.plx_commands.specs.declared.reply.Reply.TheVariants as reply
 use Rattle.plx_disk.specs.declared.ask.Ask.TheVariants as ask
 use Rattle.plx_disk.specs.declared.ask.Answer.TheVariants as answer
 use Rattle.plx_geom.specs.Geometry.{Geometry, extent_lease, image_lease, lease_at, lease_count}
-use Rattle.plx_rules.specs.Part.{Part, Ends, ReadThen, WriteThen, ClockThen, UntilThen}
+use Rattle.plx_rules.specs.Process.{Process, Ends, ReadThen, WriteThen, ClockThen, UntilThen}
 use Rattle.plx_token.specs.declared.held.Held.{Held as Token}
 use Rattle.plx_token.specs.declared.kind.Image.{Image}
-use Rattle.plx_rules.specs.Boot.{first_part as first_asks}
-use Rattle.plx_rules.specs.Boot.{Position, Idle, In, Happening, Asked, after_part, goes_to, place_of, position, replies, replies_at, reply_of, went_on}
-use Rattle.plx_rules.specs.Commands.{command_part}
+use Rattle.plx_rules.specs.Boot.{first_process as first_asks}
+use Rattle.plx_rules.specs.Boot.{Configuration, Idle, In, BootEntry, Asked, after_process, goes_to, place_of, configuration, replies, replies_at, reply_of, went_on}
+use Rattle.plx_rules.specs.Commands.{command_process}
 use Rattle.plx_rules.specs.Ends.{End, ends}
 use Rattle.plx_rules.specs.Hands.{hand_held}
 use Rattle.plx_rules.specs.Holds.{Hold, Nothing, Seen, Wrote, Waited, Held, after_first, holds_after_reply, first_hold, session_at}
@@ -26,7 +26,7 @@ use Rattle.plx_rules.specs.Settings.{Setting}
 use Rattle.plx_lease.specs.Claiming.{claim_rest}
 use Rattle.plx_appliance.specs.Appliance.{HasBegun, IsInWork}
 use Rattle.plx_appliance.specs.Attaches.{attach_at}
-use Rattle.plx_appliance.specs.Begins.{waiting_part}
+use Rattle.plx_appliance.specs.Begins.{waiting_process}
 use Rattle.plx_appliance.specs.Ending.{hand_after_reply, known_after, leases_after}
 use Rattle.plx_appliance.specs.Holding.{HoldsAs, first_extents, first_leases, hold_without_claim}
 use Rattle.plx_appliance.specs.Lent.{Lent}
@@ -119,15 +119,15 @@ reply-holds g leases extents holds reply.Full h = h
 reply-holds g leases extents holds (reply.Damaged block) h = h
 reply-holds g leases extents holds (reply.WornOut count) h = h
 
--- the position after the first reading of a command
-abbrev first_moves : (s : Setting) (known : Known) (b : Begun) (log : List Happening) (reading : ℕ) → HasBegun s known b (position s log) → Position
+-- the configuration after the first reading of a command
+abbrev first_moves : (s : Setting) (known : Known) (b : Begun) (log : List BootEntry) (reading : ℕ) → HasBegun s known b (configuration s log) → Configuration
 first_moves s known b log reading h =
-    goes_to s.geometry known h.command (after_first s.geometry known reading (position s log).holds) (position s log).hand [] (Some reading) None reading
-    (first_asks s known reading h.command (position s log))
+    goes_to s.geometry known h.command (after_first s.geometry known reading (configuration s log).holds) (configuration s log).hand [] (Some reading) None reading
+    (first_asks s known reading h.command (configuration s log))
 
-first-moved : (s : Setting) (known : Known) (b : Begun) (log : List Happening) (reading : ℕ) (h : HasBegun s known b (position s log)) →
-    position s (Asked ask.Clock [] (answer.Reading reading) ∷ log) ≡ first_moves s known b log reading h
-first-moved s known b log reading h = ap (λ place. went_on s ask.Clock [] (answer.Reading reading) (position s log) place) h.place_is
+first-moved : (s : Setting) (known : Known) (b : Begun) (log : List BootEntry) (reading : ℕ) (h : HasBegun s known b (configuration s log)) →
+    configuration s (Asked ask.Clock [] (answer.Reading reading) ∷ log) ≡ first_moves s known b log reading h
+first-moved s known b log reading h = ap (λ place. went_on s ask.Clock [] (answer.Reading reading) (configuration s log) place) h.place_is
 
 -- a first reading leaves leases that are held
 first-is-settled : (session : Option Session) (reading : ℕ) (hold : Hold) → hold_without_claim (first_hold session reading hold) ≡ first_hold session reading hold
@@ -154,19 +154,19 @@ first-hand g known reading leases extents holds hand held within =
     (λ lease low. first-is-settled (session_at g known (lease_at lease)) reading (holds (lease_at lease)) ∙ first-agrees g known reading leases extents holds held lease low) within
 
 -- what it asks then
-first-part : (s : Setting) (known : Known) (b : Begun) (p : Position) (reading : ℕ) (leases extents : ℕ → Hold) (hand : List ℕ) (h : HasBegun s known b p) →
+first-process : (s : Setting) (known : Known) (b : Begun) (p : Configuration) (reading : ℕ) (leases extents : ℕ → Hold) (hand : List ℕ) (h : HasBegun s known b p) →
     HoldsAs s.geometry leases extents p.holds → p.hand ≡ hand → AreWithin s.geometry hand →
     first_asks s known reading h.command p
-    ≡ waiting_part s known (lease_holds_at s.geometry (first_leases known reading leases) (first_extents reading extents)) (held_hand s.geometry (first_extents reading extents) hand) reading b
-first-part s known b p reading leases extents hand h held is within =
+    ≡ waiting_process s known (lease_holds_at s.geometry (first_leases known reading leases) (first_extents reading extents)) (held_hand s.geometry (first_extents reading extents) hand) reading b
+first-process s known b p reading leases extents hand h held is within =
     let holds = after_first s.geometry known reading p.holds in
-    ap (λ (l : List ℕ). command_part s known holds (hand_held s.geometry holds l) reading h.command) is
-    ∙ ap (λ (l : List ℕ). command_part s known holds l reading h.command) (first-hand s.geometry known reading leases extents p.holds hand held within)
-    ∙ sym (h.part_is holds (held_hand s.geometry (first_extents reading extents) hand) reading)
+    ap (λ (l : List ℕ). command_process s known holds (hand_held s.geometry holds l) reading h.command) is
+    ∙ ap (λ (l : List ℕ). command_process s known holds l reading h.command) (first-hand s.geometry known reading leases extents p.holds hand held within)
+    ∙ sym (h.process_is holds (held_hand s.geometry (first_extents reading extents) hand) reading)
     ∙ begun-agrees s known holds (lease_holds_at s.geometry (first_leases known reading leases) (first_extents reading extents)) (held_hand s.geometry (first_extents reading extents) hand) reading b
     (first-agrees s.geometry known reading leases extents p.holds held)
 
-pub reply-asks : (part : Part End) → Asks part → None ≡ reply_of part
+pub reply-asks : (process : Process End) → Asks process → None ≡ reply_of process
 reply-asks (Ends end) asks = absurd asks
 reply-asks (ReadThen block rest fault) asks = refl
 reply-asks (WriteThen kind block bytes guard done fault missed) asks = refl
@@ -174,7 +174,7 @@ reply-asks (ClockThen rest) asks = refl
 reply-asks (UntilThen from rest) asks = refl
 
 -- the reply to which it leads
-first-replies : (s : Setting) (known : Known) (b : Begun) (p : Position) (reading : ℕ) (h : HasBegun s known b p) →
+first-replies : (s : Setting) (known : Known) (b : Begun) (p : Configuration) (reading : ℕ) (h : HasBegun s known b p) →
     replies s (answer.Reading reading) p ≡ reply_of (first_asks s known reading h.command p)
 first-replies s known b p reading h = ap (λ place. replies_at s (answer.Reading reading) p place) h.place_is
 
@@ -217,40 +217,40 @@ starts-inside g leases extents (work.Reserve r) holds sample same starts agrees 
 starts-inside g leases extents (work.Retire r) holds sample same starts agrees clean = starts None
 
 -- a command goes on after its first reading
-pub record FirstIn (s : Setting) (lent : Lent) (w : Work) (tokens : List (Option (Token Image))) (extents : ℕ → Hold) (hand : List ℕ) (log : List Happening) (reading : ℕ) : Type 0 where
-  pub in_it : IsInWork lent w (position s (Asked ask.Clock [] (answer.Reading reading) ∷ log))
-  pub held : HoldsAs s.geometry (image_leases tokens) extents (position s (Asked ask.Clock [] (answer.Reading reading) ∷ log)).holds
-  pub in_hand : (position s (Asked ask.Clock [] (answer.Reading reading) ∷ log)).hand ≡ hand
-  pub no_reply : None ≡ replies s (answer.Reading reading) (position s log)
-  pub unfilled : (position s (Asked ask.Clock [] (answer.Reading reading) ∷ log)).filled ≡ []
+pub record FirstIn (s : Setting) (lent : Lent) (w : Work) (tokens : List (Option (Token Image))) (extents : ℕ → Hold) (hand : List ℕ) (log : List BootEntry) (reading : ℕ) : Type 0 where
+  pub in_it : IsInWork lent w (configuration s (Asked ask.Clock [] (answer.Reading reading) ∷ log))
+  pub held : HoldsAs s.geometry (image_leases tokens) extents (configuration s (Asked ask.Clock [] (answer.Reading reading) ∷ log)).holds
+  pub in_hand : (configuration s (Asked ask.Clock [] (answer.Reading reading) ∷ log)).hand ≡ hand
+  pub no_reply : None ≡ replies s (answer.Reading reading) (configuration s log)
+  pub unfilled : (configuration s (Asked ask.Clock [] (answer.Reading reading) ∷ log)).filled ≡ []
 
 -- a command that has begun stands for its log, with these leases and this hand
-pub record BegunStands (s : Setting) (known : Known) (b : Begun) (log : List Happening) (leases extents : ℕ → Hold) (hand : List ℕ) : Type 0 where
-  pub begun : HasBegun s known b (position s log)
-  pub held : HoldsAs s.geometry leases extents (position s log).holds
-  pub hand_is : (position s log).hand ≡ hand
+pub record BegunStands (s : Setting) (known : Known) (b : Begun) (log : List BootEntry) (leases extents : ℕ → Hold) (hand : List ℕ) : Type 0 where
+  pub begun : HasBegun s known b (configuration s log)
+  pub held : HoldsAs s.geometry leases extents (configuration s log).holds
+  pub hand_is : (configuration s log).hand ≡ hand
   pub within : AreWithin s.geometry hand
 
-pub first-in : (s : Setting) (known : Known) (after : Lent) (b : Begun) (w : Work) (log : List Happening) (reading : ℕ) (leases extents : ℕ → Hold) (hand : List ℕ) (tokens : List (Option (Token Image))) →
+pub first-in : (s : Setting) (known : Known) (after : Lent) (b : Begun) (w : Work) (log : List BootEntry) (reading : ℕ) (leases extents : ℕ → Hold) (hand : List ℕ) (tokens : List (Option (Token Image))) →
     BegunStands s known b log leases extents hand →
-    work_rest after w ≡ waiting_part s known (lease_holds_at s.geometry (first_leases known reading leases) (first_extents reading extents)) (held_hand s.geometry (first_extents reading extents) hand) reading b →
+    work_rest after w ≡ waiting_process s known (lease_holds_at s.geometry (first_leases known reading leases) (first_extents reading extents)) (held_hand s.geometry (first_extents reading extents) hand) reading b →
     image_leases tokens ≡ first_leases known reading leases → StartsInside (image_leases tokens) (first_extents reading extents) w → (work_setting w).geometry ≡ s.geometry →
     after.known.sessions ≡ known.sessions →
     FirstIn s after w tokens (first_extents reading extents) (held_hand s.geometry (first_extents reading extents) hand) log reading
 first-in s known after b w log reading leases extents hand tokens waits is same starts tied sessions =
-    let p = position s log in
+    let p = configuration s log in
     let h = waits.begun in
     let holds = after_first s.geometry known reading p.holds in
     let exts = first_extents reading extents in
-    let part = first_asks s known reading h.command p in
-    let part-is : part ≡ work_rest after w = first-part s known b p reading leases extents hand h waits.held waits.hand_is waits.within ∙ sym is in
-    let next = position s (Asked ask.Clock [] (answer.Reading reading) ∷ log) in
+    let process = first_asks s known reading h.command p in
+    let process-is : process ≡ work_rest after w = first-process s known b p reading leases extents hand h waits.held waits.hand_is waits.within ∙ sym is in
+    let next = configuration s (Asked ask.Clock [] (answer.Reading reading) ∷ log) in
     let moved = first-moved s known b log reading h in
     let asks = work-asks after w in
     let place : next.place ≡ In known h.command (work_rest after w) =
-    ap (λ (q : Position). q.place) moved ∙ ap (place_of known h.command) part-is ∙ place-asks known h.command (work_rest after w) asks in
-    let stays : after_part part holds ≡ holds = ap (λ (q : Part End). after_part q holds) part-is ∙ holds-asks (work_rest after w) holds asks in
-    let holding : next.holds ≡ holds = ap (λ (q : Position). q.holds) moved ∙ stays in
+    ap (λ (q : Configuration). q.place) moved ∙ ap (place_of known h.command) process-is ∙ place-asks known h.command (work_rest after w) asks in
+    let stays : after_process process holds ≡ holds = ap (λ (q : Process End). after_process q holds) process-is ∙ holds-asks (work_rest after w) holds asks in
+    let holding : next.holds ≡ holds = ap (λ (q : Configuration). q.holds) moved ∙ stays in
     let agrees : (lease : ℕ) → lease < lease_count s.geometry → next.holds (lease_at lease) ≡ lease_holds_at s.geometry (image_leases tokens) exts (lease_at lease) =
     λ lease within. ap (λ (q : ℕ → Hold). q (lease_at lease)) holding ∙ first-agrees s.geometry known reading leases extents p.holds waits.held lease within
     ∙ ap (λ (q : ℕ → Hold). lease_holds_at s.geometry q exts (lease_at lease)) (sym same) in
@@ -262,54 +262,54 @@ first-in s known after b w log reading leases extents hand tokens waits is same 
         command = h.command;
         place_is = place;
         sessions = sym sessions;
-        inside = subst (λ (o : Option (ℕ × List ℕ)). Inside w next.holds next.sample o) (sym (ap (λ (q : Position). q.found) moved))
+        inside = subst (λ (o : Option (ℕ × List ℕ)). Inside w next.holds next.sample o) (sym (ap (λ (q : Configuration). q.found) moved))
             (starts-inside s.geometry (image_leases tokens) exts w next.holds next.sample tied starts agrees clean);
       };
       held = λ lease within. ap (λ (q : ℕ → Hold). hold_without_claim (q (lease_at lease))) holding
           ∙ first-is-settled (session_at s.geometry known (lease_at lease)) reading (p.holds (lease_at lease))
           ∙ first-agrees s.geometry known reading leases extents p.holds waits.held lease within
           ∙ ap (λ (q : ℕ → Hold). lease_holds_at s.geometry q exts (lease_at lease)) (sym same);
-      in_hand = ap (λ (q : Position). q.hand) moved ∙ ap (λ (q : ℕ → Hold). hand_held s.geometry q p.hand) stays ∙ ap (hand_held s.geometry holds) waits.hand_is
+      in_hand = ap (λ (q : Configuration). q.hand) moved ∙ ap (λ (q : ℕ → Hold). hand_held s.geometry q p.hand) stays ∙ ap (hand_held s.geometry holds) waits.hand_is
           ∙ first-hand s.geometry known reading leases extents p.holds hand waits.held waits.within;
-      no_reply = reply-asks (work_rest after w) asks ∙ ap reply_of (sym part-is) ∙ sym (first-replies s known b p reading h);
-      unfilled = ap (λ (q : Position). q.filled) moved;
+      no_reply = reply-asks (work_rest after w) asks ∙ ap reply_of (sym process-is) ∙ sym (first-replies s known b p reading h);
+      unfilled = ap (λ (q : Configuration). q.filled) moved;
     }
 
 -- a command ends at its first reading
-pub record FirstEnds (s : Setting) (known : Known) (r : Reply) (leases extents : ℕ → Hold) (hand : List ℕ) (log : List Happening) (reading : ℕ) : Type 0 where
-  pub idle : (position s (Asked ask.Clock [] (answer.Reading reading) ∷ log)).place ≡ Idle (known_after r known)
-  pub held : HoldsAs s.geometry (leases_after r leases) (leases_after r extents) (position s (Asked ask.Clock [] (answer.Reading reading) ∷ log)).holds
-  pub in_hand : (position s (Asked ask.Clock [] (answer.Reading reading) ∷ log)).hand ≡ hand_after_reply r hand
-  pub replied : Some r ≡ replies s (answer.Reading reading) (position s log)
-  pub unfilled : (position s (Asked ask.Clock [] (answer.Reading reading) ∷ log)).filled ≡ []
+pub record FirstEnds (s : Setting) (known : Known) (r : Reply) (leases extents : ℕ → Hold) (hand : List ℕ) (log : List BootEntry) (reading : ℕ) : Type 0 where
+  pub idle : (configuration s (Asked ask.Clock [] (answer.Reading reading) ∷ log)).place ≡ Idle (known_after r known)
+  pub held : HoldsAs s.geometry (leases_after r leases) (leases_after r extents) (configuration s (Asked ask.Clock [] (answer.Reading reading) ∷ log)).holds
+  pub in_hand : (configuration s (Asked ask.Clock [] (answer.Reading reading) ∷ log)).hand ≡ hand_after_reply r hand
+  pub replied : Some r ≡ replies s (answer.Reading reading) (configuration s log)
+  pub unfilled : (configuration s (Asked ask.Clock [] (answer.Reading reading) ∷ log)).filled ≡ []
 
-pub first-ends : (s : Setting) (known after : Known) (b : Begun) (r : Reply) (log : List Happening) (reading : ℕ) (leases extents : ℕ → Hold) (hand : List ℕ) (tokens : List (Option (Token Image))) →
+pub first-ends : (s : Setting) (known after : Known) (b : Begun) (r : Reply) (log : List BootEntry) (reading : ℕ) (leases extents : ℕ → Hold) (hand : List ℕ) (tokens : List (Option (Token Image))) →
     BegunStands s known b log leases extents hand →
-    ends r (known_after r after) ≡ waiting_part s known (lease_holds_at s.geometry (first_leases known reading leases) (first_extents reading extents)) (held_hand s.geometry (first_extents reading extents) hand) reading b →
+    ends r (known_after r after) ≡ waiting_process s known (lease_holds_at s.geometry (first_leases known reading leases) (first_extents reading extents)) (held_hand s.geometry (first_extents reading extents) hand) reading b →
     image_leases tokens ≡ first_leases known reading leases →
     FirstEnds s after r (image_leases tokens) (first_extents reading extents) (held_hand s.geometry (first_extents reading extents) hand) log reading
 first-ends s known after b r log reading leases extents hand tokens waits is same =
-    let p = position s log in
+    let p = configuration s log in
     let g = s.geometry in
     let h = waits.begun in
     let exts = first_extents reading extents in
     let holds = after_first g known reading p.holds in
-    let part = first_asks s known reading h.command p in
-    let part-is : part ≡ ends r (known_after r after) = first-part s known b p reading leases extents hand h waits.held waits.hand_is waits.within ∙ sym is in
-    let next = position s (Asked ask.Clock [] (answer.Reading reading) ∷ log) in
+    let process = first_asks s known reading h.command p in
+    let process-is : process ≡ ends r (known_after r after) = first-process s known b p reading leases extents hand h waits.held waits.hand_is waits.within ∙ sym is in
+    let next = configuration s (Asked ask.Clock [] (answer.Reading reading) ∷ log) in
     let moved = first-moved s known b log reading h in
-    let stays : after_part part holds ≡ holds_after_reply r holds = ap (λ (q : Part End). after_part q holds) part-is in
-    let holding : next.holds ≡ holds_after_reply r holds = ap (λ (q : Position). q.holds) moved ∙ stays in
+    let stays : after_process process holds ≡ holds_after_reply r holds = ap (λ (q : Process End). after_process q holds) process-is in
+    let holding : next.holds ≡ holds_after_reply r holds = ap (λ (q : Configuration). q.holds) moved ∙ stays in
     let kept : HoldsAs g (image_leases tokens) exts holds = λ lease within.
     first-is-settled (session_at g known (lease_at lease)) reading (p.holds (lease_at lease))
     ∙ first-agrees g known reading leases extents p.holds waits.held lease within ∙ ap (λ (q : ℕ → Hold). lease_holds_at g q exts (lease_at lease)) (sym same) in
     let now = reply-holds g (image_leases tokens) exts holds r kept in
     record {
-      idle = ap (λ (q : Position). q.place) moved ∙ ap (place_of known h.command) part-is;
+      idle = ap (λ (q : Configuration). q.place) moved ∙ ap (place_of known h.command) process-is;
       held = subst (λ (q : ℕ → Hold). HoldsAs g (leases_after r (image_leases tokens)) (leases_after r exts) q) (sym holding) now;
-      in_hand = ap (λ (q : Position). q.hand) moved ∙ ap (λ (q : ℕ → Hold). hand_held g q p.hand) stays ∙ ap (hand_held g (holds_after_reply r holds)) waits.hand_is
+      in_hand = ap (λ (q : Configuration). q.hand) moved ∙ ap (λ (q : ℕ → Hold). hand_held g q p.hand) stays ∙ ap (hand_held g (holds_after_reply r holds)) waits.hand_is
           ∙ hand-as g (leases_after r (image_leases tokens)) (leases_after r exts) (holds_after_reply r holds) hand now waits.within
           ∙ reply-hand g exts r (held_hand g exts hand) hand refl;
-      replied = ap reply_of (sym part-is) ∙ sym (first-replies s known b p reading h);
-      unfilled = ap (λ (q : Position). q.filled) moved;
+      replied = ap reply_of (sym process-is) ∙ sym (first-replies s known b p reading h);
+      unfilled = ap (λ (q : Configuration). q.filled) moved;
     }

@@ -3,10 +3,10 @@ use Rattle.std.proofs.Common.{◌≡◌, ℕ, ◌+◌, ◌-◌, [], sym, ap, ◌
 use Rattle.plx_base.specs.declared.numbers.Boot.{Boot}
 use Rattle.plx_geom.specs.Geometry.{Geometry, extent_lease, lease_at}
 use Rattle.plx_rules.specs.Ends.{End}
-use Rattle.plx_rules.specs.Part.{Part}
+use Rattle.plx_rules.specs.Process.{Process}
 use Rattle.plx_rules.specs.Holds.{Hold}
 use Rattle.plx_rules.specs.Settings.{Setting}
-use Rattle.plx_rules.specs.Space.{reserve_part, retire_extents}
+use Rattle.plx_rules.specs.Space.{reserve_process, retire_extents}
 use Rattle.plx_alloc.specs.Tables.{hand_numbers, holds_of}
 use Rattle.plx_alloc.specs.Tables.{allocator_setting as space_given}
 use Rattle.plx_alloc.specs.Tables.{extent_holds_at as space_held}
@@ -41,14 +41,14 @@ same-holds h =
 
 -- a reserve
 pub reserve-lent : (h : Holdings) (count : ℕ) →
-    reserve_part (space_given h.setting.appliance.0 h.space) (known_of h) (holds_of h.space) (hand_numbers h.space) count
-    ≡ reserve_part (rules_setting h.setting) (known_of h) (holds_in h) (hand_in h) count
+    reserve_process (space_given h.setting.appliance.0 h.space) (known_of h) (holds_of h.space) (hand_numbers h.space) count
+    ≡ reserve_process (rules_setting h.setting) (known_of h) (holds_in h) (hand_in h) count
 reserve-lent h count =
-    ap (λ (s : Setting). reserve_part s (known_of h) (holds_of h.space) (hand_numbers h.space) count) (same-given h)
+    ap (λ (s : Setting). reserve_process s (known_of h) (holds_of h.space) (hand_numbers h.space) count) (same-given h)
     ∙ reserve-agrees (rules_setting h.setting) (known_of h) (holds_of h.space) (holds_in h) (hand_in h) count (same-holds h)
 
 -- the extents of a retire
-pub retire-lent : (h : Holdings) (rest : Part End) →
+pub retire-lent : (h : Holdings) (rest : Process End) →
     retire_extents (space_given h.setting.appliance.0 h.space) (known_of h) [] (holds_of h.space) (hand_numbers h.space) h.space.geometry.extents 0 rest
     ≡ retire_extents (rules_setting h.setting) (known_of h) [] (holds_in h) (hand_in h) h.setting.geometry.extents 0 rest
 retire-lent h rest =

@@ -16,7 +16,7 @@ use Rattle.plx_rules.specs.Boot.{Fits}
 use Rattle.plx_rules.specs.Commands.{later_of}
 use Rattle.plx_rules.specs.Holds.{Hold, Nothing, Seen, Wrote, Waited, Held, after_answer, hold_after_renewal}
 use Rattle.plx_rules.specs.InUse.{lease_name}
-use Rattle.plx_rules.specs.Part.{bytes_out}
+use Rattle.plx_rules.specs.Process.{bytes_out}
 use Rattle.plx_lease.specs.Renewing.{longer_hold, renewal_ask, renewal_hold, renewal_rest}
 use Rattle.plx_lease.specs.declared.renewal.LeaseRenewal.{LeaseRenewal}
 use Rattle.plx_lease.proofs.Own.{renewed-own}

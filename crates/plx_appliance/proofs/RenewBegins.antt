@@ -2,16 +2,16 @@
 use Rattle.std.proofs.Common.{◌≡◌, ℕ, zero, suc, ◌+◌, ◌-◌, ◌<◌, ◌≤◌, List, refl, sym, ap, ◌∙◌, arith}
 use Rattle.std.specs.Prelude.{Option}
 use Rattle.plx_geom.specs.Geometry.{Geometry, image_lease, lease_at, lease_count}
-use Rattle.plx_rules.specs.Part.{Part}
-use Rattle.plx_rules.specs.Parts.{followed_by}
-use Rattle.plx_rules.specs.Commands.{attached_uses, later_of, renew_part, renewal, session_use}
+use Rattle.plx_rules.specs.Process.{Process}
+use Rattle.plx_rules.specs.Processes.{followed_by}
+use Rattle.plx_rules.specs.Commands.{attached_uses, later_of, renew_process, renewal, session_use}
 use Rattle.plx_rules.specs.Ends.{End, in_time}
 use Rattle.plx_rules.specs.Holds.{Hold}
 use Rattle.plx_rules.specs.InUse.{InUse, first_reached}
 use Rattle.plx_rules.specs.Session.{Known}
 use Rattle.plx_rules.specs.Settings.{Setting}
 use Rattle.plx_rules.specs.Times.{term}
-use Rattle.law_run.specs.Renewals.{renewal_part}
+use Rattle.law_run.specs.Renewals.{renewal_process}
 use Rattle.plx_lease.specs.Following.{after_renewal}
 use Rattle.plx_lease.specs.Renewing.{renewal_hold}
 use Rattle.plx_lease.specs.declared.renewal.LeaseRenewal.{LeaseRenewal}
@@ -20,11 +20,11 @@ use Rattle.plx_appliance.specs.Tokens.{lease_holds_at}
 use Rattle.plx_appliance.proofs.Entered.{held-image}
 
 -- the renewal of a lease that is held
-pub renewal-some : (s : Setting) (known : Known) (reading lease : ℕ) (hold : Hold) (rest : Part End) (r : LeaseRenewal) → hold ≡ renewal_hold r → r.number ≡ lease →
+pub renewal-some : (s : Setting) (known : Known) (reading lease : ℕ) (hold : Hold) (rest : Process End) (r : LeaseRenewal) → hold ≡ renewal_hold r → r.number ≡ lease →
     r.later ≡ later_of r.until (reading + term) → renewal_then s known r rest ≡ renewal s known reading lease hold rest
 renewal-some s known reading lease hold rest r is number later =
-    ap (λ (n : ℕ). followed_by (renewal_part n r.claim r.until r.later) (after_renewal s known n rest)) number
-    ∙ ap (λ (end : ℕ). followed_by (renewal_part lease r.claim r.until end) (after_renewal s known lease rest)) later
+    ap (λ (n : ℕ). followed_by (renewal_process n r.claim r.until r.later) (after_renewal s known n rest)) number
+    ∙ ap (λ (end : ℕ). followed_by (renewal_process lease r.claim r.until end) (after_renewal s known lease rest)) later
     ∙ sym (ap (λ (t : Hold). renewal s known reading lease t rest) is)
 
 -- the lease of an image, and those in use after it
@@ -57,16 +57,16 @@ uses-agree known g holds others (suc left) image h within =
     ∙ ap (session_use (known.sessions image) (others (lease_at (image_lease image))) image) (uses-agree known g holds others left (image + 1) h (omega (arith, within)))
 
 renewals-agree : (s : Setting) (known : Known) (g : Geometry) (holds others : ℕ → Hold) (reading left lease : ℕ) → ((lease : ℕ) → lease < lease_count g → holds (lease_at lease) ≡ others (lease_at lease)) →
-    lease + left ≤ lease_count g → renew_part s known holds reading left lease ≡ renew_part s known others reading left lease
+    lease + left ≤ lease_count g → renew_process s known holds reading left lease ≡ renew_process s known others reading left lease
 renewals-agree s known g holds others reading zero lease h within = refl
 renewals-agree s known g holds others reading (suc left) lease h within =
-    ap (λ (hold : Hold). renewal s known reading lease hold (renew_part s known holds reading left (lease + 1))) (h lease (omega (arith, within)))
+    ap (λ (hold : Hold). renewal s known reading lease hold (renew_process s known holds reading left (lease + 1))) (h lease (omega (arith, within)))
     ∙ ap (renewal s known reading lease (others (lease_at lease))) (renewals-agree s known g holds others reading left (lease + 1) h (omega (arith, within)))
 
 pub renew-agrees : (s : Setting) (known : Known) (holds others : ℕ → Hold) (reading : ℕ) → ((lease : ℕ) → lease < lease_count s.geometry → holds (lease_at lease) ≡ others (lease_at lease)) →
-    in_time s known (attached_uses known holds s.geometry.images 0) reading (renew_part s known holds reading (lease_count s.geometry) 0)
-    ≡ in_time s known (attached_uses known others s.geometry.images 0) reading (renew_part s known others reading (lease_count s.geometry) 0)
+    in_time s known (attached_uses known holds s.geometry.images 0) reading (renew_process s known holds reading (lease_count s.geometry) 0)
+    ≡ in_time s known (attached_uses known others s.geometry.images 0) reading (renew_process s known others reading (lease_count s.geometry) 0)
 renew-agrees s known holds others reading h =
     let g = s.geometry in
-    ap (λ (uses : List InUse). in_time s known uses reading (renew_part s known holds reading (lease_count g) 0)) (uses-agree known g holds others g.images 0 h (omega arith))
+    ap (λ (uses : List InUse). in_time s known uses reading (renew_process s known holds reading (lease_count g) 0)) (uses-agree known g holds others g.images 0 h (omega arith))
     ∙ ap (in_time s known (attached_uses known others g.images 0) reading) (renewals-agree s known g holds others reading (lease_count g) 0 h (omega arith))

@@ -2,7 +2,7 @@
 use Rattle.std.proofs.Common.{◌≡◌, ◌≢◌, ℕ, ◌+◌, ◌<◌, List, [], ◌∷◌, ◌++◌, refl, ◌∙◌, arith}
 use Rattle.plx_disk.specs.declared.ask.Answer.{Answer}
 use Rattle.plx_disk.specs.declared.ask.Answer.TheVariants as answer
-use Rattle.plx_rules.specs.Part.{Part, Ends, answered}
+use Rattle.plx_rules.specs.Process.{Process, Ends, answered}
 use Rattle.plx_rules.specs.Ends.{End}
 use Rattle.plx_rules.specs.Holds.{Hold}
 use Rattle.plx_rules.specs.Session.{Known}
@@ -14,7 +14,7 @@ use Rattle.plx_appliance.specs.Renews.{AreHeld, renew_goes, renewal_then, renewa
 use Rattle.plx_appliance.specs.declared.renew.Renew.{Renew}
 
 -- the last one is asked first
-pub renewals-last : (s : Setting) (known : Known) (others : List LeaseRenewal) (r : LeaseRenewal) (rest : Part End) →
+pub renewals-last : (s : Setting) (known : Known) (others : List LeaseRenewal) (r : LeaseRenewal) (rest : Process End) →
     renewals_then s known (others ++ r ∷ []) rest ≡ renewal_then s known r (renewals_then s known others rest)
 renewals-last s known [] r rest = refl
 renewals-last s known (x ∷ others) r rest = renewals-last s known others r (renewal_then s known x rest)

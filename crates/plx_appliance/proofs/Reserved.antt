@@ -15,7 +15,7 @@ use Rattle.plx_rules.specs.Claims.{ClaimEnd, ClaimHeld, ClaimBusy, ClaimLost, Cl
 use Rattle.plx_rules.specs.Hands.{found_by, hand_answered}
 use Rattle.plx_rules.specs.Holds.{Hold, Nothing, Seen, Wrote, Waited, Held, after_answer, sample_of, hold_after_reading}
 use Rattle.plx_rules.specs.Machines.{Asks, AsksOnly}
-use Rattle.plx_rules.specs.Part.{bytes_out, standing}
+use Rattle.plx_rules.specs.Process.{bytes_out, standing}
 use Rattle.plx_rules.proofs.Nested.{asks-followed, bytes-followed, standing-followed}
 use Rattle.plx_lease.specs.ClaimEnds.{claim_end}
 use Rattle.plx_lease.specs.Claiming.{claim_rest}

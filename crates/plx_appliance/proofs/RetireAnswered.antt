@@ -10,7 +10,7 @@ use Rattle.plx_disk.specs.declared.ask.Ask.TheVariants as ask
 use Rattle.plx_disk.specs.declared.ask.Answer.{Answer}
 use Rattle.plx_disk.specs.declared.ask.Answer.TheVariants as answer
 use Rattle.plx_geom.specs.Geometry.{Geometry, extent_lease, image_lease, lease_at, map_at}
-use Rattle.plx_rules.specs.Part.{bytes_out, standing}
+use Rattle.plx_rules.specs.Process.{bytes_out, standing}
 use Rattle.plx_rules.specs.Boot.{Fits}
 use Rattle.plx_rules.specs.Hands.{found_by, hand_answered, hand_from, hand_written, set_since, blocks_without}
 use Rattle.plx_rules.specs.Holds.{Hold, after_answer}

@@ -7,7 +7,7 @@ use Rattle.plx_rules.specs.Ends.{ends}
 use Rattle.plx_rules.specs.Holds.{Hold}
 use Rattle.plx_rules.specs.Session.{Known}
 use Rattle.plx_rules.specs.Settings.{Setting}
-use Rattle.plx_rules.specs.Space.{retire_extents, retire_images, retire_lease, retire_part}
+use Rattle.plx_rules.specs.Space.{retire_extents, retire_images, retire_lease, retire_process}
 use Rattle.plx_alloc.specs.Tables.{hand_numbers, holds_of}
 use Rattle.plx_alloc.specs.Tables.{allocator_setting as space_given}
 use Rattle.plx_appliance.specs.Giving.{rules_setting}
@@ -59,7 +59,7 @@ retire-all s known leases extents =
 pub retire-whole : (h : Holdings) →
     retire_extents (space_given h.setting.appliance.0 h.space) (known_of h) [] (holds_of h.space) (hand_numbers h.space) h.space.geometry.extents 0
     (images_from (rules_setting h.setting) (known_of h) (leases_in h) 0)
-    ≡ retire_part (rules_setting h.setting) (known_of h) (holds_in h) (hand_in h)
+    ≡ retire_process (rules_setting h.setting) (known_of h) (holds_in h) (hand_in h)
 retire-whole h =
     retire-lent h (images_from (rules_setting h.setting) (known_of h) (leases_in h) 0)
     ∙ ap (retire_extents (rules_setting h.setting) (known_of h) [] (holds_in h) (hand_in h) h.setting.geometry.extents 0)

@@ -4,7 +4,7 @@ use Rattle.std.specs.Prelude.{ℕ, List, [], Option, Some, None}
 use Rattle.std.specs.Prelude.{Result, Ok, Err}
 use Rattle.plx_commands.specs.declared.reply.Reply.{Reply}
 use Rattle.plx_commands.specs.declared.reply.Reply.TheVariants as reply
-use Rattle.plx_rules.specs.Part.{Part}
+use Rattle.plx_rules.specs.Process.{Process}
 use Rattle.plx_rules.specs.Ends.{End, ends}
 use Rattle.plx_rules.specs.Holds.{Hold, Nothing}
 use Rattle.plx_rules.specs.Session.{Known}
@@ -20,11 +20,11 @@ hand_after_reply (reply.Lost lease until reading) hand = []
 hand_after_reply other hand = hand
 
 -- what a machine leaves: its rest, or the end with this reply
-abbrev pub part_after : Part End → Known → Option Reply → Part End
-part_after part known None = part
-part_after part known (Some reply) = ends reply (known_after reply known)
+abbrev pub process_after : Process End → Known → Option Reply → Process End
+process_after process known None = process
+process_after process known (Some reply) = ends reply (known_after reply known)
 
 -- what a machine that is entered leaves: its rest, or the end with this refusal
-abbrev pub enter_part : {M : Type 0} → (Known → M → Part End) → Known → Result M Reply → Part End
-enter_part rest known (Ok machine) = rest known machine
-enter_part rest known (Err reply) = ends reply (known_after reply known)
+abbrev pub enter_process : {M : Type 0} → (Known → M → Process End) → Known → Result M Reply → Process End
+enter_process rest known (Ok machine) = rest known machine
+enter_process rest known (Err reply) = ends reply (known_after reply known)

@@ -1,7 +1,7 @@
 -- A command at its first reading.
 use Rattle.std.specs.Prelude.{◌≡◌, IfOk, Result}
 use Rattle.plx_commands.specs.declared.reply.Reply.{Reply}
-use Rattle.plx_rules.specs.Part.{Part}
+use Rattle.plx_rules.specs.Process.{Process}
 use Rattle.plx_rules.specs.Ends.{End}
 use Rattle.plx_appliance.specs.Lent.{lent_of}
 use Rattle.plx_appliance.specs.RenewStarts.{leases_in}
@@ -14,8 +14,8 @@ use Rattle.plx_appliance.specs.declared.work.Work.{Work}
 use Rattle.plx_appliance.specs.declared.work.Work.TheVariants as work
 
 -- a command asks this from its first reading on, its machine is of this boot and begins rightly, and what is kept stays
-pub record Enters (old new : Holdings) (asked : Part End) (result : Result Work Reply) : Type 0 where
-  pub part : work_entered (lent_of new) result ≡ asked
+pub record Enters (old new : Holdings) (asked : Process End) (result : Result Work Reply) : Type 0 where
+  pub process : work_entered (lent_of new) result ≡ asked
   pub leases : leases_in new ≡ leases_in old
   pub extents : extents_in new ≡ extents_in old
   pub hand : hand_in new ≡ hand_in old

@@ -1,13 +1,13 @@
 -- What a load still asks, by where it stands and by what is known.
 use Rattle.std.specs.Prelude.{◌+◌, ◌-◌, ℕ, List}
 use Rattle.plx_geom.specs.Geometry.{descriptor_at, data_at}
-use Rattle.plx_rules.specs.Part.{Part}
+use Rattle.plx_rules.specs.Process.{Process}
 use Rattle.plx_rules.specs.Journaled.{Journaled}
 use Rattle.plx_rules.specs.Attaching.{after_load, attach_ends, image_use, load_image}
-use Rattle.plx_rules.specs.Ends.{End, damaged_part}
+use Rattle.plx_rules.specs.Ends.{End, damaged_process}
 use Rattle.plx_rules.specs.Journal.{finding}
-use Rattle.plx_rules.specs.Loading.{LoadEnd, load_found, load_part, load_read}
-use Rattle.plx_rules.specs.Parts.{followed_by}
+use Rattle.plx_rules.specs.Loading.{LoadEnd, load_found, load_process, load_read}
+use Rattle.plx_rules.specs.Processes.{followed_by}
 use Rattle.plx_rules.specs.Session.{Known, with_write_by_number}
 use Rattle.plx_appliance.specs.Giving.{rules_setting}
 use Rattle.plx_appliance.specs.Kept.{session_of, writes_of}
@@ -20,50 +20,50 @@ abbrev pub loaded_write : (number vblock : ℕ) → List ℕ → Journaled
 loaded_write number vblock bytes = record { number = number; vblock = vblock; block = bytes }
 
 -- the journal from a slot on
-abbrev pub slots_part : Load → (next : ℕ) → List Journaled → Part LoadEnd
-slots_part l next writes = load_part l.image.setting.geometry l.image.slot.0 l.session.image (l.slots - next) next writes
+abbrev pub slots_process : Load → (next : ℕ) → List Journaled → Process LoadEnd
+slots_process l next writes = load_process l.image.setting.geometry l.image.slot.0 l.session.image (l.slots - next) next writes
 
 -- the data of a slot whose descriptor counts, and the journal after it
-abbrev pub data_part : Load → (number vblock : ℕ) → Part LoadEnd
-data_part l number vblock =
+abbrev pub data_process : Load → (number vblock : ℕ) → Process LoadEnd
+data_process l number vblock =
     load_read (data_at l.image.setting.geometry l.image.slot.0 l.next) (λ data'.
-    slots_part l (l.next + 1) (with_write_by_number (loaded_write number vblock data') (writes_of l.session.journal)))
+    slots_process l (l.next + 1) (with_write_by_number (loaded_write number vblock data') (writes_of l.session.journal)))
 
 -- what is asked once the descriptor of a slot was read
-abbrev pub found_part : Load → List ℕ → Part LoadEnd
-found_part l bytes =
+abbrev pub found_process : Load → List ℕ → Process LoadEnd
+found_process l bytes =
     load_found (descriptor_at l.image.setting.geometry l.image.slot.0 l.next) (finding l.session.image l.image.setting.geometry.slots l.next bytes)
-    (slots_part l (l.next + 1) (writes_of l.session.journal))
-    (λ number vblock. data_part l number vblock)
+    (slots_process l (l.next + 1) (writes_of l.session.journal))
+    (λ number vblock. data_process l number vblock)
 
 -- the read of a slot, and what is asked after it
-abbrev pub slot_part : Load → Part LoadEnd
-slot_part l = load_read (descriptor_at l.image.setting.geometry l.image.slot.0 l.next) (λ bytes. found_part l bytes)
+abbrev pub slot_process : Load → Process LoadEnd
+slot_process l = load_read (descriptor_at l.image.setting.geometry l.image.slot.0 l.next) (λ bytes. found_process l bytes)
 
 -- the end of the load
-abbrev pub and_ends : Known → Load → Part LoadEnd → Part End
-and_ends known l part = followed_by part (after_load (rules_setting l.image.setting) known l.image.slot.0 l.image.until l.session.image)
+abbrev pub and_ends : Known → Load → Process LoadEnd → Process End
+and_ends known l process = followed_by process (after_load (rules_setting l.image.setting) known l.image.slot.0 l.image.until l.session.image)
 
 -- what is left of a load once it has these writes of the slots before the next one
-abbrev pub loaded_rest : Known → Load → (next : ℕ) → List Journaled → Part End
-loaded_rest known l next writes = and_ends known l (slots_part l next writes)
+abbrev pub loaded_rest : Known → Load → (next : ℕ) → List Journaled → Process End
+loaded_rest known l next writes = and_ends known l (slots_process l next writes)
 
 -- what is left of a load once these bytes of a descriptor were read
-abbrev pub found_rest : Known → Load → List ℕ → Part End
-found_rest known l bytes = and_ends known l (found_part l bytes)
+abbrev pub found_rest : Known → Load → List ℕ → Process End
+found_rest known l bytes = and_ends known l (found_process l bytes)
 
 -- bytes outside the format were read at a block
-abbrev pub damaged_rest : Known → Load → (block : ℕ) → Part End
-damaged_rest known l block = damaged_part (rules_setting l.image.setting) known (image_use l.image.slot.0 l.image.until) block
+abbrev pub damaged_rest : Known → Load → (block : ℕ) → Process End
+damaged_rest known l block = damaged_process (rules_setting l.image.setting) known (image_use l.image.slot.0 l.image.until) block
 
 -- what is left of a load, by where it stands
-abbrev pub load_at : LoadAt → Known → Load → Part End
+abbrev pub load_at : LoadAt → Known → Load → Process End
 load_at load.Record known l = load_image (rules_setting l.image.setting) known l.image.slot.0 l.image.until
-load_at load.Slot known l = and_ends known l (slot_part l)
-load_at (load.Data d) known l = and_ends known l (data_part l d.number d.vblock)
+load_at load.Slot known l = and_ends known l (slot_process l)
+load_at (load.Data d) known l = and_ends known l (data_process l d.number d.vblock)
 load_at (load.Damaged block) known l = damaged_rest known l block.0
 load_at load.Last known l = attach_ends (rules_setting l.image.setting) known l.image.slot.0 l.image.until (session_of l.session)
 
 -- what is left of a load
-abbrev pub load_rest : Known → Load → Part End
+abbrev pub load_rest : Known → Load → Process End
 load_rest known l = load_at l.at known l

@@ -2,8 +2,8 @@
 use Rattle.std.specs.Prelude.{◌≡◌, ℕ, List, Option}
 use Rattle.plx_commands.specs.declared.reply.Reply.TheVariants as reply
 use Rattle.plx_geom.specs.Geometry.{lease_at, lease_count}
-use Rattle.plx_rules.specs.Part.{Part}
-use Rattle.plx_rules.specs.Commands.{attached_uses, renew_part, renewal, session_use}
+use Rattle.plx_rules.specs.Process.{Process}
+use Rattle.plx_rules.specs.Commands.{attached_uses, renew_process, renewal, session_use}
 use Rattle.plx_rules.specs.Ends.{End, ends, in_time}
 use Rattle.plx_rules.specs.Holds.{Hold}
 use Rattle.plx_rules.specs.InUse.{InUse, first_reached}
@@ -19,11 +19,11 @@ use Rattle.plx_appliance.specs.Tokens.{lease_holds_at, image_leases}
 use Rattle.plx_appliance.specs.declared.holdings.Holdings.{Holdings}
 
 -- the renewals of all leases that are held
-abbrev pub all_renewals : Setting → Known → (holds : ℕ → Hold) → (reading : ℕ) → Part End
-all_renewals s known holds reading = renew_part s known holds reading (lease_count s.geometry) 0
+abbrev pub all_renewals : Setting → Known → (holds : ℕ → Hold) → (reading : ℕ) → Process End
+all_renewals s known holds reading = renew_process s known holds reading (lease_count s.geometry) 0
 
 -- they are asked unless the reading has reached the lease of an attached image
-abbrev pub renew_command : Setting → Known → (holds : ℕ → Hold) → (reading : ℕ) → Part End
+abbrev pub renew_command : Setting → Known → (holds : ℕ → Hold) → (reading : ℕ) → Process End
 renew_command s known holds reading =
     in_time s known (attached_uses known holds s.geometry.images 0) reading (all_renewals s known holds reading)
 
@@ -46,10 +46,10 @@ IsReached h reading image others found = (uses : List InUse) → use_if others �
 
 -- this is the renewal of a lease, where it is held
 abbrev pub IsRenewal : Holdings → (reading lease : ℕ) → Option LeaseRenewal → Type 0
-IsRenewal h reading lease found = (s : Setting) (known : Known) (rest : Part End) →
+IsRenewal h reading lease found = (s : Setting) (known : Known) (rest : Process End) →
     renewal_if s known found rest ≡ renewal s known reading lease (holds_in h (lease_at lease)) rest
 
 -- these are the renewals of all leases that are held
 abbrev pub AreRenewals : Holdings → (reading : ℕ) → List LeaseRenewal → Type 0
 AreRenewals h reading list = (s : Setting) (known : Known) →
-    renewals_then s known list (ends reply.Renewed known) ≡ renew_part s known (holds_in h) reading (lease_count h.setting.geometry) 0
+    renewals_then s known list (ends reply.Renewed known) ≡ renew_process s known (holds_in h) reading (lease_count h.setting.geometry) 0

@@ -11,10 +11,10 @@ use Rattle.plx_disk.specs.declared.ask.Answer.{Answer}
 use Rattle.plx_disk.specs.declared.ask.Answer.TheVariants as answer
 use Rattle.plx_geom.specs.Geometry.{lease_count}
 use Rattle.plx_rules.specs.InUse.{lease_name}
-use Rattle.plx_rules.specs.Part.{Part}
+use Rattle.plx_rules.specs.Process.{Process}
 use Rattle.plx_rules.specs.Ends.{End, ends}
 use Rattle.plx_rules.specs.Holds.{Hold}
-use Rattle.plx_rules.specs.Parts.{followed_by}
+use Rattle.plx_rules.specs.Processes.{followed_by}
 use Rattle.plx_rules.specs.Session.{Known}
 use Rattle.plx_rules.specs.Settings.{Setting}
 use Rattle.plx_lease.specs.Following.{after_renewal}
@@ -25,16 +25,16 @@ use Rattle.plx_appliance.specs.Lent.{Lent}
 use Rattle.plx_appliance.specs.declared.renew.Renew.{Renew}
 
 -- a renewal, and what comes after it
-abbrev pub renewal_then : Setting → Known → LeaseRenewal → (rest : Part End) → Part End
+abbrev pub renewal_then : Setting → Known → LeaseRenewal → (rest : Process End) → Process End
 renewal_then s known r rest = followed_by (renewal_rest r) (after_renewal s known r.number rest)
 
 -- a renewal, where there is one
-abbrev pub renewal_if : Setting → Known → Option LeaseRenewal → (rest : Part End) → Part End
+abbrev pub renewal_if : Setting → Known → Option LeaseRenewal → (rest : Process End) → Process End
 renewal_if s known None rest = rest
 renewal_if s known (Some r) rest = renewal_then s known r rest
 
 -- renewals, of which the last one is asked first
-abbrev pub renewals_then : Setting → Known → List LeaseRenewal → (rest : Part End) → Part End
+abbrev pub renewals_then : Setting → Known → List LeaseRenewal → (rest : Process End) → Process End
 renewals_then s known [] rest = rest
 renewals_then s known (r ∷ others) rest = renewals_then s known others (renewal_then s known r rest)
 
@@ -44,7 +44,7 @@ with_next list None = list
 with_next list (Some r) = list ++ r ∷ []
 
 -- a renew: the renewal that asks, and those that are left
-abbrev pub renew_rest : Known → Renew → Part End
+abbrev pub renew_rest : Known → Renew → Process End
 renew_rest known r =
     renewal_then (rules_setting r.setting) known r.renewal (renewals_then (rules_setting r.setting) known r.left.items (ends reply.Renewed known))
 

@@ -18,7 +18,7 @@ use Rattle.plx_rules.specs.Boot.{Fits}
 use Rattle.plx_rules.specs.Ends.{End, ends}
 use Rattle.plx_rules.specs.Hands.{found_by, hand_answered}
 use Rattle.plx_rules.specs.Holds.{Hold}
-use Rattle.plx_rules.specs.Part.{Part}
+use Rattle.plx_rules.specs.Process.{Process}
 use Rattle.plx_rules.specs.Session.{Session}
 use Rattle.plx_appliance.specs.Holding.{hold_without_claim}
 use Rattle.plx_appliance.specs.Lent.{Lent}
@@ -35,7 +35,7 @@ outer_of setting sessions = record {
 }
 
 -- what a reserve still asks
-abbrev pub reserve_work_rest : Lent → Reserve → Part End
+abbrev pub reserve_work_rest : Lent → Reserve → Process End
 reserve_work_rest lent r = take_rest (outer_of r.setting lent.known.sessions) lent.space r.work
 
 -- of an extent's lease no claim is under way

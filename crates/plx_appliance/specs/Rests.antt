@@ -4,7 +4,7 @@ use Rattle.plx_base.specs.declared.write_kind.WriteKind.TheVariants as kind
 use Rattle.plx_commands.specs.declared.reply.Reply.{Reply}
 use Rattle.plx_commands.specs.declared.reply.Reply.TheVariants as reply
 use Rattle.plx_geom.specs.Geometry.{image_lease, lease_at, record_at, descriptor_at, data_at}
-use Rattle.plx_rules.specs.Part.{Part}
+use Rattle.plx_rules.specs.Process.{Process}
 use Rattle.plx_rules.specs.Journaled.{Journaled}
 use Rattle.plx_rules.specs.Attaching.{image_use}
 use Rattle.plx_rules.specs.Ends.{End, ends, write_then, ends_in_time}
@@ -29,7 +29,7 @@ abbrev pub leased_use : Leased → InUse
 leased_use l = record { lease = image_lease l.slot.0; until = l.until }
 
 -- a read
-abbrev pub read_rest : Known → Read → Part End
+abbrev pub read_rest : Known → Read → Process End
 read_rest known r = ends_in_time (rules_setting r.image.setting) known (image_use r.image.slot.0 r.image.until) (reply.Data r.payload) known
 
 -- what the journal has of a write
@@ -41,29 +41,29 @@ abbrev pub known_with_write : Known → (slots image : ℕ) → Journaled → Kn
 known_with_write known slots image write = with_session known image (with_one_more slots (known.sessions image) write)
 
 -- what is left of a write at its last clock reading
-abbrev pub write_last : Known → Write → Part End
+abbrev pub write_last : Known → Write → Process End
 write_last known w =
     ends_in_time (rules_setting w.image.setting) known (image_use w.image.slot.0 w.image.until) (reply.Written w.number)
     (known_with_write known w.image.setting.geometry.slots w.image.slot.0 (journal_write w))
 
 -- what is left of it at the write of its descriptor
-abbrev pub write_commit : Known → Write → Part End
+abbrev pub write_commit : Known → Write → Process End
 write_commit known w =
     write_then (rules_setting w.image.setting) known (leased_use w.image) kind.JCommit (descriptor_at w.image.setting.geometry w.image.slot.0 w.index) w.spelled (write_last known w)
 
 -- what is left of it at the write of its data
-abbrev pub write_data : Known → Write → Part End
+abbrev pub write_data : Known → Write → Process End
 write_data known w =
     write_then (rules_setting w.image.setting) known (leased_use w.image) kind.JData (data_at w.image.setting.geometry w.image.slot.0 w.index) w.block (write_commit known w)
 
 -- what is left of a write, by where it stands
-abbrev pub write_at : WriteAt → Known → Write → Part End
+abbrev pub write_at : WriteAt → Known → Write → Process End
 write_at write.Data known w = write_data known w
 write_at write.Commit known w = write_commit known w
 write_at write.Last known w = write_last known w
 
 -- what is left of a write
-abbrev pub write_rest : Known → Write → Part End
+abbrev pub write_rest : Known → Write → Process End
 write_rest known w = write_at w.at known w
 
 -- the Ok of a create or a delete
@@ -72,27 +72,27 @@ done_reply done.Created = reply.Created
 done_reply done.Deleted = reply.Deleted
 
 -- what is left of a create or a delete at its last clock reading
-abbrev pub record_last : Known → Record → Part End
+abbrev pub record_last : Known → Record → Process End
 record_last known r =
     ends_in_time (rules_setting r.image.setting) known (image_use r.image.slot.0 r.image.until) (done_reply r.done)
     (with_session known r.image.slot.0 (new_session_if (known.sessions r.image.slot.0) r.made))
 
 -- what is left of it at the write of the record
-abbrev pub record_first : Known → Record → Part End
+abbrev pub record_first : Known → Record → Process End
 record_first known r =
     write_then (rules_setting r.image.setting) known (leased_use r.image) kind.Record (record_at r.image.setting.geometry r.image.slot.0) r.spelled (record_last known r)
 
 -- what is left of a create or a delete, by where it stands
-abbrev pub record_stage : RecordAt → Known → Record → Part End
+abbrev pub record_stage : RecordAt → Known → Record → Process End
 record_stage record_at'.First known r = record_first known r
 record_stage record_at'.Last known r = record_last known r
 
 -- what is left of a create or a delete
-abbrev pub record_rest : Known → Record → Part End
+abbrev pub record_rest : Known → Record → Process End
 record_rest known r = record_stage r.at known r
 
 -- a detach
-abbrev pub detach_rest : Known → Detach → Part End
+abbrev pub detach_rest : Known → Detach → Process End
 detach_rest known d =
     write_then (rules_setting d.image.setting) known (leased_use d.image) kind.Release (lease_at (image_lease d.image.slot.0)) d.spelled
     (ends reply.Detached (with_session known d.image.slot.0 None))

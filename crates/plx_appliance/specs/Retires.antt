@@ -15,13 +15,13 @@ use Rattle.plx_disk.specs.declared.ask.Answer.{Answer}
 use Rattle.plx_geom.specs.Geometry.{Geometry, image_lease}
 use Rattle.plx_rules.specs.Boot.{Fits}
 use Rattle.plx_rules.specs.Hands.{found_by, hand_answered}
-use Rattle.plx_rules.specs.Part.{Part, bytes_out}
+use Rattle.plx_rules.specs.Process.{Process, bytes_out}
 use Rattle.plx_rules.specs.Ends.{End, ends}
 use Rattle.plx_rules.specs.Holds.{Hold}
 use Rattle.plx_rules.specs.Session.{Known}
 use Rattle.plx_rules.specs.Settings.{Setting}
 use Rattle.plx_rules.specs.Space.{release_then, retire_images, retire_lease}
-use Rattle.plx_appliance.specs.Ending.{enter_part, known_after}
+use Rattle.plx_appliance.specs.Ending.{enter_process, known_after}
 use Rattle.plx_appliance.specs.Giving.{rules_setting}
 use Rattle.plx_appliance.specs.Kept.{known_by}
 use Rattle.plx_appliance.specs.Lent.{Lent}
@@ -39,28 +39,28 @@ use Rattle.plx_appliance.specs.declared.setting.Setting.{Setting as Own}
 -- ---- the images
 
 -- what is asked of the images from one on, by their leases; the root's lease is never held
-abbrev pub images_from : Setting → Known → (leases : ℕ → Hold) → (image : ℕ) → Part End
+abbrev pub images_from : Setting → Known → (leases : ℕ → Hold) → (image : ℕ) → Process End
 images_from s known leases image = retire_images s known (λ block. leases (block - 2)) (s.geometry.images - image) image (ends reply.Retired known)
 
 -- the release of the lease of an image, and those after it
-abbrev pub image_rest : Setting → (leases : ℕ → Hold) → Known → Leased → Part End
+abbrev pub image_rest : Setting → (leases : ℕ → Hold) → Known → Leased → Process End
 image_rest s leases known image = release_then s known (leased_use image) (images_from s known leases (image.slot.0 + 1))
 
 -- a lease that is due is released, where there is one
-abbrev pub due_if : Setting → Known → Option Leased → (rest : Part End) → Part End
+abbrev pub due_if : Setting → Known → Option Leased → (rest : Process End) → Process End
 due_if s known None rest = rest
 due_if s known (Some image) rest = release_then s known (leased_use image) rest
 
 -- this is the lease of an image, where it is due
 abbrev pub IsDue : Own → Sessions → Leases → (image : ℕ) → Option Leased → Type 0
-IsDue setting sessions leases image found = (claims : ℕ) (rest : Part End) →
+IsDue setting sessions leases image found = (claims : ℕ) (rest : Process End) →
     due_if (rules_setting setting) (known_by sessions claims) found rest
     ≡ retire_lease (rules_setting setting) (known_by sessions claims) (image_lease image) ((known_by sessions claims).sessions image) (image_leases leases.leases.items image) rest
 
 -- this is the image whose lease is due next, of images from one on, or the reply once none is left
 abbrev pub IsNextDue : Own → Sessions → Leases → (from : ℕ) → Result Leased Reply → Type 0
 IsNextDue setting sessions leases from next = (claims : ℕ) →
-    enter_part (image_rest (rules_setting setting) (image_leases leases.leases.items)) (known_by sessions claims) next
+    enter_process (image_rest (rules_setting setting) (image_leases leases.leases.items)) (known_by sessions claims) next
     ≡ images_from (rules_setting setting) (known_by sessions claims) (image_leases leases.leases.items) from
 
 -- ---- the stages
@@ -70,16 +70,16 @@ abbrev pub around_of : Setting → (appliance : ℕ) → Known → (leases : ℕ
 around_of s appliance known leases = record { appliance = appliance; sessions = known.sessions; rest = images_from s known leases 0 }
 
 -- what a retire still asks: of the extents and then of the images, or the release of an image's lease and those after it
-abbrev pub retire_stage_rest : RetireStage → Lent → Retire → Part End
+abbrev pub retire_stage_rest : RetireStage → Lent → Retire → Process End
 retire_stage_rest (stage.Extents m) lent r = extents_rest (around_of (rules_setting r.setting) r.setting.appliance.0 lent.known lent.leases) lent.space m
 retire_stage_rest (stage.Image image) lent r = image_rest (rules_setting r.setting) lent.leases lent.known image
 
 -- what a retire still asks, at its stage
-abbrev pub retire_images_rest : Lent → Retire → Part End
+abbrev pub retire_images_rest : Lent → Retire → Process End
 retire_images_rest lent r = retire_stage_rest r.stage lent r
 
 -- what is left once a retire had its first reading: its rest, or its end with this reply
-abbrev pub retire_entered : Lent → Result Retire Reply → Part End
+abbrev pub retire_entered : Lent → Result Retire Reply → Process End
 retire_entered lent (Ok r) = retire_images_rest lent r
 retire_entered lent (Err reply) = ends reply (known_after reply lent.known)
 

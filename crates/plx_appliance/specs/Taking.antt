@@ -1,13 +1,13 @@
 -- What is asked of an image whose lease is held.
 use Rattle.std.specs.Prelude.{ℕ, Result, Ok, Err}
 use Rattle.plx_commands.specs.declared.reply.Reply.{Reply}
-use Rattle.plx_rules.specs.Part.{Part}
+use Rattle.plx_rules.specs.Process.{Process}
 use Rattle.plx_rules.specs.Ends.{End, ends}
 use Rattle.plx_rules.specs.Session.{Known}
 use Rattle.plx_appliance.specs.Ending.{known_after}
 use Rattle.plx_appliance.specs.declared.leased.Leased.{Leased}
 
 -- what is asked by the end of the lease, or the end with the refusal
-abbrev pub leased_part : (ℕ → Part End) → Known → Result Leased Reply → Part End
-leased_part rest known (Ok image) = rest image.until
-leased_part rest known (Err reply) = ends reply (known_after reply known)
+abbrev pub leased_process : (ℕ → Process End) → Known → Result Leased Reply → Process End
+leased_process rest known (Ok image) = rest image.until
+leased_process rest known (Err reply) = ends reply (known_after reply known)

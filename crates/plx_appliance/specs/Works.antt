@@ -5,7 +5,7 @@ use Rattle.plx_alloc.specs.Suiting.{SuitsReserve}
 use Rattle.plx_alloc.specs.declared.allocator.Allocator.{Allocator}
 use Rattle.plx_commands.specs.declared.reply.Reply.{Reply}
 use Rattle.plx_disk.specs.declared.ask.Ask.{Ask}
-use Rattle.plx_rules.specs.Part.{Part}
+use Rattle.plx_rules.specs.Process.{Process}
 use Rattle.plx_rules.specs.Ends.{End, ends}
 use Rattle.plx_appliance.specs.Asking.{IsSpare}
 use Rattle.plx_appliance.specs.Attaches.{attach_rest, attach_spares}
@@ -20,7 +20,7 @@ use Rattle.plx_appliance.specs.declared.work.Work.{Work}
 use Rattle.plx_appliance.specs.declared.work.Work.TheVariants as work
 
 -- what the command that runs still asks
-abbrev pub work_rest : Lent → Work → Part End
+abbrev pub work_rest : Lent → Work → Process End
 work_rest lent (work.Attach a) = attach_rest lent.known a
 work_rest lent (work.Detach d) = detach_rest lent.known d
 work_rest lent (work.Record r) = record_rest lent.known r
@@ -53,7 +53,7 @@ work_slots (work.Reserve r) = r.setting.geometry.slots
 work_slots (work.Retire r) = r.setting.geometry.slots
 
 -- what is left once a command had its first reading: its machine's rest, or its end with this refusal
-abbrev pub work_entered : Lent → Result Work Reply → Part End
+abbrev pub work_entered : Lent → Result Work Reply → Process End
 work_entered lent (Ok w) = work_rest lent w
 work_entered lent (Err reply) = ends reply (known_after reply lent.known)
 

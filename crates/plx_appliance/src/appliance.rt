@@ -49,7 +49,7 @@ pub struct Appliance {
 impl Appliance {
     ghost use Rattle.std.specs.Prelude.{ℕ, List, [], ◌∷◌, Some, None, true, false, IsTrue, IfOk, MatchOption, OnOk, OnErr};
     ghost use Rattle.plx_disk.specs.declared.ask.Ask.{Ask};
-    ghost use Rattle.plx_rules.specs.Boot.{Began, Asked, Fits, Happening, asks, position, replies, writes_out};
+    ghost use Rattle.plx_rules.specs.Boot.{Began, Asked, Fits, BootEntry, asks, configuration, replies, writes_out};
     ghost use Rattle.plx_rules.specs.Commands.{IsBuilt, IsWellFormed};
     ghost use Rattle.plx_rules.specs.Machines.{AreWhole, IsTimely};
     ghost use Rattle.plx_appliance.specs.Appliance.{IsIdle, IsRunning, IsStanding, StandsFor, has_begun, shows_session, appliance_setting};
@@ -85,7 +85,7 @@ impl Appliance {
     /// Whether the image in this slot has a session. An attach begins it with its reply, and a detach
     /// ends it so.
     pub fn is_attached(&self, slot: SlotNo) -> bool
-        ensures { (log : List Happening) → StandsFor self.now log →
+        ensures { (log : List BootEntry) → StandsFor self.now log →
             result ≡ shows_session self.now log slot.0 }
     {
         self.holdings.sessions.get(slot).is_some()
@@ -93,8 +93,8 @@ impl Appliance {
 
     /// The blocks in hand, in the order in which they were taken.
     pub fn hand(&self) -> &[BlockNo]
-        ensures { (log : List Happening) → StandsFor self.now log →
-            numbers result.now ≡ (position (appliance_setting self.now) log).hand }
+        ensures { (log : List BootEntry) → StandsFor self.now log →
+            numbers result.now ≡ (configuration (appliance_setting self.now) log).hand }
     {
         self.holdings.space.hand()
     }
@@ -104,10 +104,10 @@ impl Appliance {
         requires idle { IsIdle self.old }
         requires built { IsBuilt command }
         requires limits { IsWellFormed command }
-        ensures ok { OnOk result ((log : List Happening) → StandsFor self.old log →
+        ensures ok { OnOk result ((log : List BootEntry) → StandsFor self.old log →
             StandsFor self.new (Began command ∷ log)) }
         ensures running { OnOk result (IsRunning self.new) }
-        ensures err { OnErr result ((log : List Happening) → StandsFor self.old log →
+        ensures err { OnErr result ((log : List BootEntry) → StandsFor self.old log →
             StandsFor self.new log) }
         ensures idle { OnErr result (IsIdle self.new) }
         ensures setting { self.new.holdings.setting ≡ self.old.holdings.setting }
@@ -120,9 +120,9 @@ impl Appliance {
     /// The ask that stands.
     pub fn ask(&self) -> Ask
         requires { IsRunning self.now }
-        ensures ask { (log : List Happening) → StandsFor self.now log →
-            Some result ≡ asks (position (appliance_setting self.now) log).place }
-        ensures within { (log : List Happening) → StandsFor self.now log →
+        ensures ask { (log : List BootEntry) → StandsFor self.now log →
+            Some result ≡ asks (configuration (appliance_setting self.now) log).place }
+        ensures within { (log : List BootEntry) → StandsFor self.now log →
             IsOnDevice self.now.holdings.setting.geometry result }
     {
         match &self.stage {
@@ -135,10 +135,10 @@ impl Appliance {
     /// The bytes of the write that is asked for.
     pub fn out(&self) -> &[u8]
         requires { IsRunning self.now }
-        ensures bytes { (log : List Happening) → StandsFor self.now log →
-            result.now ≡ writes_out (position (appliance_setting self.now) log).place }
-        ensures whole { (log : List Happening) → StandsFor self.now log →
-            AreWhole (asks (position (appliance_setting self.now) log).place) result.now }
+        ensures bytes { (log : List BootEntry) → StandsFor self.now log →
+            result.now ≡ writes_out (configuration (appliance_setting self.now) log).place }
+        ensures whole { (log : List BootEntry) → StandsFor self.now log →
+            AreWhole (asks (configuration (appliance_setting self.now) log).place) result.now }
     {
         match &self.stage {
             Stage::Idle => &[],
@@ -152,14 +152,14 @@ impl Appliance {
     pub fn answer(&mut self, answer: &Answer) -> Option<Reply>
         requires { IsRunning self.old }
         ensures stage { MatchOption result (IsRunning self.new) (λ reply. IsIdle self.new) }
-        ensures log { (log : List Happening) (ask : Ask) (bytes : List ℕ) → StandsFor self.old log →
+        ensures log { (log : List BootEntry) (ask : Ask) (bytes : List ℕ) → StandsFor self.old log →
             IsStanding self.old log ask bytes → Fits ask answer.now →
             StandsFor self.new (Asked ask bytes answer.now ∷ log) }
-        ensures reply { (log : List Happening) (ask : Ask) (bytes : List ℕ) →
+        ensures reply { (log : List BootEntry) (ask : Ask) (bytes : List ℕ) →
             StandsFor self.old log → IsStanding self.old log ask bytes → Fits ask answer.now →
             result ≡ replies (appliance_setting self.old) answer.now
-            (position (appliance_setting self.old) log) }
-        ensures unfit { (log : List Happening) (ask : Ask) (bytes : List ℕ) →
+            (configuration (appliance_setting self.old) log) }
+        ensures unfit { (log : List BootEntry) (ask : Ask) (bytes : List ℕ) →
             StandsFor self.old log → IsStanding self.old log ask bytes → ¬ (Fits ask answer.now) →
             (self.new ≡ self.old) × (result ≡ None) }
         ensures setting { self.new.holdings.setting ≡ self.old.holdings.setting }
@@ -190,13 +190,13 @@ impl Appliance {
         requires { reading < 2 ^ 48 }
         ensures stage { IsRunning self.old → MatchOption result (IsRunning self.new)
             (λ reply. IsIdle self.new) }
-        ensures log { (log : List Happening) (begun : Started) →
+        ensures log { (log : List BootEntry) (begun : Started) →
             self.old.stage ≡ Stage.Begun begun → StandsFor self.old log →
             StandsFor self.new (Asked Ask.Clock [] (Answer.Reading reading) ∷ log) }
-        ensures reply { (log : List Happening) (begun : Started) →
+        ensures reply { (log : List BootEntry) (begun : Started) →
             self.old.stage ≡ Stage.Begun begun → StandsFor self.old log →
             result ≡ replies (appliance_setting self.old) (Answer.Reading reading)
-            (position (appliance_setting self.old) log) }
+            (configuration (appliance_setting self.old) log) }
         ensures setting { self.new.holdings.setting ≡ self.old.holdings.setting }
     {
         match mem::replace(&mut self.stage, Stage::Idle) {
@@ -225,15 +225,15 @@ impl Appliance {
         requires { IsTimely answer.now }
         ensures stage { IsRunning self.old → MatchOption result (IsRunning self.new)
             (λ reply. IsIdle self.new) }
-        ensures log { (log : List Happening) (ask : Ask) (bytes : List ℕ) (work : Running) →
+        ensures log { (log : List BootEntry) (ask : Ask) (bytes : List ℕ) (work : Running) →
             self.old.stage ≡ Stage.In work → StandsFor self.old log →
             IsStanding self.old log ask bytes → Fits ask answer.now →
             StandsFor self.new (Asked ask bytes answer.now ∷ log) }
-        ensures reply { (log : List Happening) (ask : Ask) (bytes : List ℕ) (work : Running) →
+        ensures reply { (log : List BootEntry) (ask : Ask) (bytes : List ℕ) (work : Running) →
             self.old.stage ≡ Stage.In work → StandsFor self.old log →
             IsStanding self.old log ask bytes → Fits ask answer.now →
             result ≡ replies (appliance_setting self.old) answer.now
-            (position (appliance_setting self.old) log) }
+            (configuration (appliance_setting self.old) log) }
         ensures setting { self.new.holdings.setting ≡ self.old.holdings.setting }
     {
         let Stage::In(work) = &mut self.stage else {

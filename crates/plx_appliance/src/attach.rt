@@ -34,12 +34,12 @@ pub struct Attach {
 impl Attach {
     ghost use Rattle.std.specs.Prelude.{ℕ, [], Option};
     ghost use Rattle.plx_geom.specs.Geometry.{image_lease, lease_at};
-    ghost use Rattle.plx_rules.specs.Part.{Part, answered, standing, bytes_out};
+    ghost use Rattle.plx_rules.specs.Process.{Process, answered, standing, bytes_out};
     ghost use Rattle.plx_commands.specs.Limits.{last_claim};
     ghost use Rattle.plx_rules.specs.Attaching.{after_claim, load_image};
-    ghost use Rattle.plx_rules.specs.Claims.{claim_part};
+    ghost use Rattle.plx_rules.specs.Claims.{claim_process};
     ghost use Rattle.plx_rules.specs.Machines.{AreWhole, IsTimely};
-    ghost use Rattle.plx_rules.specs.Parts.{followed_by};
+    ghost use Rattle.plx_rules.specs.Processes.{followed_by};
     ghost use Rattle.plx_rules.specs.Session.{Known};
     ghost use Rattle.plx_lease.specs.ClaimEnds.{claim_end};
     ghost use Rattle.plx_lease.specs.Holding.{IsSampled, claim_hold};
@@ -47,7 +47,7 @@ impl Attach {
     ghost use Rattle.plx_alloc.specs.Asking.{IsOnDevice};
     ghost use Rattle.plx_appliance.specs.Stands.{inside_at};
     ghost use Rattle.plx_appliance.specs.Attaches.{attach_rest, attach_spares};
-    ghost use Rattle.plx_appliance.specs.Ending.{part_after};
+    ghost use Rattle.plx_appliance.specs.Ending.{process_after};
     ghost use Rattle.plx_appliance.specs.Giving.{rules_setting};
     ghost use Rattle.plx_appliance.specs.Kept.{known_by};
     ghost use Rattle.plx_appliance.specs.Moving.{attach_moves, image_leases_after_claim};
@@ -68,7 +68,7 @@ impl Attach {
         requires slots { session.journal.slots ≡ setting.geometry.slots }
         requires empty { vec_len session.journal.writes ≡ 0 }
         ensures rest { (known : Known) → attach_rest known result ≡ followed_by
-            (claim_part (rules_setting setting).boot [] (image_lease slot.0) number)
+            (claim_process (rules_setting setting).boot [] (image_lease slot.0) number)
             (after_claim (rules_setting setting) known slot.0) }
         ensures number { result.claim.number ≡ image_lease result.load.image.slot.0 }
         ensures fresh { claim_hold result.claim ≡ Nothing }
@@ -151,7 +151,7 @@ impl Attach {
         requires slots { sessions.old.slots ≡ self.old.load.image.setting.geometry.slots }
         requires leased { leases.old.count ≡ self.old.load.image.setting.geometry.images }
         requires timely { IsTimely answer.now }
-        ensures rest { (claims : ℕ) → part_after
+        ensures rest { (claims : ℕ) → process_after
             (attach_rest (known_by sessions.new claims) self.new)
             (known_by sessions.new claims) result
             ≡ answered (attach_rest (known_by sessions.old claims) self.old) answer.now }
@@ -177,7 +177,7 @@ impl Attach {
     fn after_claim(&mut self, leases: &mut Leases, end: ClaimEnd<Image>) -> Option<Reply>
         requires own { self.old.load.slots ≡ self.old.load.image.setting.geometry.slots }
         requires leased { leases.old.count ≡ self.old.load.image.setting.geometry.images }
-        ensures rest { (known : Known) → part_after (attach_rest known self.new) known result
+        ensures rest { (known : Known) → process_after (attach_rest known self.new) known result
             ≡ after_claim
             (rules_setting self.old.load.image.setting) known self.old.load.image.slot.0
             (claim_end end) }

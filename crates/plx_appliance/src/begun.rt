@@ -99,19 +99,19 @@ pub enum Begun {
 impl Begun {
     ghost use Rattle.std.specs.Prelude.{ℕ, List, IfOk};
     ghost use Rattle.plx_geom.specs.Geometry.{lease_count};
-    ghost use Rattle.plx_rules.specs.Commands.{IsBuilt, IsWellFormed, command_part};
+    ghost use Rattle.plx_rules.specs.Commands.{IsBuilt, IsWellFormed, command_process};
     ghost use Rattle.plx_rules.specs.Holds.{Hold};
     ghost use Rattle.plx_rules.specs.Session.{Known};
     ghost use Rattle.plx_rules.specs.Settings.{Setting as Given};
-    ghost use Rattle.plx_appliance.specs.Begins.{BeginsAs, begun_leases, waiting_part, begun_slots};
+    ghost use Rattle.plx_appliance.specs.Begins.{BeginsAs, begun_leases, waiting_process, begun_slots};
 
     /// A command begins, with all the memory that it can need.
     pub fn begin(alloc: Global, setting: &Setting, command: Command) -> Result<Begun, NoMemory>
         requires built { IsBuilt command }
         requires limits { IsWellFormed command }
-        ensures part { IfOk result (λ b. (s : Given) (known : Known) (holds : ℕ → Hold)
-            (hand : List ℕ) (reading : ℕ) → waiting_part s known holds hand reading b
-            ≡ command_part s known holds hand reading command) }
+        ensures process { IfOk result (λ b. (s : Given) (known : Known) (holds : ℕ → Hold)
+            (hand : List ℕ) (reading : ℕ) → waiting_process s known holds hand reading b
+            ≡ command_process s known holds hand reading command) }
         ensures slots { IfOk result (λ b. begun_slots setting.now.geometry.slots b
             ≡ setting.now.geometry.slots) }
         ensures leases { IfOk result (λ b. begun_leases (lease_count setting.now.geometry) b

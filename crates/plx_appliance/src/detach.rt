@@ -22,14 +22,14 @@ pub struct Detach {
 impl Detach {
     ghost use Rattle.std.specs.Prelude.{ℕ, None, ◌<◌};
     ghost use Rattle.plx_commands.specs.Places.{at};
-    ghost use Rattle.plx_rules.specs.Part.{answered, standing, bytes_out};
-    ghost use Rattle.plx_rules.specs.Commands.{detach_part};
+    ghost use Rattle.plx_rules.specs.Process.{answered, standing, bytes_out};
+    ghost use Rattle.plx_rules.specs.Commands.{detach_process};
     ghost use Rattle.plx_rules.specs.Holds.{Nothing};
     ghost use Rattle.plx_rules.specs.Session.{Known};
     ghost use Rattle.plx_rules.specs.Session.{Session as KnownSession};
     ghost use Rattle.plx_alloc.specs.Asking.{IsOnDevice};
     ghost use Rattle.plx_rules.specs.Machines.{AreWhole};
-    ghost use Rattle.plx_appliance.specs.Ending.{part_after};
+    ghost use Rattle.plx_appliance.specs.Ending.{process_after};
     ghost use Rattle.plx_appliance.specs.Giving.{rules_setting};
     ghost use Rattle.plx_appliance.specs.Kept.{known_by};
     ghost use Rattle.plx_appliance.specs.Tokens.{image_leases};
@@ -38,8 +38,8 @@ impl Detach {
 
     /// The detach begins, with a block for the lease.
     pub fn enter(image: Leased, spelled: Block) -> Detach
-        ensures part { (known : Known) (session : KnownSession) →
-            detach_rest known result ≡ detach_part
+        ensures process { (known : Known) (session : KnownSession) →
+            detach_rest known result ≡ detach_process
             (rules_setting image.setting) known image.slot.0 session image.until }
         ensures image { result.image ≡ image }
     {
@@ -78,7 +78,7 @@ impl Detach {
     ) -> Option<Reply>
         requires count { sessions.old.count ≡ self.old.image.setting.geometry.images }
         requires leased { leases.old.count ≡ self.old.image.setting.geometry.images }
-        ensures rest { (claims : ℕ) → part_after
+        ensures rest { (claims : ℕ) → process_after
             (detach_rest (known_by sessions.new claims) self.new)
             (known_by sessions.new claims) result
             ≡ answered (detach_rest (known_by sessions.old claims) self.old) answer.now }

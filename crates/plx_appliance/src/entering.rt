@@ -2,11 +2,11 @@
 ghost use Rattle.std.specs.Prelude.{◌≡◌, ◌<◌, ◌^◌, None, Some, IfOk, nat_lt};
 ghost use Rattle.plx_commands.specs.Limits.{last_claim};
 ghost use Rattle.plx_geom.specs.Geometry.{image_lease, lease_at, lease_count};
-ghost use Rattle.plx_rules.specs.Attaching.{attach_part, claim_image};
+ghost use Rattle.plx_rules.specs.Attaching.{attach_process, claim_image};
 ghost use Rattle.plx_rules.specs.Commands.{of_attached};
 ghost use Rattle.plx_rules.specs.Holds.{Nothing};
-ghost use Rattle.plx_rules.specs.Space.{reserve_part, retire_part};
-ghost use Rattle.plx_appliance.specs.Begins.{begun_leases, begun_slots, image_part, waiting_part};
+ghost use Rattle.plx_rules.specs.Space.{reserve_process, retire_process};
+ghost use Rattle.plx_appliance.specs.Begins.{begun_leases, begun_slots, image_process, waiting_process};
 ghost use Rattle.plx_appliance.specs.Entering.{Enters, IsOfImage};
 ghost use Rattle.plx_appliance.specs.Giving.{rules_setting};
 ghost use Rattle.plx_appliance.specs.Kept.{known_of, session_of};
@@ -43,8 +43,8 @@ pub fn enter(begun: Begun, holdings: &mut Holdings, reading: u64) -> Result<Work
     requires leases { begun_leases (lease_count holdings.old.setting.geometry) begun
         ≡ lease_count holdings.old.setting.geometry }
     requires reading { reading < 2 ^ 48 }
-    ensures part { work_entered (lent_of holdings.new) result
-        ≡ waiting_part (rules_setting holdings.old.setting) (known_of holdings.old)
+    ensures process { work_entered (lent_of holdings.new) result
+        ≡ waiting_process (rules_setting holdings.old.setting) (known_of holdings.old)
         (holds_in holdings.old) (hand_in holdings.old) reading begun }
     ensures leases { image_leases holdings.new.leases.leases.items
         ≡ image_leases holdings.old.leases.leases.items }
@@ -74,7 +74,7 @@ pub fn enter(begun: Begun, holdings: &mut Holdings, reading: u64) -> Result<Work
 fn enter_attach(holdings: &mut Holdings, slot: SlotNo, room: Room) -> Result<Work, Reply>
     requires { room.slots ≡ holdings.old.setting.geometry.slots }
     ensures { Enters holdings.old holdings.new
-        (attach_part (rules_setting holdings.old.setting) (known_of holdings.old) slot.0
+        (attach_process (rules_setting holdings.old.setting) (known_of holdings.old) slot.0
         ((known_of holdings.old).sessions slot.0)
         (nat_lt slot.0 holdings.old.setting.geometry.images)
         (holds_in holdings.old (lease_at (image_lease slot.0)))) result }
@@ -125,7 +125,7 @@ fn enter_image(
     ensures { Enters holdings.now holdings.now
         (of_attached (rules_setting holdings.now.setting) (known_of holdings.now)
         (holds_in holdings.now) reading slot.0
-        (image_part (rules_setting holdings.now.setting) (known_of holdings.now) slot.0 command))
+        (image_process (rules_setting holdings.now.setting) (known_of holdings.now) slot.0 command))
         result }
 {
     let Some(session) = holdings.sessions.get(slot) else {
@@ -140,9 +140,9 @@ fn enter_image(
 // A command goes on at an image under its lease, with the image's session.
 fn enter_leased(command: ImageCommand, image: Leased, session: &Session) -> Result<Work, Reply>
     requires { session.now.journal.slots ≡ image.setting.geometry.slots }
-    ensures part { (lent : Lent) →
+    ensures process { (lent : Lent) →
         lent.known.sessions image.slot.0 ≡ Some (session_of session.now) →
-        work_entered lent result ≡ image_part (rules_setting image.setting) lent.known
+        work_entered lent result ≡ image_process (rules_setting image.setting) lent.known
         image.slot.0 command (session_of session.now) image.until }
     ensures image { IfOk result (IsOfImage image) }
 {
@@ -217,7 +217,7 @@ fn enter_reserve(
     lease: Block,
 ) -> Result<Work, Reply>
     ensures { Enters holdings.now holdings.now
-        (reserve_part (rules_setting holdings.now.setting) (known_of holdings.now)
+        (reserve_process (rules_setting holdings.now.setting) (known_of holdings.now)
         (holds_in holdings.now) (hand_in holdings.now) need.count) result }
 {
     match Take::begin(need.count, None, room, lease, &holdings.space) {
@@ -237,7 +237,7 @@ fn enter_retire(
     image_lease: Block,
 ) -> Result<Work, Reply>
     ensures { Enters holdings.now holdings.now
-        (retire_part (rules_setting holdings.now.setting) (known_of holdings.now)
+        (retire_process (rules_setting holdings.now.setting) (known_of holdings.now)
         (holds_in holdings.now) (hand_in holdings.now)) result }
 {
     match Retire::enter(holdings, room, extent_lease, image_lease) {

@@ -29,13 +29,13 @@ pub struct Holdings {
 
 impl Holdings {
     ghost use Rattle.std.specs.Prelude.{ℕ, [], Ok, Err, IfOk, ◌<◌, ◌^◌};
-    ghost use Rattle.plx_rules.specs.Part.{Part};
-    ghost use Rattle.plx_rules.specs.Commands.{held_part};
+    ghost use Rattle.plx_rules.specs.Process.{Process};
+    ghost use Rattle.plx_rules.specs.Commands.{held_process};
     ghost use Rattle.plx_rules.specs.Ends.{End};
     ghost use Rattle.plx_rules.specs.Session.{Known};
     ghost use Rattle.plx_appliance.specs.Ending.{hand_after_reply, known_after, leases_after};
     ghost use Rattle.plx_appliance.specs.Giving.{rules_setting};
-    ghost use Rattle.plx_appliance.specs.Taking.{leased_part};
+    ghost use Rattle.plx_appliance.specs.Taking.{leased_process};
     ghost use Rattle.plx_commands.specs.Places.{at};
     ghost use Rattle.plx_rules.specs.Holds.{Nothing, first_hold};
     ghost use Rattle.plx_appliance.specs.Holding.{DropsNothing, image_leases_after_write, dropped_hand, first_extents, first_leases};
@@ -82,8 +82,8 @@ impl Holdings {
     /// The image's lease is held, and the reading hasn't reached its end; or the refusal.
     pub fn leased(&self, slot: SlotNo, reading: u64) -> Result<Leased, Reply>
         requires { slot.0 < self.now.setting.geometry.images }
-        ensures part { (known : Known) (rest : ℕ → Part End) →
-            leased_part rest known result ≡ held_part (rules_setting self.now.setting) known slot.0
+        ensures process { (known : Known) (rest : ℕ → Process End) →
+            leased_process rest known result ≡ held_process (rules_setting self.now.setting) known slot.0
             (image_leases self.now.leases.leases.items slot.0) reading rest }
         ensures slot { (image : Leased) → result ≡ Ok image → image.slot ≡ slot }
         ensures setting { (image : Leased) → result ≡ Ok image → image.setting ≡ self.now.setting }

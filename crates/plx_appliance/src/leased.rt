@@ -18,20 +18,20 @@ pub struct Leased {
 
 impl Leased {
     ghost use Rattle.plx_geom.specs.Geometry.{block_count, data_at, descriptor_at, image_lease, lease_at, record_at};
-    ghost use Rattle.plx_rules.specs.Part.{Part};
+    ghost use Rattle.plx_rules.specs.Process.{Process};
     ghost use Rattle.plx_rules.specs.Attaching.{image_use};
     ghost use Rattle.plx_rules.specs.Ends.{End, ends, in_time};
-    ghost use Rattle.plx_rules.specs.Ends.{lost_part};
+    ghost use Rattle.plx_rules.specs.Ends.{lost_process};
     ghost use Rattle.plx_rules.specs.Session.{Known};
-    ghost use Rattle.plx_appliance.specs.Ending.{part_after, known_after};
+    ghost use Rattle.plx_appliance.specs.Ending.{process_after, known_after};
     ghost use Rattle.plx_appliance.specs.Giving.{rules_setting};
     ghost use Rattle.plx_appliance.specs.Rests.{leased_use};
 
     /// The refusal, where a reading has reached the end of the lease.
     pub fn reached(&self, reading: u64) -> Option<Reply>
-        ensures { (known : Known) (part : Part End) → part_after part known result ≡ in_time
+        ensures { (known : Known) (process : Process End) → process_after process known result ≡ in_time
             (rules_setting self.now.setting) known
-            (image_use self.now.slot.0 self.now.until) reading part }
+            (image_use self.now.slot.0 self.now.until) reading process }
     {
         if self.until <= reading {
             return Some(self.lost(reading));
@@ -42,7 +42,7 @@ impl Leased {
     /// The refusal that the lease is lost.
     pub fn lost(&self, reading: u64) -> Reply
         ensures { (known : Known) → ends result (known_after result known)
-            ≡ lost_part (rules_setting self.now.setting) known (leased_use self.now) reading }
+            ≡ lost_process (rules_setting self.now.setting) known (leased_use self.now) reading }
     {
         Reply::Lost {
             lease: LeaseName::Image(self.slot),

@@ -41,7 +41,7 @@ pub struct Load {
 
 impl Load {
     ghost use Rattle.std.specs.Prelude.{ℕ, true};
-    ghost use Rattle.plx_rules.specs.Part.{answered, standing, bytes_out};
+    ghost use Rattle.plx_rules.specs.Process.{answered, standing, bytes_out};
     ghost use Rattle.plx_rules.specs.Attaching.{after_record, load_image, load_journal};
     ghost use Rattle.plx_rules.specs.Records.{attached_record, is_live};
     ghost use Rattle.plx_gate.specs.Images.{is_image};
@@ -49,7 +49,7 @@ impl Load {
     ghost use Rattle.plx_rules.specs.Session.{Known, with_write_by_number};
     ghost use Rattle.plx_alloc.specs.Asking.{IsOnDevice};
     ghost use Rattle.plx_appliance.specs.Asking.{IsSpare};
-    ghost use Rattle.plx_appliance.specs.Ending.{part_after};
+    ghost use Rattle.plx_appliance.specs.Ending.{process_after};
     ghost use Rattle.plx_appliance.specs.Giving.{rules_setting};
     ghost use Rattle.plx_appliance.specs.Kept.{known_by, writes_of};
     ghost use Rattle.plx_appliance.specs.Loads.{damaged_rest, found_rest, loaded_write, load_rest, loaded_rest};
@@ -124,7 +124,7 @@ impl Load {
         requires own { self.old.slots ≡ self.old.image.setting.geometry.slots }
         requires count { sessions.old.count ≡ self.old.image.setting.geometry.images }
         requires slots { sessions.old.slots ≡ self.old.image.setting.geometry.slots }
-        ensures rest { (claims : ℕ) → part_after (load_rest (known_by sessions.new claims) self.new)
+        ensures rest { (claims : ℕ) → process_after (load_rest (known_by sessions.new claims) self.new)
             (known_by sessions.new claims) result
             ≡ answered (load_rest (known_by sessions.old claims) self.old) answer.now }
         ensures image { self.new.image ≡ self.old.image }
@@ -264,7 +264,7 @@ impl Load {
 
     // Bytes outside the format were read at a block.
     fn damaged(&self, block: BlockNo, reading: u64) -> Option<Reply>
-        ensures { (known : Known) → part_after (damaged_rest known self.now block.0) known result
+        ensures { (known : Known) → process_after (damaged_rest known self.now block.0) known result
             ≡ answered (damaged_rest known self.now block.0) (Answer.Reading reading) }
     {
         if let Some(reply) = self.image.reached(reading) {
@@ -279,7 +279,7 @@ impl Load {
         requires own { self.old.slots ≡ self.old.image.setting.geometry.slots }
         requires count { sessions.old.count ≡ self.old.image.setting.geometry.images }
         requires slots { sessions.old.slots ≡ self.old.image.setting.geometry.slots }
-        ensures rest { (claims : ℕ) → part_after (load_rest (known_by sessions.new claims) self.new)
+        ensures rest { (claims : ℕ) → process_after (load_rest (known_by sessions.new claims) self.new)
             (known_by sessions.new claims) result
             ≡ answered (load_rest (known_by sessions.old claims) self.old)
             (Answer.Reading reading) }

@@ -17,17 +17,17 @@ pub struct Read {
 
 impl Read {
     ghost use Rattle.std.specs.Prelude.{Ok};
-    ghost use Rattle.plx_rules.specs.Part.{answered, standing, bytes_out};
-    ghost use Rattle.plx_rules.specs.Commands.{read_part};
+    ghost use Rattle.plx_rules.specs.Process.{answered, standing, bytes_out};
+    ghost use Rattle.plx_rules.specs.Commands.{read_process};
     ghost use Rattle.plx_rules.specs.Session.{Known};
-    ghost use Rattle.plx_appliance.specs.Ending.{part_after, enter_part};
+    ghost use Rattle.plx_appliance.specs.Ending.{process_after, enter_process};
     ghost use Rattle.plx_appliance.specs.Giving.{rules_setting};
     ghost use Rattle.plx_appliance.specs.Kept.{session_of};
     ghost use Rattle.plx_appliance.specs.Rests.{read_rest};
 
     /// The read begins, with a block for what it gives, or is refused.
     pub fn enter(image: Leased, session: &Session, vblock: u32, block: Block) -> Result<Read, Reply>
-        ensures part { (known : Known) → enter_part read_rest known result ≡ read_part
+        ensures process { (known : Known) → enter_process read_rest known result ≡ read_process
             (rules_setting image.setting) known image.slot.0 vblock
             (session_of session.now) image.until }
         ensures image { (r : Read) → result ≡ Ok r → r.image ≡ image }
@@ -57,7 +57,7 @@ impl Read {
 
     /// The ask is answered.
     pub fn answer(&mut self, answer: &Answer) -> Option<Reply>
-        ensures rest { (known : Known) → part_after (read_rest known self.new) known result
+        ensures rest { (known : Known) → process_after (read_rest known self.new) known result
             ≡ answered (read_rest known self.old) answer.now }
         ensures image { self.new.image ≡ self.old.image }
     {
@@ -69,7 +69,7 @@ impl Read {
 
     // The read ends at this reading.
     fn end(&mut self, reading: u64) -> Option<Reply>
-        ensures rest { (known : Known) → part_after (read_rest known self.new) known result
+        ensures rest { (known : Known) → process_after (read_rest known self.new) known result
             ≡ answered (read_rest known self.old) (Answer.Reading reading) }
         ensures image { self.new.image ≡ self.old.image }
     {

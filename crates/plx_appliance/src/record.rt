@@ -47,14 +47,14 @@ pub struct Record {
 impl Record {
     ghost use Rattle.std.specs.Prelude.{ℕ, ◌<◌, Ok};
     ghost use Rattle.plx_gate.specs.Images.{IsImage};
-    ghost use Rattle.plx_rules.specs.Part.{answered, standing, bytes_out};
-    ghost use Rattle.plx_rules.specs.Commands.{create_part, delete_part, record_part};
+    ghost use Rattle.plx_rules.specs.Process.{answered, standing, bytes_out};
+    ghost use Rattle.plx_rules.specs.Commands.{create_process, delete_process, record_process};
     ghost use Rattle.plx_rules.specs.Session.{Known};
     ghost use Rattle.plx_rules.specs.Session.{Session as KnownSession};
     ghost use Rattle.plx_alloc.specs.Asking.{IsOnDevice};
     ghost use Rattle.plx_appliance.specs.Asking.{IsSpare};
     ghost use Rattle.plx_rules.specs.Machines.{AreWhole};
-    ghost use Rattle.plx_appliance.specs.Ending.{part_after, enter_part};
+    ghost use Rattle.plx_appliance.specs.Ending.{process_after, enter_process};
     ghost use Rattle.plx_appliance.specs.Giving.{rules_setting};
     ghost use Rattle.plx_appliance.specs.Kept.{known_by, session_of};
     ghost use Rattle.plx_appliance.specs.Rests.{done_reply, record_rest};
@@ -67,8 +67,8 @@ impl Record {
         label: Label,
         spelled: Block,
     ) -> Result<Record, Reply>
-        ensures part { (known : Known) → known.sessions image.slot.0
-            ≡ Some (session_of session.now) → enter_part record_rest known result ≡ create_part
+        ensures process { (known : Known) → known.sessions image.slot.0
+            ≡ Some (session_of session.now) → enter_process record_rest known result ≡ create_process
             (rules_setting image.setting) known image.slot.0 size label
             (session_of session.now) image.until }
         ensures image { (r : Record) → result ≡ Ok r → r.image ≡ image }
@@ -101,8 +101,8 @@ impl Record {
 
     /// A delete begins, with a block for its record, or is refused.
     pub fn delete(image: Leased, session: &Session, spelled: Block) -> Result<Record, Reply>
-        ensures part { (known : Known) → known.sessions image.slot.0
-            ≡ Some (session_of session.now) → enter_part record_rest known result ≡ delete_part
+        ensures process { (known : Known) → known.sessions image.slot.0
+            ≡ Some (session_of session.now) → enter_process record_rest known result ≡ delete_process
             (rules_setting image.setting) known image.slot.0 (session_of session.now) image.until }
         ensures image { (r : Record) → result ≡ Ok r → r.image ≡ image }
     {
@@ -118,8 +118,8 @@ impl Record {
     // The write of a record of an attached image.
     fn begin(image: Leased, made: ImageRecord, done: Done, spelled: Block) -> Record
         requires { IsImage made }
-        ensures part { (known : Known) (session : KnownSession) →
-            known.sessions image.slot.0 ≡ Some session → record_rest known result ≡ record_part
+        ensures process { (known : Known) (session : KnownSession) →
+            known.sessions image.slot.0 ≡ Some session → record_rest known result ≡ record_process
             (rules_setting image.setting) known image.slot.0 image.until made (done_reply done) }
         ensures image { result.image ≡ image }
     {
@@ -165,7 +165,7 @@ impl Record {
     /// The ask is answered.
     pub fn answer(&mut self, sessions: &mut Sessions, answer: &Answer) -> Option<Reply>
         requires { sessions.old.count ≡ self.old.image.setting.geometry.images }
-        ensures rest { (claims : ℕ) → part_after
+        ensures rest { (claims : ℕ) → process_after
             (record_rest (known_by sessions.new claims) self.new)
             (known_by sessions.new claims) result
             ≡ answered (record_rest (known_by sessions.old claims) self.old) answer.now }
@@ -192,7 +192,7 @@ impl Record {
     fn end(&mut self, sessions: &mut Sessions, reading: u64) -> Option<Reply>
         requires at { self.old.at ≡ RecordAt.Last }
         requires count { sessions.old.count ≡ self.old.image.setting.geometry.images }
-        ensures rest { (claims : ℕ) → part_after
+        ensures rest { (claims : ℕ) → process_after
             (record_rest (known_by sessions.new claims) self.new)
             (known_by sessions.new claims) result
             ≡ answered (record_rest (known_by sessions.old claims) self.old)

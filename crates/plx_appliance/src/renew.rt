@@ -1,6 +1,6 @@
 //! A renew writes each lease that is held again, up to a later moment.
 ghost use Rattle.std.specs.Prelude.{◌≡◌, Some, None};
-ghost use Rattle.plx_rules.specs.Part.{bytes_out};
+ghost use Rattle.plx_rules.specs.Process.{bytes_out};
 ghost use Rattle.plx_lease.specs.Renewing.{renewal_rest};
 
 use crate::holdings::Holdings;
@@ -27,10 +27,10 @@ impl Renew {
     ghost use Rattle.plx_rules.specs.Ends.{ends};
     ghost use Rattle.plx_rules.specs.Holds.{Hold};
     ghost use Rattle.plx_rules.specs.Machines.{AreWhole};
-    ghost use Rattle.plx_rules.specs.Part.{answered, standing};
+    ghost use Rattle.plx_rules.specs.Process.{answered, standing};
     ghost use Rattle.plx_rules.specs.Session.{Known};
     ghost use Rattle.plx_alloc.specs.Asking.{IsOnDevice};
-    ghost use Rattle.plx_appliance.specs.Ending.{part_after};
+    ghost use Rattle.plx_appliance.specs.Ending.{process_after};
     ghost use Rattle.plx_appliance.specs.Giving.{rules_setting};
     ghost use Rattle.plx_appliance.specs.Kept.{known_of};
     ghost use Rattle.plx_appliance.specs.Lent.{lent_of};
@@ -56,7 +56,7 @@ impl Renew {
 
     /// The ask is answered.
     pub fn answer(&mut self, holdings: &mut Holdings, answer: &Answer) -> Option<Reply>
-        ensures rest { part_after (renew_rest (known_of holdings.new) self.new)
+        ensures rest { process_after (renew_rest (known_of holdings.new) self.new)
             (known_of holdings.new) result
             ≡ answered (renew_rest (known_of holdings.old) self.old) answer.now }
         ensures setting { self.new.setting ≡ self.old.setting }
@@ -85,7 +85,7 @@ impl Renew {
 
     // To the next renewal, if one is left.
     fn go_on(&mut self) -> Option<Reply>
-        ensures rest { (known : Known) → part_after (renew_rest known self.new) known result
+        ensures rest { (known : Known) → process_after (renew_rest known self.new) known result
             ≡ renewals_then (rules_setting self.old.setting) known self.old.left.items
             (ends Reply.Renewed known) }
         ensures setting { self.new.setting ≡ self.old.setting }

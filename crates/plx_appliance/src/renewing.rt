@@ -52,7 +52,7 @@ fn reached_beside(
 pub fn renewals(holdings: &Holdings, room: Renewals, reading: u64) -> Vec<LeaseRenewal>
     requires room { room.leases ≡ lease_count holdings.now.setting.geometry }
     requires reading { reading < 2 ^ 48 }
-    ensures part { AreRenewals holdings.now reading result.items }
+    ensures process { AreRenewals holdings.now reading result.items }
     ensures held { AreHeld 0 (lease_count holdings.now.setting.geometry)
         (λ lease. holds_in holdings.now (lease_at lease)) result.items }
 {
@@ -82,7 +82,7 @@ fn push(list: &mut Vec<LeaseRenewal>, next: Option<LeaseRenewal>)
 // The renewal of the lease of this number, where it is held; the root's never is.
 fn renewal(holdings: &Holdings, lease: u32, reading: u64) -> Option<LeaseRenewal>
     requires { reading < 2 ^ 48 }
-    ensures part { IsRenewal holdings.now reading lease result }
+    ensures process { IsRenewal holdings.now reading lease result }
     ensures number { IfSome result (λ r. r.number ≡ lease) }
     ensures held { IfSome result (λ r. holds_in holdings.now (lease_at lease) ≡ renewal_hold r) }
 {

@@ -24,9 +24,9 @@ impl Reserve {
     ghost use Rattle.plx_alloc.specs.Tables.{HoldsHand, IsSame};
     ghost use Rattle.plx_rules.specs.Holds.{Hold};
     ghost use Rattle.plx_rules.specs.Machines.{AreWhole, IsTimely};
-    ghost use Rattle.plx_rules.specs.Part.{answered, bytes_out, standing};
+    ghost use Rattle.plx_rules.specs.Process.{answered, bytes_out, standing};
     ghost use Rattle.plx_rules.specs.Session.{Session};
-    ghost use Rattle.plx_appliance.specs.Ending.{part_after};
+    ghost use Rattle.plx_appliance.specs.Ending.{process_after};
     ghost use Rattle.plx_appliance.specs.Lent.{Lent, lends};
     ghost use Rattle.plx_appliance.specs.Reserves.{ReserveMoves, reserve_work_rest};
 
@@ -56,7 +56,7 @@ impl Reserve {
         requires suits { SuitsReserve space.old self.old.work }
         requires timely { IsTimely answer.now }
         ensures rest { (sessions : ℕ → Option Session) (leases : ℕ → Hold) →
-            part_after (reserve_work_rest (lends sessions leases space.new) self.new)
+            process_after (reserve_work_rest (lends sessions leases space.new) self.new)
             (lends sessions leases space.new).known result
             ≡ answered (reserve_work_rest (lends sessions leases space.old) self.old) answer.now }
         ensures setting { self.new.setting ≡ self.old.setting }

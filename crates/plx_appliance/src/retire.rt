@@ -38,10 +38,10 @@ impl Retire {
     ghost use Rattle.plx_commands.specs.declared.reply.Reply.{Reply};
     ghost use Rattle.plx_geom.specs.Geometry.{Geometry};
     ghost use Rattle.plx_rules.specs.Machines.{AreWhole};
-    ghost use Rattle.plx_rules.specs.Part.{answered, bytes_out, standing};
-    ghost use Rattle.plx_rules.specs.Space.{retire_part};
+    ghost use Rattle.plx_rules.specs.Process.{answered, bytes_out, standing};
+    ghost use Rattle.plx_rules.specs.Space.{retire_process};
     ghost use Rattle.plx_alloc.specs.Asking.{IsOnDevice};
-    ghost use Rattle.plx_appliance.specs.Ending.{part_after, enter_part};
+    ghost use Rattle.plx_appliance.specs.Ending.{process_after, enter_process};
     ghost use Rattle.plx_appliance.specs.Giving.{rules_setting};
     ghost use Rattle.plx_appliance.specs.Kept.{known_of};
     ghost use Rattle.plx_appliance.specs.Lent.{Lent, lent_of};
@@ -57,8 +57,8 @@ impl Retire {
         extent_lease: Block,
         image_lease: Block,
     ) -> Result<Retire, Reply>
-        ensures part { retire_entered (lent_of holdings.now) result
-            ≡ retire_part (rules_setting holdings.now.setting) (known_of holdings.now)
+        ensures process { retire_entered (lent_of holdings.now) result
+            ≡ retire_process (rules_setting holdings.now.setting) (known_of holdings.now)
             (holds_in holdings.now) (hand_in holdings.now) }
         ensures setting { IfOk result (λ r. r.setting ≡ holdings.now.setting) }
         ensures tells { (g : Geometry) (found : Option (ℕ × List ℕ))
@@ -119,7 +119,7 @@ impl Retire {
     pub fn answer(&mut self, holdings: &mut Holdings, answer: &Answer) -> Option<Reply>
         requires setting { holdings.old.setting ≡ self.old.setting }
         requires suits { retire_suits holdings.old.space self.old.setting self.old.stage }
-        ensures rest { part_after (retire_images_rest (lent_of holdings.new) self.new)
+        ensures rest { process_after (retire_images_rest (lent_of holdings.new) self.new)
             (known_of holdings.new) result
             ≡ answered (retire_images_rest (lent_of holdings.old) self.old) answer.now }
         ensures setting { self.new.setting ≡ self.old.setting }
@@ -154,8 +154,8 @@ impl Retire {
     fn go_on(&mut self, next: Result<Leased, Reply>) -> Option<Reply>
         requires { IfOk next (λ image. image.setting ≡ self.old.setting) }
         ensures rest { (lent : Lent)
-            → part_after (retire_images_rest lent self.new) lent.known result
-            ≡ enter_part (image_rest (rules_setting self.old.setting) lent.leases) lent.known next }
+            → process_after (retire_images_rest lent self.new) lent.known result
+            ≡ enter_process (image_rest (rules_setting self.old.setting) lent.leases) lent.known next }
         ensures setting { self.new.setting ≡ self.old.setting }
         ensures image { result ≡ None → IsAtImage self.new.setting self.new.stage }
     {

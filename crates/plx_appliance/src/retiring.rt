@@ -1,8 +1,8 @@
 //! What a retire finds of the leases of images that are held.
 ghost use Rattle.std.specs.Prelude.{◌≡◌, ◌<◌, ◌≤◌, ℕ, IfOk, IfSome};
-ghost use Rattle.plx_rules.specs.Part.{answered};
+ghost use Rattle.plx_rules.specs.Process.{answered};
 ghost use Rattle.plx_alloc.specs.Ending.{space_end};
-ghost use Rattle.plx_appliance.specs.Ending.{enter_part};
+ghost use Rattle.plx_appliance.specs.Ending.{enter_process};
 ghost use Rattle.plx_appliance.specs.Giving.{rules_setting};
 ghost use Rattle.plx_appliance.specs.Kept.{known_by};
 ghost use Rattle.plx_appliance.specs.Releasing.{image_leases_after_release};
@@ -27,7 +27,7 @@ pub fn next_due(
 ) -> Result<Leased, Reply>
     requires from { from ≤ setting.now.geometry.images }
     requires leased { leases.now.count ≡ setting.now.geometry.images }
-    ensures part { IsNextDue setting.now sessions.now leases.now from result }
+    ensures process { IsNextDue setting.now sessions.now leases.now from result }
     ensures setting { IfOk result (λ image. image.setting ≡ setting.now) }
 {
     for index in from..leases.count {
@@ -41,7 +41,7 @@ pub fn next_due(
 // The lease of an image, where it is held and no session needs it.
 fn due(setting: &Setting, sessions: &Sessions, leases: &Leases, slot: SlotNo) -> Option<Leased>
     requires within { slot.0 < setting.now.geometry.images }
-    ensures part { IsDue setting.now sessions.now leases.now slot.0 result }
+    ensures process { IsDue setting.now sessions.now leases.now slot.0 result }
     ensures setting { IfSome result (λ image. image.setting ≡ setting.now) }
     ensures slot { IfSome result (λ image. image.slot ≡ slot) }
 {
@@ -66,7 +66,7 @@ pub fn after_extents(
     leases: &Leases,
 ) -> Result<Leased, Reply>
     requires leased { leases.now.count ≡ setting.now.geometry.images }
-    ensures part { (claims : ℕ) → enter_part (image_rest (rules_setting setting.now)
+    ensures process { (claims : ℕ) → enter_process (image_rest (rules_setting setting.now)
         (image_leases leases.now.leases.items)) (known_by sessions.now claims) result
         ≡ space_end (images_from (rules_setting setting.now) (known_by sessions.now claims)
         (image_leases leases.now.leases.items) 0) (known_by sessions.now claims) end }
@@ -87,7 +87,7 @@ pub fn answer_release(
     answer: &Answer,
 ) -> Result<Leased, Reply>
     requires leased { leases.old.count ≡ image.now.setting.geometry.images }
-    ensures part { (claims : ℕ) → enter_part (image_rest (rules_setting image.now.setting)
+    ensures process { (claims : ℕ) → enter_process (image_rest (rules_setting image.now.setting)
         (image_leases leases.new.leases.items)) (known_by sessions.now claims) result
         ≡ answered (image_rest (rules_setting image.now.setting)
         (image_leases leases.old.leases.items)

@@ -29,13 +29,13 @@ pub enum Work {
 impl Work {
     ghost use Rattle.std.specs.Prelude.{ℕ, List, Option};
     ghost use Rattle.plx_alloc.specs.declared.allocator.Allocator.{Allocator};
-    ghost use Rattle.plx_rules.specs.Part.{answered, standing, bytes_out};
+    ghost use Rattle.plx_rules.specs.Process.{answered, standing, bytes_out};
     ghost use Rattle.plx_rules.specs.Holds.{Hold};
     ghost use Rattle.plx_rules.specs.Machines.{AreWhole, IsTimely};
     ghost use Rattle.plx_appliance.specs.Lent.{Lent, lent_of};
     ghost use Rattle.plx_alloc.specs.Asking.{IsOnDevice};
     ghost use Rattle.plx_appliance.specs.Stands.{Inside};
-    ghost use Rattle.plx_appliance.specs.Ending.{part_after};
+    ghost use Rattle.plx_appliance.specs.Ending.{process_after};
     ghost use Rattle.plx_appliance.specs.Kept.{known_of};
     ghost use Rattle.plx_appliance.specs.Moving.{Moves};
     ghost use Rattle.plx_appliance.specs.Works.{Spares, work_rest, work_setting, work_slots, work_suits};
@@ -85,7 +85,7 @@ impl Work {
         requires setting { work_setting self.old ≡ holdings.old.setting }
         requires suits { work_suits holdings.old.space self.old }
         requires timely { IsTimely answer.now }
-        ensures rest { part_after (work_rest (lent_of holdings.new) self.new)
+        ensures rest { process_after (work_rest (lent_of holdings.new) self.new)
             (known_of holdings.new) result
             ≡ answered (work_rest (lent_of holdings.old) self.old) answer.now }
         ensures own { result ≡ None → work_slots self.new ≡ work_slots self.old }

@@ -36,13 +36,13 @@ pub struct Write {
 
 impl Write {
     ghost use Rattle.std.specs.Prelude.{ℕ, Ok};
-    ghost use Rattle.plx_rules.specs.Part.{answered, standing, bytes_out};
-    ghost use Rattle.plx_rules.specs.Commands.{write_part};
+    ghost use Rattle.plx_rules.specs.Process.{answered, standing, bytes_out};
+    ghost use Rattle.plx_rules.specs.Commands.{write_process};
     ghost use Rattle.plx_rules.specs.Session.{Known};
     ghost use Rattle.plx_alloc.specs.Asking.{IsOnDevice};
     ghost use Rattle.plx_appliance.specs.Asking.{IsSpare};
     ghost use Rattle.plx_rules.specs.Machines.{AreWhole};
-    ghost use Rattle.plx_appliance.specs.Ending.{part_after, enter_part};
+    ghost use Rattle.plx_appliance.specs.Ending.{process_after, enter_process};
     ghost use Rattle.plx_appliance.specs.Giving.{rules_setting};
     ghost use Rattle.plx_appliance.specs.Kept.{known_by, session_of};
     ghost use Rattle.plx_appliance.specs.Rests.{write_rest};
@@ -56,8 +56,8 @@ impl Write {
         spelled: Block,
     ) -> Result<Write, Reply>
         requires { session.now.journal.slots ≡ image.setting.geometry.slots }
-        ensures part { (known : Known) → known.sessions image.slot.0
-            ≡ Some (session_of session.now) → enter_part write_rest known result ≡ write_part
+        ensures process { (known : Known) → known.sessions image.slot.0
+            ≡ Some (session_of session.now) → enter_process write_rest known result ≡ write_process
             (rules_setting image.setting) known image.slot.0 vblock block
             (session_of session.now) image.until }
         ensures image { (w : Write) → result ≡ Ok w → w.image ≡ image }
@@ -136,7 +136,7 @@ impl Write {
     pub fn answer(&mut self, sessions: &mut Sessions, answer: &Answer) -> Option<Reply>
         requires count { sessions.old.count ≡ self.old.image.setting.geometry.images }
         requires slots { sessions.old.slots ≡ self.old.image.setting.geometry.slots }
-        ensures rest { (claims : ℕ) → part_after
+        ensures rest { (claims : ℕ) → process_after
             (write_rest (known_by sessions.new claims) self.new)
             (known_by sessions.new claims) result
             ≡ answered (write_rest (known_by sessions.old claims) self.old) answer.now }
@@ -173,7 +173,7 @@ impl Write {
         requires at { self.now.at ≡ WriteAt.Last }
         requires count { sessions.old.count ≡ self.now.image.setting.geometry.images }
         requires slots { sessions.old.slots ≡ self.now.image.setting.geometry.slots }
-        ensures rest { (claims : ℕ) → part_after
+        ensures rest { (claims : ℕ) → process_after
             (write_rest (known_by sessions.new claims) self.now)
             (known_by sessions.new claims) result
             ≡ answered (write_rest (known_by sessions.old claims) self.now)

@@ -5,7 +5,7 @@ use Rattle.plx_disk.specs.declared.ask.Answer.{Answer}
 use Rattle.plx_disk.specs.declared.ask.Answer.TheVariants as answer
 use Rattle.plx_geom.specs.Geometry.{lease_at}
 use Rattle.plx_gate.specs.Leases.{read_lease}
-use Rattle.plx_rules.specs.Part.{bytes_out, standing}
+use Rattle.plx_rules.specs.Process.{bytes_out, standing}
 use Rattle.plx_rules.specs.Claims.{end_of_term}
 use Rattle.plx_rules.specs.Holds.{Hold, Nothing, Wrote, after_answer, hold_after_renewal, sample_of, hold_after_read, hold_after_claim}
 use Rattle.plx_rules.specs.Machines.{AsksOnly}

@@ -6,7 +6,7 @@ use Rattle.plx_base.specs.declared.lease.Claim.{Claim}
 use Rattle.plx_base.specs.declared.lease.LeaseRecord.{LeaseRecord}
 use Rattle.plx_gate.proofs.Leases.{lease-back, lease-only}
 use Rattle.plx_gate.specs.Leases.{IsLease, lease_bytes, read_lease}
-use Rattle.plx_rules.specs.Part.{Ends}
+use Rattle.plx_rules.specs.Process.{Ends}
 use Rattle.plx_rules.specs.Claims.{ClaimHeld, ClaimBusy, end_of_term, own_record, reread_by}
 use Rattle.plx_rules.specs.Holds.{Hold, Nothing, hold_after_reread}
 use Rattle.plx_rules.specs.InUse.{InUse}

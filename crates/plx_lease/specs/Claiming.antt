@@ -3,8 +3,8 @@ use Rattle.std.specs.Prelude.{◌≡◌, ◌+◌, ℕ, List, ◌∷◌, Option, 
 use Rattle.plx_base.specs.declared.lease.Claim.{Claim}
 use Rattle.plx_gate.specs.Leases.{read_lease}
 use Rattle.plx_geom.specs.Geometry.{lease_at}
-use Rattle.plx_rules.specs.Part.{Part, Ends, ReadThen, UntilThen}
-use Rattle.plx_rules.specs.Claims.{ClaimEnd, ClaimReadFault, claim_damaged, claim_in_time, claim_part, own_use, reread_part, seen_part, written_part}
+use Rattle.plx_rules.specs.Process.{Process, Ends, ReadThen, UntilThen}
+use Rattle.plx_rules.specs.Claims.{ClaimEnd, ClaimReadFault, claim_damaged, claim_in_time, claim_process, own_use, reread_process, seen_process, written_process}
 use Rattle.plx_rules.specs.InUse.{InUse}
 use Rattle.plx_rules.specs.Times.{wait}
 use Rattle.plx_lease.specs.Uses.{uses_of}
@@ -15,29 +15,29 @@ use Rattle.plx_lease.specs.declared.claim_end.ClaimEnd.{ClaimEnd as End}
 use Rattle.plx_lease.specs.declared.claim_end.ClaimEnd.TheVariants as end
 
 -- the first read of the lease
-abbrev pub claim_read_part : List InUse → (lease : ℕ) → Claim → Part ClaimEnd
-claim_read_part others lease claim = ReadThen (lease_at lease) (λ bytes. seen_part others lease claim (read_lease bytes)) (Ends ClaimReadFault)
+abbrev pub claim_read_process : List InUse → (lease : ℕ) → Claim → Process ClaimEnd
+claim_read_process others lease claim = ReadThen (lease_at lease) (λ bytes. seen_process others lease claim (read_lease bytes)) (Ends ClaimReadFault)
 
 -- the leases in use once the claim was written
 abbrev pub written_uses : {K : Type 0} → LeaseClaim K → List InUse
 written_uses c = own_use c.number c.claim ∷ uses_of c.others
 
 -- the wait
-abbrev pub wait_part : {K : Type 0} → LeaseClaim K → Part ClaimEnd
-wait_part c = UntilThen (c.claim.sample + wait) (λ reading. claim_in_time (written_uses c) reading (reread_part (written_uses c) c.number c.claim))
+abbrev pub wait_process : {K : Type 0} → LeaseClaim K → Process ClaimEnd
+wait_process c = UntilThen (c.claim.sample + wait) (λ reading. claim_in_time (written_uses c) reading (reread_process (written_uses c) c.number c.claim))
 
 -- what is left to ask at each place
-abbrev pub claim_at : {K : Type 0} → ClaimAt → LeaseClaim K → Part ClaimEnd
-claim_at at.Sample c = claim_part c.claim.boot.0 (uses_of c.others) c.number c.claim.number
-claim_at at.Read c = claim_read_part (uses_of c.others) c.number c.claim
+abbrev pub claim_at : {K : Type 0} → ClaimAt → LeaseClaim K → Process ClaimEnd
+claim_at at.Sample c = claim_process c.claim.boot.0 (uses_of c.others) c.number c.claim.number
+claim_at at.Read c = claim_read_process (uses_of c.others) c.number c.claim
 claim_at at.Damaged c = claim_damaged (uses_of c.others)
-claim_at at.Write c = written_part (uses_of c.others) c.number c.claim
-claim_at at.Wait c = wait_part c
-claim_at at.Reread c = reread_part (written_uses c) c.number c.claim
+claim_at at.Write c = written_process (uses_of c.others) c.number c.claim
+claim_at at.Wait c = wait_process c
+claim_at at.Reread c = reread_process (written_uses c) c.number c.claim
 claim_at at.DamagedLate c = claim_damaged (written_uses c)
 
 -- what a claim has left to ask
-abbrev pub claim_rest : {K : Type 0} → LeaseClaim K → Part ClaimEnd
+abbrev pub claim_rest : {K : Type 0} → LeaseClaim K → Process ClaimEnd
 claim_rest c = claim_at c.at c
 
 -- the lease that is held at the end of a claim is the one that was claimed

@@ -3,8 +3,8 @@ use Rattle.plx_base.specs.declared.write_kind.WriteKind.TheVariants as kind
 use Rattle.plx_disk.specs.declared.ask.Ask.{Ask}
 use Rattle.plx_disk.specs.declared.ask.Ask.TheVariants as ask
 use Rattle.plx_geom.specs.Geometry.{lease_at}
-use Rattle.plx_rules.specs.Part.{Part}
-use Rattle.law_run.specs.Releases.{ReleaseEnd, Released, ReleaseLost, ReleaseWriteFault, release_part}
+use Rattle.plx_rules.specs.Process.{Process}
+use Rattle.law_run.specs.Releases.{ReleaseEnd, Released, ReleaseLost, ReleaseWriteFault, release_process}
 use Rattle.plx_lease.specs.Uses.{use_of}
 use Rattle.plx_lease.specs.declared.release.LeaseRelease.{LeaseRelease}
 use Rattle.plx_lease.specs.declared.release.ReleaseEnd.{ReleaseEnd as End}
@@ -17,8 +17,8 @@ release_end (end.Lost due reading) = ReleaseLost (use_of due) reading
 release_end end.WriteFault = ReleaseWriteFault
 
 -- what a release has left to ask
-abbrev pub release_rest : LeaseRelease → Part ReleaseEnd
-release_rest r = release_part r.number r.until
+abbrev pub release_rest : LeaseRelease → Process ReleaseEnd
+release_rest r = release_process r.number r.until
 
 -- its ask
 abbrev pub release_ask : LeaseRelease → Ask

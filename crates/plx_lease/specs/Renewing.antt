@@ -4,10 +4,10 @@ use Rattle.plx_base.specs.declared.write_kind.WriteKind.TheVariants as kind
 use Rattle.plx_disk.specs.declared.ask.Ask.{Ask}
 use Rattle.plx_disk.specs.declared.ask.Ask.TheVariants as ask
 use Rattle.plx_geom.specs.Geometry.{lease_at}
-use Rattle.plx_rules.specs.Part.{Part}
+use Rattle.plx_rules.specs.Process.{Process}
 use Rattle.plx_rules.specs.Commands.{later_of}
 use Rattle.plx_rules.specs.Holds.{Hold, Nothing, Held}
-use Rattle.law_run.specs.Renewals.{RenewalEnd, Renewed, RenewalLost, RenewalWriteFault, renewal_part}
+use Rattle.law_run.specs.Renewals.{RenewalEnd, Renewed, RenewalLost, RenewalWriteFault, renewal_process}
 use Rattle.plx_lease.specs.Uses.{use_of}
 use Rattle.plx_lease.specs.declared.renewal.LeaseRenewal.{LeaseRenewal}
 use Rattle.plx_lease.specs.declared.renewal.RenewalEnd.{RenewalEnd as End}
@@ -20,8 +20,8 @@ renewal_end (end.Lost due reading) = RenewalLost (use_of due) reading
 renewal_end end.WriteFault = RenewalWriteFault
 
 -- what a renewal has left to ask
-abbrev pub renewal_rest : LeaseRenewal → Part RenewalEnd
-renewal_rest r = renewal_part r.number r.claim r.until r.later
+abbrev pub renewal_rest : LeaseRenewal → Process RenewalEnd
+renewal_rest r = renewal_process r.number r.claim r.until r.later
 
 -- its ask
 abbrev pub renewal_ask : LeaseRenewal → Ask

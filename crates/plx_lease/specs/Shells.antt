@@ -1,6 +1,6 @@
 -- Machines that keep their end: what they have left to ask, and how they end.
 use Rattle.std.specs.Prelude.{◌≡◌}
-use Rattle.plx_rules.specs.Part.{Part}
+use Rattle.plx_rules.specs.Process.{Process}
 use Rattle.plx_rules.specs.Claims.{ClaimEnd}
 use Rattle.plx_rules.specs.Machines.{rest_after}
 use Rattle.plx_lease.specs.ClaimEnds.{claim_end}
@@ -17,15 +17,15 @@ use Rattle.plx_lease.specs.declared.renewing.RenewingEnd.{RenewingEnd}
 use Rattle.plx_lease.specs.declared.renewing.RenewingEnd.TheVariants as end
 
 -- a claim
-abbrev pub claiming_rest : {K : Type 0} → Claiming K → Part ClaimEnd
+abbrev pub claiming_rest : {K : Type 0} → Claiming K → Process ClaimEnd
 claiming_rest c = rest_after claim_end (claim_rest c.work) c.end
 
 -- a renewal
-abbrev pub renewing_rest : {K : Type 0} → Renewing K → Part RenewalEnd
+abbrev pub renewing_rest : {K : Type 0} → Renewing K → Process RenewalEnd
 renewing_rest r = rest_after renewal_end (renewal_rest r.work) r.end
 
 -- a release
-abbrev pub releasing_rest : {K : Type 0} → Releasing K → Part ReleaseEnd
+abbrev pub releasing_rest : {K : Type 0} → Releasing K → Process ReleaseEnd
 releasing_rest r = rest_after release_end (release_rest r.work) r.end
 
 -- how a renewal ends, without the lease

@@ -1,7 +1,7 @@
 //! A claim of a lease.
 ghost use Rattle.std.specs.Prelude.{◌≡◌, ◌≤◌, ◌<◌, ◌+◌, ◌^◌, ◌∷◌, ℕ, Option, Some, None};
 ghost use Rattle.plx_gate.specs.Leases.{lease_bytes};
-ghost use Rattle.plx_rules.specs.Part.{Ends};
+ghost use Rattle.plx_rules.specs.Process.{Ends};
 ghost use Rattle.plx_rules.specs.Claims.{ClaimLost, ClaimDamaged, own_record as own};
 ghost use Rattle.plx_rules.specs.InUse.{first_reached as first, unless_reached};
 ghost use Rattle.plx_rules.specs.Times.{is_expired as is_expired_for};
@@ -69,15 +69,15 @@ impl<K: LeaseKind> LeaseClaim<K> {
     ghost use Rattle.plx_disk.specs.declared.ask.Answer.{Answer};
     ghost use Rattle.plx_geom.specs.Geometry.{lease_at};
     ghost use Rattle.plx_gate.specs.Leases.{read_lease as lease_in};
-    ghost use Rattle.plx_rules.specs.Part.{answered, standing, bytes_out};
+    ghost use Rattle.plx_rules.specs.Process.{answered, standing, bytes_out};
     ghost use Rattle.plx_rules.specs.Boot.{Fits};
-    ghost use Rattle.plx_rules.specs.Claims.{claim_in_time, claim_of, claim_part, end_of_term, own_use, reread_by, reread_part, seen_part};
+    ghost use Rattle.plx_rules.specs.Claims.{claim_in_time, claim_of, claim_process, end_of_term, own_use, reread_by, reread_process, seen_process};
     ghost use Rattle.plx_rules.specs.Holds.{Hold, Nothing, Wrote, Held, sample_of, seen_by, hold_after_reading, hold_after_claim, hold_after_reread as confirmed};
     ghost use Rattle.plx_rules.specs.Machines.{AreWhole, AsksOnly, IsTimely, rest_after};
     ghost use Rattle.plx_rules.specs.Times.{wait};
     ghost use Rattle.plx_lease.specs.Uses.{use_of, uses_of};
     ghost use Rattle.plx_lease.specs.ClaimEnds.{claim_end};
-    ghost use Rattle.plx_lease.specs.Claiming.{KeepsLease, claim_rest, claim_read_part, wait_part};
+    ghost use Rattle.plx_lease.specs.Claiming.{KeepsLease, claim_rest, claim_read_process, wait_process};
     ghost use Rattle.plx_lease.specs.Holding.{IsSampled, LeavesClaim, claim_ask, claim_hold, claim_sample, lease_after};
 
     /// The claim of a lease in this block by a boot that began so many claims before, with a block
@@ -94,7 +94,7 @@ impl<K: LeaseKind> LeaseClaim<K> {
         requires high { block.0 ≤ 2 ^ 32 }
         requires number { number < 2 ^ 40 }
         ensures rest { (place : ℕ) → block.0 ≡ lease_at place →
-            claim_rest result ≡ claim_part boot.0 (uses_of others) place number }
+            claim_rest result ≡ claim_process boot.0 (uses_of others) place number }
         ensures hold { claim_hold result ≡ Nothing }
         ensures sampled { (last : Option ℕ) → IsSampled result last }
         ensures lease { result.lease ≡ lease }
@@ -131,7 +131,7 @@ impl<K: LeaseKind> LeaseClaim<K> {
         requires high { block.0 ≤ 2 ^ 32 }
         requires number { number < 2 ^ 40 }
         ensures rest { (place : ℕ) → block.0 ≡ lease_at place →
-            claim_rest self.new ≡ claim_part boot.0 (uses_of others) place number }
+            claim_rest self.new ≡ claim_process boot.0 (uses_of others) place number }
         ensures hold { claim_hold self.new ≡ Nothing }
         ensures sampled { (last : Option ℕ) → IsSampled self.new last }
         ensures lease { self.new.lease ≡ lease }
@@ -229,7 +229,7 @@ impl<K: LeaseKind> LeaseClaim<K> {
         requires { reading < 2 ^ 48 }
         ensures rest { rest_after claim_end (claim_rest self.new) result
             ≡ claim_in_time (uses_of self.old.others) reading
-            (claim_read_part (uses_of self.old.others) self.old.number
+            (claim_read_process (uses_of self.old.others) self.old.number
             (claim_of self.old.claim.boot.0 self.old.claim.number reading)) }
         ensures hold { LeavesClaim Nothing (Some reading) self.new result }
         ensures kept { KeepsLease self.old self.new result }
@@ -247,7 +247,7 @@ impl<K: LeaseKind> LeaseClaim<K> {
     // The lease was read: the claim is written where it is expired.
     fn after_read(&mut self, bytes: &Block) -> Option<ClaimEnd<K>>
         ensures rest { rest_after claim_end (claim_rest self.new) result
-            ≡ seen_part (uses_of self.old.others) self.old.number self.old.claim
+            ≡ seen_process (uses_of self.old.others) self.old.number self.old.claim
             (lease_in bytes.now) }
         ensures hold { LeavesClaim (seen_by
             (lease_in bytes.now) self.old.claim.sample) None self.new result }
@@ -270,7 +270,7 @@ impl<K: LeaseKind> LeaseClaim<K> {
 
     // The claim is written: it waits.
     fn after_write(&mut self) -> Option<ClaimEnd<K>>
-        ensures rest { rest_after claim_end (claim_rest self.new) result ≡ wait_part self.old }
+        ensures rest { rest_after claim_end (claim_rest self.new) result ≡ wait_process self.old }
         ensures hold { LeavesClaim (hold_after_claim (lease_in self.old.out)) None self.new result }
         ensures kept { KeepsLease self.old self.new result }
     {
@@ -283,7 +283,7 @@ impl<K: LeaseKind> LeaseClaim<K> {
         ensures rest { rest_after claim_end (claim_rest self.new) result
             ≡ claim_in_time (own_use self.old.number self.old.claim ∷
             uses_of self.old.others) reading
-            (reread_part (own_use self.old.number self.old.claim ∷
+            (reread_process (own_use self.old.number self.old.claim ∷
             uses_of self.old.others) self.old.number self.old.claim) }
         ensures hold { self.old.claim.sample + wait ≤ reading →
             LeavesClaim (hold_after_reading reading

@@ -17,8 +17,8 @@ pub struct Claiming<K> {
 impl<K: LeaseKind> Claiming<K> {
     ghost use Rattle.plx_disk.specs.declared.turn.Turn.{Turn};
     ghost use Rattle.plx_geom.specs.Geometry.{lease_at};
-    ghost use Rattle.plx_rules.specs.Part.{Ends, answered, standing, bytes_out};
-    ghost use Rattle.plx_rules.specs.Claims.{claim_part};
+    ghost use Rattle.plx_rules.specs.Process.{Ends, answered, standing, bytes_out};
+    ghost use Rattle.plx_rules.specs.Claims.{claim_process};
     ghost use Rattle.plx_rules.specs.Machines.{IsTimely, turn_of};
     ghost use Rattle.law_run.specs.ClaimEnds.{IsClaimAsk, IsClaimEnd};
     ghost use Rattle.law_run.specs.Machines.{HasCome, MovesOn};
@@ -33,9 +33,9 @@ impl<K: LeaseKind> Claiming<K> {
         requires high { block.0 ≤ 2 ^ 32 }
         requires number { number < 2 ^ 40 }
         ensures rest { (place : ℕ) → block.0 ≡ lease_at place
-            → claiming_rest result ≡ claim_part boot.0 [] place number }
+            → claiming_rest result ≡ claim_process boot.0 [] place number }
         ensures log { (place : ℕ) → block.0 ≡ lease_at place
-            → HasCome (claim_part boot.0 [] place number) [] (claiming_rest result) }
+            → HasCome (claim_process boot.0 [] place number) [] (claiming_rest result) }
         ensures lease { result.work.lease ≡ lease }
     {
         Claiming {

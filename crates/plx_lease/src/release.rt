@@ -33,11 +33,11 @@ pub struct LeaseRelease {
 impl LeaseRelease {
     ghost use Rattle.plx_disk.specs.declared.ask.Answer.{Answer};
     ghost use Rattle.plx_geom.specs.Geometry.{lease_at};
-    ghost use Rattle.plx_rules.specs.Part.{answered, standing, bytes_out};
+    ghost use Rattle.plx_rules.specs.Process.{answered, standing, bytes_out};
     ghost use Rattle.plx_rules.specs.Boot.{Fits};
     ghost use Rattle.plx_rules.specs.Holds.{Hold, Nothing};
     ghost use Rattle.plx_rules.specs.Machines.{AreWhole, AsksOnly, rest_after};
-    ghost use Rattle.law_run.specs.Releases.{release_part};
+    ghost use Rattle.law_run.specs.Releases.{release_process};
     ghost use Rattle.plx_lease.specs.Releasing.{release_ask, release_end, release_rest};
     ghost use Rattle.plx_lease.specs.Holding.{lease_after};
 
@@ -48,7 +48,7 @@ impl LeaseRelease {
         requires high { block.0 ≤ 2 ^ 32 }
         ensures number { (place : ℕ) → block.0 ≡ lease_at place → result.number ≡ place }
         ensures rest { (place : ℕ) → block.0 ≡ lease_at place →
-            release_rest result ≡ release_part place held.until }
+            release_rest result ≡ release_process place held.until }
     {
         let until = held.until();
         held.released();

@@ -18,10 +18,10 @@ pub struct Releasing<K> {
 impl<K: LeaseKind> Releasing<K> {
     ghost use Rattle.plx_disk.specs.declared.turn.Turn.{Turn};
     ghost use Rattle.plx_geom.specs.Geometry.{lease_at};
-    ghost use Rattle.plx_rules.specs.Part.{Ends, answered, standing, bytes_out};
+    ghost use Rattle.plx_rules.specs.Process.{Ends, answered, standing, bytes_out};
     ghost use Rattle.plx_rules.specs.Machines.{turn_of};
     ghost use Rattle.law_run.specs.Machines.{HasCome, MovesOn};
-    ghost use Rattle.law_run.specs.Releases.{IsReleaseAsk, IsReleaseEnd, release_part};
+    ghost use Rattle.law_run.specs.Releases.{IsReleaseAsk, IsReleaseEnd, release_process};
     ghost use Rattle.plx_lease.specs.Releasing.{release_end};
     ghost use Rattle.plx_lease.specs.Shells.{releasing_rest};
 
@@ -31,9 +31,9 @@ impl<K: LeaseKind> Releasing<K> {
         requires low { 1 ≤ block.0 }
         requires high { block.0 ≤ 2 ^ 32 }
         ensures rest { (place : ℕ) → block.0 ≡ lease_at place
-            → releasing_rest result ≡ release_part place held.until }
+            → releasing_rest result ≡ release_process place held.until }
         ensures log { (place : ℕ) → block.0 ≡ lease_at place
-            → HasCome (release_part place held.until) [] (releasing_rest result) }
+            → HasCome (release_process place held.until) [] (releasing_rest result) }
     {
         Releasing {
             work: LeaseRelease::begin(held, block, out),

@@ -39,12 +39,12 @@ pub struct LeaseRenewal {
 impl LeaseRenewal {
     ghost use Rattle.plx_disk.specs.declared.ask.Answer.{Answer};
     ghost use Rattle.plx_geom.specs.Geometry.{lease_at};
-    ghost use Rattle.plx_rules.specs.Part.{answered, standing, bytes_out};
+    ghost use Rattle.plx_rules.specs.Process.{answered, standing, bytes_out};
     ghost use Rattle.plx_rules.specs.Boot.{Fits};
     ghost use Rattle.plx_rules.specs.Commands.{later_of};
     ghost use Rattle.plx_rules.specs.Machines.{AreWhole, AsksOnly, rest_after};
     ghost use Rattle.plx_rules.specs.Times.{term};
-    ghost use Rattle.law_run.specs.Renewals.{renewal_part};
+    ghost use Rattle.law_run.specs.Renewals.{renewal_process};
     ghost use Rattle.plx_lease.specs.Renewing.{LeavesRenewal, renewal_ask, renewal_end, renewal_hold, renewal_rest};
     ghost use Rattle.plx_lease.specs.Holding.{lease_after};
 
@@ -54,7 +54,7 @@ impl LeaseRenewal {
         requires high { block.0 ≤ 2 ^ 32 }
         requires reading { reading < 2 ^ 48 }
         ensures rest { (place : ℕ) → block.0 ≡ lease_at place →
-            renewal_rest result ≡ renewal_part place held.now.claim held.now.until
+            renewal_rest result ≡ renewal_process place held.now.claim held.now.until
             (later_of held.now.until (reading + term)) }
         ensures number { (place : ℕ) → block.0 ≡ lease_at place → result.number ≡ place }
         ensures claim { result.claim ≡ held.now.claim }

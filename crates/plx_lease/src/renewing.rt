@@ -1,6 +1,6 @@
 //! A renewal as a machine of five calls.
 ghost use Rattle.std.specs.Prelude.{◌≡◌, ◌≤◌, ◌<◌, ◌+◌, ◌^◌, ℕ, Some, None, []};
-ghost use Rattle.plx_rules.specs.Part.{bytes_out};
+ghost use Rattle.plx_rules.specs.Process.{bytes_out};
 ghost use Rattle.plx_lease.specs.Renewing.{renewal_rest};
 
 use crate::in_use::InUse;
@@ -35,10 +35,10 @@ pub struct Renewing<K> {
 impl<K: LeaseKind> Renewing<K> {
     ghost use Rattle.plx_disk.specs.declared.turn.Turn.{Turn};
     ghost use Rattle.plx_geom.specs.Geometry.{lease_at};
-    ghost use Rattle.plx_rules.specs.Part.{Ends, answered, standing};
+    ghost use Rattle.plx_rules.specs.Process.{Ends, answered, standing};
     ghost use Rattle.plx_rules.specs.Machines.{turn_of};
     ghost use Rattle.law_run.specs.Machines.{HasCome, MovesOn};
-    ghost use Rattle.law_run.specs.Renewals.{IsRenewalAsk, IsRenewalEnd, renewal_part, renewal_until};
+    ghost use Rattle.law_run.specs.Renewals.{IsRenewalAsk, IsRenewalEnd, renewal_process, renewal_until};
     ghost use Rattle.plx_lease.specs.Shells.{IsRenewed, renewing_end, renewing_rest};
 
     /// The renewal of a lease that is held, in this block, by the command's first reading, with a
@@ -48,9 +48,9 @@ impl<K: LeaseKind> Renewing<K> {
         requires high { block.0 ≤ 2 ^ 32 }
         requires reading { reading < 2 ^ 48 }
         ensures rest { (place : ℕ) → block.0 ≡ lease_at place → renewing_rest result
-            ≡ renewal_part place held.claim held.until (renewal_until held.until reading) }
+            ≡ renewal_process place held.claim held.until (renewal_until held.until reading) }
         ensures log { (place : ℕ) → block.0 ≡ lease_at place → HasCome
-            (renewal_part place held.claim held.until (renewal_until held.until reading))
+            (renewal_process place held.claim held.until (renewal_until held.until reading))
             [] (renewing_rest result) }
         ensures held { result.held ≡ held }
         ensures later { result.work.later ≡ renewal_until held.until reading }

@@ -5,11 +5,11 @@ use Rattle.std.specs.Prelude.{◌&&◌, if◌then◌else◌, nat_le, nat_lt}
 use Rattle.plx_base.specs.declared.lease.Claim.{Claim}
 use Rattle.plx_commands.specs.declared.reply.Reply.{Reply}
 use Rattle.plx_commands.specs.declared.reply.Reply.TheVariants as reply
-use Rattle.plx_rules.specs.Boot.{after_part}
+use Rattle.plx_rules.specs.Boot.{after_process}
 use Rattle.plx_rules.specs.Commands.{later_of}
 use Rattle.plx_rules.specs.Ends.{End}
 use Rattle.plx_rules.specs.Holds.{Hold, Nothing, Seen, Wrote, Waited, Held, first_hold, hold_after_reading, holds_after_reply}
-use Rattle.plx_rules.specs.Part.{Part, Ends, ReadThen, WriteThen, ClockThen, UntilThen}
+use Rattle.plx_rules.specs.Process.{Process, Ends, ReadThen, WriteThen, ClockThen, UntilThen}
 use Rattle.plx_rules.specs.Session.{Session}
 use Rattle.plx_rules.specs.Times.{wait}
 
@@ -47,17 +47,17 @@ timed-held reading (Seen s) claim until e = e
 timed-held reading (Waited c u) claim until e = e
 timed-held reading (Held c u) claim until e = e
 
--- what is held where a part of a command has come was held before
-pub part-held : (part : Part End) (holds : ℕ → Hold) (block : ℕ) (claim : Claim) (until : ℕ) → after_part part holds block ≡ Held claim until → holds block ≡ Held claim until
-part-held (Ends end) holds block claim until e = by_reply end.reply e
+-- what is held where a process of a command has come was held before
+pub process-held : (process : Process End) (holds : ℕ → Hold) (block : ℕ) (claim : Claim) (until : ℕ) → after_process process holds block ≡ Held claim until → holds block ≡ Held claim until
+process-held (Ends end) holds block claim until e = by_reply end.reply e
   where
     by_reply : (r : Reply) → holds_after_reply r holds block ≡ Held claim until → holds block ≡ Held claim until
     by_reply (reply.Lost lease u reading) e' = nothing-held claim until e'
     by_reply other e' = e'
-part-held (ReadThen b rest fault) holds block claim until e = e
-part-held (WriteThen k b bytes guard done fault missed) holds block claim until e = e
-part-held (ClockThen rest) holds block claim until e = e
-part-held (UntilThen from rest) holds block claim until e = e
+process-held (ReadThen b rest fault) holds block claim until e = e
+process-held (WriteThen k b bytes guard done fault missed) holds block claim until e = e
+process-held (ClockThen rest) holds block claim until e = e
+process-held (UntilThen from rest) holds block claim until e = e
 
 -- the later of two ends isn't before the first, and is below what both are below
 pub later-least : (a b : ℕ) → a ≤ later_of a b

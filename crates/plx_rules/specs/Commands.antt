@@ -18,9 +18,9 @@ use Rattle.plx_gate.specs.declared.descriptor.Descriptor.{Descriptor}
 use Rattle.plx_gate.specs.declared.image.ImageRecord.{ImageRecord}
 use Rattle.plx_gate.specs.declared.image.ImageRecord.TheVariants as image_is
 use Rattle.plx_geom.specs.Geometry.{lease_count, image_lease, lease_at, record_at, descriptor_at, data_at}
-use Rattle.plx_rules.specs.Part.{Part}
+use Rattle.plx_rules.specs.Process.{Process}
 use Rattle.plx_rules.specs.Journaled.{Journaled}
-use Rattle.plx_rules.specs.Attaching.{image_use, attach_part}
+use Rattle.plx_rules.specs.Attaching.{image_use, attach_process}
 use Rattle.plx_rules.specs.Ends.{End, ends, write_then, in_time, ends_in_time}
 use Rattle.plx_rules.specs.Holds.{Hold, Held}
 use Rattle.plx_rules.specs.InUse.{InUse}
@@ -28,57 +28,57 @@ use Rattle.plx_rules.specs.Journal.{journal_slot}
 use Rattle.plx_rules.specs.Records.{is_live, generation_of, size_of, made_record}
 use Rattle.plx_rules.specs.Session.{Session, Known, with_session, new_session, write_count, content, with_write}
 use Rattle.plx_rules.specs.Settings.{Setting}
-use Rattle.plx_rules.specs.Space.{reserve_part, retire_part}
+use Rattle.plx_rules.specs.Space.{reserve_process, retire_process}
 use Rattle.plx_rules.specs.Times.{term}
 
 -- ---- commands of an attached image
 
 -- a refusal where its fact doesn't fail
-abbrev pub unless : (refused : Bool) → Reply → Known → Part End → Part End
-unless true refusal known part = ends refusal known
-unless false refusal known part = part
+abbrev pub unless : (refused : Bool) → Reply → Known → Process End → Process End
+unless true refusal known process = ends refusal known
+unless false refusal known process = process
 
 -- the reading is below the end of the image's lease
-abbrev pub held_part : Setting → Known → (image : ℕ) → Hold → (reading : ℕ) → (until_then : ℕ → Part End) → Part End
-held_part s known image (Held claim until) reading rest = in_time s known (image_use image until) reading (rest until)
-held_part s known image other reading rest = ends reply.NotAttached known
+abbrev pub held_process : Setting → Known → (image : ℕ) → Hold → (reading : ℕ) → (until_then : ℕ → Process End) → Process End
+held_process s known image (Held claim until) reading rest = in_time s known (image_use image until) reading (rest until)
+held_process s known image other reading rest = ends reply.NotAttached known
 
 -- the image has a session, by whether there is such a slot and what is held of its lease; a session's lease is always held
-abbrev pub attached_part : Setting → Known → (image : ℕ) → Option Session → (within : Bool) → Hold → (reading : ℕ) →
-    (Session → (until : ℕ) → Part End) → Part End
-attached_part s known image None within hold reading rest = ends reply.NotAttached known
-attached_part s known image (Some session) false hold reading rest = ends reply.NotAttached known
-attached_part s known image (Some session) true hold reading rest = held_part s known image hold reading (rest session)
+abbrev pub attached_process : Setting → Known → (image : ℕ) → Option Session → (within : Bool) → Hold → (reading : ℕ) →
+    (Session → (until : ℕ) → Process End) → Process End
+attached_process s known image None within hold reading rest = ends reply.NotAttached known
+attached_process s known image (Some session) false hold reading rest = ends reply.NotAttached known
+attached_process s known image (Some session) true hold reading rest = held_process s known image hold reading (rest session)
 
 -- a detach gives the lease back
-abbrev pub detach_part : Setting → Known → (image : ℕ) → Session → (until : ℕ) → Part End
-detach_part s known image session until =
+abbrev pub detach_process : Setting → Known → (image : ℕ) → Session → (until : ℕ) → Process End
+detach_process s known image session until =
     write_then s known (record { lease = image_lease image; until = until }) kind.Release (lease_at (image_lease image)) (lease_bytes record_is.Free)
     (ends reply.Detached (with_session known image None))
 
 -- a record is written, and the command ends with its session
-abbrev pub record_part : Setting → Known → (image until : ℕ) → ImageRecord → Reply → Part End
-record_part s known image until made done =
+abbrev pub record_process : Setting → Known → (image until : ℕ) → ImageRecord → Reply → Process End
+record_process s known image until made done =
     write_then s known (record { lease = image_lease image; until = until }) kind.Record (record_at s.geometry image) (image_bytes made)
     (ends_in_time s known (image_use image until) done (with_session known image (Some (new_session made))))
 
 -- an image is made in a free slot
-abbrev pub create_part : Setting → Known → (image size : ℕ) → (label : List ℕ) → Session → (until : ℕ) → Part End
-create_part s known image size label session until =
+abbrev pub create_process : Setting → Known → (image size : ℕ) → (label : List ℕ) → Session → (until : ℕ) → Process End
+create_process s known image size label session until =
     unless (is_live session.image) reply.Exists known
     (unless (not (is_size size)) (reply.OutOfRange greatest_size) known
     (unless (is_worn last_generation (generation_of session.image)) (reply.WornOut last_generation) known
-    (record_part s known image until (made_record (generation_of session.image + 1) size label) reply.Created)))
+    (record_process s known image until (made_record (generation_of session.image + 1) size label) reply.Created)))
 
 -- an image is deleted
-abbrev pub delete_part : Setting → Known → (image : ℕ) → Session → (until : ℕ) → Part End
-delete_part s known image session until =
+abbrev pub delete_process : Setting → Known → (image : ℕ) → Session → (until : ℕ) → Process End
+delete_process s known image session until =
     unless (not (is_live session.image)) reply.NoImage known
-    (record_part s known image until (image_is.Free (generation_of session.image)) reply.Deleted)
+    (record_process s known image until (image_is.Free (generation_of session.image)) reply.Deleted)
 
 -- a read gives the block that the session knows
-abbrev pub read_part : Setting → Known → (image vblock : ℕ) → Session → (until : ℕ) → Part End
-read_part s known image vblock session until =
+abbrev pub read_process : Setting → Known → (image vblock : ℕ) → Session → (until : ℕ) → Process End
+read_process s known image vblock session until =
     unless (not (is_live session.image)) reply.NoImage known
     (unless (nat_le (size_of session.image) vblock) (reply.OutOfRange (size_of session.image)) known
     (ends_in_time s known (image_use image until) (reply.Data (payload_of (content session vblock))) known))
@@ -96,8 +96,8 @@ abbrev pub next_slot : Setting → Session → ℕ
 next_slot s session = journal_slot s.geometry.slots (write_count session + 1)
 
 -- a write fills its journal slot, and then its descriptor commits it
-abbrev pub journal_part : Setting → Known → (image vblock : ℕ) → List ℕ → Session → (until : ℕ) → Part End
-journal_part s known image vblock bytes session until =
+abbrev pub journal_process : Setting → Known → (image vblock : ℕ) → List ℕ → Session → (until : ℕ) → Process End
+journal_process s known image vblock bytes session until =
     write_then s known (record { lease = image_lease image; until = until }) kind.JData (data_at s.geometry image (next_slot s session)) bytes
     (write_then s known (record { lease = image_lease image; until = until }) kind.JCommit (descriptor_at s.geometry image (next_slot s session))
     (descriptor_bytes (next_descriptor session vblock))
@@ -105,13 +105,13 @@ journal_part s known image vblock bytes session until =
     (with_session known image (Some (with_write session (next_write session vblock bytes))))))
 
 -- a write: its journal is full where it holds as many unapplied writes as it has slots
-abbrev pub write_part : Setting → Known → (image vblock : ℕ) → List ℕ → Session → (until : ℕ) → Part End
-write_part s known image vblock bytes session until =
+abbrev pub write_process : Setting → Known → (image vblock : ℕ) → List ℕ → Session → (until : ℕ) → Process End
+write_process s known image vblock bytes session until =
     unless (not (is_live session.image)) reply.NoImage known
     (unless (nat_le (size_of session.image) vblock) (reply.OutOfRange (size_of session.image)) known
     (unless (is_worn last_write (write_count session)) (reply.WornOut last_write) known
     (unless (length session.writes == s.geometry.slots) reply.Full known
-    (journal_part s known image vblock bytes session until))))
+    (journal_process s known image vblock bytes session until))))
 
 -- ---- renew
 
@@ -120,17 +120,17 @@ abbrev pub later_of : ℕ → ℕ → ℕ
 later_of one other = if nat_le one other then other else one
 
 -- the renewal of a lease that is held
-abbrev pub renewal : Setting → Known → (reading lease : ℕ) → Hold → (rest : Part End) → Part End
+abbrev pub renewal : Setting → Known → (reading lease : ℕ) → Hold → (rest : Process End) → Process End
 renewal s known reading lease (Held claim until) rest =
     write_then s known (record { lease = lease; until = until }) kind.Renew (lease_at lease)
     (lease_bytes (record_is.Claimed claim (later_of until (reading + term)))) rest
 renewal s known reading lease other rest = rest
 
 -- each lease that is held is renewed, of `left` leases from this one on
-abbrev pub renew_part : Setting → Known → (holds : ℕ → Hold) → (reading left lease : ℕ) → Part End
-renew_part s known holds reading zero lease = ends reply.Renewed known
-renew_part s known holds reading (suc left) lease =
-    renewal s known reading lease (holds (lease_at lease)) (renew_part s known holds reading left (lease + 1))
+abbrev pub renew_process : Setting → Known → (holds : ℕ → Hold) → (reading left lease : ℕ) → Process End
+renew_process s known holds reading zero lease = ends reply.Renewed known
+renew_process s known holds reading (suc left) lease =
+    renewal s known reading lease (holds (lease_at lease)) (renew_process s known holds reading left (lease + 1))
 
 -- the leases of attached images are in use, of `left` images from this one on
 abbrev pub session_use : Option Session → Hold → (image : ℕ) → List InUse → List InUse
@@ -174,22 +174,22 @@ IsWellFormed Retire = Unit {0}
 IsWellFormed Reclaim = Unit {0}
 
 -- a command of an attached image, by its slot
-abbrev pub of_attached : Setting → Known → (holds : ℕ → Hold) → (reading image : ℕ) → (Session → (until : ℕ) → Part End) → Part End
+abbrev pub of_attached : Setting → Known → (holds : ℕ → Hold) → (reading image : ℕ) → (Session → (until : ℕ) → Process End) → Process End
 of_attached s known holds reading image rest =
-    attached_part s known image (known.sessions image) (nat_lt image s.geometry.images) (holds (lease_at (image_lease image))) reading rest
+    attached_process s known image (known.sessions image) (nat_lt image s.geometry.images) (holds (lease_at (image_lease image))) reading rest
 
 -- what a command asks after its first reading; one that isn't built asks nothing
-abbrev pub command_part : Setting → Known → (holds : ℕ → Hold) → (hand : List ℕ) → (reading : ℕ) → Command → Part End
-command_part s known holds hand reading (Attach slot) =
-    attach_part s known slot.0 (known.sessions slot.0) (nat_lt slot.0 s.geometry.images) (holds (lease_at (image_lease slot.0)))
-command_part s known holds hand reading (Detach slot) = of_attached s known holds reading slot.0 (detach_part s known slot.0)
-command_part s known holds hand reading (Create slot size label) = of_attached s known holds reading slot.0 (create_part s known slot.0 size label)
-command_part s known holds hand reading (Delete slot) = of_attached s known holds reading slot.0 (delete_part s known slot.0)
-command_part s known holds hand reading (Read slot vblock) = of_attached s known holds reading slot.0 (read_part s known slot.0 vblock)
-command_part s known holds hand reading (Write slot vblock payload) = of_attached s known holds reading slot.0 (write_part s known slot.0 vblock (bytes_of payload))
-command_part s known holds hand reading Renew =
-    in_time s known (attached_uses known holds s.geometry.images 0) reading (renew_part s known holds reading (lease_count s.geometry) 0)
-command_part s known holds hand reading (Flush slot) = ends reply.NotAttached known
-command_part s known holds hand reading (Reserve count) = reserve_part s known holds hand count
-command_part s known holds hand reading Retire = retire_part s known holds hand
-command_part s known holds hand reading Reclaim = ends reply.NotAttached known
+abbrev pub command_process : Setting → Known → (holds : ℕ → Hold) → (hand : List ℕ) → (reading : ℕ) → Command → Process End
+command_process s known holds hand reading (Attach slot) =
+    attach_process s known slot.0 (known.sessions slot.0) (nat_lt slot.0 s.geometry.images) (holds (lease_at (image_lease slot.0)))
+command_process s known holds hand reading (Detach slot) = of_attached s known holds reading slot.0 (detach_process s known slot.0)
+command_process s known holds hand reading (Create slot size label) = of_attached s known holds reading slot.0 (create_process s known slot.0 size label)
+command_process s known holds hand reading (Delete slot) = of_attached s known holds reading slot.0 (delete_process s known slot.0)
+command_process s known holds hand reading (Read slot vblock) = of_attached s known holds reading slot.0 (read_process s known slot.0 vblock)
+command_process s known holds hand reading (Write slot vblock payload) = of_attached s known holds reading slot.0 (write_process s known slot.0 vblock (bytes_of payload))
+command_process s known holds hand reading Renew =
+    in_time s known (attached_uses known holds s.geometry.images 0) reading (renew_process s known holds reading (lease_count s.geometry) 0)
+command_process s known holds hand reading (Flush slot) = ends reply.NotAttached known
+command_process s known holds hand reading (Reserve count) = reserve_process s known holds hand count
+command_process s known holds hand reading Retire = retire_process s known holds hand
+command_process s known holds hand reading Reclaim = ends reply.NotAttached known

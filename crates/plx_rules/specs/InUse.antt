@@ -3,7 +3,7 @@ use Rattle.std.specs.Prelude.{◌≡◌, ◌⊎◌, ◌-◌, ℕ, zero, suc, Lis
 use Rattle.plx_base.specs.declared.lease.LeaseName.{LeaseName}
 use Rattle.plx_base.specs.declared.lease.LeaseName.TheVariants.{Root, Image, Extent}
 use Rattle.plx_geom.specs.Geometry.{Geometry}
-use Rattle.plx_rules.specs.Part.{Part}
+use Rattle.plx_rules.specs.Process.{Process}
 
 -- a lease in use, by its number, and the moment until which it is held
 pub record InUse : Type 0 where
@@ -40,6 +40,6 @@ first_reached (one ∷ others) reading =
     if nat_le one.until reading then Some (earlier one (first_reached others reading)) else first_reached others reading
 
 -- what is asked unless a lease in use was reached
-abbrev pub unless_reached : {E : Type 0} → Option InUse → (InUse → Part E) → Part E → Part E
+abbrev pub unless_reached : {E : Type 0} → Option InUse → (InUse → Process E) → Process E → Process E
 unless_reached None lost rest = rest
 unless_reached (Some due) lost rest = lost due

@@ -10,8 +10,8 @@ pub mod Journal
 pub mod Journaled
 pub mod Loading
 pub mod Machines
-pub mod Part
-pub mod Parts
+pub mod Process
+pub mod Processes
 pub mod Records
 pub mod Rests
 pub mod Session

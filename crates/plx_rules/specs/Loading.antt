@@ -1,7 +1,7 @@
 -- The reading of a journal, as a part of an attach.
 use Rattle.std.specs.Prelude.{◌+◌, ℕ, List, zero, suc, Option, Some, None}
 use Rattle.plx_geom.specs.Geometry.{Geometry, descriptor_at, data_at}
-use Rattle.plx_rules.specs.Part.{Part, Ends, ReadThen}
+use Rattle.plx_rules.specs.Process.{Process, Ends, ReadThen}
 use Rattle.plx_rules.specs.Journaled.{Journaled}
 use Rattle.plx_gate.specs.declared.image.ImageRecord.{ImageRecord}
 use Rattle.plx_rules.specs.Journal.{journal_slot, Finding, Outside, Unused, Counts, finding}
@@ -20,20 +20,20 @@ gap_found g image writes None = Loaded writes
 gap_found g image writes (Some number) = LoadDamaged (descriptor_at g image (journal_slot g.slots number))
 
 -- a read that may fail
-abbrev pub load_read : (block : ℕ) → (List ℕ → Part LoadEnd) → Part LoadEnd
+abbrev pub load_read : (block : ℕ) → (List ℕ → Process LoadEnd) → Process LoadEnd
 load_read block rest = ReadThen block rest (Ends (LoadReadFault block))
 
 -- what is asked by what was found in a slot
-abbrev pub load_found : (block : ℕ) → Finding → (unused : Part LoadEnd) → (counts : (number vblock : ℕ) → Part LoadEnd) → Part LoadEnd
+abbrev pub load_found : (block : ℕ) → Finding → (unused : Process LoadEnd) → (counts : (number vblock : ℕ) → Process LoadEnd) → Process LoadEnd
 load_found block Outside unused counts = Ends (LoadDamaged block)
 load_found block Unused unused counts = unused
 load_found block (Counts d) unused counts = counts d.number d.vblock
 
 -- each descriptor is read in order of slot, and its data where it counts: `left` slots are left, from `slot` on
-abbrev pub load_part : Geometry → (image : ℕ) → ImageRecord → (left slot : ℕ) → List Journaled → Part LoadEnd
-load_part g image kept zero slot writes = Ends (gap_found g image writes (first_gap (applied_of kept) writes))
-load_part g image kept (suc left) slot writes =
+abbrev pub load_process : Geometry → (image : ℕ) → ImageRecord → (left slot : ℕ) → List Journaled → Process LoadEnd
+load_process g image kept zero slot writes = Ends (gap_found g image writes (first_gap (applied_of kept) writes))
+load_process g image kept (suc left) slot writes =
     load_read (descriptor_at g image slot) (λ bytes. load_found (descriptor_at g image slot) (finding kept g.slots slot bytes)
-    (load_part g image kept left (slot + 1) writes)
+    (load_process g image kept left (slot + 1) writes)
     (λ number vblock. load_read (data_at g image slot) (λ data'.
-    load_part g image kept left (slot + 1) (with_write_by_number (record { number = number; vblock = vblock; block = data' }) writes))))
+    load_process g image kept left (slot + 1) (with_write_by_number (record { number = number; vblock = vblock; block = data' }) writes))))

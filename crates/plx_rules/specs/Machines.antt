@@ -6,15 +6,15 @@ use Rattle.plx_disk.specs.declared.ask.Answer.{Answer}
 use Rattle.plx_disk.specs.declared.ask.Answer.TheVariants as answer
 use Rattle.plx_disk.specs.declared.turn.Turn.{Turn}
 use Rattle.plx_disk.specs.declared.turn.Turn.TheVariants.{Again, Ended}
-use Rattle.plx_rules.specs.Part.{Part, Ends, ReadThen, WriteThen, ClockThen, UntilThen}
+use Rattle.plx_rules.specs.Process.{Process, Ends, ReadThen, WriteThen, ClockThen, UntilThen}
 
 -- what is left to ask once an answer led to this end, or to none yet
-abbrev pub rest_after : {E F : Type 0} → (E → F) → Part F → Option E → Part F
-rest_after view part None = part
-rest_after view part (Some end) = Ends (view end)
+abbrev pub rest_after : {E F : Type 0} → (E → F) → Process F → Option E → Process F
+rest_after view process None = process
+rest_after view process (Some end) = Ends (view end)
 
 -- an ask stands
-abbrev pub Asks : {E : Type 0} → Part E → Type 0
+abbrev pub Asks : {E : Type 0} → Process E → Type 0
 Asks (Ends end) = ⊥
 Asks (ReadThen block rest fault) = Unit {0}
 Asks (WriteThen kind block bytes guard done fault missed) = Unit {0}
@@ -22,7 +22,7 @@ Asks (ClockThen rest) = Unit {0}
 Asks (UntilThen from rest) = Unit {0}
 
 -- whether an ask stands
-abbrev pub turn_of : {E : Type 0} → Part E → Turn
+abbrev pub turn_of : {E : Type 0} → Process E → Turn
 turn_of (Ends end) = Ended
 turn_of (ReadThen block rest fault) = Again
 turn_of (WriteThen kind block bytes guard done fault missed) = Again

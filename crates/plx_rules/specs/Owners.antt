@@ -6,8 +6,8 @@ use Rattle.plx_base.specs.declared.write_kind.WriteKind.TheVariants as kind
 use Rattle.plx_disk.specs.Writes.{Issued, MayLand, after_landing}
 use Rattle.plx_gate.specs.Leases.{read_lease}
 use Rattle.plx_geom.specs.Geometry.{Geometry, lease_count, lease_at}
-use Rattle.plx_rules.specs.Part.{WriteThen}
-use Rattle.plx_rules.specs.Boot.{Place, In, Position}
+use Rattle.plx_rules.specs.Process.{WriteThen}
+use Rattle.plx_rules.specs.Boot.{Place, In, Configuration}
 use Rattle.plx_rules.specs.Holds.{Hold, Nothing, Held, hold_after_renewal}
 use Rattle.plx_rules.specs.Rests.{IsUnder, rests_on}
 use Rattle.plx_rules.specs.Times.{drift}
@@ -76,7 +76,7 @@ Guarding = (w : World) → Reached w → IsGuarded w
 
 -- a write that is asked at a place rests on what its command, what its boot holds and what that has
 -- filled give
-abbrev pub RestsAsAsked : Geometry → (leases : List ℕ) → Position → Place → Type 0
+abbrev pub RestsAsAsked : Geometry → (leases : List ℕ) → Configuration → Place → Type 0
 RestsAsAsked g leases p (In known command (WriteThen kind block bytes guard done fault missed)) =
     leases ≡ rests_on g command p.holds p.filled kind block bytes
 RestsAsAsked g leases p other = ⊥

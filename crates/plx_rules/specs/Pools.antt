@@ -9,7 +9,7 @@ use Rattle.plx_geom.specs.Geometry.{Geometry, extent_lease, map_at}
 use Rattle.plx_rules.specs.Boot.{Place, In}
 use Rattle.plx_rules.specs.Hands.{hand_from, hand_unlinked}
 use Rattle.plx_rules.specs.Owners.{Owns}
-use Rattle.plx_rules.specs.Part.{WriteThen}
+use Rattle.plx_rules.specs.Process.{WriteThen}
 use Rattle.plx_rules.specs.Rests.{IsUnder, extent_of}
 use Rattle.plx_rules.specs.World.{World, Reached, stands}
 

@@ -11,7 +11,7 @@ use Rattle.plx_commands.specs.declared.event.Stop.{Stop}
 use Rattle.plx_commands.specs.declared.event.Stop.TheVariants as stop
 use Rattle.plx_disk.specs.Writes.{Issued}
 use Rattle.plx_geom.specs.Geometry.{Geometry, lease_at, record_at, log_at, journal_start, extents_start, block_count}
-use Rattle.plx_rules.specs.Part.{Part, Ends, ReadThen, WriteThen, ClockThen, UntilThen}
+use Rattle.plx_rules.specs.Process.{Process, Ends, ReadThen, WriteThen, ClockThen, UntilThen}
 use Rattle.plx_rules.specs.Boot.{Place, Idle, Begins, In}
 use Rattle.plx_rules.specs.Ends.{End}
 use Rattle.plx_rules.specs.Times.{drift}
@@ -52,18 +52,18 @@ next_of_write w appliance guard (Some number) =
     next_landing w appliance (issued_by appliance.0 (drop (number + 1) w.surface.writes)) (slice_get w.surface.writes number)
 
 -- what the rest of a command asks next: a clock reading is the time, and a run stops at a wait that isn't over
-abbrev pub next_of_part : World → ApplianceNo → Part End → Option Event
-next_of_part w appliance (Ends end) = None
-next_of_part w appliance (ReadThen block rest fault) = Some (event.Read appliance)
-next_of_part w appliance (WriteThen kind block bytes guard done fault missed) = next_of_write w appliance guard (w.seats appliance.0).pending
-next_of_part w appliance (ClockThen rest) = Some (event.Reading appliance w.surface.time)
-next_of_part w appliance (UntilThen from rest) = if nat_le from w.surface.time then Some (event.Reading appliance w.surface.time) else None
+abbrev pub next_of_process : World → ApplianceNo → Process End → Option Event
+next_of_process w appliance (Ends end) = None
+next_of_process w appliance (ReadThen block rest fault) = Some (event.Read appliance)
+next_of_process w appliance (WriteThen kind block bytes guard done fault missed) = next_of_write w appliance guard (w.seats appliance.0).pending
+next_of_process w appliance (ClockThen rest) = Some (event.Reading appliance w.surface.time)
+next_of_process w appliance (UntilThen from rest) = if nat_le from w.surface.time then Some (event.Reading appliance w.surface.time) else None
 
 -- the event that a run makes next, by where the appliance stands
 abbrev pub next_at : World → ApplianceNo → Place → Option Event
 next_at w appliance (Idle known) = None
 next_at w appliance (Begins known command) = Some (event.Reading appliance w.surface.time)
-next_at w appliance (In known command part) = next_of_part w appliance part
+next_at w appliance (In known command process) = next_of_process w appliance process
 
 -- ---- where an `upto` stops
 
@@ -106,16 +106,16 @@ is_unissued None = true
 is_unissued (Some number) = false
 
 -- whether an `upto` stops before the ask of a rest is answered: at a write of its kind that isn't issued yet, or at a read in its region
-abbrev pub stops_in : Geometry → Stop → (pending : Option ℕ) → Part End → Bool
+abbrev pub stops_in : Geometry → Stop → (pending : Option ℕ) → Process End → Bool
 stops_in g (stop.Write k) pending (WriteThen kind block bytes guard done fault missed) = (kind_number k == kind_number kind) && is_unissued pending
 stops_in g (stop.Read r) pending (ReadThen block rest fault) = is_in_region g r block
-stops_in g other pending part = false
+stops_in g other pending process = false
 
 -- the same, at a place
 abbrev pub stops_at : Geometry → Stop → (pending : Option ℕ) → Place → Bool
 stops_at g stop pending (Idle known) = false
 stops_at g stop pending (Begins known command) = false
-stops_at g stop pending (In known command part) = stops_in g stop pending part
+stops_at g stop pending (In known command process) = stops_in g stop pending process
 
 -- whether a run stops: it has no stop, or stops by it
 abbrev pub stops : Geometry → Option Stop → (pending : Option ℕ) → Place → Bool

@@ -15,8 +15,8 @@ use Rattle.plx_disk.specs.declared.ask.Answer.{Answer}
 use Rattle.plx_disk.specs.declared.ask.Answer.TheVariants as answer
 use Rattle.plx_geom.specs.Geometry.{Geometry, IsGeometry, block_count}
 use Rattle.plx_commands.specs.Places.{at}
-use Rattle.plx_rules.specs.Part.{Part, Ends, ReadThen, WriteThen, ClockThen, UntilThen}
-use Rattle.plx_rules.specs.Boot.{Happening, Began, Asked, Idle, Begins, In, Position, position, first_part}
+use Rattle.plx_rules.specs.Process.{Process, Ends, ReadThen, WriteThen, ClockThen, UntilThen}
+use Rattle.plx_rules.specs.Boot.{BootEntry, Began, Asked, Idle, Begins, In, Configuration, configuration, first_process}
 use Rattle.plx_rules.specs.Commands.{IsBuilt, IsWellFormed}
 use Rattle.plx_rules.specs.Ends.{End}
 use Rattle.plx_rules.specs.Formatted.{IsFormatted}
@@ -29,7 +29,7 @@ use Rattle.plx_rules.specs.Times.{drift}
 -- an appliance: how many boots came before this one, the log of this one, and the number of the issued write that its ask waits for
 pub record Seat : Type 0 where
   pub boots : ℕ
-  pub log : List Happening
+  pub log : List BootEntry
   pub pending : Option ℕ
 
 -- a world: the layout of the device, how many appliances there are, the device with its issued writes and its time, the leases on which
@@ -68,11 +68,11 @@ abbrev pub setting_of : World → (appliance : ℕ) → Setting
 setting_of w appliance = setting_at w.geometry appliance (w.seats appliance).boots
 
 -- where the present boot of an appliance stands
-abbrev pub stands : World → (appliance : ℕ) → Position
-stands w appliance = position (setting_of w appliance) (w.seats appliance).log
+abbrev pub stands : World → (appliance : ℕ) → Configuration
+stands w appliance = configuration (setting_of w appliance) (w.seats appliance).log
 
 -- the trace with the reply to which an appliance has come
-abbrev pub with_reply_of : ApplianceNo → Part End → List Entry → List Entry
+abbrev pub with_reply_of : ApplianceNo → Process End → List Entry → List Entry
 with_reply_of appliance (Ends end) trace = entry.Reply appliance end.reply ∷ trace
 with_reply_of appliance (ReadThen block rest fault) trace = trace
 with_reply_of appliance (WriteThen kind block bytes guard done fault missed) trace = trace
@@ -80,13 +80,13 @@ with_reply_of appliance (ClockThen rest) trace = trace
 with_reply_of appliance (UntilThen from rest) trace = trace
 
 -- an appliance once something has happened to it, and it waits for no write
-abbrev pub with_happening : Seat → Happening → Seat
-with_happening seat happening = record seat { log = happening ∷ seat.log; pending = None }
+abbrev pub with_log_entry : Seat → BootEntry → Seat
+with_log_entry seat entry = record seat { log = entry ∷ seat.log; pending = None }
 
 -- the world once the ask of an appliance is answered, which leads to this rest of its command
-abbrev pub goes_on : World → Event → ApplianceNo → Ask → List ℕ → Answer → Part End → World
+abbrev pub goes_on : World → Event → ApplianceNo → Ask → List ℕ → Answer → Process End → World
 goes_on w event appliance ask bytes answer rest = record w {
-  seats = at w.seats appliance.0 (with_happening (w.seats appliance.0) (Asked ask bytes answer));
+  seats = at w.seats appliance.0 (with_log_entry (w.seats appliance.0) (Asked ask bytes answer));
   trace = with_reply_of appliance rest w.trace;
   history = came event ∷ w.history;
 }
@@ -98,7 +98,7 @@ with_surface w past surface = record w { surface = surface; history = past ∷ w
 -- the world once an appliance has begun a command
 abbrev pub after_start : World → ApplianceNo → Command → World
 after_start w appliance command = record w {
-  seats = at w.seats appliance.0 (with_happening (w.seats appliance.0) (Began command));
+  seats = at w.seats appliance.0 (with_log_entry (w.seats appliance.0) (Began command));
   trace = entry.Start appliance command ∷ w.trace;
   history = came (event.Start appliance command) ∷ w.history;
 }
@@ -154,42 +154,42 @@ pub data Step : World → Event → World → Type 0 where
       (stands w appliance.0).place ≡ Begins known command → IsReadingAt reading w.surface.time →
       Step w (event.Reading appliance reading)
       (goes_on w (event.Reading appliance reading) appliance ask.Clock [] (answer.Reading reading)
-      (first_part (setting_of w appliance.0) known reading command (stands w appliance.0)))
-  reads : {w : World} {appliance : ApplianceNo} (known : Known) (command : Command) (block : ℕ) (rest : List ℕ → Part End) (fault : Part End) →
+      (first_process (setting_of w appliance.0) known reading command (stands w appliance.0)))
+  reads : {w : World} {appliance : ApplianceNo} (known : Known) (command : Command) (block : ℕ) (rest : List ℕ → Process End) (fault : Process End) →
       appliance.0 < w.appliances →
       (stands w appliance.0).place ≡ In known command (ReadThen block rest fault) →
       Step w (event.Read appliance)
       (goes_on w (event.Read appliance) appliance (ask.Read (record { 0 = block })) [] (answer.Bytes (w.surface.device block)) (rest (w.surface.device block)))
-  read_faults : {w : World} {appliance : ApplianceNo} (known : Known) (command : Command) (block : ℕ) (rest : List ℕ → Part End) (fault : Part End) →
+  read_faults : {w : World} {appliance : ApplianceNo} (known : Known) (command : Command) (block : ℕ) (rest : List ℕ → Process End) (fault : Process End) →
       appliance.0 < w.appliances →
       (stands w appliance.0).place ≡ In known command (ReadThen block rest fault) →
       Step w (event.Fault appliance) (goes_on w (event.Fault appliance) appliance (ask.Read (record { 0 = block })) [] answer.Fault fault)
   issues : {w : World} {appliance : ApplianceNo} (known : Known) (command : Command) (kind : WriteKind) (block : ℕ) (bytes : List ℕ) (guard : ℕ)
-      (done fault : Part End) (missed : ℕ → Part End) → appliance.0 < w.appliances →
+      (done fault : Process End) (missed : ℕ → Process End) → appliance.0 < w.appliances →
       (stands w appliance.0).place ≡ In known command (WriteThen kind block bytes guard done fault missed) → (w.seats appliance.0).pending ≡ None →
       Step w (event.Issue appliance) (after_issue w appliance command kind block bytes guard)
   lands : {w : World} {appliance : ApplianceNo} {back sector : ℕ} (number : ℕ) (write : Issued) → appliance.0 < w.appliances →
       IsBack w.surface.writes appliance.0 back number write → MayLand w.surface number sector write →
       Step w (event.Land appliance back sector) (with_surface w (landing (event.Land appliance back sector) number) (after_landing w.surface number write sector))
   dones : {w : World} {appliance : ApplianceNo} (known : Known) (command : Command) (kind : WriteKind) (block : ℕ) (bytes : List ℕ) (guard : ℕ)
-      (done fault : Part End) (missed : ℕ → Part End) (number : ℕ) → appliance.0 < w.appliances →
+      (done fault : Process End) (missed : ℕ → Process End) (number : ℕ) → appliance.0 < w.appliances →
       (stands w appliance.0).place ≡ In known command (WriteThen kind block bytes guard done fault missed) →
       (w.seats appliance.0).pending ≡ Some number → HasLanded w.surface number →
       Step w (event.Done appliance) (goes_on w (event.Done appliance) appliance (ask.Write kind (record { 0 = block }) guard) bytes answer.Done done)
   write_faults : {w : World} {appliance : ApplianceNo} (known : Known) (command : Command) (kind : WriteKind) (block : ℕ) (bytes : List ℕ) (guard : ℕ)
-      (done fault : Part End) (missed : ℕ → Part End) → appliance.0 < w.appliances →
+      (done fault : Process End) (missed : ℕ → Process End) → appliance.0 < w.appliances →
       (stands w appliance.0).place ≡ In known command (WriteThen kind block bytes guard done fault missed) →
       Step w (event.Fault appliance) (goes_on w (event.Fault appliance) appliance (ask.Write kind (record { 0 = block }) guard) bytes answer.Fault fault)
   misses : {w : World} {appliance : ApplianceNo} {reading : ℕ} (known : Known) (command : Command) (kind : WriteKind) (block : ℕ) (bytes : List ℕ) (guard : ℕ)
-      (done fault : Part End) (missed : ℕ → Part End) → appliance.0 < w.appliances →
+      (done fault : Process End) (missed : ℕ → Process End) → appliance.0 < w.appliances →
       (stands w appliance.0).place ≡ In known command (WriteThen kind block bytes guard done fault missed) →
       (w.seats appliance.0).pending ≡ None → guard < reading → IsReadingAt reading w.surface.time →
       Step w (event.Miss appliance reading)
       (goes_on w (event.Miss appliance reading) appliance (ask.Write kind (record { 0 = block }) guard) bytes (answer.Missed reading) (missed reading))
-  clocks : {w : World} {appliance : ApplianceNo} {reading : ℕ} (known : Known) (command : Command) (rest : ℕ → Part End) → appliance.0 < w.appliances →
+  clocks : {w : World} {appliance : ApplianceNo} {reading : ℕ} (known : Known) (command : Command) (rest : ℕ → Process End) → appliance.0 < w.appliances →
       (stands w appliance.0).place ≡ In known command (ClockThen rest) → IsReadingAt reading w.surface.time →
       Step w (event.Reading appliance reading) (goes_on w (event.Reading appliance reading) appliance ask.Clock [] (answer.Reading reading) (rest reading))
-  waits : {w : World} {appliance : ApplianceNo} {reading : ℕ} (known : Known) (command : Command) (from : ℕ) (rest : ℕ → Part End) →
+  waits : {w : World} {appliance : ApplianceNo} {reading : ℕ} (known : Known) (command : Command) (from : ℕ) (rest : ℕ → Process End) →
       appliance.0 < w.appliances →
       (stands w appliance.0).place ≡ In known command (UntilThen from rest) → IsReadingAt reading w.surface.time → from ≤ reading →
       Step w (event.Reading appliance reading) (goes_on w (event.Reading appliance reading) appliance (ask.Until from) [] (answer.Reading reading) (rest reading))

@@ -13,26 +13,26 @@ use Rattle.plx_commands.specs.declared.reply.Reply.{Reply}
 use Rattle.plx_disk.specs.Standing.{Stands as DiskStands}
 use Rattle.plx_disk.specs.declared.ask.Answer.{Answer}
 use Rattle.plx_disk.specs.declared.disk.Disk.{Disk}
-use Rattle.plx_rules.specs.Boot.{Asked, Position, asks, position, replies, reply_of, writes_out}
+use Rattle.plx_rules.specs.Boot.{Asked, Configuration, asks, configuration, replies, reply_of, writes_out}
 use Rattle.plx_rules.specs.Ends.{End}
-use Rattle.plx_rules.specs.Part.{Part, Ends, ReadThen, WriteThen, ClockThen, UntilThen}
+use Rattle.plx_rules.specs.Process.{Process, Ends, ReadThen, WriteThen, ClockThen, UntilThen}
 use Rattle.plx_rules.specs.Settings.{Setting}
 use Rattle.plx_rules.specs.World as rules
-use Rattle.plx_rules.specs.World.{goes_on, stands, with_reply_of, with_happening}
+use Rattle.plx_rules.specs.World.{goes_on, stands, with_reply_of, with_log_entry}
 use Rattle.plx_world.specs.Answering.{IsAnswered, told_entries}
 use Rattle.plx_world.specs.Numbers.{own_numbers}
 use Rattle.plx_world.specs.Seats.{KeepsSeat, TakesAnswer}
 use Rattle.plx_world.specs.Standing.{IsSeat, StandsOn}
 use Rattle.plx_world.specs.declared.seat.Seat.{Seat}
 use Rattle.plx_world.specs.declared.world.World.{World}
-use Rattle.plx_world.proofs.Seating.{position-of, seat-at, seat-same, set-all}
+use Rattle.plx_world.proofs.Seating.{configuration-of, seat-at, seat-same, set-all}
 
 -- one more entry of a trace
 pub one-more : (new : List Entry) (trace old : List Entry) (one : Entry) → new ≡ trace ++ one ∷ [] → trace ≡ reverse old → new ≡ reverse (one ∷ old)
 one-more new trace old one is same = is ∙ ap (λ (xs : List Entry). xs ++ one ∷ []) same ∙ sym (reverse_onto old one [])
 
 -- the reply, where the command ends with it
-told-entries-more : (a : ApplianceNo) (rest : Part End) (new trace old : List Entry) → new ≡ trace ++ told_entries a (reply_of rest) → trace ≡ reverse old → new ≡ reverse (with_reply_of a rest old)
+told-entries-more : (a : ApplianceNo) (rest : Process End) (new trace old : List Entry) → new ≡ trace ++ told_entries a (reply_of rest) → trace ≡ reverse old → new ≡ reverse (with_reply_of a rest old)
 told-entries-more a (Ends end) new trace old is same = one-more new trace old (entry.Reply a end.reply) is same
 told-entries-more a (ReadThen block rest fault) new trace old is same = is ∙ append-nil trace ∙ same
 told-entries-more a (WriteThen kind block bytes guard done fault missed) new trace old is same = is ∙ append-nil trace ∙ same
@@ -66,19 +66,19 @@ answers old new a given before after reply at left trace taken = record {
       let n = a.0 in
       let log = (w.seats n).log in
       let one = h.seats n before at in
-      let where-is : position (appliance_setting before.appliance) log ≡ stands w n = position-of w n before one in
+      let where-is : configuration (appliance_setting before.appliance) log ≡ stands w n = configuration-of w n before one in
       let standing : IsStanding before.appliance log ask bytes = record {
-        ask_is = ap (λ (p : Position). asks p.place) where-is ∙ asked;
-        bytes_are = ap (λ (p : Position). writes_out p.place) where-is ∙ out;
+        ask_is = ap (λ (p : Configuration). asks p.place) where-is ∙ asked;
+        bytes_are = ap (λ (p : Configuration). writes_out p.place) where-is ∙ out;
       } in
       let same : appliance_setting after.appliance ≡ appliance_setting before.appliance = ap (λ (s : Own). giving.rules_setting s) left.kept.setting in
       let reply-is : reply ≡ reply_of rest =
       taken.reply log ask bytes one.log standing fits
-      ∙ ap (λ (p : Position). replies (appliance_setting before.appliance) given p) where-is
+      ∙ ap (λ (p : Configuration). replies (appliance_setting before.appliance) given p) where-is
       ∙ ap (λ (s : Setting). replies s given (stands w n)) one.setting
       ∙ leads in
       let v = goes_on w event a ask bytes given rest in
-      let s = with_happening (w.seats n) (Asked ask bytes given) in
+      let s = with_log_entry (w.seats n) (Asked ask bytes given) in
       let D : Disk → Type 0 = λ x. DiskStands x w.surface in
       record {
         geometry = left.geometry ∙ h.geometry;

@@ -16,10 +16,10 @@ use Rattle.plx_commands.specs.declared.event.Event.TheVariants as event
 use Rattle.plx_disk.specs.Standing.{Stands as DiskStands, Stays as DiskStays}
 use Rattle.plx_disk.specs.declared.disk.Disk.{Disk}
 use Rattle.plx_geom.specs.Geometry.{Geometry}
-use Rattle.plx_rules.specs.Boot.{Happening, Began}
+use Rattle.plx_rules.specs.Boot.{BootEntry, Began}
 use Rattle.plx_rules.specs.Commands.{IsBuilt, IsWellFormed}
 use Rattle.plx_rules.specs.World as rules
-use Rattle.plx_rules.specs.World.{after_crash, after_start, crashes, setting_at, starts, with_happening}
+use Rattle.plx_rules.specs.World.{after_crash, after_start, crashes, setting_at, starts, with_log_entry}
 use Rattle.plx_world.specs.Fresh.{IsFresh}
 use Rattle.plx_world.specs.Seats.{KeepsSeat}
 use Rattle.plx_world.specs.Standing.{StandsOn, Steps}
@@ -52,12 +52,12 @@ pub record Leaves (old new : World) (n : ℕ) (after : Seat) : Type 0 where
 pub starts-command : (old new : World) (a : ApplianceNo) (c told : Command) (before after : Seat) → slice_get old.seats.items a.0 ≡ Some before → a.0 < length old.seats.items →
     told ≡ c → IsIdle before.appliance → IsBuilt c → IsWellFormed c → Changes old new a.0 after → KeepsSeat before after → after.pending ≡ None →
     new.trace.items ≡ old.trace.items ++ entry.Start a told ∷ [] →
-    ((log : List Happening) → StandsFor before.appliance log → StandsFor after.appliance (Began c ∷ log)) → Steps old new (event.Start a c) true
+    ((log : List BootEntry) → StandsFor before.appliance log → StandsFor after.appliance (Began c ∷ log)) → Steps old new (event.Start a c) true
 starts-command old new a c told before after at below told-is idle built formed left kept pending trace begins w h =
     let n = a.0 in
     let one = h.seats n before at in
     let count = h.count in
-    let s = with_happening (w.seats n) (Began c) in
+    let s = with_log_entry (w.seats n) (Began c) in
     let v = after_start w a c in
     let place = idle-at w n before one idle in
     let same : appliance_setting after.appliance ≡ appliance_setting before.appliance = ap (λ (s : Own). giving.rules_setting s) kept.setting in
@@ -84,7 +84,7 @@ starts-busy old a c seat at running = impossible old old (event.Start a c) (λ w
 
 -- without memory nothing has changed
 pub seat-stays : (old new : World) (n : ℕ) (before after : Seat) → slice_get old.seats.items n ≡ Some before → Leaves old new n after → KeepsSeat before after →
-    after.pending ≡ before.pending → new.trace.items ≡ old.trace.items → ((log : List Happening) → StandsFor before.appliance log → StandsFor after.appliance log) → StandsOn old new
+    after.pending ≡ before.pending → new.trace.items ≡ old.trace.items → ((log : List BootEntry) → StandsFor before.appliance log → StandsFor after.appliance log) → StandsOn old new
 seat-stays old new n before after at left kept pending trace stays w h =
     let one = h.seats n before at in
     let same : appliance_setting after.appliance ≡ appliance_setting before.appliance = ap (λ (s : Own). giving.rules_setting s) kept.setting in
@@ -104,7 +104,7 @@ pub same-stays : (old new : World) (n : ℕ) (before after : Seat) → slice_get
     new.trace.items ≡ old.trace.items → StandsOn old new
 same-stays old new n before after at left same trace =
     let K : Seat → Type 0 = λ s. KeepsSeat before s in
-    let L : List Happening → Seat → Type 0 = λ log s. StandsFor s.appliance log in
+    let L : List BootEntry → Seat → Type 0 = λ log s. StandsFor s.appliance log in
     seat-stays old new n before after at left (subst K (sym same) (record { setting = refl; boots = refl; issued = refl })) (ap (λ (s : Seat). s.pending) same) trace
     (λ log stands. subst (L log) (sym same) stands)
 

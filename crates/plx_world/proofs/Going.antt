@@ -16,7 +16,7 @@ use Rattle.plx_disk.specs.Writes.{Issued, MayLand, Surface, after_landing, all_s
 use Rattle.plx_disk.specs.declared.ask.Ask.{Ask}
 use Rattle.plx_disk.specs.declared.ask.Ask.TheVariants as ask
 use Rattle.plx_rules.specs.Boot.{Place, Idle, Begins, In, asks}
-use Rattle.plx_rules.specs.Part.{Ends, ReadThen, WriteThen, ClockThen, UntilThen}
+use Rattle.plx_rules.specs.Process.{Ends, ReadThen, WriteThen, ClockThen, UntilThen}
 use Rattle.plx_rules.specs.Sequences.{next_of_sector, missing_sector, next_at, next_event, next_landing, next_of_write, next_sector, stops}
 use Rattle.plx_rules.specs.Histories.{landing}
 use Rattle.plx_rules.specs.World as rules

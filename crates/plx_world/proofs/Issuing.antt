@@ -18,7 +18,7 @@ use Rattle.plx_disk.specs.Standing.{Turns}
 use Rattle.plx_disk.specs.Writes.{Issued, Surface, fresh_write, with_issued}
 use Rattle.plx_disk.specs.declared.ask.Ask.{Ask}
 use Rattle.plx_disk.specs.declared.ask.Ask.TheVariants as ask
-use Rattle.plx_rules.specs.Boot.{Happening, Position, position, writes_out}
+use Rattle.plx_rules.specs.Boot.{BootEntry, Configuration, configuration, writes_out}
 use Rattle.plx_rules.specs.Settings.{boot_number}
 use Rattle.plx_rules.specs.World as rules
 use Rattle.plx_rules.specs.World.{Step, after_issue, is_boot_of, issued_write, issues, stands}
@@ -31,7 +31,7 @@ use Rattle.plx_world.proofs.Answered.{seats-changed}
 use Rattle.plx_world.proofs.Inverted.{step-issue}
 use Rattle.plx_world.proofs.Numbered.{own-push}
 use Rattle.plx_world.proofs.Placed.{asked-write}
-use Rattle.plx_world.proofs.Seating.{asked-absent, asked-there, if-none, pending-there, position-of, seat-at}
+use Rattle.plx_world.proofs.Seating.{asked-absent, asked-there, if-none, pending-there, configuration-of, seat-at}
 use Rattle.plx_world.proofs.Stepping.{IsAsk, IsWaitedFor, apart, asks-there, asks_write, impossible}
 
 -- the boot of an appliance is no other's
@@ -73,7 +73,7 @@ pub record Issues (old new : World) (n number : ℕ) (before after : Seat) : Typ
 pub issues-write : (old new : World) (a : ApplianceNo) (kind : WriteKind) (block : BlockNo) (guard owner number : ℕ) (bytes : List ℕ) (before after : Seat) →
     slice_get old.seats.items a.0 ≡ Some before → length old.seats.items ≤ 8 → Issues old new a.0 number before after →
     IsAsk old a (Some (ask.Write kind block guard)) → IsWaitedFor old a None → owner ≡ boot_number a.0 before.boots →
-    ((log : List Happening) → StandsFor before.appliance log → bytes ≡ writes_out (position (appliance_setting before.appliance) log).place) →
+    ((log : List BootEntry) → StandsFor before.appliance log → bytes ≡ writes_out (configuration (appliance_setting before.appliance) log).place) →
     ((s : Surface) → DiskStands old.disk s → number ≡ length s.writes) →
     Turns old.disk new.disk (λ s. with_issued s (fresh_write owner kind block.0 bytes guard)) →
     Steps old new (event.Issue a) true
@@ -87,7 +87,7 @@ issues-write old new a kind block guard owner number bytes before after at many 
     let within = there.0 in
     let few : n < 8 = omega (arith, count, many, within) in
     let bytes-are : bytes ≡ found.bytes =
-    out (w.seats n).log one.log ∙ ap (λ (p : Position). writes_out p.place) (position-of w n before one) ∙ ap writes_out found.at in
+    out (w.seats n).log one.log ∙ ap (λ (p : Configuration). writes_out p.place) (configuration-of w n before one) ∙ ap writes_out found.at in
     let owner-is : owner ≡ boot_number n (w.seats n).boots = owned ∙ ap (boot_number n) one.boots in
     let number-is : number ≡ length w.surface.writes = counted w.surface h.surface in
     let v = after_issue w a found.command kind block.0 found.bytes guard in

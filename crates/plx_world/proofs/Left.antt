@@ -17,9 +17,9 @@ use Rattle.plx_geom.specs.Geometry.{IsGeometry}
 use Rattle.plx_rules.specs.Boot as boot
 use Rattle.plx_rules.specs.Hands.{hand_held}
 use Rattle.plx_rules.specs.Holds.{after_first}
-use Rattle.plx_rules.specs.Boot.{Happening, Place, Idle, Begins, In, Position, position, went_on, place_of, first_read, first_part}
+use Rattle.plx_rules.specs.Boot.{BootEntry, Place, Idle, Begins, In, Configuration, configuration, went_on, place_of, first_read, first_process}
 use Rattle.plx_rules.specs.Ends.{End}
-use Rattle.plx_rules.specs.Part.{Part, Ends, ReadThen, WriteThen, ClockThen, UntilThen, answered}
+use Rattle.plx_rules.specs.Process.{Process, Ends, ReadThen, WriteThen, ClockThen, UntilThen, answered}
 use Rattle.plx_rules.specs.Sequences.{missing_sector, next_sector}
 use Rattle.plx_rules.specs.Session.{Known}
 use Rattle.plx_rules.specs.Settings.{Setting}
@@ -33,7 +33,7 @@ use Rattle.plx_world.proofs.Bounds.{at-most-more, command-most}
 -- ---- how much is left at most
 
 -- after any answer
-at-most-answered : (most : ℕ) (part : Part End) (a : Answer) → AtMost most part → AtMost most (answered part a)
+at-most-answered : (most : ℕ) (process : Process End) (a : Answer) → AtMost most process → AtMost most (answered process a)
 at-most-answered most (Ends end) a few = tt
 at-most-answered zero (ReadThen block rest fault) a few = absurd few
 at-most-answered (suc most) (ReadThen block rest fault) (answer.Bytes bytes) few = at-most-more most (suc most) (rest bytes) (omega arith) (few.0 bytes)
@@ -62,7 +62,7 @@ at-most-answered (suc most) (UntilThen from rest) (answer.Missed reading) few = 
 at-most-answered (suc most) (UntilThen from rest) answer.Fault few = few
 
 -- at the place of a rest
-at-most-place : (most : ℕ) (known : Known) (command : Command) (part : Part End) → AtMost most part → AtMostAt most (place_of known command part)
+at-most-place : (most : ℕ) (known : Known) (command : Command) (process : Process End) → AtMost most process → AtMostAt most (place_of known command process)
 at-most-place most known command (Ends end) few = tt
 at-most-place most known command (ReadThen block rest fault) few = few
 at-most-place most known command (WriteThen kind block bytes guard done fault missed) few = few
@@ -71,33 +71,33 @@ at-most-place most known command (UntilThen from rest) few = few
 
 module _ (s : Setting) (geometry : IsGeometry s.geometry) where
   -- wherever an answer leads
-  most-first : (known : Known) (command : Command) (a : Answer) (p : Position) → AtMostAt (most_asks + 1) p.place → AtMostAt (most_asks + 1) (first_read s known command a p).place
+  most-first : (known : Known) (command : Command) (a : Answer) (p : Configuration) → AtMostAt (most_asks + 1) p.place → AtMostAt (most_asks + 1) (first_read s known command a p).place
   most-first known command (answer.Reading reading) p few =
-      let part = first_part s known reading command p in
-      at-most-place (most_asks + 1) known command part
-      (at-most-more most_asks (most_asks + 1) part (omega arith) (command-most s geometry known (after_first s.geometry known reading p.holds) (hand_held s.geometry (after_first s.geometry known reading p.holds) p.hand) reading command))
+      let process = first_process s known reading command p in
+      at-most-place (most_asks + 1) known command process
+      (at-most-more most_asks (most_asks + 1) process (omega arith) (command-most s geometry known (after_first s.geometry known reading p.holds) (hand_held s.geometry (after_first s.geometry known reading p.holds) p.hand) reading command))
   most-first known command (answer.Bytes bytes) p few = few
   most-first known command answer.Done p few = few
   most-first known command (answer.Missed reading) p few = few
   most-first known command answer.Fault p few = few
 
-  most-went : (asked : Ask) (bytes : List ℕ) (a : Answer) (p : Position) (place : Place) → AtMostAt (most_asks + 1) p.place → AtMostAt (most_asks + 1) place →
+  most-went : (asked : Ask) (bytes : List ℕ) (a : Answer) (p : Configuration) (place : Place) → AtMostAt (most_asks + 1) p.place → AtMostAt (most_asks + 1) place →
       AtMostAt (most_asks + 1) (went_on s asked bytes a p place).place
   most-went asked bytes a p (Idle known) here few = here
   most-went asked bytes a p (Begins known command) here few = most-first known command a p here
-  most-went asked bytes a p (In known command part) here few = at-most-place (most_asks + 1) known command (answered part a) (at-most-answered (most_asks + 1) part a few)
+  most-went asked bytes a p (In known command process) here few = at-most-place (most_asks + 1) known command (answered process a) (at-most-answered (most_asks + 1) process a few)
 
   -- wherever a command begins
   most-begun : (command : Command) (place : Place) → AtMostAt (most_asks + 1) place → AtMostAt (most_asks + 1) (boot.place_after_begin command place)
   most-begun command (Idle known) few = let more : most_asks < most_asks + 1 = omega arith in more
   most-begun command (Begins known other) few = few
-  most-begun command (In known other part) few = few
+  most-begun command (In known other process) few = few
 
   -- wherever a log leads
-  pub most-log : (log : List Happening) → AtMostAt (most_asks + 1) (position s log).place
+  pub most-log : (log : List BootEntry) → AtMostAt (most_asks + 1) (configuration s log).place
   most-log [] = tt
-  most-log (boot.Began command ∷ log) = most-begun command (position s log).place (most-log log)
-  most-log (boot.Asked asked bytes a ∷ log) = most-went asked bytes a (position s log) (position s log).place (most-log log) (most-log log)
+  most-log (boot.Began command ∷ log) = most-begun command (configuration s log).place (most-log log)
+  most-log (boot.Asked asked bytes a ∷ log) = most-went asked bytes a (configuration s log) (configuration s log).place (most-log log) (most-log log)
 
 sectors-most : (m : Option ℕ) → sectors_left m ≤ 9
 sectors-most None = omega arith
@@ -118,49 +118,49 @@ abbrev pub IsLess : ApplianceNo → rules.World → rules.World → Type 0
 IsLess a w v = (count : ℕ) → IsFewer w a (count + 1) → IsFewer v a count
 
 -- where the ask was answered
-fewer-answered : (w : rules.World) → IsGeometry w.geometry → (one : Event) (a : ApplianceNo) (asked : Ask) (bytes : List ℕ) (given : Answer) (rest : Part End) (most : ℕ) (p : Place) →
+fewer-answered : (w : rules.World) → IsGeometry w.geometry → (one : Event) (a : ApplianceNo) (asked : Ask) (bytes : List ℕ) (given : Answer) (rest : Process End) (most : ℕ) (p : Place) →
     (went_on (setting_of w a.0) asked bytes given (stands w a.0) (stands w a.0).place).place ≡ p → AtMostAt most p → (count : ℕ) → 10 * most + 9 < count →
     IsFewer (goes_on w one a asked bytes given rest) a count
 fewer-answered w geometry one a asked bytes given rest most p leads few count below =
-    let seat = rules.with_happening (w.seats a.0) (boot.Asked asked bytes given) in
+    let seat = rules.with_log_entry (w.seats a.0) (boot.Asked asked bytes given) in
     let same = at-same w.seats a.0 seat in
     let v = goes_on w one a asked bytes given rest in
-    let here : (stands v a.0).place ≡ p = ap (λ (x : Seat). (position (setting_at w.geometry a.0 x.boots) x.log).place) same ∙ leads in
+    let here : (stands v a.0).place ≡ p = ap (λ (x : Seat). (configuration (setting_at w.geometry a.0 x.boots) x.log).place) same ∙ leads in
     let nine : events_left (v.seats a.0).pending v.surface.writes ≡ 9 = ap (λ (x : Seat). events_left x.pending w.surface.writes) same in
     let P : Place → Type 0 = λ x. AtMostAt most x in
     record { geometry = geometry; asks = most; most = subst P (sym here) few; below = omega (arith, below, nine) }
 
-less-in : (w : rules.World) (one : Event) (a : ApplianceNo) (asked : Ask) (bytes : List ℕ) (given : Answer) (rest : Part End) (known : Known) (command : Command)
-    (part : Part End) → (stands w a.0).place ≡ In known command part →
-    ((most : ℕ) → AtMost most part → (m : ℕ) × (m < most) × AtMost m (answered part given)) → IsLess a w (goes_on w one a asked bytes given rest)
-less-in w one a asked bytes given rest known command part here shrinks count few =
+less-in : (w : rules.World) (one : Event) (a : ApplianceNo) (asked : Ask) (bytes : List ℕ) (given : Answer) (rest : Process End) (known : Known) (command : Command)
+    (process : Process End) → (stands w a.0).place ≡ In known command process →
+    ((most : ℕ) → AtMost most process → (m : ℕ) × (m < most) × AtMost m (answered process given)) → IsLess a w (goes_on w one a asked bytes given rest)
+less-in w one a asked bytes given rest known command process here shrinks count few =
     let P : Place → Type 0 = λ x. AtMostAt few.asks x in
     let next = shrinks few.asks (subst P here few.most) in
     let fewer = next.1 in
     let below = few.below in
-    fewer-answered w few.geometry one a asked bytes given rest next.0 (place_of known command (answered part given))
+    fewer-answered w few.geometry one a asked bytes given rest next.0 (place_of known command (answered process given))
     (ap (λ (x : Place). (went_on (setting_of w a.0) asked bytes given (stands w a.0) x).place) here)
-    (at-most-place next.0 known command (answered part given) next.2) count (omega (arith, fewer, below))
+    (at-most-place next.0 known command (answered process given) next.2) count (omega (arith, fewer, below))
 
 -- one answer less is left
-read-shrinks : (block : ℕ) (rest : List ℕ → Part End) (fault : Part End) (bytes : List ℕ) (most : ℕ) → AtMost most (ReadThen block rest fault) →
+read-shrinks : (block : ℕ) (rest : List ℕ → Process End) (fault : Process End) (bytes : List ℕ) (most : ℕ) → AtMost most (ReadThen block rest fault) →
     (m : ℕ) × (m < most) × AtMost m (rest bytes)
 read-shrinks block rest fault bytes zero few = absurd few
 read-shrinks block rest fault bytes (suc most) few = (most, omega arith, few.0 bytes)
 
-read_fault-shrinks : (block : ℕ) (rest : List ℕ → Part End) (fault : Part End) (most : ℕ) → AtMost most (ReadThen block rest fault) → (m : ℕ) × (m < most) × AtMost m fault
+read_fault-shrinks : (block : ℕ) (rest : List ℕ → Process End) (fault : Process End) (most : ℕ) → AtMost most (ReadThen block rest fault) → (m : ℕ) × (m < most) × AtMost m fault
 read_fault-shrinks block rest fault zero few = absurd few
 read_fault-shrinks block rest fault (suc most) few = (most, omega arith, few.1)
 
-clock-shrinks : (rest : ℕ → Part End) (reading most : ℕ) → AtMost most (ClockThen rest) → (m : ℕ) × (m < most) × AtMost m (rest reading)
+clock-shrinks : (rest : ℕ → Process End) (reading most : ℕ) → AtMost most (ClockThen rest) → (m : ℕ) × (m < most) × AtMost m (rest reading)
 clock-shrinks rest reading zero few = absurd few
 clock-shrinks rest reading (suc most) few = (most, omega arith, few reading)
 
-until-shrinks : (from : ℕ) (rest : ℕ → Part End) (reading most : ℕ) → AtMost most (UntilThen from rest) → (m : ℕ) × (m < most) × AtMost m (rest reading)
+until-shrinks : (from : ℕ) (rest : ℕ → Process End) (reading most : ℕ) → AtMost most (UntilThen from rest) → (m : ℕ) × (m < most) × AtMost m (rest reading)
 until-shrinks from rest reading zero few = absurd few
 until-shrinks from rest reading (suc most) few = (most, omega arith, few reading)
 
-module _ (kind : WriteKind) (block : ℕ) (bytes : List ℕ) (guard : ℕ) (done fault : Part End) (missed : ℕ → Part End) where
+module _ (kind : WriteKind) (block : ℕ) (bytes : List ℕ) (guard : ℕ) (done fault : Process End) (missed : ℕ → Process End) where
   done-shrinks : (most : ℕ) → AtMost most (WriteThen kind block bytes guard done fault missed) → (m : ℕ) × (m < most) × AtMost m done
   done-shrinks zero few = absurd few
   done-shrinks (suc most) few = (most, omega arith, few.0)
@@ -199,16 +199,16 @@ less-miss {w} {a} {reading} (rules.misses known command kind block bytes guard d
 -- at its first reading a command has all its asks left
 less-begins : (w : rules.World) (a : ApplianceNo) (reading : ℕ) (known : Known) (command : Command) → (stands w a.0).place ≡ Begins known command →
     IsLess a w (goes_on w (event.Reading a reading) a ask.Clock [] (answer.Reading reading)
-    (first_part (setting_of w a.0) known reading command (stands w a.0)))
+    (first_process (setting_of w a.0) known reading command (stands w a.0)))
 less-begins w a reading known command here count few =
-    let part = first_part (setting_of w a.0) known reading command (stands w a.0) in
+    let process = first_process (setting_of w a.0) known reading command (stands w a.0) in
     let holds = after_first w.geometry known reading (stands w a.0).holds in
     let P : Place → Type 0 = λ x. AtMostAt few.asks x in
     let many : most_asks < few.asks = subst P here few.most in
     let below = few.below in
-    fewer-answered w few.geometry (event.Reading a reading) a ask.Clock [] (answer.Reading reading) part most_asks (place_of known command part)
+    fewer-answered w few.geometry (event.Reading a reading) a ask.Clock [] (answer.Reading reading) process most_asks (place_of known command process)
     (ap (λ (x : Place). (went_on (setting_of w a.0) ask.Clock [] (answer.Reading reading) (stands w a.0) x).place) here)
-    (at-most-place most_asks known command part (command-most (setting_of w a.0) few.geometry known holds (hand_held w.geometry holds (stands w a.0).hand) reading command)) count (omega (arith, many, below))
+    (at-most-place most_asks known command process (command-most (setting_of w a.0) few.geometry known holds (hand_held w.geometry holds (stands w a.0).hand) reading command)) count (omega (arith, many, below))
 
 pub less-reading : {w : rules.World} {a : ApplianceNo} {reading : ℕ} {v : rules.World} → Step w (event.Reading a reading) v → IsLess a w v
 less-reading {w} {a} {reading} (rules.begins known command below here is) = less-begins w a reading known command here
@@ -228,7 +228,7 @@ less-issue {w} {a} (rules.issues known command kind block bytes guard done fault
     let seat = record (w.seats a.0) { pending = Some number } in
     let same = at-same w.seats a.0 seat in
     let new = rules.after_issue w a command kind block bytes guard in
-    let place : (stands new a.0).place ≡ (stands w a.0).place = ap (λ (x : Seat). (position (setting_at w.geometry a.0 x.boots) x.log).place) same in
+    let place : (stands new a.0).place ≡ (stands w a.0).place = ap (λ (x : Seat). (configuration (setting_at w.geometry a.0 x.boots) x.log).place) same in
     let nine : events_left (w.seats a.0).pending w.surface.writes ≡ 9 = ap (λ (p : Option ℕ). events_left p w.surface.writes) none in
     let eight : events_left (new.seats a.0).pending writes ≡ 8 =
     ap (λ (x : Seat). events_left x.pending writes) same ∙ ap write_left (push-last w.surface.writes write) in

@@ -45,7 +45,7 @@ err-upto laws old new one a stop (Ok made) is some = tt
 err-upto laws old new one a stop (Err error) is some = let P : Event → Type 0 = λ e. LeadsPartly old new e in subst P (sym is) (partly-upto laws old new a stop some)
 
 -- a list is what stands before one of its events, that one, and what stands behind it
-pub parts-around : (xs : List Event) (i : ℕ) (x : Event) → i < length xs → x ≡ get_or xs i x → take i xs ++ x ∷ drop (suc i) xs ≡ xs
-parts-around [] i x within is = absurd (omega (arith, within))
-parts-around (y ∷ xs) zero x within is = ap (λ (z : Event). z ∷ xs) is
-parts-around (y ∷ xs) (suc i) x within is = ap (λ (rest : List Event). y ∷ rest) (parts-around xs i x (omega (arith, within)) is)
+pub processes-around : (xs : List Event) (i : ℕ) (x : Event) → i < length xs → x ≡ get_or xs i x → take i xs ++ x ∷ drop (suc i) xs ≡ xs
+processes-around [] i x within is = absurd (omega (arith, within))
+processes-around (y ∷ xs) zero x within is = ap (λ (z : Event). z ∷ xs) is
+processes-around (y ∷ xs) (suc i) x within is = ap (λ (rest : List Event). y ∷ rest) (processes-around xs i x (omega (arith, within)) is)

@@ -6,15 +6,15 @@ use Rattle.plx_commands.specs.declared.command.Command.{Command}
 use Rattle.plx_disk.specs.declared.ask.Ask.TheVariants as ask
 use Rattle.plx_rules.specs.Boot.{Place, Idle, Begins, In, asks}
 use Rattle.plx_rules.specs.Ends.{End}
-use Rattle.plx_rules.specs.Part.{Part, Ends, ReadThen, WriteThen, ClockThen, UntilThen}
+use Rattle.plx_rules.specs.Process.{Process, Ends, ReadThen, WriteThen, ClockThen, UntilThen}
 use Rattle.plx_rules.specs.Session.{Known}
 
 -- a read is asked for
 pub record AsksRead (p : Place) (block : BlockNo) : Type 0 where
   pub known : Known
   pub command : Command
-  pub rest : List ℕ → Part End
-  pub fault : Part End
+  pub rest : List ℕ → Process End
+  pub fault : Process End
   pub at : p ≡ In known command (ReadThen block.0 rest fault)
 
 pub asked-read : (p : Place) (block : BlockNo) → asks p ≡ Some (ask.Read block) → AsksRead p block
@@ -33,9 +33,9 @@ pub record AsksWriteAt (p : Place) (kind : WriteKind) (block : BlockNo) (guard :
   pub known : Known
   pub command : Command
   pub bytes : List ℕ
-  pub done : Part End
-  pub fault : Part End
-  pub missed : ℕ → Part End
+  pub done : Process End
+  pub fault : Process End
+  pub missed : ℕ → Process End
   pub at : p ≡ In known command (WriteThen kind block.0 bytes guard done fault missed)
 
 pub asked-write : (p : Place) (kind : WriteKind) (block : BlockNo) (guard : ℕ) → asks p ≡ Some (ask.Write kind block guard) → AsksWriteAt p kind block guard
@@ -64,7 +64,7 @@ asked-write (In known command (UntilThen from rest)) kind block guard e = cc
 -- the clock is, first of all or later
 pub data AsksClockAt (p : Place) : Type 0 where
   first : (known : Known) (command : Command) → p ≡ Begins known command → AsksClockAt p
-  later : (known : Known) (command : Command) (rest : ℕ → Part End) → p ≡ In known command (ClockThen rest) → AsksClockAt p
+  later : (known : Known) (command : Command) (rest : ℕ → Process End) → p ≡ In known command (ClockThen rest) → AsksClockAt p
 
 pub asked-clock : (p : Place) → asks p ≡ Some ask.Clock → AsksClockAt p
 asked-clock (Idle known) e = cc
@@ -79,7 +79,7 @@ asked-clock (In known command (UntilThen from rest)) e = cc
 pub record AsksUntilAt (p : Place) (from : ℕ) : Type 0 where
   pub known : Known
   pub command : Command
-  pub rest : ℕ → Part End
+  pub rest : ℕ → Process End
   pub at : p ≡ In known command (UntilThen from rest)
 
 pub asked-until : (p : Place) (from : ℕ) → asks p ≡ Some (ask.Until from) → AsksUntilAt p from

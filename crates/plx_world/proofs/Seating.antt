@@ -12,7 +12,7 @@ use Rattle.plx_alloc.specs.Asking.{IsOnDevice}
 use Rattle.plx_disk.proofs.Lists.{set-other, set-same}
 use Rattle.plx_disk.specs.declared.ask.Ask.{Ask}
 use Rattle.plx_geom.specs.Geometry.{Geometry}
-use Rattle.plx_rules.specs.Boot.{Idle, Position, asks, position}
+use Rattle.plx_rules.specs.Boot.{Idle, Configuration, asks, configuration}
 use Rattle.plx_rules.specs.Session.{Known}
 use Rattle.plx_rules.specs.Settings.{Setting}
 use Rattle.plx_rules.specs.World as rules
@@ -59,8 +59,8 @@ pub if-none : {X : Type 0} (n m : ℕ) (o : Option X) → n < m → None ≡ (if
 if-none n m o below e = sym (if-below n m o None below) ∙ sym e
 
 -- the appliance of a seat stands where its log leads
-pub position-of : (w : rules.World) (n : ℕ) (seat : Seat) → IsSeat w n seat → position (appliance_setting seat.appliance) (w.seats n).log ≡ stands w n
-position-of w n seat is = ap (λ (s : Setting). position s (w.seats n).log) is.setting
+pub configuration-of : (w : rules.World) (n : ℕ) (seat : Seat) → IsSeat w n seat → configuration (appliance_setting seat.appliance) (w.seats n).log ≡ stands w n
+configuration-of w n seat is = ap (λ (s : Setting). configuration s (w.seats n).log) is.setting
 
 -- what it asks
 pub asked-there : (world : World) (w : rules.World) (n : ℕ) (seat : Seat) (asked : Option Ask) → slice_get world.seats.items n ≡ Some seat → n < length world.seats.items →
@@ -68,7 +68,7 @@ pub asked-there : (world : World) (w : rules.World) (n : ℕ) (seat : Seat) (ask
 asked-there world w n seat asked at below is h =
     let one = h.seats n seat at in
     let count = h.count in
-    is (w.seats n).log one.log ∙ ap (λ (p : Position). asks p.place) (position-of w n seat one)
+    is (w.seats n).log one.log ∙ ap (λ (p : Configuration). asks p.place) (configuration-of w n seat one)
     ∙ sym (if-below n w.appliances (asks (stands w n).place) None (omega (arith, count, below)))
 
 pub asked-absent : (world : World) (w : rules.World) (n : ℕ) → length world.seats.items ≤ n → WorldStands world w → None ≡ asked_by w n
@@ -149,7 +149,7 @@ set-count (y ∷ xs) (suc n) x = ap suc (set-count xs n x)
 -- ---- a seat that is idle, and one that isn't
 
 -- an idle appliance stands in no command
-idle-stage : (s : Setting) (lent : Lent) (st : Stage) (p : Position) → runs st ≡ false → StandsAt s lent st p → p.place ≡ Idle lent.known
+idle-stage : (s : Setting) (lent : Lent) (st : Stage) (p : Configuration) → runs st ≡ false → StandsAt s lent st p → p.place ≡ Idle lent.known
 idle-stage s lent stage.Idle p idle at = at
 idle-stage s lent (stage.Begun begun) p idle at = cc
 idle-stage s lent (stage.In work) p idle at = cc
@@ -157,20 +157,20 @@ idle-stage s lent (stage.In work) p idle at = cc
 pub idle-at : (w : rules.World) (n : ℕ) (seat : Seat) → IsSeat w n seat → IsIdle seat.appliance → (known : Known) × ((stands w n).place ≡ Idle known)
 idle-at w n seat is idle = (
   known_of seat.appliance.holdings,
-  ap (λ (p : Position). p.place) (sym (position-of w n seat is))
-      ∙ idle-stage (appliance_setting seat.appliance) (lent_of seat.appliance.holdings) seat.appliance.stage (position (appliance_setting seat.appliance) (w.seats n).log) idle is.log.at,
+  ap (λ (p : Configuration). p.place) (sym (configuration-of w n seat is))
+      ∙ idle-stage (appliance_setting seat.appliance) (lent_of seat.appliance.holdings) seat.appliance.stage (configuration (appliance_setting seat.appliance) (w.seats n).log) idle is.log.at,
 )
 
 -- one that runs does not
-busy-stage : (s : Setting) (lent : Lent) (other : Known) (st : Stage) (p : Position) → runs st ≡ true → StandsAt s lent st p → p.place ≡ Idle other → ⊥
+busy-stage : (s : Setting) (lent : Lent) (other : Known) (st : Stage) (p : Configuration) → runs st ≡ true → StandsAt s lent st p → p.place ≡ Idle other → ⊥
 busy-stage s lent other stage.Idle p running at idle = cc
 busy-stage s lent other (stage.Begun begun) p running at idle = let e = at.place_is in cc
 busy-stage s lent other (stage.In work) p running at idle = let e = at.place_is in cc
 
 pub busy-at : (w : rules.World) (n : ℕ) (seat : Seat) → IsSeat w n seat → IsRunning seat.appliance → (known : Known) → (stands w n).place ≡ Idle known → ⊥
 busy-at w n seat is running known idle =
-    busy-stage (appliance_setting seat.appliance) (lent_of seat.appliance.holdings) known seat.appliance.stage (position (appliance_setting seat.appliance) (w.seats n).log) running is.log.at
-    (ap (λ (p : Position). p.place) (position-of w n seat is) ∙ idle)
+    busy-stage (appliance_setting seat.appliance) (lent_of seat.appliance.holdings) known seat.appliance.stage (configuration (appliance_setting seat.appliance) (w.seats n).log) running is.log.at
+    (ap (λ (p : Configuration). p.place) (configuration-of w n seat is) ∙ idle)
 
 -- a seat that keeps its setting, among as many seats as before
 pub tied-kept : (g : Geometry) (seats : List Seat) (n : ℕ) (before after : Seat) → slice_get seats n ≡ Some before → AreTied g seats →

@@ -123,16 +123,16 @@ leads-upto laws old new a stop true makes w h =
 leads-upto laws old new a stop false makes w h = let found = makes w h in ((λ v m. upto-over w v a stop found.0 m), leads-nowhere laws found.1)
 
 -- some events of a run
-leads-part : LawsHold → (new : World) (one : Event) (w v : rules.World) → MakesPartly w one v → WorldStands new v → LeadsTo new w v
-leads-part laws new one w v partly h = leads-to laws h (λ reached. reached-partly reached partly)
+leads-process : LawsHold → (new : World) (one : Event) (w v : rules.World) → MakesPartly w one v → WorldStands new v → LeadsTo new w v
+leads-process laws new one w v partly h = leads-to laws h (λ reached. reached-partly reached partly)
 
 pub partly-run : LawsHold → (old new : World) (a : ApplianceNo) → RunsSome a None old new → LeadsPartly old new (event.Run a)
 partly-run laws old new a some w h =
-    let found = some w h in (found.0, of_run a found.1, leads-part laws new (event.Run a) w found.0 (of_run a found.1) found.2)
+    let found = some w h in (found.0, of_run a found.1, leads-process laws new (event.Run a) w found.0 (of_run a found.1) found.2)
 
 pub partly-upto : LawsHold → (old new : World) (a : ApplianceNo) (stop : Stop) → RunsSome a (Some stop) old new → LeadsPartly old new (event.Upto a stop)
 partly-upto laws old new a stop some w h =
-    let found = some w h in (found.0, of_upto a stop found.1, leads-part laws new (event.Upto a stop) w found.0 (of_upto a stop found.1) found.2)
+    let found = some w h in (found.0, of_upto a stop found.1, leads-process laws new (event.Upto a stop) w found.0 (of_upto a stop found.1) found.2)
 
 -- ---- schedules
 

@@ -12,7 +12,7 @@ use Rattle.plx_disk.specs.declared.ask.Answer.{Answer}
 use Rattle.plx_disk.specs.declared.ask.Answer.TheVariants as answer
 use Rattle.plx_disk.specs.declared.ask.Ask.{Ask}
 use Rattle.plx_disk.specs.declared.ask.Ask.TheVariants as ask
-use Rattle.plx_rules.specs.Boot.{asks, replies_at, writes_out, first_part}
+use Rattle.plx_rules.specs.Boot.{asks, replies_at, writes_out, first_process}
 use Rattle.plx_rules.specs.World as rules
 use Rattle.plx_rules.specs.World.{IsReadingAt, Step, stands, setting_of, goes_on, reads, read_faults, write_faults, dones, misses, begins, clocks, waits}
 use Rattle.plx_world.specs.Answering.{AnswersRead, IsAnswered, asked_by, pending_of}
@@ -232,7 +232,7 @@ clocks-place : (old new : World) (a : ApplianceNo) (reading : ℕ) (w : rules.Wo
     (v : rules.World) × Step w (event.Reading a reading) v × WorldStands new v
 clocks-place old new a reading w below asked near soon h answered (first known command at) =
     let one = event.Reading a reading in
-    let rest = first_part (setting_of w a.0) known reading command (stands w a.0) in (
+    let rest = first_process (setting_of w a.0) known reading command (stands w a.0) in (
       goes_on w one a ask.Clock [] (answer.Reading reading) rest,
       begins known command below at near,
       answered.leads w one ask.Clock [] rest h asked (ap writes_out at) soon (ap (replies_at (setting_of w a.0) (answer.Reading reading) (stands w a.0)) at),

@@ -6,7 +6,7 @@ use Rattle.plx_commands.specs.declared.event.Stop.TheVariants as stop
 use Rattle.plx_disk.specs.declared.ask.Ask.{Ask}
 use Rattle.plx_geom.specs.Geometry.{Geometry}
 use Rattle.plx_rules.specs.Boot.{Place, Idle, Begins, In, asks}
-use Rattle.plx_rules.specs.Part.{Ends, ReadThen, WriteThen, ClockThen, UntilThen}
+use Rattle.plx_rules.specs.Process.{Ends, ReadThen, WriteThen, ClockThen, UntilThen}
 use Rattle.plx_rules.specs.Sequences.{stops_at}
 use Rattle.plx_rules.specs.World.{stands}
 use Rattle.plx_world.specs.Running.{StopsAs}

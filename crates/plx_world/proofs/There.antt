@@ -8,8 +8,8 @@ use Rattle.plx_commands.specs.declared.event.Stop.{Stop}
 use Rattle.plx_disk.specs.Writes.{Issued}
 use Rattle.plx_rules.specs.Boot.{Place, Idle, Begins, In}
 use Rattle.plx_rules.specs.Ends.{End}
-use Rattle.plx_rules.specs.Part.{Part, Ends, ReadThen, WriteThen, ClockThen, UntilThen}
-use Rattle.plx_rules.specs.Sequences.{next_of_sector, missing_sector, next_at, next_event, next_landing, next_of_part, next_of_write, stops}
+use Rattle.plx_rules.specs.Process.{Process, Ends, ReadThen, WriteThen, ClockThen, UntilThen}
+use Rattle.plx_rules.specs.Sequences.{next_of_sector, missing_sector, next_at, next_event, next_landing, next_of_process, next_of_write, stops}
 use Rattle.plx_rules.specs.World as rules
 use Rattle.plx_rules.specs.World.{Step, issued_by, stands}
 
@@ -89,17 +89,17 @@ module _ (w : rules.World) (a : ApplianceNo) where
   wait-its true = refl
   wait-its false = tt
 
-  part-its : (part : Part End) → IsIts (next_of_part w a part)
-  part-its (Ends end) = tt
-  part-its (ReadThen block rest fault) = refl
-  part-its (WriteThen kind block bytes guard done fault missed) = write-its guard (w.seats a.0).pending
-  part-its (ClockThen rest) = refl
-  part-its (UntilThen from rest) = wait-its (nat_le from w.surface.time)
+  process-its : (process : Process End) → IsIts (next_of_process w a process)
+  process-its (Ends end) = tt
+  process-its (ReadThen block rest fault) = refl
+  process-its (WriteThen kind block bytes guard done fault missed) = write-its guard (w.seats a.0).pending
+  process-its (ClockThen rest) = refl
+  process-its (UntilThen from rest) = wait-its (nat_le from w.surface.time)
 
   place-its : (p : Place) → IsIts (next_at w a p)
   place-its (Idle known) = tt
   place-its (Begins known command) = refl
-  place-its (In known command part) = part-its part
+  place-its (In known command process) = process-its process
 
   stop-its : (stopped : Bool) (next : Option Event) → IsIts next → IsIts (if stopped then None else next)
   stop-its true next its = tt

@@ -19,7 +19,7 @@ use Rattle.plx_disk.specs.declared.ask.Ask.TheVariants as ask
 use Rattle.plx_disk.specs.declared.disk.Disk.{Disk}
 use Rattle.plx_rules.specs.Boot.{Fits, asks, replies, reply_of, writes_out}
 use Rattle.plx_rules.specs.Ends.{End}
-use Rattle.plx_rules.specs.Part.{Part}
+use Rattle.plx_rules.specs.Process.{Process}
 use Rattle.plx_rules.specs.World as rules
 use Rattle.plx_rules.specs.World.{goes_on, setting_of, stands}
 use Rattle.plx_world.specs.Seats.{AsksAs}
@@ -52,7 +52,7 @@ pending_of w number = if nat_lt number w.appliances then (w.seats number).pendin
 
 -- the ask that stands was answered
 pub record IsAnswered (old new : World) (appliance : ApplianceNo) (answer : Answer) : Type 0 where
-  pub leads : (w : rules.World) (event : Event) (ask : Ask) (bytes : List ℕ) (rest : Part End) → WorldStands old w →
+  pub leads : (w : rules.World) (event : Event) (ask : Ask) (bytes : List ℕ) (rest : Process End) → WorldStands old w →
       asks (stands w appliance.0).place ≡ Some ask → writes_out (stands w appliance.0).place ≡ bytes → Fits ask answer →
       replies (setting_of w appliance.0) answer (stands w appliance.0) ≡ reply_of rest →
       WorldStands new (goes_on w event appliance ask bytes answer rest)

@@ -1,9 +1,9 @@
--- How many answers a part takes at most.
+-- How many answers a process takes at most.
 use Rattle.std.specs.Prelude.{ℕ, zero, suc, List}
-use Rattle.plx_rules.specs.Part.{Part, Ends, ReadThen, WriteThen, ClockThen, UntilThen}
+use Rattle.plx_rules.specs.Process.{Process, Ends, ReadThen, WriteThen, ClockThen, UntilThen}
 
--- a part is over after at most so many answers, whatever they are
-abbrev pub AtMost : {E : Type 0} → ℕ → Part E → Type 0
+-- a process is over after at most so many answers, whatever they are
+abbrev pub AtMost : {E : Type 0} → ℕ → Process E → Type 0
 AtMost most (Ends end) = Unit {0}
 AtMost zero (ReadThen block rest fault) = ⊥
 AtMost (suc most) (ReadThen block rest fault) = ((bytes : List ℕ) → AtMost most (rest bytes)) × AtMost most fault

@@ -21,7 +21,7 @@ use Rattle.plx_world.specs.declared.world.World.{World}
 abbrev pub AtMostAt : ℕ → Place → Type 0
 AtMostAt most (Idle known) = Unit {0}
 AtMostAt most (Begins known command) = most_asks < most
-AtMostAt most (In known command part) = AtMost most part
+AtMostAt most (In known command process) = AtMost most process
 
 -- how many sectors are left to land, from the least missing one on
 abbrev pub sectors_left : Option ℕ → ℕ

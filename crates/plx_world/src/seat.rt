@@ -36,7 +36,7 @@ impl Seat {
     ghost use Rattle.plx_appliance.specs.Appliance.{IsIdle, IsRunning, IsStanding, StandsFor, appliance_setting};
     ghost use Rattle.plx_alloc.specs.Asking.{IsOnDevice};
     ghost use Rattle.plx_disk.specs.declared.ask.Ask.{Ask};
-    ghost use Rattle.plx_rules.specs.Boot.{Asked, Began, Fits, Happening, asks, position, replies};
+    ghost use Rattle.plx_rules.specs.Boot.{Asked, Began, Fits, BootEntry, asks, configuration, replies};
     ghost use Rattle.plx_rules.specs.Commands.{IsBuilt, IsWellFormed};
     ghost use Rattle.plx_rules.specs.World.{setting_at};
     ghost use Rattle.plx_world.specs.Seats.{AsksAs, KeepsSeat, TakesAnswer};
@@ -139,10 +139,10 @@ impl Seat {
         requires idle { IsIdle self.old.appliance }
         requires built { IsBuilt command.now }
         requires formed { IsWellFormed command.now }
-        ensures ok { OnOk result ((log : List Happening) → StandsFor self.old.appliance log
+        ensures ok { OnOk result ((log : List BootEntry) → StandsFor self.old.appliance log
             → StandsFor self.new.appliance (Began command.now ∷ log)) }
         ensures pending { OnOk result (self.new.pending ≡ None) }
-        ensures err { OnErr result ((log : List Happening) → StandsFor self.old.appliance log
+        ensures err { OnErr result ((log : List BootEntry) → StandsFor self.old.appliance log
             → StandsFor self.new.appliance log) }
         ensures waits { OnErr result (self.new.pending ≡ self.old.pending) }
         ensures kept { KeepsSeat self.old self.new }

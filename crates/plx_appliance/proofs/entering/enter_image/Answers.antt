@@ -1,6 +1,6 @@
 use Rattle.std.proofs.Common.{ℕ, ◌<◌, ◌∙◌, refl, subst}
 use Rattle.plx_commands.specs.declared.reply.Reply.TheVariants as reply
-use Rattle.plx_appliance.specs.Begins.{image_part}
+use Rattle.plx_appliance.specs.Begins.{image_process}
 use Rattle.plx_appliance.specs.Giving.{rules_setting}
 use Rattle.plx_appliance.specs.Kept.{known_of, session_of}
 use Rattle.plx_appliance.specs.Lent.{lent_of}
@@ -22,16 +22,16 @@ pub returns-in_default : goal.returns-in_default
 returns-in_default c =
     let h = c.args.holdings.now in
     let s = rules_setting h.setting in
-    let rest = image_part s (known_of h) c.args.slot.0 c.args.command in
+    let rest = image_process s (known_of h) c.args.slot.0 c.args.command in
     refusal-enters h reply.NotAttached (attached-none s (known_of h) (holds_in h) c.args.reading c.args.slot.0 rest c.in_default.ensures)
 
 pub returns-in-Err : goal.returns-in-Err
 returns-in-Err c =
     let h = c.args.holdings.now in
     let session = session_of c.in-Some.session.now in
-    let rest = image_part (rules_setting h.setting) (known_of h) c.args.slot.0 c.args.command in
+    let rest = image_process (rules_setting h.setting) (known_of h) c.args.slot.0 c.args.command in
     refusal-enters h c.in-Err.reply (by-lease h c.args.reading c.args.slot session rest
-    (c.in-Err.ensures.part (known_of h) (rest session)) c.in-Some.ensures.0 c.in-Some.ensures.1)
+    (c.in-Err.ensures.process (known_of h) (rest session)) c.in-Some.ensures.0 c.in-Some.ensures.1)
 
 pub returns-in-Ok : goal.returns-in-Ok
 returns-in-Ok c =
@@ -41,6 +41,6 @@ returns-in-Ok c =
     let slot = c.in-Ok.ensures.slot image refl in
     let e = c.enter_leased.ensures in
     image-enters h c.args.reading c.args.slot (session_of c.in-Some.session.now) image
-    (λ s named. image_part s (known_of h) named c.args.command) c.enter_leased.result
-    (e.part (lent_of h) (rw slot some.0)) e.image slot (c.in-Ok.ensures.setting image refl)
-    (c.in-Ok.ensures.part (known_of h)) some.0 some.1
+    (λ s named. image_process s (known_of h) named c.args.command) c.enter_leased.result
+    (e.process (lent_of h) (rw slot some.0)) e.image slot (c.in-Ok.ensures.setting image refl)
+    (c.in-Ok.ensures.process (known_of h)) some.0 some.1

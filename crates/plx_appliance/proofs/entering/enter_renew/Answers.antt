@@ -17,5 +17,5 @@ returns c =
     let done = ends reply.Renewed k in
     enters h _ (rw (← c.in_default.ensures) (sym (renewals-last s k c.pop.new.self.items c.in-Some-pop.renewal done)
     ∙ sym (ap (λ (items : List LeaseRenewal). renewals_then s k items done) c.in-Some-pop.ensures.items)
-    ∙ c.renewals-left.ensures.part s k))
+    ∙ c.renewals-left.ensures.process s k))
     (record { same = refl; room = refl }) (search rules) tt

@@ -10,8 +10,8 @@ use Rattle.plx_appliance.proofs.renewing.renewal.Goals as goal
 pub returns-in_ok-held-in-Image-clause-number : goal.returns-in_ok-held-in-Image-clause-number
 returns-in_ok-held-in-Image-clause-number c = c.begin.ensures.number c.args.lease (ap (λ n. 1 + n) c.from.ensures)
 
-pub returns-in_ok-held-in-Image-clause-part : goal.returns-in_ok-held-in-Image-clause-part
-returns-in_ok-held-in-Image-clause-part c =
+pub returns-in_ok-held-in-Image-clause-process : goal.returns-in_ok-held-in-Image-clause-process
+returns-in_ok-held-in-Image-clause-process c =
     let lease = c.args.lease in
     let r = c.begin.result in
     let e = c.begin.ensures in
@@ -22,8 +22,8 @@ returns-in_ok-held-in-Image-clause-part c =
 pub returns-in_ok-held-in-Extent-clause-number : goal.returns-in_ok-held-in-Extent-clause-number
 returns-in_ok-held-in-Extent-clause-number c = c.begin-in-Extent.ensures.number c.args.lease (ap (λ n. 1 + n) c.from.ensures)
 
-pub returns-in_ok-held-in-Extent-clause-part : goal.returns-in_ok-held-in-Extent-clause-part
-returns-in_ok-held-in-Extent-clause-part c =
+pub returns-in_ok-held-in-Extent-clause-process : goal.returns-in_ok-held-in-Extent-clause-process
+returns-in_ok-held-in-Extent-clause-process c =
     let lease = c.args.lease in
     let r = c.begin-in-Extent.result in
     let e = c.begin-in-Extent.ensures in

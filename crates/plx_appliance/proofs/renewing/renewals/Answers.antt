@@ -21,7 +21,7 @@ loop-count-preserved c =
     let i = c.loop-count.invariant in
     let e = c.renewal-next.ensures in
     let next = queued-next all (holds_in h) c.args.reading (c.args.room.leases - 1 - count) count c.loop-count.list.items c.renewal-next.result
-    (omega (arith, c.loop-count-test.true, c.requires.room)) i.2 e.part e.number e.held in
+    (omega (arith, c.loop-count-test.true, c.requires.room)) i.2 e.process e.number e.held in
     let more = subst (λ (items : List LeaseRenewal). IsQueued all (holds_in h) c.args.reading items (count + 1) (all - (count + 1))) (sym c.push.ensures.items) next in
     (omega (arith, i.0, c.push.ensures.capacity), omega (arith, i.1, c.push.ensures.len), more)
 
@@ -31,4 +31,4 @@ returns c =
     let count = c.loop-count.count in
     let last : count ≡ lease_count h.setting.geometry = omega (arith, c.loop-count-test.false, c.loop-count.auto.count-end, c.requires.room) in
     let all = queued-all (lease_count h.setting.geometry) (holds_in h) c.args.reading c.loop-count.list.items count last c.loop-count.invariant.2 in
-    record { part = all.part; held = all.held }
+    record { process = all.process; held = all.held }

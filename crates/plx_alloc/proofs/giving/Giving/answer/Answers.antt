@@ -1,6 +1,6 @@
 use Rattle.std.proofs.Common.{subst, ap, refl, sym, ◌≡◌, ◌∙◌, ◌<◌}
 use Rattle.plx_geom.specs.Geometry.{extent_lease, map_at}
-use Rattle.plx_rules.specs.Ends.{lost_part}
+use Rattle.plx_rules.specs.Ends.{lost_process}
 use Rattle.plx_rules.specs.Space.{in_extent}
 use Rattle.plx_alloc.specs.Gives.{around_known}
 use Rattle.plx_alloc.specs.Pools.{AreBetween}
@@ -47,7 +47,7 @@ returns-in-Write-Missed-clause-rest c = λ o.
     let s = allocator_setting o.appliance a in
     let known = around_known o a in
     rw (c.in-Write-Missed.is-0, c.in-Write-Missed.is-1)
-    (c.lost.ensures s o.rest known (sym c.geometry.ensures) ∙ ap (λ due. lost_part s known due c.in-Write-Missed.reading) c.own_use.ensures)
+    (c.lost.ensures s o.rest known (sym c.geometry.ensures) ∙ ap (λ due. lost_process s known due c.in-Write-Missed.reading) c.own_use.ensures)
 
 pub returns-in-Map-Bytes-clause-rest : goal.returns-in-Map-Bytes-clause-rest
 returns-in-Map-Bytes-clause-rest c = λ o. rw (c.in-Map-Bytes.is-0, c.in-Map-Bytes.is-1) (c.found.ensures.rest o)

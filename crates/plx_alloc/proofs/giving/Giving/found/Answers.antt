@@ -5,7 +5,7 @@ use Rattle.plx_commands.specs.Replies.{is_in}
 use Rattle.plx_extent.specs.Maps.{IsMap, map_bytes}
 use Rattle.plx_geom.specs.Geometry.{map_at}
 use Rattle.plx_lease.specs.Uses.{uses_of}
-use Rattle.plx_rules.specs.Ends.{damaged_part, write_then}
+use Rattle.plx_rules.specs.Ends.{damaged_process, write_then}
 use Rattle.plx_rules.specs.Space.{give_found, in_extent, read_map, with_clear}
 use Rattle.plx_alloc.specs.Gives.{around_known, retire_use}
 use Rattle.plx_alloc.specs.Pools.{AreBetween}
@@ -30,8 +30,8 @@ returns-in_default-clause-rest c = λ o.
     subst (λ n. IsReading (IsMap n) map_bytes c.args.bytes.now None) blocks (subst (λ b. IsReading (IsMap c.blocks-2.inside.extent_blocks) map_bytes b None) bytes c.in_default.ensures) in
     let read : read_map a.geometry.extent_blocks c.args.bytes.now ≡ None = map-read-found a.geometry.extent_blocks c.args.bytes.now None a.limits.blocks_high reading in
     sym (ap (λ found. give_found s known (uses_of m.uses) m.extent.0 m.until mine found o.rest) read
-    ∙ (ap (λ due. damaged_part s known (due ∷ uses_of m.uses) (map_at a.geometry m.extent.0)) (sym (kept-use a.geometry m c.requires.suits.lease))
-    ∙ ap (λ block. damaged_part s known (retire_use m ∷ uses_of m.uses) block) (sym c.requires.suits.map)))
+    ∙ (ap (λ due. damaged_process s known (due ∷ uses_of m.uses) (map_at a.geometry m.extent.0)) (sym (kept-use a.geometry m c.requires.suits.lease))
+    ∙ ap (λ block. damaged_process s known (retire_use m ∷ uses_of m.uses) block) (sym c.requires.suits.map)))
 
 pub clear-requires-clause-apart : goal.clear-requires-clause-apart
 clear-requires-clause-apart c =

@@ -8,10 +8,10 @@ use Rattle.plx_geom.specs.Geometry.{extent_lease, lease_at, map_at}
 use Rattle.plx_base.specs.declared.numbers.Boot.{Boot}
 use Rattle.plx_lease.specs.Claiming.{claim_rest}
 use Rattle.plx_lease.specs.Uses.{uses_of}
-use Rattle.plx_rules.specs.Claims.{claim_part}
+use Rattle.plx_rules.specs.Claims.{claim_process}
 use Rattle.plx_rules.specs.Holds.{Hold}
 use Rattle.plx_token.specs.declared.kind.Extent.{Extent}
-use Rattle.plx_rules.specs.Ends.{damaged_part, ends}
+use Rattle.plx_rules.specs.Ends.{damaged_process, ends}
 use Rattle.plx_rules.specs.Space.{claim_extent, free_from, other_found, read_map}
 use Rattle.plx_alloc.specs.Tables.{claims_after, allocator_setting, hand_numbers, has_any, held_of, extent_hold, numbers}
 use Rattle.plx_alloc.specs.Takes.{next_rest, outer_known, taking_of}
@@ -34,7 +34,7 @@ returns-in_default-clause-rest c = λ o.
     let reading : IsReading (IsMap a.geometry.extent_blocks) map_bytes c.args.bytes.now None =
     subst (λ n. IsReading (IsMap n) map_bytes c.args.bytes.now None) blocks (subst (λ b. IsReading (IsMap c.blocks-2.inside.extent_blocks) map_bytes b None) bytes c.in_default.ensures) in
     let read : read_map a.geometry.extent_blocks c.args.bytes.now ≡ None = map-read-found a.geometry.extent_blocks c.args.bytes.now None a.limits.blocks_high reading in
-    ap (λ block. damaged_part s known (uses_of m.uses) block) c.requires.suits.map
+    ap (λ block. damaged_process s known (uses_of m.uses) block) c.requires.suits.map
     ∙ sym (ap (λ found. other_found s m.count m.extent.0 found (next_rest o a m) (taking_of o a m)) read)
 
 found-none : (c : goal.After-go_on) → read_map c.args.space.now.geometry.extent_blocks c.args.bytes.now ≡ Some c.in-Some.bits
@@ -120,10 +120,10 @@ returns-clause-rest c = λ o.
     let less : a.claims < last_claim = omega (arith, ne, most) in
     let lease : c.lease_number.result ≡ extent_lease a.geometry m.extent.0 = c.lease_number.ensures ∙ ap (λ g. extent_lease g m.extent.0) e.same.geometry in
     let place : 1 + c.from.result ≡ lease_at (extent_lease a.geometry m.extent.0) = ap (λ n. 1 + n) (c.from.ensures ∙ lease) in
-    let claim : claim_rest c.begin_next.new.self ≡ claim_part a.boot.0 (uses_of m.uses) (extent_lease a.geometry m.extent.0) a.claims =
+    let claim : claim_rest c.begin_next.new.self ≡ claim_process a.boot.0 (uses_of m.uses) (extent_lease a.geometry m.extent.0) a.claims =
     c.begin_next.ensures.rest (extent_lease a.geometry m.extent.0) place
-    ∙ (ap (λ (boot : Boot). claim_part boot.0 (uses_of m.uses) (extent_lease a.geometry m.extent.0) c.in-Some-next_claim.number) (c.boot.ensures ∙ e.same.boot)
-    ∙ ap (claim_part a.boot.0 (uses_of m.uses) (extent_lease a.geometry m.extent.0)) next.0) in
+    ∙ (ap (λ (boot : Boot). claim_process boot.0 (uses_of m.uses) (extent_lease a.geometry m.extent.0) c.in-Some-next_claim.number) (c.boot.ensures ∙ e.same.boot)
+    ∙ ap (claim_process a.boot.0 (uses_of m.uses) (extent_lease a.geometry m.extent.0)) next.0) in
     let new : Reserve = record m { at = at.Claim; claim = c.begin_next.new.self } in
     looked-rest o a b m new e.same e.leases e.hand claims less refl refl refl refl refl refl claim
     ∙ sym (ap (λ found. other_found s m.count m.extent.0 found (next_rest o a m) (taking_of o a m)) (found-claim c)

@@ -1,7 +1,7 @@
 use Rattle.std.proofs.Common.{rules, ◌≡◌, ◌∙◌, ap, sym, refl, subst, ℕ, List, Option, Some}
 use Rattle.plx_lease.proofs.Asking.{claim-asks}
 use Rattle.plx_rules.proofs.Nested.{followed-after-answer}
-use Rattle.plx_rules.specs.Ends.{lost_part}
+use Rattle.plx_rules.specs.Ends.{lost_process}
 use Rattle.plx_alloc.specs.Moving.{ReadsFirst, found_tells, looked_starts, tells_at}
 use Rattle.plx_alloc.specs.Tables.{allocator_setting, extent_leases}
 use Rattle.plx_alloc.specs.Takes.{outer_known, reserve_follows}
@@ -31,7 +31,7 @@ returns-in-Write-Missed-clause-rest c = λ o.
     let s = allocator_setting o.appliance a in
     let known = outer_known o a in
     rw (c.in-Write-Missed.is-0, c.in-Write-Missed.is-1)
-    (c.lost.ensures s (reserve_follows o a m) known (sym c.geometry.ensures) ∙ ap (λ due. lost_part s known due c.in-Write-Missed.reading) c.own_use.ensures)
+    (c.lost.ensures s (reserve_follows o a m) known (sym c.geometry.ensures) ∙ ap (λ due. lost_process s known due c.in-Write-Missed.reading) c.own_use.ensures)
 
 pub returns-in-None-clause-rest : goal.returns-in-None-clause-rest
 returns-in-None-clause-rest c = λ o. rw c.in-Claim-default.is-0 (followed-after-answer _ _ _ _ (claim-asks c.args.self.now.claim) c.in-None.ensures.rest)

@@ -1,7 +1,7 @@
 use Rattle.std.proofs.Common.{rules, ◌≡◌, Some}
 use Rattle.plx_base.specs.declared.write_kind.WriteKind.TheVariants as kind
 use Rattle.plx_disk.specs.declared.ask.Ask.TheVariants as ask
-use Rattle.plx_rules.specs.Part.{standing}
+use Rattle.plx_rules.specs.Process.{standing}
 use Rattle.law_run.proofs.TakeRules.{take-ask}
 use Rattle.plx_alloc.specs.Takes.{reserve_rest}
 use Rattle.plx_alloc.proofs.reserve.Reserve.ask.Goals as goal

@@ -4,9 +4,9 @@ use Rattle.plx_base.specs.declared.write_kind.WriteKind.TheVariants as kind
 use Rattle.plx_extent.specs.Maps.{IsMap, map_bytes}
 use Rattle.plx_geom.specs.Geometry.{map_at}
 use Rattle.plx_lease.specs.Uses.{use_if, use_of, uses_of}
-use Rattle.plx_rules.specs.Ends.{damaged_part, write_then}
+use Rattle.plx_rules.specs.Ends.{damaged_process, write_then}
 use Rattle.plx_rules.specs.InUse.{earlier}
-use Rattle.plx_rules.specs.Space.{extent_use, free_from, read_map, set_part, take_found, with_set, with_taken}
+use Rattle.plx_rules.specs.Space.{extent_use, free_from, read_map, set_process, take_found, with_set, with_taken}
 use Rattle.plx_alloc.specs.Tables.{allocator_setting, hand_numbers, numbers}
 use Rattle.plx_alloc.specs.Takes.{next_rest, outer_known, taking_of}
 use Rattle.plx_alloc.proofs.Reached.{damaged-same}
@@ -14,7 +14,7 @@ use Rattle.plx_alloc.proofs.Reading.{map-read-found}
 use Rattle.plx_alloc.specs.Pools.{AreBetween}
 use Rattle.plx_alloc.proofs.Since.{tells-taken}
 use Rattle.plx_alloc.proofs.Suited.{numbers-length}
-use Rattle.plx_alloc.proofs.Taking.{any-none, any-some, earlier-reached, map-stands, set_part-none, set_part-some}
+use Rattle.plx_alloc.proofs.Taking.{any-none, any-some, earlier-reached, map-stands, set_process-none, set_process-some}
 use Rattle.plx_alloc.proofs.reserve.Reserve.found.Goals as goal
 
 pub returns-in_default-clause-rest : goal.returns-in_default-clause-rest
@@ -32,7 +32,7 @@ returns-in_default-clause-rest c = λ o.
     let first : use_of c.earlier.result ≡ earlier own (use_if m.uses) = c.earlier.ensures ∙ ap (λ use'. earlier use' (use_if m.uses)) c.own_use.ensures in
     sym (ap (λ found. take_found s m.count m.extent.0 m.until found (next_rest o a m) (taking_of o a m)) read
     ∙ (damaged-same s known (own ∷ uses_of m.uses) (use_of c.earlier.result ∷ []) (earlier-reached own m.uses c.earlier.result first) (map_at a.geometry m.extent.0)
-    ∙ ap (λ block. damaged_part s known (use_of c.earlier.result ∷ []) block) (sym c.requires.suits.map)))
+    ∙ ap (λ block. damaged_process s known (use_of c.earlier.result ∷ []) block) (sym c.requires.suits.map)))
 
 found-empty : (c : goal.After-go_on) → read_map c.args.space.now.geometry.extent_blocks c.args.bytes.now ≡ Some c.in-Some.bits
 found-empty c =
@@ -64,8 +64,8 @@ returns-then-is_empty-clause-rest c = λ o.
     let none' : length items ≡ 0 = search rules in
     c.go_on.ensures.rest o
     ∙ sym (ap (λ found. take_found s m.count m.extent.0 m.until found next t) (found-empty c)
-    ∙ (ap (λ blocks. set_part s m.extent.0 m.until c.in-Some.bits blocks next t) (sym (taken-empty c))
-    ∙ set_part-none s m.extent.0 m.until c.in-Some.bits (numbers items) next t (any-none items none')))
+    ∙ (ap (λ blocks. set_process s m.extent.0 m.until c.in-Some.bits blocks next t) (sym (taken-empty c))
+    ∙ set_process-none s m.extent.0 m.until c.in-Some.bits (numbers items) next t (any-none items none')))
 
 found-some : (c : goal.After-self-3-1) → read_map c.args.space.now.geometry.extent_blocks c.args.bytes.now ≡ Some c.in-Some.bits
 found-some c =
@@ -103,8 +103,8 @@ returns-clause-rest c = λ o.
     ap (λ block. write_then s known own kind.Take block c.spell_map.new.block (next (with_taken t (numbers items)))) c.requires.suits.map
     ∙ (ap (λ bytes. write_then s known own kind.Take (map_at a.geometry m.extent.0) bytes (next (with_taken t (numbers items)))) out
     ∙ sym (ap (λ found. take_found s m.count m.extent.0 m.until found next t) (found-some c)
-    ∙ (ap (λ blocks. set_part s m.extent.0 m.until c.in-Some.bits blocks next t) (sym (taken-some c))
-    ∙ set_part-some s m.extent.0 m.until c.in-Some.bits (numbers items) next t (any-some items some))))
+    ∙ (ap (λ blocks. set_process s m.extent.0 m.until c.in-Some.bits blocks next t) (sym (taken-some c))
+    ∙ set_process-some s m.extent.0 m.until c.in-Some.bits (numbers items) next t (any-some items some))))
 
 pub returns-clause-suits : goal.returns-clause-suits
 returns-clause-suits c = λ none'.

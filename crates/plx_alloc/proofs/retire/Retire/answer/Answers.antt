@@ -2,8 +2,8 @@ use Rattle.std.proofs.Common.{ap, sym, ◌∙◌}
 use Rattle.plx_commands.specs.declared.reply.Reply.TheVariants as reply
 use Rattle.law_run.proofs.Machines.{moves-on}
 use Rattle.law_run.proofs.RetireRules.{retire-end}
-use Rattle.plx_rules.specs.Ends.{ends, lost_part}
-use Rattle.plx_rules.specs.Part.{answered}
+use Rattle.plx_rules.specs.Ends.{ends, lost_process}
+use Rattle.plx_rules.specs.Process.{answered}
 use Rattle.plx_rules.specs.Session.{nothing_known}
 use Rattle.plx_alloc.specs.Ending.{space_end}
 use Rattle.plx_alloc.specs.Gives.{around_known, giving_rest}
@@ -41,7 +41,7 @@ returns-in-Release-Missed-clause-rest c = λ o.
     let s = allocator_setting o.appliance a in
     let known = around_known o a in
     rw (c.in-Release-Missed.is-0, c.in-Release-Missed.is-1)
-    (c.lost.ensures s o.rest known (sym c.geometry.ensures) ∙ ap (λ due. lost_part s known due c.in-Release-Missed.reading) c.own_use.ensures)
+    (c.lost.ensures s o.rest known (sym c.geometry.ensures) ∙ ap (λ due. lost_process s known due c.in-Release-Missed.reading) c.own_use.ensures)
 
 -- so it moves on, and where it has ended, the end keeps the rules
 pub returns-in-Some-Done-clause-log : goal.returns-in-Some-Done-clause-log

@@ -2,7 +2,7 @@ use Rattle.std.proofs.Common.{ℕ, List, [], ◌∷◌, sym, ap, ◌∙◌, subs
 use Rattle.plx_disk.specs.declared.ask.Ask.{Ask}
 use Rattle.plx_disk.specs.declared.ask.Answer.{Answer}
 use Rattle.plx_disk.specs.declared.ask.Answer.TheVariants as answer
-use Rattle.plx_rules.specs.Boot.{Asked, position, replies}
+use Rattle.plx_rules.specs.Boot.{Asked, configuration, replies}
 use Rattle.plx_appliance.specs.Appliance.{StandsFor, appliance_setting}
 use Rattle.plx_appliance.proofs.Went.{begun-stands, by-begun, by-running}
 use Rattle.plx_appliance.proofs.appliance.Appliance.answer.Goals as goal
@@ -18,7 +18,7 @@ returns-in-true-Reading-clause-log c = λ log ask bytes stands standing fits. by
 pub returns-in-true-Reading-clause-reply : goal.returns-in-true-Reading-clause-reply
 returns-in-true-Reading-clause-reply c = λ log ask bytes stands standing fits. by-begun c.args.self.now.stage c.in-true-Reading.ensures (λ b is.
     c.first.ensures.reply log b is stands
-    ∙ ap (λ (found : Answer). replies (appliance_setting c.args.self.now) found (position (appliance_setting c.args.self.now) log)) (sym c.in-true-Reading.is-1))
+    ∙ ap (λ (found : Answer). replies (appliance_setting c.args.self.now) found (configuration (appliance_setting c.args.self.now) log)) (sym c.in-true-Reading.is-1))
 
 pub returns-in-false-default-clause-log : goal.returns-in-false-default-clause-log
 returns-in-false-default-clause-log c = λ log ask bytes stands standing fits.

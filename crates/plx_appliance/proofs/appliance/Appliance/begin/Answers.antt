@@ -1,5 +1,5 @@
 use Rattle.std.proofs.Common.{◌∷◌, subst, sym}
-use Rattle.plx_rules.specs.Boot.{Began, position}
+use Rattle.plx_rules.specs.Boot.{Began, configuration}
 use Rattle.plx_appliance.specs.Appliance.{StandsAt, appliance_setting}
 use Rattle.plx_appliance.specs.Lent.{lent_of}
 use Rattle.plx_appliance.specs.declared.appliance.Stage.{Stage}
@@ -12,8 +12,8 @@ returns-clause-ok c = λ log stands.
     let command = c.args.command in
     record {
       run = run-begins a log command c.requires.idle stands c.requires.limits c.requires.built;
-      at = subst (λ (st : Stage). StandsAt (appliance_setting a) (lent_of a.holdings) st (position (appliance_setting a) (Began command ∷ log))) (sym c.set.ensures)
-          (has-begun a log command c.in_ok-begun.begun c.requires.idle stands c.in_ok-begun.ensures.part);
+      at = subst (λ (st : Stage). StandsAt (appliance_setting a) (lent_of a.holdings) st (configuration (appliance_setting a) (Began command ∷ log))) (sym c.set.ensures)
+          (has-begun a log command c.in_ok-begun.begun c.requires.idle stands c.in_ok-begun.ensures.process);
       held = stands.held;
       hand = stands.hand;
       unfilled = stands.unfilled;

@@ -1,7 +1,7 @@
 use Rattle.std.proofs.Common.{[], ◌∷◌, sym, ap, ◌∙◌, subst}
 use Rattle.plx_disk.specs.declared.ask.Ask.TheVariants as ask
 use Rattle.plx_disk.specs.declared.ask.Answer.TheVariants as answer
-use Rattle.plx_rules.specs.Boot.{Asked, position}
+use Rattle.plx_rules.specs.Boot.{Asked, configuration}
 use Rattle.plx_appliance.specs.Appliance.{StandsAt}
 use Rattle.plx_appliance.specs.Ending.{hand_after_reply, leases_after}
 use Rattle.plx_appliance.specs.Giving.{rules_setting}
@@ -20,10 +20,10 @@ returns-in-Ok-clause-log c = λ log begun is stands.
     let a = c.args.self.now in
     let h = c.drop_expired.new.self in
     let first = stood-in a c.in-Begun.begun log c.args.reading h e c.in-Ok.work (sym c.in-Begun.ensures.value) stands (hand-of a.holdings).within
-    (record { setting = d.setting; known = d.known; leases = d.leases; extents = d.extents; hand = d.hand }) x.part x.leases x.tied x.inside x.sessions in
+    (record { setting = d.setting; known = d.known; leases = d.leases; extents = d.extents; hand = d.hand }) x.process x.leases x.tied x.inside x.sessions in
     let stood = first-stands a h e c.in-Ok.work log c.args.reading (x.setting ∙ d.setting) x.extents x.hand first in
     let asked = Asked ask.Clock [] (answer.Reading c.args.reading) in
-    let p = position (rules_setting e.setting) (asked ∷ log) in
+    let p = configuration (rules_setting e.setting) (asked ∷ log) in
     record {
       run = run-first a c.in-Begun.begun e.setting log c.args.reading (x.setting ∙ d.setting) (sym c.in-Begun.ensures.value) stands c.requires;
       at = subst (λ (st : Stage). StandsAt (rules_setting e.setting) (lent_of e) st p)
@@ -39,7 +39,7 @@ returns-in-Ok-clause-reply c = λ log begun is stands.
     let x = c.in-Ok.ensures in
     let a = c.args.self.now in
     (stood-in a c.in-Begun.begun log c.args.reading c.drop_expired.new.self c.enter.new.holdings c.in-Ok.work (sym c.in-Begun.ensures.value) stands (hand-of a.holdings).within
-    (record { setting = d.setting; known = d.known; leases = d.leases; extents = d.extents; hand = d.hand }) x.part x.leases x.tied x.inside x.sessions).no_reply
+    (record { setting = d.setting; known = d.known; leases = d.leases; extents = d.extents; hand = d.hand }) x.process x.leases x.tied x.inside x.sessions).no_reply
 
 pub returns-in-Err-clause-log : goal.returns-in-Err-clause-log
 returns-in-Err-clause-log c = λ log begun is stands.
@@ -52,11 +52,11 @@ returns-in-Err-clause-log c = λ log begun is stands.
     let e = c.enter.new.holdings in
     let r = c.in-Err.reply in
     let first = stood-ends a c.in-Begun.begun log c.args.reading h e r (sym c.in-Begun.ensures.value) stands (hand-of a.holdings).within
-    (record { setting = d.setting; known = d.known; leases = d.leases; extents = d.extents; hand = d.hand }) x.part x.leases in
+    (record { setting = d.setting; known = d.known; leases = d.leases; extents = d.extents; hand = d.hand }) x.process x.leases in
     let stood = last-stands a h e k r log c.args.reading (y.setting ∙ x.setting ∙ d.setting) y.known y.leases (y.extents ∙ ap (leases_after r) x.extents) (y.hand ∙ ap (hand_after_reply r) x.hand) first in
     record {
       run = run-first a c.in-Begun.begun k.setting log c.args.reading (y.setting ∙ x.setting ∙ d.setting) (sym c.in-Begun.ensures.value) stands c.requires;
-      at = subst (λ (st : Stage). StandsAt (rules_setting k.setting) (lent_of k) st (position (rules_setting k.setting) (Asked ask.Clock [] (answer.Reading c.args.reading) ∷ log))) (sym c.replace.ensures.after) stood.at;
+      at = subst (λ (st : Stage). StandsAt (rules_setting k.setting) (lent_of k) st (configuration (rules_setting k.setting) (Asked ask.Clock [] (answer.Reading c.args.reading) ∷ log))) (sym c.replace.ensures.after) stood.at;
       held = stood.held;
       hand = stood.hand;
       unfilled = stood.unfilled;
@@ -68,4 +68,4 @@ returns-in-Err-clause-reply c = λ log begun is stands.
     let x = c.in-Err.ensures in
     let a = c.args.self.now in
     (stood-ends a c.in-Begun.begun log c.args.reading c.drop_expired.new.self c.enter.new.holdings c.in-Err.reply (sym c.in-Begun.ensures.value) stands (hand-of a.holdings).within
-    (record { setting = d.setting; known = d.known; leases = d.leases; extents = d.extents; hand = d.hand }) x.part x.leases).replied
+    (record { setting = d.setting; known = d.known; leases = d.leases; extents = d.extents; hand = d.hand }) x.process x.leases).replied

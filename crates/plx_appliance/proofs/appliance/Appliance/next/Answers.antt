@@ -1,6 +1,6 @@
 use Rattle.std.proofs.Common.{◌≡◌, ◌∷◌, Some, None, refl, sym, ap, ◌∙◌, subst}
 use Rattle.plx_disk.specs.declared.ask.Ask.{Ask}
-use Rattle.plx_rules.specs.Boot.{Asked, position}
+use Rattle.plx_rules.specs.Boot.{Asked, configuration}
 use Rattle.plx_appliance.specs.Appliance.{IsInWork, StandsAt, appliance_setting}
 use Rattle.plx_appliance.specs.Ending.{hand_after_reply, known_after, leases_after}
 use Rattle.plx_appliance.specs.Giving.{rules_setting}
@@ -31,7 +31,7 @@ returns-in-None-clause-log c = λ log ask bytes work is stands standing fits.
     let went = went-in (appliance_setting a) (lent_of a.holdings) (lent_of h) w new log ask bytes found (keeps_of a.holdings) (keeps_of h) by.1 x.rest in
     let kept = work-kept (lent_of a.holdings) (lent_of h) w new c.ask-ask.result found (c.ask-ask.ensures.ask (lent_of a.holdings)) x.rest in
     let same = c.drop_failed.ensures.kept kept in
-    let stood = subst (λ (k : Holdings). Stood k (position (rules_setting k.setting) (Asked ask bytes found ∷ log)) (λ lent. IsInWork lent new (position (rules_setting k.setting) (Asked ask bytes found ∷ log)))) (sym same)
+    let stood = subst (λ (k : Holdings). Stood k (configuration (rules_setting k.setting) (Asked ask bytes found ∷ log)) (λ lent. IsInWork lent new (configuration (rules_setting k.setting) (Asked ask bytes found ∷ log)))) (sym same)
     (stands-in a h new log ask bytes found x.setting (subst (λ (q : Ask). DropsNothing q found) by.0 kept) went) in
     record { run = run-goes-on a.holdings.setting c.drop_failed.new.self.setting log ask bytes found (c.drop_failed.ensures.setting ∙ x.setting) stands.run standing.ask_is standing.bytes_are fits; at = stood.at; held = stood.held; hand = stood.hand; unfilled = stood.unfilled }
 
@@ -65,7 +65,7 @@ returns-in-Some-clause-log c = λ log ask bytes work is stands standing fits.
       extents = e.extents ∙ ap (leases_after r) (d.extents ∙ ap (λ (q : Ask). image_leases_after_write q found (extents_in h)) by.0);
       hand = e.hand ∙ ap (hand_after_reply r) (d.hand ∙ ap (λ (q : Ask). dropped_hand q found (hand_in h)) by.0);
     }) went in
-    let p = position (rules_setting k.setting) (Asked ask bytes found ∷ log) in
+    let p = configuration (rules_setting k.setting) (Asked ask bytes found ∷ log) in
     record {
       run = run-goes-on a.holdings.setting k.setting log ask bytes found (e.setting ∙ d.setting ∙ x.setting) stands.run standing.ask_is standing.bytes_are fits;
       at = subst (λ (st : Stage). StandsAt (rules_setting k.setting) (lent_of k) st p)

@@ -12,7 +12,7 @@ returns c =
     let begins = BeginsAs slots leases c.args.command in
     let begun = c.built.ensures in
     record {
-      part = IfOk-weaker c.built.result begins (WaitsAs c.args.command) (λ b is. is.part) begun;
+      process = IfOk-weaker c.built.result begins (WaitsAs c.args.command) (λ b is. is.process) begun;
       slots = IfOk-weaker c.built.result begins (λ b. begun_slots slots b ≡ slots) (λ b is. is.room) begun;
       leases = IfOk-weaker c.built.result begins (λ b. begun_leases leases b ≡ leases) (λ b is. is.renewals) begun;
     }

@@ -2,7 +2,7 @@ use Rattle.std.proofs.Common.{ℕ, List, Option, refl, ap, ◌∙◌}
 use Rattle.plx_alloc.specs.declared.allocator.Allocator.{Allocator}
 use Rattle.plx_alloc.specs.Retires.{retire_extents_rest as extents_rest}
 use Rattle.plx_geom.specs.Geometry.{Geometry}
-use Rattle.plx_rules.specs.Part.{answered}
+use Rattle.plx_rules.specs.Process.{answered}
 use Rattle.plx_appliance.specs.Giving.{rules_setting}
 use Rattle.plx_appliance.specs.Kept.{known_by, sessions_of}
 use Rattle.plx_appliance.specs.Lent.{lends}
@@ -68,7 +68,7 @@ returns-in-Some c =
     e.claims in
     record {
       rest = rw c.in-Extents.is (c.go_on.ensures.rest lent
-          ∙ c.after_extents-next.ensures.part lent.space.claims
+          ∙ c.after_extents-next.ensures.process lent.space.claims
           ∙ e.rest (o lent.space.claims)
           ∙ same);
       setting = c.go_on.ensures.setting;

@@ -1,5 +1,5 @@
 use Rattle.std.proofs.Common.{ap, refl, ◌∙◌, arith}
-use Rattle.plx_rules.specs.Part.{Ends}
+use Rattle.plx_rules.specs.Process.{Ends}
 use Rattle.plx_rules.specs.Claims.{ClaimBusy}
 use Rattle.plx_lease.proofs.Own.{own-lease}
 use Rattle.plx_lease.proofs.Rereads.{reread-other, hold-other}

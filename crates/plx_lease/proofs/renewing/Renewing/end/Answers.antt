@@ -1,5 +1,5 @@
 use Rattle.std.proofs.Common.{◌≡◌, rules}
-use Rattle.plx_rules.specs.Part.{Ends}
+use Rattle.plx_rules.specs.Process.{Ends}
 use Rattle.law_run.specs.Renewals.{Renewed, RenewalLost, RenewalWriteFault}
 use Rattle.law_run.proofs.RenewalRules.{renewal-end}
 use Rattle.plx_lease.specs.Shells.{renewing_rest}

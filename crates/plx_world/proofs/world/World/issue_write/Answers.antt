@@ -4,7 +4,7 @@ use Rattle.std.specs.Vec.{vec_capacity, vec_len}
 use Rattle.std.proofs.lemmas.Option.{slice_get_within}
 use Rattle.plx_appliance.specs.Appliance.{IsRunning, StandsFor, appliance_setting}
 use Rattle.plx_appliance.specs.declared.appliance.Appliance.{Appliance}
-use Rattle.plx_rules.specs.Boot.{Happening, position, writes_out}
+use Rattle.plx_rules.specs.Boot.{BootEntry, configuration, writes_out}
 use Rattle.plx_rules.specs.Settings.{boot_number}
 use Rattle.plx_disk.specs.declared.ask.Ask.TheVariants as ask
 use Rattle.plx_world.specs.Seats.{AsksAs}
@@ -82,7 +82,7 @@ returns-in_err-make_room-clause-err c =
     let n = c.args.appliance.0 in
     let at : slice_get v.items n ≡ Some c.index_mut.result.now = get-same v.items n c.requires.seat c.index_mut.result.now c.requires.there c.index_mut.ensures.value in
     let left = c.make_room.ensures in
-    let A : Appliance → Type 0 = λ a. (log : List Happening) → StandsFor a log → StandsFor c.make_room.new.self.appliance log in
+    let A : Appliance → Type 0 = λ a. (log : List BootEntry) → StandsFor a log → StandsFor c.make_room.new.self.appliance log in
     on-err _ _
     (seat-stays old _ n c.index_mut.result.now c.make_room.new.self at (record { geometry = refl; disk = λ s stands. stands; seats = refl; count = set-count v.items n c.make_room.new.self })
     (record { setting = ap (λ (a : Appliance). a.holdings.setting) left.appliance; boots = left.boots; issued = left.issued })
@@ -121,7 +121,7 @@ returns-in_err-number-clause-err c =
     let n = c.args.appliance.0 in
     let at : slice_get v.items n ≡ Some c.index_mut.result.now = get-same v.items n c.requires.seat c.index_mut.result.now c.requires.there c.index_mut.ensures.value in
     let left = c.make_room.ensures in
-    let A : Appliance → Type 0 = λ a. (log : List Happening) → StandsFor a log → StandsFor c.make_room.new.self.appliance log in
+    let A : Appliance → Type 0 = λ a. (log : List BootEntry) → StandsFor a log → StandsFor c.make_room.new.self.appliance log in
     on-err _ _
     (seat-stays old _ n c.index_mut.result.now c.make_room.new.self at (record { geometry = refl; disk = c.in_err-number.ensures.err; seats = refl; count = set-count v.items n c.make_room.new.self })
     (record { setting = ap (λ (a : Appliance). a.holdings.setting) left.appliance; boots = left.boots; issued = left.issued })
@@ -163,7 +163,7 @@ returns-clause-ok c =
     let waits = c.wait_for.ensures in
     let number = c.in_ok-number.number in
     let R : Seat → Type 0 = λ s. AsksAs s.appliance (Some (ask.Write c.args.kind c.args.block c.args.guard)) in
-    let O : Appliance → Type 0 = λ x. (log : List Happening) → StandsFor x log → c.out.result.now ≡ writes_out (position (appliance_setting x) log).place in
+    let O : Appliance → Type 0 = λ x. (log : List BootEntry) → StandsFor x log → c.out.result.now ≡ writes_out (configuration (appliance_setting x) log).place in
     let reads : c.index-seat.result.now.appliance ≡ before.appliance = ap (λ (s : Seat). s.appliance) read ∙ room.appliance in
     issues-write old _ a c.args.kind c.args.block c.args.guard c.boot_of-owner.result.0 number c.out.result.now before after at old.many
     (record {

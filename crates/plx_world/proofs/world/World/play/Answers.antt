@@ -3,7 +3,7 @@ use Rattle.std.proofs.lemmas.List.{take_more}
 use Rattle.plx_commands.specs.declared.event.Event.{Event}
 use Rattle.plx_world.specs.Playing.{PlaysSome}
 use Rattle.plx_world.proofs.Answered.{on-err}
-use Rattle.plx_world.proofs.Made.{parts-around}
+use Rattle.plx_world.proofs.Made.{processes-around}
 use Rattle.plx_world.proofs.Sequences.{plays-more, plays-none, plays-some}
 use Rattle.plx_world.proofs.world.World.play.Goals as goal
 
@@ -25,5 +25,5 @@ returns-in_err-make-clause-err c =
     let i = c.loop-event.event-index in
     let event = c.event-item.result in
     let P : List Event → Type 0 = λ xs. PlaysSome c.args.self.now c.make.new.self xs in
-    on-err _ _ (subst P (parts-around events i event (omega arith) c.event-item.is)
+    on-err _ _ (subst P (processes-around events i event (omega arith) c.event-item.is)
     (plays-some c.args.self.now c.loop-event.self c.make.new.self (take i events) (drop (suc i) events) event c.loop-event.invariant c.in_err-make.ensures.err))

@@ -1,8 +1,8 @@
 -- Parts that are put together.
-use Rattle.plx_rules.specs.Part.{Part, Ends, ReadThen, WriteThen, ClockThen, UntilThen}
+use Rattle.plx_rules.specs.Process.{Process, Ends, ReadThen, WriteThen, ClockThen, UntilThen}
 
--- one part, and then another that goes by its end
-abbrev pub followed_by : {E F : Type 0} → Part E → (E → Part F) → Part F
+-- one process, and then another that goes by its end
+abbrev pub followed_by : {E F : Type 0} → Process E → (E → Process F) → Process F
 followed_by (Ends end) next = next end
 followed_by (ReadThen block rest fault) next = ReadThen block (λ bytes. followed_by (rest bytes) next) (followed_by fault next)
 followed_by (WriteThen kind block bytes guard done fault missed) next =

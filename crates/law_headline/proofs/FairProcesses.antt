@@ -12,9 +12,9 @@ use Rattle.plx_commands.proofs.Places.{at-same, at-other}
 use Rattle.plx_geom.specs.Geometry.{Geometry, image_lease, lease_at}
 use Rattle.plx_geom.proofs.Places.{lease-lease, image-image}
 use Rattle.plx_base.proofs.Tests.{nat_lt-true, nat_le-true}
-use Rattle.plx_rules.specs.Part.{Part}
+use Rattle.plx_rules.specs.Process.{Process}
 use Rattle.plx_rules.specs.Attaching.{image_use}
-use Rattle.plx_rules.specs.Ends.{End, ends, lost_part, write_failed, in_time, ends_in_time}
+use Rattle.plx_rules.specs.Ends.{End, ends, lost_process, write_failed, in_time, ends_in_time}
 use Rattle.plx_rules.specs.Headline.{IsUndamaged}
 use Rattle.plx_rules.specs.Holds.{Hold, Held, no_holds, after_first, first_hold, session_at, hold_after_read, hold_after_reading, holds_after_reply}
 use Rattle.plx_rules.specs.InUse.{InUse, first_reached, unless_reached, earlier}
@@ -131,10 +131,10 @@ names-by-list command i one =
 -- ---- ends
 
 module _ (s : Setting) (a : ℕ) (command : Command) (known : Known) where
-  abbrev pub IsFair : (ℕ → Hold) → Option ℕ → Bool → Part End → Type 0
-  IsFair holds sample just part = Fair s.geometry a command known holds sample just part
+  abbrev pub IsFair : (ℕ → Hold) → Option ℕ → Bool → Process End → Type 0
+  IsFair holds sample just process = Fair s.geometry a command known holds sample just process
 
-  pub fair-lost : (holds : ℕ → Hold) (sample : Option ℕ) (just : Bool) (k : Known) (due : InUse) (reading : ℕ) → IsFair holds sample just (lost_part s k due reading)
+  pub fair-lost : (holds : ℕ → Hold) (sample : Option ℕ) (just : Bool) (k : Known) (due : InUse) (reading : ℕ) → IsFair holds sample just (lost_process s k due reading)
   fair-lost holds sample just k due reading = record {
     kept = λ j. refl;
     backs = backs-none s.geometry known no_holds k.claims;
@@ -164,11 +164,11 @@ module _ (s : Setting) (a : ℕ) (command : Command) (known : Known) where
     allowed = inl fine;
   }
 
-  pub fair-in-time : (holds : ℕ → Hold) (sample : Option ℕ) (just : Bool) (k : Known) (uses : List InUse) (reading : ℕ) (part : Part End) →
-      (first_reached uses reading ≡ None → IsFair holds sample just part) → IsFair holds sample just (in_time s k uses reading part)
-  fair-in-time holds sample just k uses reading part fair = by_reached (first_reached uses reading) refl
+  pub fair-in-time : (holds : ℕ → Hold) (sample : Option ℕ) (just : Bool) (k : Known) (uses : List InUse) (reading : ℕ) (process : Process End) →
+      (first_reached uses reading ≡ None → IsFair holds sample just process) → IsFair holds sample just (in_time s k uses reading process)
+  fair-in-time holds sample just k uses reading process fair = by_reached (first_reached uses reading) refl
     where
-      by_reached : (o : Option InUse) → first_reached uses reading ≡ o → IsFair holds sample just (unless_reached o (λ due. lost_part s k due reading) part)
+      by_reached : (o : Option InUse) → first_reached uses reading ≡ o → IsFair holds sample just (unless_reached o (λ due. lost_process s k due reading) process)
       by_reached None e = fair e
       by_reached (Some due) e = fair-lost holds sample just k due reading
 

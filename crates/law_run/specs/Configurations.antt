@@ -1,6 +1,6 @@
 -- What a boot holds and has in hand, its sessions and its claims, by its commands and by where it stands.
 use Rattle.std.specs.Prelude.{◌≡◌, ℕ, List, is_some}
-use Rattle.plx_rules.specs.Boot.{Happening, Place, Idle, Begins, In, Position, position, IsRun}
+use Rattle.plx_rules.specs.Boot.{BootEntry, Place, Idle, Begins, In, Configuration, configuration, IsRun}
 use Rattle.plx_rules.specs.Holds.{Hold}
 use Rattle.plx_rules.specs.Session.{Known}
 use Rattle.plx_rules.specs.Settings.{Setting}
@@ -28,15 +28,15 @@ hand_by s (Within log) = hand_by_log s log.before log.exchanges
 abbrev pub known_at : Place → Known
 known_at (Idle known) = known
 known_at (Begins known command) = known
-known_at (In known command part) = known
+known_at (In known command process) = known
 
 -- leases, the hand, sessions and the count of claims by the commands are those by the order of asks
-pub record IsByCommands (s : Setting) (p : Position) (commands : Commands) : Type 0 where
+pub record IsByCommands (s : Setting) (p : Configuration) (commands : Commands) : Type 0 where
   pub holds : (block : ℕ) → p.holds block ≡ holds_by s commands block
   pub hand : p.hand ≡ hand_by s commands
   pub attached : (image : ℕ) → is_some ((known_at p.place).sessions image) ≡ is_attached (finished_of commands) image
   pub claims : (known_at p.place).claims ≡ claims_begun s.geometry (finished_of commands)
 
 -- of each run: what it holds, what it has in hand, which images have a session, and how many claims it began
-abbrev pub PositionsAgree : Type 0
-PositionsAgree = (s : Setting) (log : List Happening) → IsSetting s → IsRun s log → IsByCommands s (position s log) (commands s log)
+abbrev pub ConfigurationsAgree : Type 0
+ConfigurationsAgree = (s : Setting) (log : List BootEntry) → IsSetting s → IsRun s log → IsByCommands s (configuration s log) (commands s log)
