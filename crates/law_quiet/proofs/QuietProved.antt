@@ -31,7 +31,8 @@ use Rattle.law_run.specs.CommandLogs.{Exchange, Finished, CommandLog, Commands, 
 use Rattle.law_run.specs.Configurations.{finished_of}
 use Rattle.law_run.specs.Replies.{Comes, IsReplied, refused, worked}
 use Rattle.law_run.specs.Replies as replies
-use Rattle.law_run.specs.Rules.{KeepsRules}
+use Rattle.law_run.specs.Rules.{KeepsFullRules}
+use Rattle.law_run.specs.Senses.{Local, IsAny}
 use Rattle.law_run.specs.Space.{TakesAfter, of_reserve}
 use Rattle.law_run.proofs.Worlds.{boots-keep-rules}
 use Rattle.law_quiet.proofs.Phases.{Watch, Phase, idle, begun, within, over, log_with, cut}
@@ -42,13 +43,13 @@ takes-reserve : (command : Command) (done : List Exchange) (count : ℕ) → Tak
 takes-reserve command done count (of_reserve reading is first) = is
 
 module _ (s : Setting) (log : CommandLog) (calm : IsUntroubled s log) where
-  of-work : (r : Reply) → Comes s log r → IsUnhindered r (is_reserve log.command) → is_own log.command r ≡ true
-  of-work (reply.Attached report) comes free = subst (λ c. is_own c (reply.Attached report) ≡ true) (sym comes.command) refl
+  of-work : (r : Reply) → Comes s IsAny log r → IsUnhindered r (is_reserve log.command) → is_own log.command r ≡ true
+  of-work (reply.Attached report) comes free = subst (λ c. is_own c (reply.Attached report) ≡ true) (sym (comes Local tt).command) refl
   of-work reply.Detached comes free = subst (λ c. is_own c reply.Detached ≡ true) (sym comes.command) refl
-  of-work reply.Created comes free = subst (λ c. is_own c reply.Created ≡ true) (sym comes.command) refl
-  of-work reply.Deleted comes free = subst (λ c. is_own c reply.Deleted ≡ true) (sym comes.command) refl
-  of-work (reply.Data payload) comes free = subst (λ c. is_own c (reply.Data payload) ≡ true) (sym comes.command) refl
-  of-work (reply.Written number) comes free = subst (λ c. is_own c (reply.Written number) ≡ true) (sym comes.command) refl
+  of-work reply.Created comes free = subst (λ c. is_own c reply.Created ≡ true) (sym (comes Local tt).command) refl
+  of-work reply.Deleted comes free = subst (λ c. is_own c reply.Deleted ≡ true) (sym (comes Local tt).command) refl
+  of-work (reply.Data payload) comes free = subst (λ c. is_own c (reply.Data payload) ≡ true) (sym (comes Local tt).command) refl
+  of-work (reply.Written number) comes free = subst (λ c. is_own c (reply.Written number) ≡ true) (sym (comes Local tt).command) refl
   of-work (reply.Flushed applied blocks) comes free = absurd comes
   of-work reply.Reserved comes free = subst (λ c. is_own c reply.Reserved ≡ true) (sym comes.command) refl
   of-work reply.Renewed comes free = subst (λ c. is_own c reply.Renewed ≡ true) (sym comes.command) refl
@@ -72,7 +73,7 @@ module _ (s : Setting) (log : CommandLog) (calm : IsUntroubled s log) where
       absurd (calm.lease_inside is.extent is.bytes (subst (λ (c : BlockNo). WasAnswered log (ask.Read c) [] (answer.Bytes is.bytes)) (λ i. record { 0 = is.here i }) is.read) is.outside)
   of-work (reply.WornOut count) comes free = absurd (calm.claims count comes)
 
-  own-reply : (r : Reply) → IsReplied s log r → IsUnhindered r (is_reserve log.command) → is_own log.command r ≡ true
+  own-reply : (r : Reply) → IsReplied s IsAny log r → IsUnhindered r (is_reserve log.command) → is_own log.command r ≡ true
   own-reply r (refused place once refuses first) free = absurd (calm.fact place r refuses)
   own-reply r (worked fine comes) free = of-work r comes free
 
@@ -192,7 +193,7 @@ ok-where-undisturbed w v a before finished reached below follows quiet run clear
     let free = replied-free k w a v finished run.over refl refl kept.phase in
     let more = kept.appliances in
     let rules = boots-keep-rules v (reached-later reached follows) a (omega (arith, more, below)) in
-    let P : Commands → Type 0 = λ c. KeepsRules (setting_of v a) c (asks (stands v a).place) (writes_out (stands v a).place) in
+    let P : Commands → Type 0 = λ c. KeepsFullRules (setting_of v a) c (asks (stands v a).place) (writes_out (stands v a).place) in
     let all = subst P run.over rules in
     let same : setting_of w a ≡ setting_of v a =
     ap (λ g. setting_at g a (w.seats a).boots) (sym kept.geometry) ∙ ap (setting_at v.geometry a) (sym kept.boots) in

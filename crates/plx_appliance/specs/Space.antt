@@ -1,15 +1,11 @@
 -- What an appliance keeps of space: the leases of extents that are held, and the blocks in hand.
 use Rattle.std.specs.Prelude.{◌≡◌, ℕ, List}
 use Rattle.plx_geom.specs.Geometry.{Geometry}
-use Rattle.plx_rules.specs.Holds.{Hold, Nothing}
+use Rattle.plx_rules.specs.Holds.{Hold}
 pub use Rattle.plx_rules.specs.Rests.{AreWithin}
 pub use Rattle.plx_alloc.specs.Tables.{held_hand}
 use Rattle.plx_alloc.specs.Tables.{hand_numbers, extent_leases}
 use Rattle.plx_appliance.specs.declared.holdings.Holdings.{Holdings}
-
--- no lease of an extent is held
-abbrev pub no_extents : ℕ → Hold
-no_extents = λ extent. Nothing
 
 -- the leases by extent
 abbrev pub extents_in : Holdings → ℕ → Hold

@@ -37,11 +37,3 @@ standing (UntilThen from rest) = Some (ask.Until from)
 abbrev pub bytes_out : {E : Type 0} → Process E → List ℕ
 bytes_out (WriteThen kind block bytes guard done fault missed) = bytes
 bytes_out other = []
-
--- the end, once it has come
-abbrev pub end_of : {E : Type 0} → Process E → Option E
-end_of (Ends end) = Some end
-end_of (ReadThen block rest fault) = None
-end_of (WriteThen kind block bytes guard done fault missed) = None
-end_of (ClockThen rest) = None
-end_of (UntilThen from rest) = None

@@ -196,10 +196,6 @@ pub data Step : World → Event → World → Type 0 where
   crashes : {w : World} {appliance : ApplianceNo} → appliance.0 < w.appliances → (w.seats appliance.0).boots + 1 < 2 ^ 32 →
       Step w (event.Crash appliance) (after_crash w appliance)
 
--- an event is possible
-abbrev pub IsPossible : World → Event → Type 0
-IsPossible w event = (v : World) × Step w event v
-
 -- a world that events lead to, from the first one: any geometry within the limits, 1 to 8 appliances, a formatted device
 pub data Reached : World → Type 0 where
   first : {g : Geometry} {appliances : ℕ} {device : Device} → IsGeometry g → 1 ≤ appliances → appliances ≤ 8 → IsFormatted g device →
