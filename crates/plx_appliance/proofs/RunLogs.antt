@@ -62,7 +62,7 @@ run-first a b new log reading same is stands below =
     run-goes-on a.holdings.setting new log ask.Clock [] (answer.Reading reading) same stands.run (ap asks h.place_is) (ap writes_out h.place_is) below
 
 -- what a boot is given is within the limits
-setting-within : (a : Appliance) → IsSetting (appliance_setting a)
+pub setting-within : (a : Appliance) → IsSetting (appliance_setting a)
 setting-within a = let given = a.holdings.setting in record { geometry = given.limits; boot = given.numbered }
 
 -- so the log keeps the rules

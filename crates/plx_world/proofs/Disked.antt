@@ -2,7 +2,6 @@
 use Rattle.std.proofs.Common.{◌≡◌, ◌+◌, ◌^◌, ◌≤◌, ◌<◌, ℕ, List, length, Option, Some, None, Bool, true, false, refl, ap, sym, subst, ◌∙◌, IsTrue, ◌↔◌, arith}
 use Rattle.std.specs.Prelude.{MatchOption, reverse, slice_get}
 use Rattle.plx_base.specs.declared.numbers.ApplianceNo.{ApplianceNo}
-use Rattle.plx_commands.specs.declared.event.Event.{Event}
 use Rattle.plx_commands.specs.declared.event.Event.TheVariants as event
 use Rattle.plx_disk.specs.Standing.{Turns}
 use Rattle.plx_disk.specs.Standing.{Stands as DiskStands, Stays as DiskStays}

@@ -3,7 +3,7 @@ use Rattle.std.proofs.Common.{◌≡◌, ◌+◌, ◌-◌, ◌≤◌, ◌<◌, �
 use Rattle.std.specs.Prelude.{length, slice_get, nat_le, IfOk, MatchBool, Result, Ok, Err}
 use Rattle.std.proofs.lemmas.Bool.{le-leb, lt-ltb}
 use Rattle.std.proofs.lemmas.Bool.Decides.{leb_tells}
-use Rattle.std.proofs.lemmas.Option.{slice_get_cases, slice_get_within}
+use Rattle.std.proofs.lemmas.Option.{slice_get_within}
 use Rattle.plx_base.specs.declared.numbers.ApplianceNo.{ApplianceNo}
 use Rattle.plx_base.specs.declared.numbers.BlockNo.{BlockNo}
 use Rattle.plx_base.specs.declared.write_kind.WriteKind.{WriteKind}
@@ -25,14 +25,13 @@ use Rattle.plx_world.specs.Answering.{asked_by, pending_of}
 use Rattle.plx_world.specs.Numbers.{own_numbers}
 use Rattle.plx_world.specs.Running.{AsksClock, RunGoesOn, IsOver, IsWriting, OneMore, StopsAs}
 use Rattle.plx_world.specs.Standing.{WorldStands, Steps, StandsOn}
-use Rattle.plx_world.specs.declared.seat.Seat.{Seat}
 use Rattle.plx_world.specs.declared.world.World.{World}
 use Rattle.plx_world.proofs.Cancels.{cancelled-whole}
 use Rattle.plx_world.proofs.Disked.{OnlyDisk, stands-disk, stays-disk}
 use Rattle.plx_world.proofs.Left.{IsLess, less-done, less-fault, less-issue, less-land, less-miss, less-read, less-reading}
 use Rattle.plx_world.proofs.Numbered.{nth-back, own-numbers-set}
 use Rattle.plx_world.proofs.Placed.{AsksClockAt, AsksUntilAt, AsksWriteAt, asked-clock, asked-read, asked-until, asked-write, first, later}
-use Rattle.plx_world.proofs.Seating.{if-none, if-some}
+use Rattle.plx_world.proofs.Seating.{if-none, if-some, run-at, seat-there}
 use Rattle.plx_world.proofs.There.{run-there}
 
 -- where a call found memory
@@ -53,10 +52,12 @@ abbrev Possible : rules.World → Event → Type 0
 Possible w one = (v : rules.World) × Step w one v
 
 -- the next event is possible
-goes-next : (a : ApplianceNo) (w : rules.World) (new : World) (made : Bool) (one : Event) → next_event w a None ≡ Some one → Possible w one →
+goes-next : (old : World) (a : ApplianceNo) (w : rules.World) → WorldStands old w → (new : World) (made : Bool) (one : Event) → next_event w a None ≡ Some one → Possible w one →
     StepsTo w new one made → ((v : rules.World) → Step w one v → IsLess a w v) → GoesTo a None w new made
-goes-next a w new true one next possible s less = (s.0, record { one = one; next = next; step = s.1; stands = s.2; less = less s.0 s.1 })
-goes-next a w new false one next possible s less = absurd (s.0 possible.0 possible.1)
+goes-next old a w h new true one next possible s less =
+    let is = run-at old w a.0 (run-there w a None one next s.1) h in
+    (s.0, record { one = one; next = next; step = s.1; stands = s.2; less = less s.0 s.1 is })
+goes-next old a w h new false one next possible s less = absurd (s.0 possible.0 possible.1)
 
 -- an appliance that asks is there
 asks-there : (w : rules.World) (a : ℕ) (asked : Ask) → asked_by w a ≡ Some asked → (a < w.appliances) × (asks (stands w a).place ≡ Some asked)
@@ -70,7 +71,7 @@ pub goes-read : (old new : World) (a : ApplianceNo) (block : BlockNo) (made : Bo
 goes-read old new a block made asked steps w h =
     let there = asks-there w a.0 (ask.Read block) (sym (asked w h)) in
     let at = asked-read (stands w a.0).place block there.1 in
-    goes-next a w new made (event.Read a) (ap (next_at w a) at.at) (_, rules.reads at.known at.command block.0 at.rest at.fault there.0 at.at) (steps w h)
+    goes-next old a w h new made (event.Read a) (ap (next_at w a) at.at) (_, rules.reads at.known at.command block.0 at.rest at.fault there.0 at.at) (steps w h)
     (λ v step. less-read step)
 
 -- the time is a reading
@@ -82,7 +83,7 @@ goes-timed : (old new : World) (a : ApplianceNo) (time : ℕ) (made : Bool) (w :
     Steps old new (event.Reading a time) made → Possible w (event.Reading a w.surface.time) → next_event w a None ≡ Some (event.Reading a w.surface.time) → GoesTo a None w new made
 goes-timed old new a time made w h now steps possible next =
     let P : ℕ → Type 0 = λ t. StepsTo w new (event.Reading a t) made in
-    goes-next a w new made (event.Reading a w.surface.time) next possible (subst P now (steps w h)) (λ v step. less-reading step)
+    goes-next old a w h new made (event.Reading a w.surface.time) next possible (subst P now (steps w h)) (λ v step. less-reading step)
 
 clock-possible : (w : rules.World) (a : ApplianceNo) → a.0 < w.appliances → AsksClockAt (stands w a.0).place → Possible w (event.Reading a w.surface.time)
 clock-possible w a there (first known command at) = (_, rules.begins known command there at (now-read w.surface.time))
@@ -162,7 +163,7 @@ goes-issue old new a guard time made writing unissued now early steps w h =
     let to = writes old w a.0 guard writing h in
     let at = to.at in
     let is = now ∙ h.surface.time in
-    goes-next a w new made (event.Issue a)
+    goes-next old a w h new made (event.Issue a)
     (next-unissued w a guard to (unissued w h) true (le-leb w.surface.time guard (omega (arith, early, is))))
     (_, rules.issues at.known at.command to.kind to.block.0 at.bytes guard at.done at.fault at.missed to.there at.at (unissued w h)) (steps w h) (λ v step. less-issue step)
 
@@ -174,7 +175,7 @@ goes-miss old new a guard time made writing unissued now late steps w h =
     let at = to.at in
     let is : time ≡ w.surface.time = now ∙ h.surface.time in
     let P : ℕ → Type 0 = λ t. StepsTo w new (event.Miss a t) made in
-    goes-next a w new made (event.Miss a w.surface.time)
+    goes-next old a w h new made (event.Miss a w.surface.time)
     (next-unissued w a guard to (unissued w h) false (lt-ltb-not w.surface.time guard (omega (arith, late, is)))) (
       _,
       rules.misses {reading = w.surface.time} at.known at.command to.kind to.block.0 at.bytes guard at.done at.fault at.missed to.there at.at (unissued w h)
@@ -193,10 +194,6 @@ record WaitsForWrite (w : rules.World) (a : ApplianceNo) (guard number : ℕ) : 
   write : Issued
   found : slice_get w.surface.writes number ≡ Some write
   own : is_boot_of a.0 write.owner ≡ true
-
--- the seat of an appliance that is there
-seat-there : (seats : List Seat) (n : ℕ) → n < length seats → (seat : Seat) × (slice_get seats n ≡ Some seat)
-seat-there seats n below = elim ((slice_get_cases seats n).1) [ inl found ↦ (found.0, found.2) | inr past ↦ absurd (let far = past.0 in omega (arith, below, far)) ]
 
 -- it is the newest one of its seat
 waits : (world : World) (w : rules.World) (a : ApplianceNo) (guard number : ℕ) → IsWriting world a.0 guard →
@@ -250,7 +247,7 @@ goes-done old new a guard number made writing pending none steps w h =
     let to = waiting.writes in
     let at = to.at in
     let whole = landed waiting waiting.write.cancelled refl in
-    goes-next a w new made (event.Done a) (next-issued w a guard number waiting None (ap missing_sector whole))
+    goes-next old a w h new made (event.Done a) (next-issued w a guard number waiting None (ap missing_sector whole))
     (_, rules.dones at.known at.command to.kind to.block.0 at.bytes guard at.done at.fault at.missed number to.there at.at waiting.waited (waiting.write, waiting.found, whole))
     (steps w h) (λ v step. less-done step)
   where
@@ -277,7 +274,7 @@ goes-fault old mid new a guard number sector made writing pending least refused 
     let misses = least w.surface h.surface in
     let is = missing-here w a guard number sector waiting misses in
     let back = issued_by a.0 (drop (number + 1) w.surface.writes) in
-    goes-next a w new made (event.Fault a)
+    goes-next old a w h new made (event.Fault a)
     (next-issued w a guard number waiting (Some sector) (missing-least waiting.write.landed sector is)
     ∙ ap (λ (x : Bool). Some (if x then event.Land a back sector else event.Fault a)) (late waiting misses is))
     (_, rules.write_faults at.known at.command to.kind to.block.0 at.bytes guard at.done at.fault at.missed to.there at.at) (steps w (stays w h))

@@ -1,11 +1,11 @@
 -- A read is answered while the device lends the block to the buffer.
-use Rattle.std.proofs.Common.{◌≡◌, ℕ, List, length, refl, sym, subst}
+use Rattle.std.proofs.Common.{◌≡◌, ℕ, List, refl, sym, subst}
 use Rattle.std.specs.Prelude.{Err, Ok, OnErr, OnOk, Result}
 use Rattle.std.proofs.Math.Logic.{∥∥₁_map}
 use Rattle.plx_base.specs.declared.numbers.ApplianceNo.{ApplianceNo}
 use Rattle.plx_disk.specs.Filled.{with_block}
 use Rattle.plx_disk.specs.Lending.{IsLent}
-use Rattle.plx_disk.specs.Standing.{Stands as DiskStands, Stays as DiskStays}
+use Rattle.plx_disk.specs.Standing.{Stays as DiskStays}
 use Rattle.plx_disk.specs.declared.ask.Answer.{Answer}
 use Rattle.plx_disk.specs.declared.ask.Answer.TheVariants as answer
 use Rattle.plx_disk.specs.declared.disk.Disk.{Disk}

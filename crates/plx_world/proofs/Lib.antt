@@ -1,7 +1,6 @@
 mod Answered
 mod Asking
 mod Booting
-pub mod Bounds
 mod Cancels
 mod Deciding
 mod Disked

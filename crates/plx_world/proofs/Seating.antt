@@ -2,6 +2,9 @@
 use Rattle.std.proofs.Common.{◌≡◌, ◌≢◌, ◌≤◌, ◌<◌, ℕ, zero, suc, List, [], ◌∷◌, length, get_or, Option, Some, None, Bool, true, false, refl, ap, sym, subst, ◌∙◌, inl, inr, arith}
 use Rattle.std.specs.Prelude.{slice_get, slice_set, nat_lt, if◌then◌else◌, IfSome}
 use Rattle.std.proofs.lemmas.Bool.Decides.{eqb_tells, leb_tells}
+use Rattle.std.proofs.lemmas.Option.{slice_get_cases}
+use Rattle.law_run.specs.Rules.{IsSetting}
+use Rattle.plx_appliance.proofs.RunLogs.{setting-within}
 use Rattle.plx_appliance.specs.Appliance.{IsIdle, IsRunning, StandsAt, StandsFor, runs, appliance_setting}
 use Rattle.plx_appliance.specs.Kept.{known_of}
 use Rattle.plx_appliance.specs.Lent.{Lent, lent_of}
@@ -12,7 +15,7 @@ use Rattle.plx_alloc.specs.Asking.{IsOnDevice}
 use Rattle.plx_disk.proofs.Lists.{set-other, set-same}
 use Rattle.plx_disk.specs.declared.ask.Ask.{Ask}
 use Rattle.plx_geom.specs.Geometry.{Geometry}
-use Rattle.plx_rules.specs.Boot.{Idle, Configuration, asks, configuration}
+use Rattle.plx_rules.specs.Boot.{Idle, Configuration, IsRun, asks, configuration}
 use Rattle.plx_rules.specs.Session.{Known}
 use Rattle.plx_rules.specs.Settings.{Setting}
 use Rattle.plx_rules.specs.World as rules
@@ -24,6 +27,7 @@ use Rattle.plx_world.specs.Standing.{IsSeat, WorldStands}
 use Rattle.plx_world.specs.Ties.{AreTied}
 use Rattle.plx_world.specs.declared.seat.Seat.{Seat}
 use Rattle.plx_world.specs.declared.world.World.{World}
+use Rattle.plx_world.proofs.Left.{IsRunAt}
 
 -- ---- lists of seats
 
@@ -81,6 +85,20 @@ pending-there world w n seat at below h =
 
 pub pending-absent : (world : World) (w : rules.World) (n : ℕ) → length world.seats.items ≤ n → WorldStands world w → None ≡ pending_of w n
 pending-absent world w n past h = let count = h.count in sym (if-past n w.appliances (w.seats n).pending None (omega (arith, count, past)))
+
+-- the seat of an appliance that is there
+pub seat-there : (seats : List Seat) (n : ℕ) → n < length seats → (seat : Seat) × (slice_get seats n ≡ Some seat)
+seat-there seats n below = elim ((slice_get_cases seats n).1) [ inl found ↦ (found.0, found.2) | inr past ↦ absurd (let far = past.0 in omega (arith, below, far)) ]
+
+-- its log is a run, of what its boot was given
+pub run-at : (world : World) (w : rules.World) (n : ℕ) → n < w.appliances → WorldStands world w → IsRunAt w n
+run-at world w n there h =
+    let count = h.count in
+    let found = seat-there world.seats.items n (omega (arith, count, there)) in
+    let is = h.seats n found.0 found.1 in
+    let S : Setting → Type 0 = λ s. IsSetting s × IsRun s (w.seats n).log in
+    let both = subst S is.setting (setting-within found.0.appliance, is.log.run) in
+    record { within = both.0; run = both.1 }
 
 -- ---- what a seat stands for
 

@@ -1,5 +1,5 @@
 -- Runs and schedules, put together from their parts.
-use Rattle.std.proofs.Common.{◌≡◌, ◌+◌, ◌-◌, ℕ, List, [], ◌∷◌, ◌++◌, Option, Some, None, Bool, true, false, refl, sym, subst, ◌∙◌, arith}
+use Rattle.std.proofs.Common.{◌≡◌, ◌+◌, ◌<◌, ℕ, List, [], ◌∷◌, ◌++◌, Option, Some, None, Bool, true, false, refl, sym, subst, ◌∙◌, arith}
 use Rattle.plx_base.specs.declared.numbers.ApplianceNo.{ApplianceNo}
 use Rattle.plx_commands.specs.declared.event.Event.{Event}
 use Rattle.plx_commands.specs.declared.event.Event.TheVariants as event
@@ -8,14 +8,13 @@ use Rattle.plx_geom.specs.Geometry.{Geometry, IsGeometry}
 use Rattle.plx_rules.specs.Sequences.{Runs, ends, goes, RunsPartly, none_yet, more, Makes, plain, runs, runs_upto, MakesPartly, nothing, of_run, of_upto, IsPlayed, made, skipped, Plays, PlaysPartly, next_event}
 use Rattle.plx_rules.specs.Sequences as sequences
 use Rattle.plx_rules.specs.World as rules
-use Rattle.plx_rules.specs.World.{Reached, Step, setting_of}
+use Rattle.plx_rules.specs.World.{Reached, Step}
 use Rattle.law_lease.proofs.Runs.{played-reached, reached-plays}
-use Rattle.plx_world.specs.Bounds.{most_asks}
 use Rattle.plx_world.specs.Playing.{IsLawful, LawsHold, Leads, LeadsPartly, LeadsTo, LeavesFreshBoot, PlaysAll, PlaysSome}
-use Rattle.plx_world.specs.Running.{RunGoesOn, IsFewer, IsOver, MakesRun, RunsSome, RunsWhole}
+use Rattle.plx_world.specs.Running.{RunGoesOn, IsOver, MakesRun, RunsSome, RunsWhole, run_left}
 use Rattle.plx_world.specs.Standing.{WorldStands, StandsOn, Steps}
 use Rattle.plx_world.specs.declared.world.World.{World}
-use Rattle.plx_world.proofs.Left.{events-most, most-log}
+use Rattle.plx_world.proofs.Left.{run-high}
 use Rattle.plx_world.proofs.There.{run-there, step-count}
 
 -- ---- plain events
@@ -184,13 +183,11 @@ run-joined : {a : ApplianceNo} {stop : Option Stop} {w u v : rules.World} → Ru
 run-joined none_yet rest = rest
 run-joined (more one next step others) rest = goes one next step (run-joined others rest)
 
--- so far a run made some events, and fewer are left than `most` without them
+-- so far a run made some events, and with those that are left they are fewer than `most`
 pub record IsUnderWay (a : ApplianceNo) (stop : Option Stop) (old : World) (count most : ℕ) (w v : rules.World) : Type 0 where
   pub partly : RunsPartly a stop w v
   pub stands : WorldStands old v
-  pub left : ℕ
-  pub sum : left + count ≡ most
-  pub fewer : IsFewer v a left
+  pub fewer : run_left v a + count < most
 
 abbrev pub HasRun : ApplianceNo → Option Stop → World → World → (count most : ℕ) → Type 0
 HasRun a stop first old count most = (w : rules.World) → WorldStands first w → (v : rules.World) × IsUnderWay a stop old count most w v
@@ -202,18 +199,13 @@ has-more a stop first old new i most has going w h =
     let so_far = has w h in
     let is = so_far.1 in
     let one = going so_far.0 is.stands in
-    let below = is.fewer.below in
-    let sum = is.sum in
-    let left = is.left - 1 in
-    let down : is.left ≡ left + 1 = omega (arith, below) in
-    let P : ℕ → Type 0 = λ n. IsFewer so_far.0 a n in (
+    let less = one.1.less in
+    let fewer = is.fewer in (
       one.0,
       record {
         partly = run-append one.1.one is.partly one.1.next one.1.step;
         stands = one.1.stands;
-        left = left;
-        sum = omega (arith, sum, down);
-        fewer = one.1.less left (subst P down is.fewer);
+        fewer = omega (arith, less, fewer);
       },
     )
 
@@ -253,22 +245,8 @@ run-none a stop first old stays w h = (w, none_yet, stays w h)
 
 -- ---- how much is left at first
 
-pub has-first : (a : ApplianceNo) (stop : Option Stop) (world : World) → IsGeometry world.geometry → HasRun a stop world world 0 60020
-has-first a stop world geometry w h =
-    let events = events-most (w.seats a.0).pending w.surface.writes in
+pub has-first : (a : ApplianceNo) (stop : Option Stop) (world : World) (most : ℕ) → IsGeometry world.geometry → 68719476736 < most → HasRun a stop world world 0 most
+has-first a stop world most geometry far w h =
     let G : Geometry → Type 0 = λ g. IsGeometry g in
-    let limits = subst G h.geometry geometry in (
-      w,
-      record {
-        partly = none_yet;
-        stands = h;
-        left = 60020;
-        sum = refl;
-        fewer = record {
-          geometry = limits;
-          asks = most_asks + 1;
-          most = most-log (setting_of w a.0) limits (w.seats a.0).log;
-          below = omega (arith, events);
-        };
-      },
-    )
+    let high = run-high w a (subst G h.geometry geometry) in
+    (w, record { partly = none_yet; stands = h; fewer = omega (arith, high, far) })

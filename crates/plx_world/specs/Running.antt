@@ -1,27 +1,30 @@
 -- A run, event by event.
-use Rattle.std.specs.Prelude.{◌≡◌, ◌+◌, ◌*◌, ◌-◌, ◌<◌, ◌⊎◌, ℕ, List, Bool, MatchBool, Option, Some, None, slice_get}
+use Rattle.std.specs.Prelude.{◌≡◌, ◌+◌, ◌*◌, ◌-◌, ◌<◌, ◌⊎◌, ℕ, List, length, Bool, MatchBool, Option, Some, None, slice_get}
 use Rattle.plx_base.specs.declared.numbers.ApplianceNo.{ApplianceNo}
 use Rattle.plx_commands.specs.declared.event.Event.{Event}
 use Rattle.plx_commands.specs.declared.event.Stop.{Stop}
 use Rattle.plx_disk.specs.Writes.{Issued}
-use Rattle.plx_geom.specs.Geometry.{IsGeometry}
 use Rattle.plx_disk.specs.declared.ask.Ask.TheVariants as ask
 use Rattle.plx_base.specs.declared.write_kind.WriteKind.{WriteKind}
 use Rattle.plx_base.specs.declared.numbers.BlockNo.{BlockNo}
-use Rattle.plx_rules.specs.Boot.{Place, Idle, Begins, In}
 use Rattle.plx_rules.specs.Sequences.{Runs, RunsPartly, missing_sector, next_event, stops}
 use Rattle.plx_rules.specs.World as rules
-use Rattle.plx_rules.specs.World.{Step, stands}
+use Rattle.plx_rules.specs.Settings.{Setting}
+use Rattle.plx_rules.specs.World.{Step, setting_of, stands}
+use Rattle.law_run.specs.Bounds.{bound}
+use Rattle.law_run.specs.CommandLogs.{Commands, Between, Within, commands}
 use Rattle.plx_world.specs.Answering.{asked_by}
-use Rattle.plx_world.specs.Bounds.{AtMost, most_asks}
 use Rattle.plx_world.specs.Standing.{WorldStands}
 use Rattle.plx_world.specs.declared.world.World.{World}
 
--- a boot is in no command after at most so many answers
-abbrev pub AtMostAt : ℕ → Place → Type 0
-AtMostAt most (Idle known) = Unit {0}
-AtMostAt most (Begins known command) = most_asks < most
-AtMostAt most (In known command process) = AtMost most process
+-- how many answers the command of a boot takes at most from here on
+abbrev pub asks_left : Setting → Commands → ℕ
+asks_left s (Between finished) = 0
+asks_left s (Within log) = bound s log - length log.exchanges
+
+-- the commands of the present boot of an appliance
+abbrev pub commands_at : rules.World → (appliance : ℕ) → Commands
+commands_at w appliance = commands (setting_of w appliance) (w.seats appliance).log
 
 -- how many sectors are left to land, from the least missing one on
 abbrev pub sectors_left : Option ℕ → ℕ
@@ -38,12 +41,11 @@ abbrev pub events_left : Option ℕ → List Issued → ℕ
 events_left None writes = 9
 events_left (Some number) writes = write_left (slice_get writes number)
 
--- a run of an appliance makes fewer plain events than this
-pub record IsFewer (w : rules.World) (appliance : ApplianceNo) (count : ℕ) : Type 0 where
-  pub geometry : IsGeometry w.geometry
-  pub asks : ℕ
-  pub most : AtMostAt asks (stands w appliance.0).place
-  pub below : 10 * asks + events_left (w.seats appliance.0).pending w.surface.writes < count
+-- how many plain events a run of an appliance makes at most from here on, by the bound of its command
+abbrev pub run_left : rules.World → ApplianceNo → ℕ
+run_left w appliance =
+    10 * asks_left (setting_of w appliance.0) (commands_at w appliance.0)
+    + events_left (w.seats appliance.0).pending w.surface.writes
 
 -- one more plain event of a run, of which less is left
 pub record OneMore (appliance : ApplianceNo) (stop : Option Stop) (new : World) (w v : rules.World) : Type 0 where
@@ -51,7 +53,7 @@ pub record OneMore (appliance : ApplianceNo) (stop : Option Stop) (new : World) 
   pub next : next_event w appliance stop ≡ Some one
   pub step : Step w one v
   pub stands : WorldStands new v
-  pub less : (count : ℕ) → IsFewer w appliance (count + 1) → IsFewer v appliance count
+  pub less : run_left v appliance < run_left w appliance
 
 -- a run is over: there is no next event, or no such appliance
 abbrev pub IsOver : ApplianceNo → Option Stop → rules.World → Type 0

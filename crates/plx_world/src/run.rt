@@ -8,9 +8,6 @@ use plx_commands::{Region, Stop};
 use plx_disk::{Answer, Ask};
 use plx_geom::{Geometry, Place};
 
-/// More plain events than a run can have: 10 for each ask, of which a command has at most 6,001 with its first reading.
-const MOST: u32 = 60_020;
-
 impl World {
     ghost use Rattle.std.specs.Prelude.{◌≡◌, Some, None, IfOk, OnOk, OnErr};
     ghost use Rattle.plx_commands.specs.declared.event.Stop.TheVariants as stop_is;
@@ -45,9 +42,9 @@ impl World {
         ensures ok { OnOk result (RunsWhole appliance stop self.old self.new) }
         ensures err { OnErr result (RunsSome appliance stop self.old self.new) }
     {
-        // The limits of the layout bound a run.
+        // A command's bound on its asks bounds its run, far below this count.
         let _blocks = self.geometry.blocks();
-        for _ in 0..MOST {
+        for _ in 0..u64::MAX {
             if !self.advance(appliance, stop, buffer)? {
                 return Ok(());
             }

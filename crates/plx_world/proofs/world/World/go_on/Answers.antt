@@ -1,4 +1,4 @@
-use Rattle.std.proofs.Common.{None, true}
+use Rattle.std.proofs.Common.{true}
 use Rattle.plx_world.proofs.Going.{goes-idle, goes-read}
 use Rattle.plx_world.proofs.Stepping.{reads-block}
 use Rattle.plx_world.proofs.world.World.go_on.Goals as goal
