@@ -87,7 +87,7 @@ module _ (g : Geometry) (few : g.slots ≤ 64) (a h i : ℕ) (device : Device) (
         regime = Without kept ws;
         looks = record {
           running = running-unmoved g a h command known m n ne un looks.running;
-          slot = (shows-one g few device i kept keeps.kept ws keeps.writes (n.slots i) on keeps.journal keeps.either, differs);
+          slot = (shows-one g device i kept keeps.kept ws keeps.writes (n.slots i) on keeps.journal keeps.either, differs);
           purpose = looks.purpose;
         };
         held = held;

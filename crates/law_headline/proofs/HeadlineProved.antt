@@ -1,16 +1,15 @@
 -- Every world that events lead to meets the headline.
-use Rattle.std.proofs.Common.{ℕ, ◌≤◌, ◌<◌, inl, inr, List, [], refl, ap, sym, subst, ◌∙◌, arith}
+use Rattle.std.proofs.Common.{◌≡◌, ℕ, ◌≤◌, ◌<◌, inl, inr, List, [], drop, refl, ap, sym, subst, ◌∙◌, arith}
 use Rattle.plx_base.specs.Sectors.{Device}
 use Rattle.plx_commands.specs.Model.{first_slot}
 use Rattle.plx_commands.specs.declared.event.Event.{Event}
 use Rattle.plx_gate.specs.declared.image.ImageRecord.TheVariants.{Free}
 use Rattle.plx_gate.proofs.Descriptors.{read-zeros}
 use Rattle.plx_extent.specs.Maps.{HoldsMap}
-use Rattle.plx_geom.specs.Geometry.{Geometry, IsGeometry, image_lease}
+use Rattle.plx_geom.specs.Geometry.{Geometry, IsGeometry, image_lease, descriptor_at}
 use Rattle.plx_geom.specs.declared.place.Place.TheVariants.{Record, JDesc, Map}
 use Rattle.plx_rules.specs.Formatted.{IsFormatted}
 use Rattle.plx_rules.specs.Headline.{HeadlineOfAll, NeverDamaged, model_in}
-use Rattle.plx_rules.specs.Journal.{finding, finding_of}
 use Rattle.plx_rules.specs.Pools.{MapsStay}
 use Rattle.plx_rules.specs.World as world
 use Rattle.plx_rules.specs.World.{World, Step, Reached, first_seat, first_world}
@@ -24,6 +23,12 @@ use Rattle.law_headline.proofs.ContentWrites.{issue-content, land-content}
 use Rattle.law_headline.proofs.Journals.{HoldsSlot}
 use Rattle.law_headline.proofs.MapFacts.{map-empty}
 use Rattle.law_headline.proofs.StoredFacts.{stores-kept}
+use Rattle.law_run.proofs.Counted.{counts-tells}
+use Rattle.plx_gate.proofs.Images.{image-back}
+use Rattle.plx_gate.specs.Images.{read_image}
+use Rattle.plx_gate.specs.Descriptors.{read_descriptor}
+use Rattle.plx_rules.specs.Stored.{all_of}
+use Rattle.plx_base.specs.Blocks.{zeros}
 
 keeps-step : {w v : World} {event : Event} → Step w event v → Leased v → KeepsContent w → KeepsContent v
 keeps-step (world.ticks {w = w} {by = by} room) leased content = tick-content w by content leased
@@ -52,21 +57,28 @@ keeps-first g device formatted i within = record {
   kept = Free 0;
   writes = [];
   journal = record {
-    recorded = formatted.places (Record (record { 0 = i })) within;
-    limits = omega arith;
-    plain = refl;
-    unapplied = refl;
-    free = λ dead. refl;
-    fits = omega arith;
-    numbers = λ k write found. absurd (let P : ⊥ = cc in P);
-    within = λ k write found. absurd (let P : ⊥ = cc in P);
-    commits = λ k write found. absurd (let P : ⊥ = cc in P);
-    blocks = λ k write found. absurd (let P : ⊥ = cc in P);
-    rest = λ k past below. ap (finding (Free 0) g.slots k) (formatted.places (JDesc (record { 0 = i }) k) (within, below)) ∙ ap (finding_of (Free 0) g.slots k) read-zeros;
-    old = λ k below. inl (formatted.places (JDesc (record { 0 = i }) k) (within, below));
+    fits = record {
+      within = within;
+      found = ap read_image (formatted.places (Record (record { 0 = i })) within) ∙ image-back (Free 0) (omega arith);
+      plain = refl;
+      room = omega arith;
+      numbers = λ k write found. absurd (let P : ⊥ = cc in P);
+      counts = λ k write found. absurd (let P : ⊥ = cc in P);
+      blocks = λ k write found. absurd (let P : ⊥ = cc in P);
+      only = λ slot d counts. absurd (let t = (counts-tells g (all_of device) i (Free 0) slot d counts).live in let P : ⊥ = cc in P);
+      whole = λ slot below. ap (drop 512) (empty slot below);
+    };
+    sound = λ slot below. (
+      (λ e. (let both = sym (ap read_descriptor (empty slot below) ∙ read-zeros) ∙ e in let P : ⊥ = cc in P)),
+      λ d is unapplied. absurd (let P : ⊥ = cc in P),
+    );
+    old = λ slot below. inl (empty slot below);
   };
   either = inl (record { live = refl; generation = refl; size = refl; label = refl; count = refl; blocks = λ vblock. refl; frozen = refl });
 }
+  where
+    empty : (slot : ℕ) → slot < g.slots → device (descriptor_at g i slot) ≡ zeros
+    empty slot below = formatted.places (JDesc (record { 0 = i }) slot) (within, below)
 
 first-content : (g : Geometry) (appliances : ℕ) (device : Device) → IsGeometry g → appliances ≤ 8 → IsFormatted g device → KeepsContent (first_world g appliances device)
 first-content g appliances device geometry few formatted = record {
@@ -96,7 +108,7 @@ headline-of-all w reached =
     record {
       told = content.told;
       permitted = content.permitted;
-      stored = λ i within. stores-kept w.geometry i w.surface.device ((model_in w).slots i) content.leased.geometry.slots_high (content.stored i within);
+      stored = λ i within. stores-kept w.geometry i w.surface.device ((model_in w).slots i) (content.stored i within);
     }
 
 pub never-damaged : NeverDamaged

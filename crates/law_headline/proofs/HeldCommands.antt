@@ -1,8 +1,6 @@
 -- The commands of an image whose lease is held.
-use Rattle.std.proofs.Common.{◌≡◌, ℕ, zero, suc, ◌+◌, ◌^◌, ◌≤◌, ◌<◌, inl, inr, List, [], ◌∷◌, ◌++◌, take, length, Bool, true, false, Option, Some, None, refl, ap, sym, subst, ◌∙◌, arith, length-append}
+use Rattle.std.proofs.Common.{◌≡◌, ℕ, zero, suc, ◌+◌, ◌^◌, ◌≤◌, ◌<◌, inl, inr, List, [], ◌∷◌, ◌++◌, length, Bool, true, false, Option, Some, None, refl, ap, sym, subst, ◌∙◌, arith, length-append}
 use Rattle.std.specs.Prelude.{slice_get, is_some, ◌==◌, if◌then◌else◌, nat_lt, nat_le, unwrap_or, not}
-use Rattle.std.proofs.lemmas.List.{take_all, take_more}
-use Rattle.std.proofs.lemmas.Option.{slice_get_cases}
 use Rattle.plx_base.specs.Blocks.{zeros}
 use Rattle.plx_base.specs.Sectors.{Device}
 use Rattle.plx_base.specs.declared.numbers.SlotNo.{SlotNo}
@@ -20,11 +18,10 @@ use Rattle.plx_commands.specs.declared.reply.Reply.TheVariants.{Attached}
 use Rattle.plx_commands.proofs.Accepted.{ok-answers, other-answers}
 use Rattle.plx_commands.proofs.Places.{at-same}
 use Rattle.plx_commands.proofs.SameReports.{same-report}
-use Rattle.plx_gate.specs.Images.{read_image}
 use Rattle.plx_gate.specs.declared.descriptor.Descriptor.{Descriptor}
 use Rattle.plx_gate.specs.declared.image.ImageRecord.{ImageRecord}
 use Rattle.plx_geom.specs.Geometry.{record_at, descriptor_at, data_at}
-use Rattle.plx_base.proofs.Tests.{eqb-true, nat_lt-false, nat_lt-tells, nat_le-false, nat_le-tells, not-false, and-parts}
+use Rattle.plx_base.proofs.Tests.{eqb-true, nat_lt-tells, nat_le-false, nat_le-tells, not-false, and-parts}
 use Rattle.plx_rules.specs.Process.{Process}
 use Rattle.plx_rules.specs.Journaled.{Journaled}
 use Rattle.plx_rules.specs.Attaching.{image_use, attach_ends, after_load, load_journal, after_record, load_image}
@@ -37,12 +34,12 @@ use Rattle.plx_rules.specs.Records.{is_live, is_plain, taken_of, applied_of, pla
 use Rattle.plx_rules.specs.Session.{Session, Known, with_session, with_write_by_number, first_gap, session_report}
 use Rattle.plx_rules.specs.Settings.{Setting}
 use Rattle.law_headline.proofs.Held.{Regime, Without, Looks, HasImage, HeldProcess}
-use Rattle.plx_gate.proofs.Images.{image-back}
-use Rattle.law_headline.proofs.JournalFacts.{finding-commit}
+use Rattle.law_headline.proofs.JournalFacts.{free-none, in-slot, slot-one}
 use Rattle.law_headline.proofs.Journals.{IsJournal, IsShown, ShowEither, HoldsSlot}
 use Rattle.law_model.specs.Sound.{Differs}
 use Rattle.law_lease.proofs.Latest.{latest-push}
-use Rattle.law_headline.proofs.StoredFacts.{plain-taken}
+use Rattle.law_headline.proofs.Loaded.{ascending-numbered, below-all, below-more, below-none, below-same, standing_below}
+use Rattle.law_run.proofs.Facts.{plain-parts}
 
 -- the slot with this number
 abbrev pub slot_no : ℕ → SlotNo
@@ -98,7 +95,7 @@ report-shown kept writes image plain shown =
     let size = sym shown.size in
     let label = sym shown.label in
     let count = sym shown.count in
-    let taken : taken_of kept ≡ length image.frozen = plain-taken kept plain ∙ sym (ap length shown.frozen) in
+    let taken : taken_of kept ≡ length image.frozen = (plain-parts kept plain).0 ∙ sym (ap length shown.frozen) in
     let dropped : 0 ≡ count_dropped image.frozen = sym (ap count_dropped shown.frozen) in
     λ j. record { live = live j; generation = generation j; size = size j; writes = count j; taken = taken j; dropped = dropped j; label = label j }
 
@@ -135,32 +132,12 @@ shown-more kept writes image write shown = record {
   frozen = shown.frozen;
 }
 
--- a write that is read after those with lower numbers is the last one
-inserted-last : (new : Journaled) (writes : List Journaled) → ((k : ℕ) (w : Journaled) → slice_get writes k ≡ Some w → w.number ≤ new.number) → with_write_by_number new writes ≡ writes ++ new ∷ []
-inserted-last new [] below = refl
-inserted-last new (write ∷ writes) below =
-    ap (λ (t : Bool). if t then new ∷ write ∷ writes else write ∷ with_write_by_number new writes) (nat_lt-false new.number write.number (below 0 write refl))
-    ∙ ap (λ (xs : List Journaled). write ∷ xs) (inserted-last new writes (λ k w at. below (suc k) w at))
-
 -- no number is missing
 no-first-gap : (before : ℕ) (writes : List Journaled) → ((k : ℕ) (w : Journaled) → slice_get writes k ≡ Some w → w.number ≡ before + k + 1) → first_gap before writes ≡ None
 no-first-gap before [] numbers = refl
 no-first-gap before (write ∷ writes) numbers =
     ap (λ (t : Bool). if t then first_gap (before + 1) writes else Some write.number) (eqb-true write.number (before + 1) (let n = numbers 0 write refl in omega (arith, n)))
     ∙ no-first-gap (before + 1) writes (λ k w at. let n = numbers (suc k) w at in omega (arith, n))
-
--- what stands in the front of a list stands in the list
-take-get : {X : Type 0} (n : ℕ) (xs : List X) (k : ℕ) (x : X) → slice_get (take n xs) k ≡ Some x → slice_get xs k ≡ Some x
-take-get zero xs k x e = absurd (let P : ⊥ = cc in P)
-take-get (suc n) [] k x e = absurd (let P : ⊥ = cc in P)
-take-get (suc n) (y ∷ xs) zero x e = e
-take-get (suc n) (y ∷ xs) (suc k) x e = take-get n xs k x e
-
-take-below : {X : Type 0} (n : ℕ) (xs : List X) (k : ℕ) (x : X) → slice_get (take n xs) k ≡ Some x → k < n
-take-below zero xs k x e = absurd (let P : ⊥ = cc in P)
-take-below (suc n) [] k x e = absurd (let P : ⊥ = cc in P)
-take-below (suc n) (y ∷ xs) zero x e = omega arith
-take-below (suc n) (y ∷ xs) (suc k) x e = let b = take-below n xs k x e in omega (arith, b)
 
 -- what tests tell
 pub size-tells : (size : ℕ) → not (is_size size) ≡ false → (0 < size) × (size ≤ 2 ^ 27)
@@ -190,11 +167,11 @@ module _ (s : Setting) (a i : ℕ) (within : i < s.geometry.images) (few : s.geo
         let report = session_report session in
         let slot = slot_after_attach (m.slots i) a report in
         let is : at m.slots i slot i ≡ slot = at-same m.slots i slot in
-        let left : IsShown kept writes slot.image = report-decides kept writes (m.slots i) journal.plain looks.slot.1 looks.slot.0 in
+        let left : IsShown kept writes slot.image = report-decides kept writes (m.slots i) journal.fits.plain looks.slot.1 looks.slot.0 in
         let K : Slot → Type 0 = λ t. HoldsSlot s.geometry device i t in
         let H : Slot → Type 0 = λ t. HasImage s.geometry i a session device t in (
           ok-answers m a (Attach (slot_no i)) (Attached report) refl refl refl
-              ((let e = looks.running.images in omega (arith, e)), report-is-own kept writes (m.slots i) journal.plain looks.slot.0) (unrefused m looks),
+              ((let e = looks.running.images in omega (arith, e)), report-is-own kept writes (m.slots i) journal.fits.plain looks.slot.0) (unrefused m looks),
           subst K (sym is) (record { kept = kept; writes = writes; journal = journal; either = inl left }),
           λ t known'.
               let same : session ≡ t = (let f : Some session ≡ Some t = sym (at-same k.sessions i (Some session)) ∙ known' in cc) in
@@ -226,35 +203,34 @@ module _ (s : Setting) (a i : ℕ) (within : i < s.geometry.images) (few : s.geo
       held-counts block found unused counts d is held =
           let P : Finding → Type 0 = λ f. Loads (load_found block f unused counts) in subst P (sym is) held
 
-      -- one more write
-      taken-more : (place : ℕ) (w : Journaled) → slice_get writes place ≡ Some w → take place writes ++ w ∷ [] ≡ take (place + 1) writes → with_write_by_number w (take place writes) ≡ take (place + 1) writes
-      taken-more place w found more =
-          inserted-last w (take place writes)
-          (λ j v at. (let number = journal.numbers j v (take-get place writes j v at) in let mine = journal.numbers place w found in let less = take-below place writes j v at in omega (arith, number, mine, less)))
-          ∙ more
-
-      held-load : (left place : ℕ) → left + place ≡ s.geometry.slots → Loads (load_process s.geometry i kept left place (take place writes))
+      held-load : (left place : ℕ) → left + place ≡ s.geometry.slots → Loads (load_process s.geometry i kept left place (standing_below s.geometry place writes))
       held-load zero place all =
-          let whole : take place writes ≡ writes = take_all place writes (let fits = journal.fits in omega (arith, all, fits)) in
+          let whole : standing_below s.geometry place writes ≡ writes =
+          below-all s.geometry place writes (λ j w at. (let within' = (journal.fits.counts j w at).within in omega (arith, all, within'))) in
           let P : List Journaled → Type 0 = λ ws. Attaches (after_load s k i until kept (gap_found s.geometry i ws (first_gap (applied_of kept) ws))) in
           let Q : Option ℕ → Type 0 = λ o. Attaches (after_load s k i until kept (gap_found s.geometry i writes o)) in
-          let none-missing : first_gap (applied_of kept) writes ≡ None = no-first-gap (applied_of kept) writes (λ j w at. (let n = journal.numbers j w at in let z = journal.unapplied in omega (arith, n, z))) in
+          let none-missing : first_gap (applied_of kept) writes ≡ None = no-first-gap (applied_of kept) writes (λ j w at. (let n = journal.fits.numbers j w at in omega (arith, n))) in
           subst P (sym whole) (subst Q (sym none-missing) (held-attached k until))
       held-load (suc left) place all =
-          let ih = held-load left (place + 1) (omega (arith, all)) in (
+          let ih = held-load left (place + 1) (omega (arith, all)) in
+          let Q : List Journaled → Type 0 = λ ws. Loads (load_process s.geometry i kept left (place + 1) ws) in (
             inr (place, (omega (arith, all)), inl refl),
-            elim (slice_get_cases writes place).1 [
-              | inl found ↦ held-counts (descriptor_at s.geometry i place) (finding kept s.geometry.slots place (device (descriptor_at s.geometry i place))) _ _ (descriptor_of kept found.0)
-                  (finding-commit s.geometry device i kept writes journal few place found.0 found.2) (
+            elim (in-slot s.geometry device i kept writes journal place (omega (arith, all))) [
+              | inl unused ↦ held-unused (descriptor_at s.geometry i place) (finding kept s.geometry.slots place (device (descriptor_at s.geometry i place))) _ _ unused.0
+                  (subst Q (below-same s.geometry place writes unused.1) ih)
+              | inr stands ↦ held-counts (descriptor_at s.geometry i place) (finding kept s.geometry.slots place (device (descriptor_at s.geometry i place))) _ _ (descriptor_of kept stands.write)
+                  stands.says_so (
                     inr (place, (omega (arith, all)), inr refl),
-                    (let P : List ℕ → Type 0 = λ x. Loads (load_process s.geometry i kept left (place + 1) (with_write_by_number (record { number = found.0.number; vblock = found.0.vblock; block = x }) (take place writes))) in
-                        let Q : List Journaled → Type 0 = λ ws. Loads (load_process s.geometry i kept left (place + 1) ws) in
-                        subst P (sym (journal.blocks place found.0 found.2))
-                        (subst Q (sym (taken-more place found.0 found.2 (sym (take_more writes place found.0 found.1 ∙ ap (λ (x : Journaled). take place writes ++ x ∷ []) found.3)))) ih)),
+                    (let write = stands.write in
+                        let P : List ℕ → Type 0 = λ x. Loads (load_process s.geometry i kept left (place + 1) (with_write_by_number (record { number = write.number; vblock = write.vblock; block = x }) (standing_below s.geometry place writes))) in
+                        let there : Some (device (data_at s.geometry i place)) ≡ Some write.block =
+                        subst (λ n. Some (device (data_at s.geometry i n)) ≡ Some write.block) stands.place (journal.fits.blocks stands.index write stands.at) in
+                        let block : device (data_at s.geometry i place) ≡ write.block = cc in
+                        subst P (sym block)
+                        (subst Q (sym (below-more s.geometry place (applied_of kept) writes (ascending-numbered (applied_of kept) writes journal.fits.numbers) stands.index write stands.at stands.place
+                        (λ j w at same. slot-one s.geometry device i kept writes journal j stands.index w write at stands.at (same ∙ sym stands.place)))) ih)),
                     held-fault k (data_at s.geometry i place) none',
                   )
-              | inr past ↦ held-unused (descriptor_at s.geometry i place) (finding kept s.geometry.slots place (device (descriptor_at s.geometry i place))) _ _ (journal.rest place past.0 (omega (arith, all)))
-                  (rw (take_all place writes past.0) (rw (take_all (place + 1) writes (omega (arith, past.0))) at ih))
             ],
             held-fault k (descriptor_at s.geometry i place) none',
           )
@@ -264,13 +240,15 @@ module _ (s : Setting) (a i : ℕ) (within : i < s.geometry.images) (few : s.geo
       inl refl,
       (let P : Option ImageRecord → Type 0 = λ o. Attaches (after_record s k i until o) in
           let is : attached_record (device (record_at s.geometry i)) ≡ Some kept =
-          ap (λ (b : List ℕ). plain_record (read_image b)) journal.recorded ∙ (ap plain_record (image-back kept journal.limits) ∙ ap (λ (t : Bool). if t then Some kept else None) journal.plain) in
+          ap plain_record journal.fits.found ∙ ap (λ (t : Bool). if t then Some kept else None) journal.fits.plain in
           subst P (sym is) (by_live (is_live kept) refl)),
       held-fault k (record_at s.geometry i) none',
     )
       where
         by_live : (b : Bool) → is_live kept ≡ b → Attaches (load_journal s k i until kept b)
-        by_live true live = held-load k until none' s.geometry.slots 0 (omega arith)
+        by_live true live =
+            let P : List Journaled → Type 0 = λ ws. Loads k until none' (load_process s.geometry i kept s.geometry.slots 0 ws) in
+            subst P (below-none s.geometry writes) (held-load k until none' s.geometry.slots 0 (omega arith))
         by_live false dead =
             let P : List Journaled → Type 0 = λ ws. Attaches (attach_ends s k i until (record { image = kept; writes = ws })) in
-            subst P (journal.free dead) (held-attached k until)
+            subst P (free-none s.geometry device i kept writes journal dead) (held-attached k until)

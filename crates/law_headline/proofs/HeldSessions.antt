@@ -26,13 +26,12 @@ use Rattle.plx_commands.specs.declared.reply.Reply.{Reply}
 use Rattle.plx_commands.specs.declared.reply.Reply.TheVariants.{Detached, Created, Deleted, Data, Written, NotAttached, AlreadyAttached, NoImage, Exists, OutOfRange, Full, WornOut}
 use Rattle.plx_commands.proofs.Accepted.{Answers, ok-answers, other-answers, founded-answers, among-more}
 use Rattle.plx_commands.proofs.Places.{at-same}
-use Rattle.plx_gate.specs.Descriptors.{descriptor_bytes}
+use Rattle.plx_gate.specs.Descriptors.{descriptor_bytes, IsDescriptor}
 use Rattle.plx_gate.specs.Images.{image_bytes, IsImage}
 use Rattle.plx_gate.specs.declared.image.ImageRecord.{ImageRecord}
 use Rattle.plx_gate.specs.declared.image.ImageRecord.TheVariants as image_is
 use Rattle.plx_gate.proofs.Descriptors.{descriptor-back}
 use Rattle.plx_geom.specs.Geometry.{record_at, descriptor_at, data_at}
-use Rattle.law_headline.proofs.JournalFacts.{journal_slot-next}
 use Rattle.plx_base.proofs.Tests.{nat_lt-true, not-false, nat_le-past}
 use Rattle.plx_rules.specs.Process.{Process}
 use Rattle.plx_rules.specs.Journaled.{Journaled}
@@ -40,18 +39,19 @@ use Rattle.plx_rules.specs.Attaching.{image_use}
 use Rattle.plx_rules.specs.Commands.{unless, record_process, create_process, delete_process, read_process, journal_process, write_process}
 use Rattle.plx_rules.specs.Ends.{End, ends, write_then, ends_in_time}
 use Rattle.plx_rules.specs.Headline.{IsUndamaged}
-use Rattle.plx_rules.specs.Journal.{journal_slot, descriptor_of}
+use Rattle.plx_rules.specs.Journal.{descriptor_of}
 use Rattle.plx_rules.specs.Records.{is_live, is_plain, generation_of, size_of, applied_of, made_record}
 use Rattle.plx_rules.specs.Session.{Session, Known, with_session, new_session, write_count, content, with_write}
 use Rattle.plx_rules.specs.Settings.{Setting}
 use Rattle.law_headline.proofs.Held.{With, Looks, HasImage, HeldProcess}
 use Rattle.law_headline.proofs.HeldFrames.{same-all}
 use Rattle.law_headline.proofs.ImageFacts.{image-drop}
-use Rattle.law_headline.proofs.JournalFacts.{IsJournal-data, IsJournal-same, IsJournal-more, IsJournal-made, kept-limits}
-use Rattle.law_headline.proofs.Journals.{IsJournal, IsShown, HoldsSlot}
+use Rattle.law_headline.proofs.JournalFacts.{IsJournal-data, IsJournal-same, IsJournal-more, IsJournal-made, kept-limits, recorded}
+use Rattle.law_headline.proofs.Journals.{IsJournal, IsShown, HoldsSlot, next_slot}
 use Rattle.law_model.proofs.Owners.{owns-own}
 use Rattle.law_model.proofs.Replied.{refused-given}
 use Rattle.law_headline.proofs.HeldCommands.{slot_no, held-ends, shown-more, size-tells}
+use Rattle.law_run.proofs.Slots.{slot-below}
 
 -- the change that a command gives up is this slot's, or it has none
 abbrev pub IsChangeOf : Command → Option Image → ℕ → Type 0
@@ -205,34 +205,43 @@ module _ (s : Setting) (a i : ℕ) (within : i < s.geometry.images) (few : s.geo
         by_image = rw (left.live, left.size, left.count) refl
 
     held-writing : change ≡ Some (image_after_write image vblock (bytes_of payload)) → not (is_live kept) ≡ false → nat_le (size_of kept) vblock ≡ false → is_worn last_write (write_count session) ≡ false → length writes < s.geometry.slots →
-        Sits writes_block change (writing_at vblock (bytes_of payload) until (length writes) (length writes + 1))
+        Sits writes_block change (writing_at vblock (bytes_of payload) until (next_slot s.geometry kept writes) (write_count session + 1))
     held-writing is-change lives less young room =
         let bytes = bytes_of payload in
         let regime = With image change in
-        let n = length writes in
-        let write : Journaled = record { number = n + 1; vblock = vblock; block = bytes } in
+        let n = next_slot s.geometry kept writes in
+        let some : 1 ≤ s.geometry.slots = omega (arith, room) in
+        let place : n < s.geometry.slots = slot-below s.geometry.slots (write_count session + 1) some in
+        let write : Journaled = record { number = write_count session + 1; vblock = vblock; block = bytes } in
         let d = descriptor_of kept write in
+        let lives' = not-false (is_live kept) lives in
+        let less' = nat_le-past (size_of kept) vblock less in
+        let young' = nat_le-past last_write (write_count session) young in
+        let kept' = kept-limits kept (recorded s.geometry device i kept writes journal).0 in
+        let size = kept'.size in
+        let limits : IsDescriptor d =
+        record { generation_low = kept'.made lives'; generation_high = kept'.generation; vblock = omega (arith, less', size); number_low = omega arith; number_high = omega (arith, young') } in
         let filled : Device = put device (data_at s.geometry i n) bytes in
-        let journal' : IsJournal s.geometry filled i kept writes = IsJournal-data s.geometry device i kept writes n bytes within journal (omega arith) in
+        let journal' : IsJournal s.geometry filled i kept writes = IsJournal-data s.geometry device i kept writes bytes journal room in
         let committed : Device = put filled (descriptor_at s.geometry i n) (descriptor_bytes d) in
         let commit : IsJournal s.geometry committed i kept (writes ++ write ∷ []) =
-        IsJournal-more s.geometry filled i kept writes write within few journal' (not-false (is_live kept) lives) room refl (nat_le-past (size_of kept) vblock less) (put-same device (data_at s.geometry i n) bytes) in
+        IsJournal-more s.geometry filled i kept writes write journal' limits lives' some room refl less' (put-same device (data_at s.geometry i n) bytes) in
         let left' : IsShown kept (writes ++ write ∷ []) (image_after_write image vblock bytes) = shown-more kept writes image write left in
         let keeps' : (m : Model) → Sees writes_block change m → HoldsSlot s.geometry committed i (m.slots i) =
         λ m looks. record { kept = kept; writes = writes ++ write ∷ []; journal = commit; either = inr (image_after_write image vblock bytes, looks.slot.2 ∙ is-change, left') } in
-        let rest : drop 512 (descriptor_bytes d) ≡ drop 512 (filled (descriptor_at s.geometry i n)) = elim (journal'.old n room) [
+        let rest : drop 512 (descriptor_bytes d) ≡ drop 512 (filled (descriptor_at s.geometry i n)) = elim (journal'.old n place) [
           | inl empty ↦ descriptor-back d ∙ ap (drop 512) (sym empty)
           | inr old ↦ descriptor-back d ∙ (sym (descriptor-back old.0) ∙ ap (drop 512) (sym old.1))
         ] in (
-          inr (n, room, inr refl),
+          inr (n, place, inr refl),
           λ flags count m looks. record {
             kept = kept;
             writes = writes;
-            journal = IsJournal-data s.geometry device i kept writes n (with_landed_sectors flags bytes (device (data_at s.geometry i n))) within journal (omega arith);
+            journal = IsJournal-data s.geometry device i kept writes (with_landed_sectors flags bytes (device (data_at s.geometry i n))) journal room;
             either = inl (subst (λ (x : Image). IsShown kept writes x) (sym looks.slot.1) left);
           },
           (
-            inr (n, room, inl refl),
+            inr (n, place, inl refl),
             λ flags count m looks. elim (mixed-first_sector flags (descriptor_bytes d) (filled (descriptor_at s.geometry i n)) rest) [
               | inl new ↦
                   let P : List ℕ → Type 0 = λ x. HoldsSlot s.geometry (put filled (descriptor_at s.geometry i n) x) i (m.slots i) in
@@ -247,7 +256,7 @@ module _ (s : Setting) (a i : ℕ) (within : i < s.geometry.images) (few : s.geo
                     either = inl (subst (λ (x : Image). IsShown kept writes x) (sym looks.slot.1) left);
                   })
             ],
-            held-ends s a i writes_block known regime committed keeps' known (with_session known i (Some (with_write session write))) (image_use i until) (Written (n + 1))
+            held-ends s a i writes_block known regime committed keeps' known (with_session known i (Some (with_write session write))) (image_use i until) (Written (write_count session + 1))
                 (λ m looks.
                 let slot = slot_after_change (m.slots i) in
                 let is : at m.slots i slot i ≡ slot = at-same m.slots i slot in
@@ -255,11 +264,10 @@ module _ (s : Setting) (a i : ℕ) (within : i < s.geometry.images) (few : s.geo
                 let l : IsShown kept (writes ++ write ∷ []) slot.image = subst (λ (x : Image). IsShown kept (writes ++ write ∷ []) x) (sym image') left' in
                 let K : Slot → Type 0 = λ t. HoldsSlot s.geometry committed i t in
                 let session' = with_write session write in
-                let H : Slot → Type 0 = λ t. HasImage s.geometry i a session' committed t in
-                let unapplied = journal.unapplied in (
-                  ok-answers m a writes_block (Written (n + 1)) refl refl (ap (λ (b : Bool). b && true) (owns-own (m.slots i).owner a looks.slot.0)) (
+                let H : Slot → Type 0 = λ t. HasImage s.geometry i a session' committed t in (
+                  ok-answers m a writes_block (Written (write_count session + 1)) refl refl (ap (λ (b : Bool). b && true) (owns-own (m.slots i).owner a looks.slot.0)) (
                     (let e = looks.running.images in omega (arith, e, within)),
-                    (let c : (m.slots i).image.writes ≡ applied_of kept + length writes = ap (λ (x : Image). x.writes) looks.slot.1 ∙ left.count in omega (arith, c, unapplied)),
+                    (let c : (m.slots i).image.writes ≡ applied_of kept + length writes = ap (λ (x : Image). x.writes) looks.slot.1 ∙ left.count in omega (arith, c)),
                   )
                       (write-facts m looks false false false lives less young),
                   subst K (sym is) (record { kept = kept; writes = writes ++ write ∷ []; journal = commit; either = inl l }),
@@ -283,18 +291,12 @@ module _ (s : Setting) (a i : ℕ) (within : i < s.geometry.images) (few : s.geo
         writing : not (is_live kept) ≡ false → nat_le (size_of kept) vblock ≡ false → is_worn last_write (write_count session) ≡ false → (length writes == s.geometry.slots) ≡ false →
             Sits writes_block change (journal_process s known i vblock (bytes_of payload) session until)
         writing lives less young room =
-            let fits = journal.fits in
+            let fits = journal.fits.room in
             let room' : length writes < s.geometry.slots = elim (eqb_tells (length writes) s.geometry.slots) [
               | inl full ↦ absurd (let f : true ≡ false = sym full.0 ∙ room in let P : ⊥ = cc in P)
               | inr other ↦ omega (arith, other.1, fits)
             ] in
-            let unapplied = journal.unapplied in
-            let counts : write_count session + 1 ≡ length writes + 1 = omega (arith, unapplied) in
-            let place : journal_slot s.geometry.slots (write_count session + 1) ≡ length writes =
-            ap (journal_slot s.geometry.slots) counts ∙ journal_slot-next s.geometry.slots (length writes) room' in
-            let P : ℕ → ℕ → Type 0 = λ k n. Sits writes_block change (writing_at vblock (bytes_of payload) until k n) in
-            subst (λ (k : ℕ). P k (write_count session + 1)) (sym place) (subst (P (length writes)) (sym counts)
-            (held-writing (is-change (not-false (is_live kept) lives) (nat_le-past (size_of kept) vblock less) young) lives less young room'))
+            held-writing (is-change (not-false (is_live kept) lives) (nat_le-past (size_of kept) vblock less) young) lives less young room'
 
         by_tests : (x y z f : Bool) → not (is_live kept) ≡ x → nat_le (size_of kept) vblock ≡ y → is_worn last_write (write_count session) ≡ z → (length writes == s.geometry.slots) ≡ f →
             Sits writes_block change (unless x NoImage known (unless y (OutOfRange (size_of kept)) known (unless z (WornOut last_write) known (unless f Full known
@@ -311,18 +313,19 @@ module _ (s : Setting) (a i : ℕ) (within : i < s.geometry.images) (few : s.geo
   -- ---- a record: an image is made, or deleted
 
   held-record : (command : Command) (change : Option Image) (new : ImageRecord) (image' : Image) (until : ℕ) (done' : Reply) → IsUndamaged done' → change ≡ Some image' → IsShown new [] image' →
-      IsImage new → is_plain new ≡ true → applied_of new ≡ 0 → generation_of kept ≤ generation_of new → (is_live new ≡ true → generation_of kept < generation_of new) →
+      IsImage new → is_plain new ≡ true → generation_of kept ≤ generation_of new → (is_live new ≡ true → generation_of kept < generation_of new) →
       ((m : Model) → Sees command change m → Answers m a command done') →
       ((m : Model) → (model_after_reply m a command done').slots i ≡ at m.slots i (slot_after_change (m.slots i)) i) →
       Sits command change (record_process s known i until new done')
-  held-record command change new image' until done' fine is-change shown limits plain unapplied later fresh answers slots =
+  held-record command change new image' until done' fine is-change shown limits plain later fresh answers slots =
       let block = record_at s.geometry i in
       let session' = new_session new in
       let written' : Device = put device block (image_bytes new) in
-      let journal' : IsJournal s.geometry written' i new [] = IsJournal-made s.geometry device i kept new writes within journal limits plain unapplied later fresh in
+      let journal' : IsJournal s.geometry written' i new [] = IsJournal-made s.geometry device i kept new writes journal limits plain later fresh in
       let keeps' : (m : Model) → Sees command change m → HoldsSlot s.geometry written' i (m.slots i) =
       λ m looks. record { kept = new; writes = []; journal = journal'; either = inr (image', looks.slot.2 ∙ is-change, shown) } in
-      let rest : drop 512 (image_bytes new) ≡ drop 512 (device block) = image-drop new kept limits journal.limits ∙ ap (drop 512) (sym journal.recorded) in (
+      let was = recorded s.geometry device i kept writes journal in
+      let rest : drop 512 (image_bytes new) ≡ drop 512 (device block) = image-drop new kept limits was.0 ∙ ap (drop 512) (sym was.1) in (
         inl refl,
         λ flags count m looks. elim (mixed-first_sector flags (image_bytes new) (device block) rest) [
           | inl whole ↦
@@ -373,7 +376,7 @@ module _ (s : Setting) (a i : ℕ) (within : i < s.geometry.images) (few : s.geo
       by_test false ex =
           held-record (Delete (slot_no i)) change (image_is.Free (generation_of kept)) (free_image image.generation) until Deleted tt (is-change (not-false (is_live kept) ex))
           (record { live = refl; generation = left.generation; size = refl; label = refl; count = refl; blocks = λ v. refl; frozen = refl })
-          (kept-limits kept journal.limits).generation refl refl (omega arith) (λ dead. absurd (let P : ⊥ = cc in P))
+          (kept-limits kept (recorded s.geometry device i kept writes journal).0).generation refl (omega arith) (λ dead. absurd (let P : ⊥ = cc in P))
           (λ m looks. ok-answers m a (Delete (slot_no i)) Deleted refl refl (owned-one m looks.slot.0) (let e = looks.running.images in omega (arith, e, within)) (facts m looks false ex))
           (λ m. refl)
 
@@ -409,6 +412,6 @@ module _ (s : Setting) (a i : ℕ) (within : i < s.geometry.images) (few : s.geo
           held-record (Create (slot_no i) size label) change (made_record (generation_of kept + 1) size label) (new_image (image.generation + 1) size label) until Created tt (is-change ex ey ez)
           (record { live = refl; generation = ap (λ n. n + 1) left.generation; size = refl; label = refl; count = refl; blocks = λ v. refl; frozen = refl })
           (record { generation_low = omega arith; generation_high = omega (arith, young); size_low = omega (arith, sizes.0); size_high = sizes.1; taken_high = omega arith; root_pointer = inl refl; applied_high = omega arith; label_is = is-label })
-          refl refl (omega arith) (λ x. omega arith)
+          refl (omega arith) (λ x. omega arith)
           (λ m looks. ok-answers m a (Create (slot_no i) size label) Created refl refl (owned-one m looks.slot.0) (let e = looks.running.images in omega (arith, e, within)) (facts m looks false false false ex ey ez))
           (λ m. refl)

@@ -1,20 +1,17 @@
 -- A device spells at most one record and journal of an image.
-use Rattle.std.proofs.Common.{◌≡◌, ℕ, suc, ◌≤◌, ◌<◌, inl, inr, List, [], ◌∷◌, length, Bool, true, false, Some, None, refl, ap, sym, subst, ◌∙◌, arith}
+use Rattle.std.proofs.Common.{◌≡◌, ℕ, suc, List, [], ◌∷◌, length, Some, refl, ap, sym, subst, ◌∙◌, arith}
 use Rattle.std.specs.Prelude.{slice_get}
-use Rattle.std.proofs.lemmas.Bool.Decides.{leb_tells}
 use Rattle.plx_base.specs.Sectors.{Device}
-use Rattle.plx_gate.specs.declared.descriptor.Descriptor.{Descriptor}
-use Rattle.plx_rules.specs.Journaled.{Journaled}
-use Rattle.plx_geom.specs.Geometry.{Geometry, descriptor_at}
-use Rattle.plx_gate.specs.Images.{read_image}
-use Rattle.plx_gate.specs.declared.image.ImageRecord.{ImageRecord}
-use Rattle.plx_rules.specs.Records.{is_live}
-use Rattle.law_headline.proofs.JournalFacts.{counted-commit, unused-uncounted}
-use Rattle.law_headline.proofs.Journals.{IsJournal, ShowEither}
-use Rattle.plx_gate.proofs.Images.{image-back}
 use Rattle.plx_commands.specs.Model.{Slot}
-use Rattle.plx_rules.specs.Journal.{descriptor_of}
-use Rattle.law_lease.proofs.Lists.{get-there}
+use Rattle.plx_gate.specs.declared.descriptor.Descriptor.{Descriptor}
+use Rattle.plx_gate.specs.declared.image.ImageRecord.{ImageRecord}
+use Rattle.plx_geom.specs.Geometry.{Geometry, data_at, descriptor_at}
+use Rattle.plx_rules.specs.Journal.{descriptor_of, journal_slot}
+use Rattle.plx_rules.specs.Journaled.{Journaled}
+use Rattle.plx_rules.specs.Stored.{Given, all_of, counted_in}
+use Rattle.law_run.proofs.Facts.{count-one, write-count}
+use Rattle.law_run.proofs.Right.{FitsSession}
+use Rattle.law_headline.proofs.Journals.{IsJournal, ShowEither, session_of}
 
 same-entries : {X : Type 0} (xs ys : List X) → length xs ≡ length ys → ((k : ℕ) (x y : X) → slice_get xs k ≡ Some x → slice_get ys k ≡ Some y → x ≡ y) → xs ≡ ys
 same-entries [] [] e same = refl
@@ -25,45 +22,33 @@ same-entries (x ∷ xs) (y ∷ ys) e same =
     let tail : xs ≡ ys = same-entries xs ys (omega (arith, e)) (λ k a b p q. same (suc k) a b p q) in
     λ j. head j ∷ tail j
 
-module _ (g : Geometry) (few : g.slots ≤ 64) (device : Device) (image : ℕ) where
-  no-longer : (kept : ImageRecord) (writes others : List Journaled) → IsJournal g device image kept writes → IsJournal g device image kept others → is_live kept ≡ true → length writes < length others → ⊥
-  no-longer kept writes others j k live less =
-      let n = length writes in
-      let w = get-there others n less in
-      let fits = k.fits in
-      let there = counted-commit g device image kept others k few n w.0 w.1 in
-      let none = unused-uncounted kept g.slots n (device (descriptor_at g image n)) (j.rest n (omega arith) (omega (arith, less, fits))) in
-      (let e : None ≡ Some (descriptor_of kept w.0) = sym none ∙ there in cc)
-
-  entries-one : (kept : ImageRecord) (writes others : List Journaled) → IsJournal g device image kept writes → IsJournal g device image kept others → (n : ℕ) (x y : Journaled) →
-      slice_get writes n ≡ Some x → slice_get others n ≡ Some y → x ≡ y
-  entries-one kept writes others j k n x y p q =
-      let d : Some (descriptor_of kept x) ≡ Some (descriptor_of kept y) = sym (counted-commit g device image kept writes j few n x p) ∙ counted-commit g device image kept others k few n y q in
-      let e : descriptor_of kept x ≡ descriptor_of kept y = cc in
+module _ (g : Geometry) (given : Given) (image : ℕ) (kept : ImageRecord) (writes others : List Journaled) (j : FitsSession g given image (session_of kept writes))
+    (k : FitsSession g given image (session_of kept others)) where
+  -- two writes at one place have one number, and so one slot
+  entries-one : (n : ℕ) (x y : Journaled) → slice_get writes n ≡ Some x → slice_get others n ≡ Some y → x ≡ y
+  entries-one n x y p q =
       let number : x.number ≡ y.number = j.numbers n x p ∙ sym (k.numbers n y q) in
+      let one = (j.counts n x p).found in
+      let other : counted_in kept g.slots (journal_slot g.slots x.number) (given (descriptor_at g image (journal_slot g.slots x.number))) ≡ Some (descriptor_of kept y) =
+      subst (λ m. counted_in kept g.slots (journal_slot g.slots m) (given (descriptor_at g image (journal_slot g.slots m))) ≡ Some (descriptor_of kept y)) (sym number) (k.counts n y q).found in
+      let both : Some (descriptor_of kept x) ≡ Some (descriptor_of kept y) = sym one ∙ other in
+      let e : descriptor_of kept x ≡ descriptor_of kept y = cc in
       let vblock : x.vblock ≡ y.vblock = ap (λ (z : Descriptor). z.vblock) e in
-      let block : x.block ≡ y.block = sym (j.blocks n x p) ∙ k.blocks n y q in
+      let bytes : Some x.block ≡ Some y.block = sym (j.blocks n x p) ∙ (ap (λ m. given (data_at g image (journal_slot g.slots m))) number ∙ k.blocks n y q) in
+      let block : x.block ≡ y.block = cc in
       λ t. record { number = number t; vblock = vblock t; block = block t }
 
-  writes-one : (kept : ImageRecord) (writes others : List Journaled) → IsJournal g device image kept writes → IsJournal g device image kept others → writes ≡ others
-  writes-one kept writes others j k = by_live (is_live kept) refl
-    where
-      by_live : (b : Bool) → is_live kept ≡ b → writes ≡ others
-      by_live false e = j.free e ∙ sym (k.free e)
-      by_live true e = same-entries writes others (elim (leb_tells (suc (length writes)) (length others)) [
-        | inl less ↦ absurd (no-longer kept writes others j k e (omega (arith, less.1)))
-        | inr more ↦ elim (leb_tells (suc (length others)) (length writes)) [
-          | inl less ↦ absurd (no-longer kept others writes k j e (omega (arith, less.1)))
-          | inr same ↦ omega (arith, more.1, same.1)
-        ]
-      ]) (entries-one kept writes others j k)
+  pub writes-one : writes ≡ others
+  writes-one =
+      let count = count-one g given image kept _ _ (write-count g given image (session_of kept writes) j) (write-count g given image (session_of kept others) k) in
+      same-entries writes others (omega (arith, count)) entries-one
 
-  -- what one journal shows of a slot, the other shows
-  pub shows-one : (kept other : ImageRecord) (writes others : List Journaled) (slot : Slot) → IsJournal g device image kept writes → IsJournal g device image other others →
-      ShowEither other others slot → ShowEither kept writes slot
-  shows-one kept other writes others slot j k shows =
-      let same : kept ≡ other = (let e : Some kept ≡ Some other = sym (image-back kept j.limits) ∙ (ap read_image (sym j.recorded ∙ k.recorded) ∙ image-back other k.limits) in cc) in
-      let J : ImageRecord → Type 0 = λ r. IsJournal g device image r others in
-      let w : writes ≡ others = writes-one kept writes others j (subst J (sym same) k) in
-      let P : ImageRecord → List Journaled → Type 0 = λ r x. ShowEither r x slot in
-      subst (λ (r : ImageRecord). P r writes) (sym same) (subst (P other) (sym w) shows)
+-- what one journal shows of a slot, the other shows
+pub shows-one : (g : Geometry) (device : Device) (image : ℕ) (kept other : ImageRecord) (writes others : List Journaled) (slot : Slot) → IsJournal g device image kept writes →
+    IsJournal g device image other others → ShowEither other others slot → ShowEither kept writes slot
+shows-one g device image kept other writes others slot j k shows =
+    let same : kept ≡ other = (let e : Some kept ≡ Some other = sym j.fits.found ∙ k.fits.found in cc) in
+    let F : ImageRecord → Type 0 = λ r. FitsSession g (all_of device) image (session_of r others) in
+    let w : writes ≡ others = writes-one g (all_of device) image kept writes others j.fits (subst F (sym same) k.fits) in
+    let P : ImageRecord → List Journaled → Type 0 = λ r x. ShowEither r x slot in
+    subst (λ (r : ImageRecord). P r writes) (sym same) (subst (P other) (sym w) shows)

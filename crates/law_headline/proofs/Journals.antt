@@ -1,38 +1,42 @@
 -- What the record and the journal of an image hold, and what that shows of the image.
-use Rattle.std.proofs.Common.{◌≡◌, ℕ, ◌+◌, ◌≤◌, ◌<◌, ◌⊎◌, List, [], length, Some, true, false}
-use Rattle.std.specs.Prelude.{slice_get}
+use Rattle.std.proofs.Common.{◌≡◌, ℕ, ◌+◌, ◌≤◌, ◌<◌, ◌⊎◌, List, [], length, Some}
 use Rattle.plx_base.specs.Blocks.{zeros}
 use Rattle.plx_base.specs.Sectors.{Device}
 use Rattle.plx_commands.specs.Images.{Image}
 use Rattle.plx_commands.specs.Model.{Slot}
-use Rattle.plx_gate.specs.Descriptors.{descriptor_bytes, IsDescriptor}
-use Rattle.plx_gate.specs.Images.{image_bytes, IsImage, label_of}
+use Rattle.plx_gate.specs.Descriptors.{descriptor_bytes, read_descriptor, IsDescriptor}
+use Rattle.plx_gate.specs.Images.{label_of}
 use Rattle.plx_gate.specs.declared.descriptor.Descriptor.{Descriptor}
 use Rattle.plx_gate.specs.declared.image.ImageRecord.{ImageRecord}
 use Rattle.plx_geom.specs.Geometry.{Geometry, record_at, descriptor_at, data_at}
 use Rattle.plx_rules.specs.Journaled.{Journaled}
-use Rattle.plx_rules.specs.Journal.{Unused, finding, descriptor_of}
-use Rattle.plx_rules.specs.Records.{is_live, is_plain, generation_of, size_of, applied_of}
-use Rattle.plx_rules.specs.Session.{latest}
+use Rattle.plx_rules.specs.Journal.{journal_slot}
+use Rattle.plx_rules.specs.Records.{is_live, generation_of, size_of, applied_of}
+use Rattle.plx_rules.specs.Session.{Session, latest, write_count}
+use Rattle.plx_rules.specs.Stored.{all_of}
+use Rattle.law_run.proofs.Inside.{IsSound}
+use Rattle.law_run.proofs.Right.{FitsSession}
 
 -- bytes are zeros, or a descriptor of a generation up to this one
 abbrev pub IsOld : ImageRecord → List ℕ → Type 0
 IsOld kept bytes = (bytes ≡ zeros) ⊎ ((d : Descriptor) × (bytes ≡ descriptor_bytes d) × IsDescriptor d × (d.generation ≤ generation_of kept))
 
--- the image's record is this one, and its journal holds these writes, one a slot from slot 0 on; no other slot has an unapplied descriptor, and none is of a later generation
+-- the session of this record and these writes
+abbrev pub session_of : ImageRecord → List Journaled → Session
+session_of kept writes = record { image = kept; writes = writes }
+
+-- the journal slot in which a write stands, and that of the next one
+abbrev pub slot_of : Geometry → Journaled → ℕ
+slot_of g write = journal_slot g.slots write.number
+
+abbrev pub next_slot : Geometry → ImageRecord → List Journaled → ℕ
+next_slot g kept writes = journal_slot g.slots (write_count (session_of kept writes) + 1)
+
+-- an image's record and journal on a device are those of a session; what its slots hold is within the format, and of no later generation
 pub record IsJournal (g : Geometry) (device : Device) (image : ℕ) (kept : ImageRecord) (writes : List Journaled) : Type 0 where
-  pub recorded : device (record_at g image) ≡ image_bytes kept
-  pub limits : IsImage kept
-  pub plain : is_plain kept ≡ true
-  pub unapplied : applied_of kept ≡ 0
-  pub free : is_live kept ≡ false → writes ≡ []
-  pub fits : length writes ≤ g.slots
-  pub numbers : (k : ℕ) (write : Journaled) → slice_get writes k ≡ Some write → write.number ≡ k + 1
-  pub within : (k : ℕ) (write : Journaled) → slice_get writes k ≡ Some write → write.vblock < size_of kept
-  pub commits : (k : ℕ) (write : Journaled) → slice_get writes k ≡ Some write → device (descriptor_at g image k) ≡ descriptor_bytes (descriptor_of kept write)
-  pub blocks : (k : ℕ) (write : Journaled) → slice_get writes k ≡ Some write → device (data_at g image k) ≡ write.block
-  pub rest : (k : ℕ) → length writes ≤ k → k < g.slots → finding kept g.slots k (device (descriptor_at g image k)) ≡ Unused
-  pub old : (k : ℕ) → k < g.slots → IsOld kept (device (descriptor_at g image k))
+  pub fits : FitsSession g (all_of device) image (session_of kept writes)
+  pub sound : (slot : ℕ) → slot < g.slots → IsSound kept g.slots slot (read_descriptor (device (descriptor_at g image slot)))
+  pub old : (slot : ℕ) → slot < g.slots → IsOld kept (device (descriptor_at g image slot))
 
 -- an image is what this record and these writes show
 pub record IsShown (kept : ImageRecord) (writes : List Journaled) (i : Image) : Type 0 where

@@ -23,6 +23,7 @@ pub mod ImageWrites
 pub mod JournalFacts
 pub mod JournalOne
 pub mod Journals
+pub mod Loaded
 pub mod MapFacts
 pub mod PlacedByKind
 pub mod StoredFacts

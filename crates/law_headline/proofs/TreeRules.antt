@@ -51,7 +51,8 @@ use Rattle.law_tree.proofs.Treed.{Treed, IsFree, hand_while}
 use Rattle.law_headline.proofs.Content.{KeepsContent}
 use Rattle.law_headline.proofs.ContentWrites.{new-keeps}
 use Rattle.law_headline.proofs.HeadlineProved.{reached-content}
-use Rattle.law_headline.proofs.StoredFacts.{plain-root, plain-taken}
+use Rattle.law_headline.proofs.JournalFacts.{recorded}
+use Rattle.law_run.proofs.Facts.{plain-parts}
 
 -- the record of an image without tree and snapshots makes holes of its roots
 hole-live : (kept : ImageRecord) → root_of kept ≡ 0 → live_root (Some kept) ≡ Hole
@@ -102,15 +103,16 @@ module _ (names : ℕ → ℕ → Type 0) (w : World) (reached : Reached w) (con
         let keeps = new-keeps w content a below known command kind.Record block bytes guard done fault missed here none placed.0 placed.1 (inl placed.2) under (inr (holds'.0, holds'.1, grips')) in
         let slot = keeps.1 all_sectors refl in
         let whole : with_landed_sectors all_sectors bytes (d block) ≡ bytes = mixed-all 8 bytes (d block) (long kind.Record here) (leased.long block) in
+        let was = recorded g _ placed.0 slot.kept slot.writes slot.journal in
         let spelled : bytes ≡ image_bytes slot.kept =
-        sym whole ∙ (sym (put-same d block (with_landed_sectors all_sectors bytes (d block))) ∙ (ap (put d block (with_landed_sectors all_sectors bytes (d block))) placed.2 ∙ slot.journal.recorded)) in
-        let found : read_image bytes ≡ Some slot.kept = ap read_image spelled ∙ image-back slot.kept slot.journal.limits in
+        sym whole ∙ (sym (put-same d block (with_landed_sectors all_sectors bytes (d block))) ∙ (ap (put d block (with_landed_sectors all_sectors bytes (d block))) placed.2 ∙ was.1)) in
+        let found : read_image bytes ≡ Some slot.kept = ap read_image spelled ∙ image-back slot.kept was.0 in
         record {
           home = home;
           is_home = is;
           on = record { image = placed.0; within = placed.1; lease = its; place = placed.2; only = keeps.0 };
-          moves = λ flag. clears (ap live_root found ∙ hole-live slot.kept (plain-root slot.kept slot.journal.plain))
-              (λ log k. ap (λ (r : Option ImageRecord). entry_root r log k) found ∙ hole-entry slot.kept log k (plain-taken slot.kept slot.journal.plain));
+          moves = λ flag. clears (ap live_root found ∙ hole-live slot.kept (plain-parts slot.kept slot.journal.fits.plain).1)
+              (λ log k. ap (λ (r : Option ImageRecord). entry_root r log k) found ∙ hole-entry slot.kept log k (plain-parts slot.kept slot.journal.fits.plain).0);
         }
 
     -- what is in hand is free
