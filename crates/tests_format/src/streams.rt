@@ -1,5 +1,4 @@
 //! Streams that are interrupted, give little, take nothing or fail.
-use crate::checks::{check, check_at};
 use plx_port::{ReadError, ReadSource, WriteSink, read_all, write_all};
 use std::alloc::Global;
 use std::io;
@@ -105,16 +104,11 @@ fn reads(
 
 #[test]
 fn a_reader_is_read_through_interrupts_and_after_a_fault(rt: HostRuntime) {
-    check(
-        &rt,
+    assert!(rt;
         reads(rt.alloc(), (INTERRUPTED, 4), (true, b"a")),
-        "interrupts",
+        "interrupts"
     );
-    check(
-        &rt,
-        reads(rt.alloc(), (LITTLE, 2), (false, b"aaaa")),
-        "little",
-    );
+    assert!(rt; reads(rt.alloc(), (LITTLE, 2), (false, b"aaaa")), "little");
 }
 
 const TAKING: &[Step] = &[
@@ -140,7 +134,7 @@ fn a_writer_is_given_what_it_has_not_taken(rt: HostRuntime) {
     let mut writer = doing(rt.alloc(), TAKING);
     let mut sink = WriteSink::new(&mut writer);
     for (case, &(bytes, is_taken)) in WRITES.iter().enumerate() {
-        check_at(&rt, write_all(&mut sink, bytes).is_ok() == is_taken, case);
+        assert!(rt; write_all(&mut sink, bytes).is_ok() == is_taken, "{case}");
     }
-    check(&rt, has_taken(&writer), "what is taken");
+    assert!(rt; has_taken(&writer), "what is taken");
 }

@@ -1,5 +1,4 @@
 //! Whole schedules of one appliance and their traces, written out by hand from the rules.
-use crate::lines::with_digits;
 use crate::program::{END, OPEN, REPLAY, Story, Streams, ends, plays, plays_each};
 use plx_cli::Status;
 use std::alloc::Global;
@@ -50,8 +49,11 @@ fn a_block_is_written_and_read_back(rt: HostRuntime) {
     let alloc = rt.alloc();
     first_plays(&rt, alloc, "", "all:5a");
     first_plays(&rt, alloc, "\n# an image of eight blocks\n", "all:5a");
-    let digits = with_digits(alloc, "hex:", ("5a", 4096), "").expect(&rt, "memory");
-    first_plays(&rt, alloc, "", digits.as_str());
+    let digits = "5a".repeat(alloc, 4096).expect(&rt, "memory");
+    let data = ["hex:", digits.as_str()]
+        .concat(alloc)
+        .expect(&rt, "memory");
+    first_plays(&rt, alloc, "", data.as_str());
 }
 
 const NOT_POSSIBLE: &str = "world 1 1 16 2 2

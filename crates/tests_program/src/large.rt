@@ -1,5 +1,4 @@
 //! One large schedule: a body that wants memory past a small size fails here.
-use crate::checks::check;
 use crate::program::{OPEN, tells};
 use std::alloc::AllocError;
 
@@ -75,6 +74,6 @@ fn push_story(story: &mut String) -> Result<(), AllocError> {
 fn a_full_journal_is_filled_over_crashes(rt: HostRuntime) {
     let mut story = String::new(rt.alloc());
     let is_large = push_story(&mut story).is_ok() && story.len() > 65_536;
-    check(&rt, is_large, "the story is as large as wanted");
+    assert!(rt; is_large, "the story is as large as wanted");
     tells(&rt, rt.alloc(), story.as_str(), 100);
 }

@@ -2,13 +2,13 @@
 ghost use Rattle.plx_rules.specs.Machines.{IsTimely};
 
 use crate::content::Content;
-use crate::geometry::SMALL;
 use plx_base::{ApplianceNo, Block, BlockNo, WriteKind};
 use plx_commands::{Entry, Reply};
 use plx_disk::{Answer, Ask};
 use plx_text::print_trace;
 use std::alloc::Global;
 use std::slice;
+use tests_format::SMALL;
 
 /// What asks, and is answered: a boot, or the work on a lease.
 pub(crate) trait Machine {

@@ -1,5 +1,4 @@
 //! Traces of several images and appliances, with the least rule that each entry breaks.
-use crate::checks::none_fails;
 use crate::entries::Asked::{
     Attach, Create, Delete, Detach, Flush, Read, Reclaim, Renew, Reserve, Retire, Write,
 };
@@ -573,10 +572,10 @@ const TRACES: &[Trace] = &[
 #[test]
 fn each_entry_of_a_trace_breaks_its_least_rule(rt: HostRuntime) {
     for &(name, images, appliances, steps) in TRACES {
-        none_fails(
-            &rt,
-            name,
+        assert_eq!(rt;
             first_wrong(rt.alloc(), images, appliances, steps),
+            None,
+            "{name}"
         );
     }
 }

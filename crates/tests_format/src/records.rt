@@ -2,7 +2,6 @@
 ghost use Rattle.plx_gate.specs.Entries.{IsEntry};
 ghost use Rattle.plx_gate.specs.Images.{IsImage};
 
-use crate::checks::{check, check_at};
 use plx_base::{BlockNo, Boot, Claim, Label, LeaseRecord, Ptr};
 use plx_gate::{
     Descriptor, ImageRecord, LiveRecord, LogEntry, read_descriptor, read_entry, read_image,
@@ -274,14 +273,14 @@ fn is_spelled(spelling: &Spelling) -> bool {
 #[test]
 fn each_record_is_written_and_read_as_spelled(rt: HostRuntime) {
     for (case, spelling) in SPELLINGS.iter().enumerate() {
-        check_at(&rt, is_spelled(spelling), case);
+        assert!(rt; is_spelled(spelling), "{case}");
     }
 }
 
 #[test]
 fn bytes_outside_the_format_are_refused(rt: HostRuntime) {
     for (case, &(record, change)) in CHANGES.iter().enumerate() {
-        check_at(&rt, is_refused(record, &with(record, change)), case);
+        assert!(rt; is_refused(record, &with(record, change)), "{case}");
     }
 }
 
@@ -301,6 +300,6 @@ fn are_empty(zeros: &[u8; 4096]) -> bool {
 
 #[test]
 fn zeros_are_an_empty_descriptor_and_an_entry(rt: HostRuntime) {
-    check(&rt, are_empty(&[0; 4096]), "zeros");
-    check(&rt, read_entry(&[7; 4096], 126).is_none(), "sevens");
+    assert!(rt; are_empty(&[0; 4096]), "zeros");
+    assert!(rt; read_entry(&[7; 4096], 126).is_none(), "sevens");
 }

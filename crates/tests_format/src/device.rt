@@ -1,5 +1,4 @@
 //! A device on which sectors land out of order, late or not at all.
-use crate::checks::none_fails;
 use plx_base::{Block, BlockNo, Boot, WriteKind};
 use plx_disk::Disk;
 use std::alloc::Global;
@@ -167,6 +166,6 @@ const TABLES: &[(&str, &[Deed])] = &[
 #[test]
 fn sectors_land_in_any_order_and_once_and_neither_late_nor_cancelled(rt: HostRuntime) {
     for &(name, deeds) in TABLES {
-        none_fails(&rt, name, first_wrong(rt.alloc(), deeds));
+        assert_eq!(rt; first_wrong(rt.alloc(), deeds), None, "{name}");
     }
 }

@@ -1,5 +1,5 @@
 //! Traces whose text is written out by hand, line by line.
-use crate::checks::check;
+use crate::devices::{GREATEST, SMALL};
 use crate::entries::Asked::{Attach, Create, Delete, Detach, Read, Renew, Write};
 use crate::entries::Lease::{Extent, Image, Root};
 use crate::entries::Line::{Crash, Reply as Answer, Start};
@@ -10,7 +10,6 @@ use crate::entries::Told::{
     NoImage, NotAttached, OutOfRange, ReadFault, Renewed, Snapshots, WornOut, WriteFault, Written,
 };
 use crate::entries::{Line, entry};
-use crate::geometry::{GREATEST, SMALL};
 use crate::lines::with_digits;
 use plx_base::{ApplianceNo, Block, NoMemory, Payload};
 use plx_commands::{Entries, Entry, Reply};
@@ -140,7 +139,7 @@ fn prints(
 ) {
     let entries = entries(alloc, lines).expect(rt, "memory");
     let is_printed = is_printed(alloc, world, entries.as_slice(), counts, spelled);
-    check(rt, is_printed, spelled);
+    assert!(rt; is_printed, "{spelled}");
 }
 
 #[test]
@@ -188,6 +187,6 @@ fn two_bytes_are_read(alloc: Global) -> bool {
 
 #[test]
 fn a_block_is_spelled_by_one_byte_or_by_all(rt: HostRuntime) {
-    check(&rt, is_read(rt.alloc(), (0xff, 0xff), EQUAL), "one byte");
-    check(&rt, two_bytes_are_read(rt.alloc()), "two bytes");
+    assert!(rt; is_read(rt.alloc(), (0xff, 0xff), EQUAL), "one byte");
+    assert!(rt; two_bytes_are_read(rt.alloc()), "two bytes");
 }

@@ -1,5 +1,4 @@
 //! Blocks and payloads that get their memory.
-use crate::checks::check;
 use plx_base::{Block, NoMemory, Payload};
 use std::alloc::Global;
 
@@ -26,9 +25,9 @@ fn is_landed(alloc: Global, block: &Block) -> bool {
 #[test]
 fn a_block_of_one_byte_is_told_by_it_and_another_by_all(rt: HostRuntime) {
     let ones = Block::filled(rt.alloc(), 1).expect(&rt, "memory");
-    check(&rt, is_one(rt.alloc(), &ones), "one byte");
+    assert!(rt; is_one(rt.alloc(), &ones), "one byte");
     let mut block = Block::zeros(rt.alloc()).expect(&rt, "memory");
     block.land(7, &ones);
     let landed = block.copy(rt.alloc()).expect(&rt, "memory");
-    check(&rt, is_landed(rt.alloc(), &landed), "all bytes");
+    assert!(rt; is_landed(rt.alloc(), &landed), "all bytes");
 }

@@ -1,7 +1,7 @@
 //! Geometries, their places and their superblocks, worked out by hand.
 ghost use Rattle.plx_geom.specs.Geometry.{IsGeometry};
 
-use crate::checks::{check, check_at};
+use crate::devices::SMALL;
 use plx_base::{Block, BlockNo, ExtentNo, NoMemory, SlotNo};
 use plx_geom::{Geometry, GeometryError, Place, read_superblock, write_superblock};
 use std::alloc::Global;
@@ -37,25 +37,9 @@ fn out_of_limits(numbers: [u32; 4]) -> Option<(u8, u32)> {
 #[test]
 fn a_field_out_of_its_limits_is_named(rt: HostRuntime) {
     for (case, &(numbers, named)) in LIMITS.iter().enumerate() {
-        check_at(&rt, out_of_limits(numbers) == named, case);
+        assert!(rt; out_of_limits(numbers) == named, "{case}");
     }
 }
-
-/// The smallest device.
-pub(crate) const SMALL: Geometry = Geometry {
-    images: 1,
-    extents: 1,
-    extent_blocks: 16,
-    slots: 2,
-};
-
-/// The greatest device.
-pub(crate) const GREATEST: Geometry = Geometry {
-    images: 256,
-    extents: 512,
-    extent_blocks: 32_768,
-    slots: 64,
-};
 
 /// A device of two images.
 const TWO: Geometry = Geometry {
@@ -114,13 +98,13 @@ fn are_placed(rt: &impl Abort, geometry: &Geometry, cases: &[(u64, Option<Place>
     requires { IsGeometry geometry.now }
 {
     for &(block, place) in cases {
-        check_at(rt, is_placed(geometry, block, place), block as usize);
+        assert!(rt; is_placed(geometry, block, place), "{block}");
     }
 }
 
 #[test]
 fn each_block_has_its_place(rt: HostRuntime) {
-    check(&rt, SMALL.blocks() == 26 && TWO.blocks() == 170, "blocks");
+    assert!(rt; SMALL.blocks() == 26 && TWO.blocks() == 170, "blocks");
     are_placed(&rt, &SMALL, PLACES);
     are_placed(&rt, &TWO, PLACES_OF_TWO);
 }
@@ -174,9 +158,9 @@ const CHANGES: &[(usize, u8)] = &[
 #[test]
 fn a_superblock_is_spelled_by_hand_and_damaged_by_other_bytes(rt: HostRuntime) {
     let spelled = changed(rt.alloc(), 0, b'P').expect(&rt, "memory");
-    check(&rt, is_spelled(rt.alloc(), &spelled), "written and read");
+    assert!(rt; is_spelled(rt.alloc(), &spelled), "written and read");
     for &(place, byte) in CHANGES {
         let block = changed(rt.alloc(), place, byte).expect(&rt, "memory");
-        check_at(&rt, is_damaged(&block), place);
+        assert!(rt; is_damaged(&block), "{place}");
     }
 }

@@ -1,5 +1,4 @@
 //! Maps of extents whose bytes are written out by hand.
-use crate::checks::{check, check_at};
 use plx_extent::ExtentMap;
 
 /// The block of a map of which bit 0 is the map's own, and blocks 1 to 8 and those of a second byte
@@ -34,9 +33,9 @@ fn takes(found: &mut ExtentMap, block: u32, count: u32, second: u8) -> bool {
 #[test]
 fn fresh_blocks_are_taken_in_order(rt: HostRuntime) {
     let mut found = ExtentMap::read(&map(0x05), 16).expect(&rt, "a map");
-    check(&rt, found.count() == 9, "nine blocks are taken");
+    assert!(rt; found.count() == 9, "nine blocks are taken");
     for &(block, count, second) in TAKEN {
-        check_at(&rt, takes(&mut found, block, count, second), block as usize);
+        assert!(rt; takes(&mut found, block, count, second), "{block}");
     }
 }
 
@@ -122,11 +121,7 @@ fn has_holes(case: &Holes) -> bool {
 #[test]
 fn the_first_hole_of_a_map_is_found_and_filled(rt: HostRuntime) {
     for (number, case) in HOLES.iter().enumerate() {
-        check_at(&rt, has_holes(case), number);
+        assert!(rt; has_holes(case), "{number}");
     }
-    check(
-        &rt,
-        ExtentMap::read(&[1; 4095], 32_768).is_none(),
-        "no block",
-    );
+    assert!(rt; ExtentMap::read(&[1; 4095], 32_768).is_none(), "no block");
 }

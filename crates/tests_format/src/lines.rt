@@ -1,6 +1,5 @@
 //! Schedules that are read, line by line, and lines that are refused.
-use crate::checks::{check, check_at};
-use crate::geometry::GREATEST;
+use crate::devices::GREATEST;
 use plx_base::{NoMemory, Payload};
 use plx_commands::{Command, Event};
 use plx_text::{Schedule, TextError, read_schedule};
@@ -27,7 +26,7 @@ fn is_case(alloc: Global, case: &str) -> bool {
 /// is none, a colon, and the text.
 fn are_read(rt: &impl Abort, alloc: Global, cases: &str) {
     for case in cases.split_terminator('|') {
-        check(rt, is_case(alloc, case), case);
+        assert!(rt; is_case(alloc, case), "{case}");
     }
 }
 
@@ -195,11 +194,7 @@ fn texts_are_read_or_refused_at_their_first_bad_line(rt: HostRuntime) {
     for cases in CASES {
         are_read(&rt, rt.alloc(), cases);
     }
-    check(
-        &rt,
-        is_first_bad(rt.alloc(), NO_CHARACTER, 3),
-        "no character",
-    );
+    assert!(rt; is_first_bad(rt.alloc(), NO_CHARACTER, 3), "no character");
 }
 
 /// Each kind of line, 33 of them events, with numbers at their limits.
@@ -255,7 +250,7 @@ fn each_is_read(alloc: Global) -> bool {
 
 #[test]
 fn each_line_of_a_schedule_is_read(rt: HostRuntime) {
-    check(&rt, each_is_read(rt.alloc()), "each line");
+    assert!(rt; each_is_read(rt.alloc()), "each line");
 }
 
 /// A text of two parts with so many digits between them.
@@ -308,8 +303,8 @@ fn is_read(alloc: Global, end: &str, last: u8) -> bool {
 
 #[test]
 fn a_block_of_digits_is_read(rt: HostRuntime) {
-    check(&rt, is_read(rt.alloc(), "55\n", 0x55), "55");
-    check(&rt, is_read(rt.alloc(), "0f\n", 0x0f), "0f");
+    assert!(rt; is_read(rt.alloc(), "55\n", 0x55), "55");
+    assert!(rt; is_read(rt.alloc(), "0f\n", 0x0f), "0f");
 }
 
 /// Texts whose third line is a write of a name, so many digits, and a last one.
@@ -349,7 +344,7 @@ fn is_refused(alloc: Global, start: &str, times: usize, end: &str) -> bool {
 #[test]
 fn a_block_of_other_digits_is_refused(rt: HostRuntime) {
     for (case, &(start, times, end)) in DATA.iter().enumerate() {
-        check_at(&rt, is_refused(rt.alloc(), start, times, end), case);
+        assert!(rt; is_refused(rt.alloc(), start, times, end), "{case}");
     }
 }
 
@@ -373,6 +368,6 @@ fn are_named(words: &mut Words) -> bool {
 #[test]
 fn words_are_read_by_name(rt: HostRuntime) {
     let mut words = Words::of(b"size=8 gen=4294967296 label=disk-1 label=- label=");
-    check(&rt, are_named(&mut words), "names");
-    check(&rt, words.end().is_some(), "the end");
+    assert!(rt; are_named(&mut words), "names");
+    assert!(rt; words.end().is_some(), "the end");
 }

@@ -3,10 +3,8 @@
 ghost use Rattle.std.specs.Prelude.{IfOk};
 ghost use Rattle.plx_rules.specs.Commands.{IsBuilt, IsWellFormed};
 
-use crate::checks::none_fails;
 use crate::content::Content;
 use crate::content::Content::{FreeLease, Lease};
-use crate::geometry::SMALL;
 use crate::machine::Asked::Attach;
 use crate::machine::Step::{Begins, Bytes, Clock, Done, Ends, Gets, Until};
 use crate::machine::{Asked, Machine, Outcome, Step, Trouble, first_wrong};
@@ -16,6 +14,7 @@ use plx_commands::{Command, Reply};
 use plx_disk::{Answer, Ask};
 use std::alloc::Global;
 use std::process::Abort;
+use tests_format::SMALL;
 
 /// An attach has claimed the lease, as the boot's first claim, at 1,000 ms, and holds it up to
 /// 11,000 ms. It reads the record next.
@@ -125,7 +124,7 @@ pub(crate) fn play(
     let setting = Setting::new(SMALL, ApplianceNo(0), Boot(7));
     let mut appliance = Appliance::fresh(alloc, setting).expect(rt, "memory");
     let wrong = first_wrong_step(alloc, &mut appliance, before, found, after);
-    none_fails(rt, name, wrong);
+    assert_eq!(rt; wrong, None, "{name}");
     end(appliance);
 }
 

@@ -1,7 +1,6 @@
 //! Leases that are claimed, renewed and released by hand, with their records written out.
 ghost use Rattle.std.specs.Prelude.{◌≡◌, ◌<◌, ◌^◌, IfSome};
 
-use crate::checks::{check, none_fails};
 use crate::content::Content;
 use crate::content::Content::{FreeBut, FreeLease, Lease, LeaseBut, Zeros};
 use crate::machine::Outcome::{Stands, Told};
@@ -98,7 +97,11 @@ fn claims(
         None => None,
     };
     let before = FIVE.get(..at).unwrap_or(FIVE);
-    none_fails(rt, name, first_wrong_step(alloc, others, before, steps));
+    assert_eq!(rt;
+        first_wrong_step(alloc, others, before, steps),
+        None,
+        "{name}"
+    );
 }
 
 /// The first step that isn't as it should be, of those before or else of those that follow.
@@ -351,7 +354,7 @@ fn is_claimed(alloc: Global) -> bool {
 
 #[test]
 fn a_free_lease_is_claimed_in_five_steps(rt: HostRuntime) {
-    check(&rt, is_claimed(rt.alloc()), "five steps");
+    assert!(rt; is_claimed(rt.alloc()), "five steps");
 }
 
 /// Whether the lease is held by that claim up to this moment.
@@ -375,9 +378,9 @@ const LONGER: LeaseRecord = LeaseRecord::Claimed {
 fn a_claim_is_confirmed_by_its_own_record_before_its_end(rt: HostRuntime) {
     let late = Some(Unconfirmed::TooLate { now: 15_000 });
     let longer = Some(Unconfirmed::NotMine { seen: LONGER });
-    check(&rt, refusal(&RECORD, 14_999).is_none(), "its own record");
-    check(&rt, refusal(&LONGER, 15_000) == late, "at its end");
-    check(&rt, refusal(&LONGER, 14_999) == longer, "another record");
+    assert!(rt; refusal(&RECORD, 14_999).is_none(), "its own record");
+    assert!(rt; refusal(&LONGER, 15_000) == late, "at its end");
+    assert!(rt; refusal(&LONGER, 14_999) == longer, "another record");
 }
 
 /// Why that claim isn't confirmed by this record after this reading.
@@ -447,8 +450,8 @@ fn is_released(alloc: Global, lease: Held<Image>, until: u64) -> bool {
 
 #[test]
 fn a_held_lease_is_renewed_and_released(rt: HostRuntime) {
-    check(&rt, is_renewed(rt.alloc(), 4_999, 15_000), "held no longer");
-    check(&rt, is_renewed(rt.alloc(), 9_000, 19_000), "held longer");
+    assert!(rt; is_renewed(rt.alloc(), 4_999, 15_000), "held no longer");
+    assert!(rt; is_renewed(rt.alloc(), 9_000, 19_000), "held longer");
 }
 
 /// Whether the lease of an image is held in its slot alone, until it is taken out.
@@ -469,7 +472,7 @@ fn is_kept(alloc: Global) -> bool {
 
 #[test]
 fn held_leases_are_kept_by_slot(rt: HostRuntime) {
-    check(&rt, is_kept(rt.alloc()), "slots");
+    assert!(rt; is_kept(rt.alloc()), "slots");
 }
 
 /// Whether the lease is taken out, and grants what a claim's does.

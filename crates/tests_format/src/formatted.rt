@@ -1,5 +1,4 @@
 //! A device just formatted, whose blocks are written out by hand.
-use crate::checks::{check, check_at};
 use plx_base::{BlockNo, are_all};
 use plx_disk::Disk;
 use plx_format::formatted_disk;
@@ -45,8 +44,8 @@ fn is_fresh(disk: &Disk) -> bool {
 #[test]
 fn each_block_of_a_formatted_device_is_spelled_by_hand(rt: HostRuntime) {
     let disk = formatted_disk(rt.alloc(), &GEOMETRY, 1_000).expect(&rt, "memory");
-    check(&rt, is_fresh(&disk), "the device");
+    assert!(rt; is_fresh(&disk), "the device");
     for number in 0..50 {
-        check_at(&rt, is_spelled(&disk, number), number as usize);
+        assert!(rt; is_spelled(&disk, number), "{number}");
     }
 }

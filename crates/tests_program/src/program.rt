@@ -1,5 +1,4 @@
 //! A run of the top call in memory, and schedules with the traces that they are to give.
-use crate::checks::check;
 use plx_cli::{MemSink, MemSource, Status, run};
 use std::alloc::{AllocError, Global};
 use std::process::Abort;
@@ -20,13 +19,13 @@ impl Outcome {
     /// The run ended so, and wrote this.
     fn is(&self, rt: &impl Abort, status: Status, written: &str) {
         let found = self.written();
-        check(rt, self.status == status && found == written, found);
+        assert!(rt; self.status == status && found == written, "{found}");
     }
 
     /// The run is done, and wrote the lines of a trace that the story has.
     fn is_told(&self, rt: &impl Abort, story: &str) {
         let is_told = self.status == Status::Done && is_trace(self.sink.held(), story);
-        check(rt, is_told, self.written());
+        assert!(rt; is_told, "{}", self.written());
     }
 }
 
