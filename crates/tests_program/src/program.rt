@@ -60,7 +60,7 @@ impl<'a> Streams<'a> {
 
     fn sink(&self, alloc: Global) -> Result<MemSink, AllocError> {
         let failed = Vec::from_slice(alloc, self.failed_writes)?;
-        MemSink::new(alloc, self.takes.max(1), 1 << 20, failed)
+        MemSink::new(alloc, self.takes.max(1), 1 << 24, failed)
     }
 }
 
