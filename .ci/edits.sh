@@ -2,7 +2,8 @@
 # The must-fail edits of edits/NAME/: wrong programs of the crate NAME, each of which the prover has to refuse.
 #   edits.sh [NAME..]   tries those of all crates, or of these, on a copy of the repository, over what the gate has proved on this
 #                       machine. Where all of a crate's are refused, edits/NAME/refused becomes the sum of the files that they were
-#                       tried on. One that is refused only because a proof file names what the edit took away doesn't count.
+#                       tried on. An edit is refused where a clause or an obligation isn't proved. Where a proof file only names what
+#                       is gone, or can't be read, it is not tried: that says nothing of the contract.
 #   edits.sh --tried    looks whether each edit can be applied, and whether each crate's were refused on the files as they stand:
 #                       no file of the crate, of a crate below it or of its edits has changed since.
 # Ends with 1 where one isn't so.
@@ -53,6 +54,23 @@ sum_of() {
     } | sha256sum | cut -d' ' -f1
 }
 
+# What is told first of an edit where a clause or an obligation isn't proved: that it isn't, or that the answer to a goal or the
+# proof of a lemma, named in front, isn't one.
+unproved='note: [^ ]+: it is not proved that |[^ ]+\.antt:[0-9]+:[0-9]+: error: `[^`]+`: ('
+unproved+='expected type|as printed, the two types|`(omega|grind|search|simp|refl)`)'
+
+# is_refused NAME/EDIT: it was told of the edit that a clause or an obligation isn't proved. Says what was told where it wasn't.
+is_refused() {
+    local told
+    told=$(grep -F "must-fail $1: " "$room/told" | tail -n 1)
+    told=${told#*"must-fail $1: "}
+    if grep -qE "^refused, as it must be: ($unproved)" <<< "$told"; then
+        return 0
+    fi
+    echo "edits.sh: $1: not tried: ${told:-nothing was told}" >&2
+    return 1
+}
+
 if [ "${1-}" = --tried ]; then
     failures=0
     for edit in edits/*/*.edit; do
@@ -82,11 +100,13 @@ done
 (cd "$room" && rt ci "${names[@]}") 2>&1 | tee "$room/told"
 failures=0
 for name in "${names[@]}"; do
-    refused=$(grep "must-fail $name/[A-Za-z0-9_]*\.edit: refused, as it must be" "$room/told" | grep -vc "only because a proof file names")
-    if [ "$refused" -eq "$(ls "edits/$name"/*.edit | wc -l)" ]; then
+    untried=0
+    for edit in edits/"$name"/*.edit; do
+        is_refused "$name/$(basename "$edit")" || untried=$((untried + 1))
+    done
+    if [ "$untried" -eq 0 ]; then
         (cd "$room" && sum_of "$name") > "edits/$name/refused"
     else
-        echo "edits.sh: not all edits of $name are refused" >&2
         failures=1
     fi
 done
