@@ -9,4 +9,5 @@ little (suc width) number = number % 256 ∷ little width (number / 256)
 -- the number of that width which stands at that place of the bytes
 unfoldable pub number_at : (width place : ℕ) → List ℕ → ℕ
 number_at zero place bytes = 0
-number_at (suc width) place bytes = slice_index bytes place + 256 * number_at width (suc place) bytes
+number_at (suc width) place bytes =
+    slice_index bytes place + 256 * number_at width (suc place) bytes

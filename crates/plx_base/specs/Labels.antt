@@ -15,4 +15,5 @@ pub record IsLabel (bytes : List ℕ) : Type 0 where
 
 -- bytes are a label, tested
 abbrev pub is_label : List ℕ → Bool
-is_label bytes = nat_le (length bytes) 32 && (list_all is_label_byte bytes && not (bytes_eq bytes (45 ∷ [])))
+is_label bytes =
+    nat_le (length bytes) 32 && (list_all is_label_byte bytes && not (bytes_eq bytes (45 ∷ [])))

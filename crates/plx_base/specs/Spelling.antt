@@ -1,5 +1,7 @@
--- Records as blocks: bytes that tell the kind, fields one after another, some last bytes, and zeros.
-use Rattle.std.specs.Prelude.{◌≡◌, ◌≢◌, ◌+◌, ◌-◌, ℕ, List, [], ◌∷◌, ◌++◌, length, replicate, Bool, ◌&&◌, Option, Some, None, if◌then◌else◌}
+-- Records as blocks: bytes that tell the kind,
+-- fields one after another, some last bytes, and zeros.
+use Rattle.std.specs.Prelude.{◌≡◌, ◌≢◌, ◌+◌, ◌-◌, ℕ, List, [], ◌∷◌, ◌++◌, length, replicate, Bool}
+use Rattle.std.specs.Prelude.{◌&&◌, Option, Some, None, if◌then◌else◌}
 use Rattle.std.specs.Str.{bytes_eq}
 use Rattle.plx_base.specs.Fields.{little, number_at}
 use Rattle.plx_base.specs.Sectors.{with_landed_sector}
@@ -37,7 +39,9 @@ fields_bytes (field ∷ fields) = little (width_of field) (field_number field) +
 -- the fields of these kinds that stand one after another from that place on
 abbrev pub fields_at : (kinds : List Field) (place : ℕ) → List ℕ → List Field
 fields_at [] place bytes = []
-fields_at (field ∷ fields) place bytes = with_number field (number_at (width_of field) place bytes) ∷ fields_at fields (place + width_of field) bytes
+fields_at (field ∷ fields) place bytes =
+    with_number field (number_at (width_of field) place bytes)
+    ∷ fields_at fields (place + width_of field) bytes
 
 -- these bytes, and zeros up to the end of a block
 unfoldable pub padded_bytes : List ℕ → List ℕ
@@ -51,16 +55,22 @@ head_of magic fields last = magic ++ (fields_bytes fields ++ last)
 unfoldable pub block_of_fields : (magic : List ℕ) (fields : List Field) (last : List ℕ) → List ℕ
 block_of_fields magic fields last = padded_bytes (head_of magic fields last)
 
--- what bytes say, by what was found at its places: that, where it is within its limits and is spelled by these bytes, else nothing
-abbrev pub read_by : {A : Type 0} → (is_within : A → Bool) → (spelling : A → List ℕ) → (found : A) → List ℕ → Option A
-read_by is_within spelling found bytes = if is_within found && bytes_eq bytes (spelling found) then Some found else None
+-- what bytes say, by what was found at its places: that,
+-- where it is within its limits and is spelled by these bytes, else nothing
+abbrev pub read_by : {A : Type 0} → (is_within : A → Bool) →
+    (spelling : A → List ℕ) → (found : A) → List ℕ → Option A
+read_by is_within spelling found bytes =
+    if is_within found && bytes_eq bytes (spelling found) then Some found else None
 
--- a reading is exact: it gives a value exactly where that is within its limits and spelled by the bytes
-abbrev pub IsReading : {A : Type 0} → (Is : A → Type 0) → (spelling : A → List ℕ) → List ℕ → Option A → Type 0
+-- a reading is exact: it gives a value exactly where
+-- that is within its limits and spelled by the bytes
+abbrev pub IsReading : {A : Type 0} → (Is : A → Type 0) →
+    (spelling : A → List ℕ) → List ℕ → Option A → Type 0
 IsReading Is spelling bytes (Some a) = Is a × (bytes ≡ spelling a)
 IsReading Is spelling bytes None = (a : _) → Is a → bytes ≢ spelling a
 
--- one sector tells all: where it lands the block is the new one, and no other sector changes the old one
+-- one sector tells all: where it lands the block is
+-- the new one, and no other sector changes the old one
 pub record OnlySector (sector : ℕ) (new old : List ℕ) : Type 0 where
   pub own : with_landed_sector sector new old ≡ new
   pub others : (other : ℕ) → other ≢ sector → with_landed_sector other new old ≡ old

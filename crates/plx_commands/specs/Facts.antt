@@ -1,14 +1,19 @@
 -- The refusals of a command whose fact holds, by sessions and by the model's images.
-use Rattle.std.specs.Prelude.{◌≡◌, ℕ, List, [], ◌∷◌, ◌++◌, Bool, true, false, ◌&&◌, ◌⊎◌, nat_lt, nat_le, not}
+use Rattle.std.specs.Prelude.{◌≡◌, ℕ, List, [], ◌∷◌, ◌++◌, Bool, true, false, ◌&&◌, ◌⊎◌, nat_lt}
+use Rattle.std.specs.Prelude.{nat_le, not}
 use Rattle.plx_commands.specs.Images.{Image}
 use Rattle.plx_commands.specs.Limits.{last_generation, last_write, last_claim, greatest_size}
 use Rattle.plx_commands.specs.Model.{Model, has_all}
 use Rattle.plx_commands.specs.Replies.{may_claim}
 use Rattle.plx_commands.specs.Slots.{named_slots}
 use Rattle.plx_commands.specs.declared.command.Command.{Command}
-use Rattle.plx_commands.specs.declared.command.Command.TheVariants.{Attach, Detach, Create, Delete, Read, Write, Flush, Reserve, Renew, Retire, Reclaim}
+use Rattle.plx_commands.specs.declared.command.Command.TheVariants.{Attach, Detach, Create, Delete}
+use Rattle.plx_commands.specs.declared.command.Command.TheVariants.{Read, Write, Flush, Reserve}
+use Rattle.plx_commands.specs.declared.command.Command.TheVariants.{Renew, Retire, Reclaim}
 use Rattle.plx_commands.specs.declared.reply.Reply.{Reply}
-use Rattle.plx_commands.specs.declared.reply.Reply.TheVariants.{NotAttached, AlreadyAttached, NoImage, Exists, OutOfRange, WornOut}
+use Rattle.plx_commands.specs.declared.reply.Reply.TheVariants.{NotAttached, AlreadyAttached}
+use Rattle.plx_commands.specs.declared.reply.Reply.TheVariants.{NoImage, Exists, OutOfRange}
+use Rattle.plx_commands.specs.declared.reply.Reply.TheVariants.{WornOut}
 
 -- the refusal, where its fact holds
 abbrev pub where_holds : Bool → Reply → List Reply
@@ -41,7 +46,8 @@ of_size size = where_holds (not (is_size size)) (OutOfRange greatest_size)
 
 -- no further image can be made in the slot
 abbrev pub of_generation : Image → List Reply
-of_generation image = where_holds (is_worn last_generation image.generation) (WornOut last_generation)
+of_generation image =
+    where_holds (is_worn last_generation image.generation) (WornOut last_generation)
 
 -- the image can't be written again
 abbrev pub of_writes : Image → List Reply
@@ -65,10 +71,12 @@ of_slot m slot refusals = where_is (nat_lt slot m.images) (refusals (m.slots slo
 abbrev pub of_images : Model → Command → List Reply
 of_images m (Attach slot) = where_holds (nat_le m.images slot.0) NoImage
 of_images m (Detach slot) = []
-of_images m (Create slot size label) = of_slot m slot.0 (λ image. of_some image ++ (of_size size ++ of_generation image))
+of_images m (Create slot size label) =
+    of_slot m slot.0 (λ image. of_some image ++ (of_size size ++ of_generation image))
 of_images m (Delete slot) = of_slot m slot.0 of_none
 of_images m (Read slot vblock) = of_slot m slot.0 (λ image. of_none image ++ of_block image vblock)
-of_images m (Write slot vblock payload) = of_slot m slot.0 (λ image. of_none image ++ (of_block image vblock ++ of_writes image))
+of_images m (Write slot vblock payload) =
+    of_slot m slot.0 (λ image. of_none image ++ (of_block image vblock ++ of_writes image))
 of_images m (Flush slot) = of_slot m slot.0 of_none
 of_images m (Reserve count) = []
 of_images m Renew = []
@@ -79,7 +87,8 @@ of_images m Reclaim = []
 abbrev pub refusals : Model → ℕ → Command → List Reply
 refusals m appliance command = of_sessions (m.sessions appliance) command ++ of_images m command
 
--- a command that may claim may find that its boot has no claims left, of which the model knows nothing
+-- a command that may claim may find that its boot has
+-- no claims left, of which the model knows nothing
 abbrev pub of_claims : Command → List Reply
 of_claims command = where_holds (may_claim command) (WornOut last_claim)
 

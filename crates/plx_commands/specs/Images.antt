@@ -9,7 +9,8 @@ pub record Frozen : Type 0 where
   pub content : ℕ → List ℕ
   pub dropped : Bool
 
--- an image: whether the slot has one, how often one was made in it, its size in blocks, its label, how often it was written, what each block holds, and its snapshots
+-- an image: whether the slot has one, how often one was made in it, its size in blocks,
+-- its label, how often it was written, what each block holds, and its snapshots
 pub record Image : Type 0 where
   pub live : Bool
   pub generation : ℕ
@@ -21,20 +22,36 @@ pub record Image : Type 0 where
 
 -- a free slot, in which so many images were made
 abbrev pub free_image : ℕ → Image
-free_image generation = record { live = false; generation = generation; size = 0; label = []; writes = 0; content = λ vblock. zeros; frozen = [] }
+free_image generation = record {
+  live = false;
+  generation = generation;
+  size = 0;
+  label = [];
+  writes = 0;
+  content = λ vblock. zeros;
+  frozen = [];
+}
 
 -- an image as it is made
 abbrev pub new_image : (generation size : ℕ) → (label : List ℕ) → Image
-new_image generation size label = record (free_image generation) { live = true; size = size; label = label }
+new_image generation size label = record (free_image generation) {
+  live = true;
+  size = size;
+  label = label;
+}
 
 -- the image once one of its blocks is written
 abbrev pub image_after_write : Image → ℕ → List ℕ → Image
-image_after_write image vblock bytes = record image { writes = image.writes + 1; content = at image.content vblock bytes }
+image_after_write image vblock bytes = record image {
+  writes = image.writes + 1;
+  content = at image.content vblock bytes;
+}
 
 -- how many snapshots are dropped
 abbrev pub count_dropped : List Frozen → ℕ
 count_dropped [] = 0
-count_dropped (snapshot ∷ others) = if snapshot.dropped then count_dropped others + 1 else count_dropped others
+count_dropped (snapshot ∷ others) =
+    if snapshot.dropped then count_dropped others + 1 else count_dropped others
 
 -- what an attach reports of an image
 abbrev pub report_of : Image → Report

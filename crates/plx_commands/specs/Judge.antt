@@ -8,9 +8,14 @@ use Rattle.plx_commands.specs.Replies.{number_of, is_listed, rests_on_fact}
 use Rattle.plx_commands.specs.Reports.{IsReported}
 use Rattle.plx_commands.specs.Slots.{named_slots}
 use Rattle.plx_commands.specs.declared.command.Command.{Command}
-use Rattle.plx_commands.specs.declared.command.Command.TheVariants.{Attach, Detach, Create, Delete, Read, Write, Flush, Reserve, Renew, Retire, Reclaim}
+use Rattle.plx_commands.specs.declared.command.Command.TheVariants.{Attach, Detach, Create, Delete}
+use Rattle.plx_commands.specs.declared.command.Command.TheVariants.{Read, Write, Flush, Reserve}
+use Rattle.plx_commands.specs.declared.command.Command.TheVariants.{Renew, Retire, Reclaim}
 use Rattle.plx_commands.specs.declared.reply.Reply.{Reply}
-use Rattle.plx_commands.specs.declared.reply.Reply.TheVariants.{Attached, Detached, Created, Deleted, Data, Written, Flushed, Reserved, Renewed, Retired, Reclaimed}
+use Rattle.plx_commands.specs.declared.reply.Reply.TheVariants.{Attached, Detached, Created}
+use Rattle.plx_commands.specs.declared.reply.Reply.TheVariants.{Deleted, Data, Written, Flushed}
+use Rattle.plx_commands.specs.declared.reply.Reply.TheVariants.{Reserved, Renewed, Retired}
+use Rattle.plx_commands.specs.declared.reply.Reply.TheVariants.{Reclaimed}
 use Rattle.plx_commands.specs.declared.entry.Entry.{Entry}
 use Rattle.plx_commands.specs.declared.entry.Entry.TheVariants as entry
 
@@ -18,7 +23,8 @@ use Rattle.plx_commands.specs.declared.entry.Entry.TheVariants as entry
 abbrev pub IsListed : Model → ℕ → Command → Reply → Type 0
 IsListed m appliance command reply = is_listed command reply ≡ true
 
--- the slots whose owner alone answers a command with an Ok: those that it names, but for an attach and a detach
+-- the slots whose owner alone answers a command with an Ok:
+-- those that it names, but for an attach and a detach
 abbrev pub of_owner : Command → List ℕ
 of_owner (Attach slot) = []
 of_owner (Detach slot) = []
@@ -26,17 +32,23 @@ of_owner command = named_slots command
 
 -- an Ok comes from the owner of each of these slots
 abbrev pub IsByOwner : Model → ℕ → Command → Reply → Type 0
-IsByOwner m appliance command reply = number_of reply ≡ 0 → owns_all m appliance (of_owner command) ≡ true
+IsByOwner m appliance command reply =
+    number_of reply ≡ 0 → owns_all m appliance (of_owner command) ≡ true
 
--- what the model has for the value of each command's Ok. It knows nothing of fresh blocks, of extents and of nodes
+-- what the model has for the value of each command's Ok.
+-- It knows nothing of fresh blocks, of extents and of nodes
 abbrev pub HasValue : Model → Command → Reply → Type 0
-HasValue m (Attach slot) (Attached report) = (slot.0 < m.images) × IsReported (m.slots slot.0).image (m.slots slot.0).change report
+HasValue m (Attach slot) (Attached report) =
+    (slot.0 < m.images) × IsReported (m.slots slot.0).image (m.slots slot.0).change report
 HasValue m (Detach slot) Detached = Unit {0}
 HasValue m (Create slot size label) Created = slot.0 < m.images
 HasValue m (Delete slot) Deleted = slot.0 < m.images
-HasValue m (Read slot vblock) (Data payload) = (slot.0 < m.images) × (bytes_of payload ≡ (m.slots slot.0).image.content vblock)
-HasValue m (Write slot vblock payload) (Written number) = (slot.0 < m.images) × (number ≡ (m.slots slot.0).image.writes + 1)
-HasValue m (Flush slot) (Flushed applied blocks) = (slot.0 < m.images) × (applied ≡ (m.slots slot.0).image.writes)
+HasValue m (Read slot vblock) (Data payload) =
+    (slot.0 < m.images) × (bytes_of payload ≡ (m.slots slot.0).image.content vblock)
+HasValue m (Write slot vblock payload) (Written number) =
+    (slot.0 < m.images) × (number ≡ (m.slots slot.0).image.writes + 1)
+HasValue m (Flush slot) (Flushed applied blocks) =
+    (slot.0 < m.images) × (applied ≡ (m.slots slot.0).image.writes)
 HasValue m (Reserve count) Reserved = Unit {0}
 HasValue m Renew Renewed = Unit {0}
 HasValue m Retire Retired = Unit {0}
@@ -50,7 +62,8 @@ IsValue m appliance command reply = number_of reply ≡ 0 → HasValue m command
 -- a refusal that rests on a fact comes where its fact holds, with its value
 abbrev pub IsFounded : Model → ℕ → Command → Reply → Type 0
 IsFounded m appliance command reply =
-    rests_on_fact (number_of reply) ≡ true → IsAmong reply (refusals m appliance command ++ of_claims command)
+    rests_on_fact (number_of reply) ≡ true →
+    IsAmong reply (refusals m appliance command ++ of_claims command)
 
 -- an Ok comes where no refusal's fact holds
 abbrev pub IsUnrefused : Model → ℕ → Command → Reply → Type 0

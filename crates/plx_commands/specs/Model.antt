@@ -1,5 +1,7 @@
--- What the block-list model knows: images, their changes under way, owners, sessions and running commands.
-use Rattle.std.specs.Prelude.{ℕ, List, [], ◌∷◌, Bool, true, false, ◌&&◌, Option, Some, None, if◌then◌else◌, ◌==◌}
+-- What the block-list model knows: images, their changes
+-- under way, owners, sessions and running commands.
+use Rattle.std.specs.Prelude.{ℕ, List, [], ◌∷◌, Bool, true, false, ◌&&◌, Option, Some, None}
+use Rattle.std.specs.Prelude.{if◌then◌else◌, ◌==◌}
 use Rattle.plx_commands.specs.Images.{Image, free_image}
 use Rattle.plx_commands.specs.declared.command.Command.{Command}
 
@@ -9,7 +11,8 @@ pub record Slot : Type 0 where
   pub change : Option Image
   pub owner : Option ℕ
 
--- how many images and appliances there are; the slots; whether an appliance has a session of a slot; the command that each appliance is in
+-- how many images and appliances there are; the slots; whether an
+-- appliance has a session of a slot; the command that each appliance is in
 pub record Model : Type 0 where
   pub images : ℕ
   pub appliances : ℕ
@@ -47,7 +50,8 @@ owner_without owner appliance = if owns owner appliance then None else owner
 -- whether the appliance owns each of these slots
 abbrev pub owns_all : Model → ℕ → List ℕ → Bool
 owns_all m appliance [] = true
-owns_all m appliance (slot ∷ others) = owns (m.slots slot).owner appliance && owns_all m appliance others
+owns_all m appliance (slot ∷ others) =
+    owns (m.slots slot).owner appliance && owns_all m appliance others
 
 -- whether there is a session of each of these slots
 abbrev pub has_all : (ℕ → Bool) → List ℕ → Bool

@@ -1,11 +1,21 @@
 -- Replies by their numbers, and which replies a command has.
-use Rattle.std.specs.Prelude.{ℕ, List, [], ◌∷◌, Bool, false, ◌&&◌, ◌||◌, ◌==◌, nat_le, Option, Some, None}
+use Rattle.std.specs.Prelude.{ℕ, List, [], ◌∷◌, Bool, false, ◌&&◌, ◌||◌, ◌==◌, nat_le, Option, Some}
+use Rattle.std.specs.Prelude.{None}
 use Rattle.plx_commands.specs.declared.command.Command.{Command}
-use Rattle.plx_commands.specs.declared.command.Command.TheVariants.{Attach, Detach, Create, Delete, Read, Write, Flush, Reserve, Renew, Retire, Reclaim}
+use Rattle.plx_commands.specs.declared.command.Command.TheVariants.{Attach, Detach, Create, Delete}
+use Rattle.plx_commands.specs.declared.command.Command.TheVariants.{Read, Write, Flush, Reserve}
+use Rattle.plx_commands.specs.declared.command.Command.TheVariants.{Renew, Retire, Reclaim}
 use Rattle.plx_commands.specs.declared.reply.Reply.{Reply}
-use Rattle.plx_commands.specs.declared.reply.Reply.TheVariants.{Attached, Detached, Created, Deleted, Data, Written, Flushed, Reserved, Renewed, Retired, Reclaimed, NotAttached, AlreadyAttached, NoImage, Exists, OutOfRange, Busy, Lost, ReadFault, WriteFault, Full, Damaged, WornOut}
+use Rattle.plx_commands.specs.declared.reply.Reply.TheVariants.{Attached, Detached, Created}
+use Rattle.plx_commands.specs.declared.reply.Reply.TheVariants.{Deleted, Data, Written, Flushed}
+use Rattle.plx_commands.specs.declared.reply.Reply.TheVariants.{Reserved, Renewed, Retired}
+use Rattle.plx_commands.specs.declared.reply.Reply.TheVariants.{Reclaimed, NotAttached}
+use Rattle.plx_commands.specs.declared.reply.Reply.TheVariants.{AlreadyAttached, NoImage, Exists}
+use Rattle.plx_commands.specs.declared.reply.Reply.TheVariants.{OutOfRange, Busy, Lost, ReadFault}
+use Rattle.plx_commands.specs.declared.reply.Reply.TheVariants.{WriteFault, Full, Damaged, WornOut}
 
--- the number of a reply: 0 of an Ok, else the refusal's own. 6, 7 and 16 are refusals of snapshots and of longer writes; 14 is want of memory, which is never a reply
+-- the number of a reply: 0 of an Ok, else the refusal's own. 6, 7 and 16 are refusals
+-- of snapshots and of longer writes; 14 is want of memory, which is never a reply
 abbrev pub number_of : Reply → ℕ
 number_of (Attached report) = 0
 number_of Detached = 0

@@ -3,7 +3,9 @@ use Rattle.std.specs.Prelude.{ℕ, ◌+◌, List, [], ◌∷◌, Option, Some, N
 use Rattle.plx_base.specs.Payload.{bytes_of}
 use Rattle.plx_commands.specs.Images.{Image, free_image, new_image, image_after_write}
 use Rattle.plx_commands.specs.declared.command.Command.{Command}
-use Rattle.plx_commands.specs.declared.command.Command.TheVariants.{Attach, Detach, Create, Delete, Read, Write, Flush, Reserve, Renew, Retire, Reclaim}
+use Rattle.plx_commands.specs.declared.command.Command.TheVariants.{Attach, Detach, Create, Delete}
+use Rattle.plx_commands.specs.declared.command.Command.TheVariants.{Read, Write, Flush, Reserve}
+use Rattle.plx_commands.specs.declared.command.Command.TheVariants.{Renew, Retire, Reclaim}
 
 -- the slots that a command names
 abbrev pub named_slots : Command → List ℕ
@@ -37,10 +39,12 @@ changed_slot Reclaim = None
 abbrev pub image_after : (ℕ → Image) → ℕ → Command → Image
 image_after images slot (Attach target) = images slot
 image_after images slot (Detach target) = images slot
-image_after images slot (Create target size label) = new_image ((images slot).generation + 1) size label
+image_after images slot (Create target size label) =
+    new_image ((images slot).generation + 1) size label
 image_after images slot (Delete target) = free_image (images slot).generation
 image_after images slot (Read target vblock) = images slot
-image_after images slot (Write target vblock payload) = image_after_write (images slot) vblock (bytes_of payload)
+image_after images slot (Write target vblock payload) =
+    image_after_write (images slot) vblock (bytes_of payload)
 image_after images slot (Flush target) = images slot
 image_after images slot (Reserve count) = images slot
 image_after images slot Renew = images slot

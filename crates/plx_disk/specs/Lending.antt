@@ -7,7 +7,8 @@ use Rattle.plx_disk.specs.Stored.{is_stored}
 use Rattle.plx_disk.specs.Writes.{Surface}
 use Rattle.plx_disk.specs.declared.disk.Disk.{Disk}
 
--- the buffer has the bytes of a block, in whose place others stand; of a block that isn't stored it has zeros
+-- the buffer has the bytes of a block, in whose place
+-- others stand; of a block that isn't stored it has zeros
 pub record IsLent (old new : Disk) (block : ℕ) (bytes : List ℕ) : Type 0 where
   pub given : (s : Surface) → Stands old s → bytes ≡ s.device block
   pub instead : List ℕ

@@ -17,8 +17,11 @@ pub record IsMissing (s : Surface) (number sector : ℕ) : Type 0 where
 
 -- the write with this number, if there is one that was not cancelled, has landed whole
 abbrev pub MissesNone : Surface → ℕ → Type 0
-MissesNone s number = (write : Issued) → slice_get s.writes number ≡ Some write → write.cancelled ≡ false → write.landed ≡ all_sectors
+MissesNone s number =
+    (write : Issued) → slice_get s.writes number ≡ Some write →
+    write.cancelled ≡ false → write.landed ≡ all_sectors
 
 -- the boot that issued the write with this number
 abbrev pub IsOwner : Surface → ℕ → Boot → Type 0
-IsOwner s number boot = (write : Issued) × (slice_get s.writes number ≡ Some write) × (write.owner ≡ boot.0)
+IsOwner s number boot =
+    (write : Issued) × (slice_get s.writes number ≡ Some write) × (write.owner ≡ boot.0)

@@ -1,10 +1,12 @@
 -- A device with issued writes that land sector by sector, and its time.
-use Rattle.std.specs.Prelude.{◌≡◌, ◌+◌, ◌≤◌, ℕ, List, [], ◌∷◌, ◌++◌, slice_get, slice_set, Some, Bool, true, false, zero, suc}
+use Rattle.std.specs.Prelude.{◌≡◌, ◌+◌, ◌≤◌, ℕ, List, [], ◌∷◌, ◌++◌, slice_get, slice_set, Some}
+use Rattle.std.specs.Prelude.{Bool, true, false, zero, suc}
 use Rattle.plx_base.specs.Blocks.{zeros}
 use Rattle.plx_base.specs.Sectors.{Device, put, with_landed_sector}
 use Rattle.plx_base.specs.declared.write_kind.WriteKind.{WriteKind}
 
--- an issued write: the boot that issued it, its kind, its block, its bytes, its guard, which of its sectors have landed, and whether it was cancelled
+-- an issued write: the boot that issued it, its kind, its block, its bytes,
+-- its guard, which of its sectors have landed, and whether it was cancelled
 pub record Issued : Type 0 where
   pub owner : ℕ
   pub kind : WriteKind
@@ -14,7 +16,8 @@ pub record Issued : Type 0 where
   pub landed : List Bool
   pub cancelled : Bool
 
--- a device: how many blocks it has, what stands in each, the issued writes in order of issue, and the time in milliseconds
+-- a device: how many blocks it has, what stands in each,
+-- the issued writes in order of issue, and the time in milliseconds
 pub record Surface : Type 0 where
   pub blocks : ℕ
   pub device : Device
@@ -57,7 +60,8 @@ with_cancel write = record write { cancelled = true }
 abbrev pub with_issued : Surface → Issued → Surface
 with_issued s write = record s { writes = s.writes ++ write ∷ [] }
 
--- this sector of the write with this number may land: it hasn't, the write wasn't cancelled, and the time is at most 50 ms past its guard
+-- this sector of the write with this number may land: it hasn't,
+-- the write wasn't cancelled, and the time is at most 50 ms past its guard
 pub record MayLand (s : Surface) (number sector : ℕ) (write : Issued) : Type 0 where
   pub found : slice_get s.writes number ≡ Some write
   pub open_yet : write.cancelled ≡ false
@@ -73,7 +77,8 @@ after_landing s number write sector = record s {
 
 -- the write with this number has landed whole
 abbrev pub HasLanded : Surface → ℕ → Type 0
-HasLanded s number = (write : Issued) × (slice_get s.writes number ≡ Some write) × (write.landed ≡ all_sectors)
+HasLanded s number =
+    (write : Issued) × (slice_get s.writes number ≡ Some write) × (write.landed ≡ all_sectors)
 
 -- the issued writes once the one with this number is cancelled
 abbrev pub cancelled_at : List Issued → ℕ → List Issued

@@ -1,5 +1,6 @@
 -- Entries of a snapshot log as bytes: each is 32 bytes of the log's block.
-use Rattle.std.specs.Prelude.{◌*◌, ◌/◌, ◌<◌, ◌^◌, ◌==◌, ℕ, List, [], ◌∷◌, take, drop, Bool, true, false, not, ◌&&◌, nat_lt, Option}
+use Rattle.std.specs.Prelude.{◌*◌, ◌/◌, ◌<◌, ◌^◌, ◌==◌, ℕ, List, [], ◌∷◌, take, drop, Bool, true}
+use Rattle.std.specs.Prelude.{false, not, ◌&&◌, nat_lt, Option}
 use Rattle.plx_base.specs.Blocks.{with_bytes_at}
 use Rattle.plx_base.specs.Fields.{number_at}
 use Rattle.plx_base.specs.Pointers.{IsPointer, is_pointer}
@@ -13,7 +14,8 @@ abbrev pub flag_of : Bool → ℕ
 flag_of false = 0
 flag_of true = 1
 
--- an entry's fields: the root, whether it is dropped, four unnamed bytes, the stamp, and eight unnamed bytes
+-- an entry's fields: the root, whether it is dropped,
+-- four unnamed bytes, the stamp, and eight unnamed bytes
 abbrev pub entry_fields : LogEntry → List Field
 entry_fields entry =
     U64 entry.root
@@ -35,7 +37,8 @@ pub record IsEntry (entry : LogEntry) : Type 0 where
 
 -- the same limits, tested
 abbrev pub is_entry : LogEntry → Bool
-is_entry entry = is_pointer entry.root && (nat_lt entry.root (2 ^ 63) && nat_lt entry.stamp (2 ^ 64))
+is_entry entry =
+    is_pointer entry.root && (nat_lt entry.root (2 ^ 63) && nat_lt entry.stamp (2 ^ 64))
 
 -- where an entry of a log block begins
 abbrev pub entry_start : ℕ → ℕ
@@ -43,7 +46,11 @@ entry_start index = 32 * index
 
 -- the entry whose numbers stand at the places of the fields
 abbrev pub found_entry : List ℕ → LogEntry
-found_entry bytes = record { root = number_at 8 0 bytes; dropped = not (number_at 4 8 bytes == 0); stamp = number_at 8 16 bytes }
+found_entry bytes = record {
+  root = number_at 8 0 bytes;
+  dropped = not (number_at 4 8 bytes == 0);
+  stamp = number_at 8 16 bytes;
+}
 
 -- the 32 bytes of an entry of a log block
 abbrev pub entry_part : ℕ → List ℕ → List ℕ

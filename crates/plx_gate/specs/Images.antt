@@ -1,5 +1,6 @@
 -- Image records as bytes.
-use Rattle.std.specs.Prelude.{◌≤◌, ◌<◌, ◌^◌, ◌==◌, ℕ, List, [], ◌∷◌, length, take, drop, Bool, ◌&&◌, nat_lt, nat_le, if◌then◌else◌, Option}
+use Rattle.std.specs.Prelude.{◌≤◌, ◌<◌, ◌^◌, ◌==◌, ℕ, List, [], ◌∷◌, length, take, drop, Bool, ◌&&◌}
+use Rattle.std.specs.Prelude.{nat_lt, nat_le, if◌then◌else◌, Option}
 use Rattle.plx_base.specs.Fields.{number_at}
 use Rattle.plx_base.specs.Labels.{IsLabel, is_label}
 use Rattle.plx_base.specs.Pointers.{IsPointer, is_pointer}
@@ -14,8 +15,8 @@ use Rattle.plx_gate.specs.declared.image.LiveRecord.{LiveRecord}
 abbrev pub image_magic : List ℕ
 image_magic = 80 ∷ 76 ∷ 88 ∷ 73 ∷ 77 ∷ 65 ∷ 71 ∷ 49 ∷ []
 
--- an image's fields from byte 8 on: the state, the generation, the size, how many snapshots were taken, the root, the last write applied,
--- the label's length, and four unnamed bytes
+-- an image's fields from byte 8 on: the state, the generation, the size, how many snapshots
+-- were taken, the root, the last write applied, the label's length, and four unnamed bytes
 abbrev pub fields_of : (state generation size taken root applied label_len : ℕ) → List Field
 fields_of state generation size taken root applied label_len =
     U32 state
@@ -31,7 +32,8 @@ fields_of state generation size taken root applied label_len =
 -- a free slot has state 0, its generation and zeros; a live one has state 1 and all its fields
 abbrev pub image_fields : ImageRecord → List Field
 image_fields (Free generation) = fields_of 0 generation 0 0 0 0 0
-image_fields (Live live) = fields_of 1 live.generation live.size live.taken live.root live.applied (length live.label)
+image_fields (Live live) =
+    fields_of 1 live.generation live.size live.taken live.root live.applied (length live.label)
 
 -- the bytes of a label
 abbrev pub label_of : ImageRecord → List ℕ
@@ -61,12 +63,17 @@ IsImage (Live live) = IsLive live
 -- the limits of a live image's generation, size, snapshots and last write applied, tested
 abbrev pub are_within : (generation size taken applied : ℕ) → Bool
 are_within generation size taken applied =
-    nat_le 1 generation && (nat_lt generation (2 ^ 32) && (nat_le 1 size && (nat_le size (2 ^ 27) && (nat_le taken 128 && nat_lt applied (2 ^ 48)))))
+    nat_le 1 generation
+    && (nat_lt generation (2 ^ 32)
+    && (nat_le 1 size
+    && (nat_le size (2 ^ 27) && (nat_le taken 128 && nat_lt applied (2 ^ 48)))))
 
 -- the limits of an image record, tested
 abbrev pub is_image : ImageRecord → Bool
 is_image (Free generation) = nat_lt generation (2 ^ 32)
-is_image (Live live) = are_within live.generation live.size live.taken live.applied && (is_pointer live.root && is_label live.label)
+is_image (Live live) =
+    are_within live.generation live.size live.taken live.applied
+    && (is_pointer live.root && is_label live.label)
 
 -- the label that stands at its place
 abbrev pub found_label : List ℕ → List ℕ
@@ -85,7 +92,8 @@ found_live bytes = record {
 
 -- the image record that stands at the places of the fields: a free one where the state is 0
 abbrev pub found_image : List ℕ → ImageRecord
-found_image bytes = if number_at 4 8 bytes == 0 then Free (number_at 4 12 bytes) else Live (found_live bytes)
+found_image bytes =
+    if number_at 4 8 bytes == 0 then Free (number_at 4 12 bytes) else Live (found_live bytes)
 
 -- what a block says: an image record within the limits, or nothing
 unfoldable pub read_image : List ℕ → Option ImageRecord

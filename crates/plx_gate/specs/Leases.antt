@@ -1,5 +1,6 @@
 -- Leases as bytes.
-use Rattle.std.specs.Prelude.{◌+◌, ◌≤◌, ◌<◌, ◌^◌, ◌==◌, ℕ, List, [], ◌∷◌, Bool, true, ◌&&◌, nat_lt, nat_le, if◌then◌else◌, Option}
+use Rattle.std.specs.Prelude.{◌+◌, ◌≤◌, ◌<◌, ◌^◌, ◌==◌, ℕ, List, [], ◌∷◌, Bool, true, ◌&&◌, nat_lt}
+use Rattle.std.specs.Prelude.{nat_le, if◌then◌else◌, Option}
 use Rattle.plx_base.specs.Fields.{number_at}
 use Rattle.plx_base.specs.Spelling.{block_of_fields, read_by}
 use Rattle.plx_base.specs.declared.stored.Field.{Field}
@@ -12,7 +13,8 @@ use Rattle.plx_base.specs.declared.lease.LeaseRecord.TheVariants.{Free, Claimed}
 abbrev pub lease_magic : List ℕ
 lease_magic = 80 ∷ 76 ∷ 88 ∷ 76 ∷ 69 ∷ 65 ∷ 83 ∷ 49 ∷ []
 
--- a lease's fields from byte 8 on: the state, four unnamed bytes, and the boot, the number, the sample and the moment `until` of its claim
+-- a lease's fields from byte 8 on: the state, four unnamed bytes,
+-- and the boot, the number, the sample and the moment `until` of its claim
 abbrev pub fields_of : (state boot number sample until : ℕ) → List Field
 fields_of state boot number sample until =
     U32 state
@@ -49,16 +51,23 @@ IsLease (Claimed claim until) = IsClaimed claim until
 abbrev pub is_lease : LeaseRecord → Bool
 is_lease Free = true
 is_lease (Claimed claim until) =
-    nat_lt claim.boot.0 (2 ^ 128) && (nat_lt claim.number (2 ^ 40) && (nat_lt claim.sample (2 ^ 48) && (nat_le (claim.sample + 10000) until && nat_lt until (2 ^ 49))))
+    nat_lt claim.boot.0 (2 ^ 128)
+    && (nat_lt claim.number (2 ^ 40)
+    && (nat_lt claim.sample (2 ^ 48)
+    && (nat_le (claim.sample + 10000) until && nat_lt until (2 ^ 49))))
 
 -- the lease of these numbers
 abbrev pub lease_of : (state boot number sample until : ℕ) → LeaseRecord
 lease_of state boot number sample until =
-    if state == 0 then Free else Claimed (record { boot = record { 0 = boot }; number = number; sample = sample }) until
+    if state == 0
+    then Free
+    else Claimed (record { boot = record { 0 = boot }; number = number; sample = sample }) until
 
 -- the lease whose numbers stand at the places of the fields
 abbrev pub found_lease : List ℕ → LeaseRecord
-found_lease bytes = lease_of (number_at 4 8 bytes) (number_at 16 16 bytes) (number_at 8 32 bytes) (number_at 8 40 bytes) (number_at 8 48 bytes)
+found_lease bytes =
+    lease_of (number_at 4 8 bytes) (number_at 16 16 bytes)
+    (number_at 8 32 bytes) (number_at 8 40 bytes) (number_at 8 48 bytes)
 
 -- what a block says: a lease within the limits, or nothing
 unfoldable pub read_lease : List ℕ → Option LeaseRecord

@@ -3,7 +3,8 @@ use Rattle.std.specs.Prelude.{◌≡◌, ◌+◌, ◌*◌, ◌≤◌, ◌<◌, �
 use Rattle.plx_base.specs.declared.lease.LeaseName.{LeaseName}
 use Rattle.plx_base.specs.declared.lease.LeaseName.TheVariants.{Root, Image, Extent}
 
--- how many images and extents there are, of how many blocks an extent is, and how many journal slots an image has
+-- how many images and extents there are, of how many blocks
+-- an extent is, and how many journal slots an image has
 pub record Geometry : Type 0 where
   pub images : ℕ
   pub extents : ℕ
@@ -12,7 +13,12 @@ pub record Geometry : Type 0 where
 
 -- the geometry of these numbers
 abbrev pub geometry_of : (images extents extent_blocks slots : ℕ) → Geometry
-geometry_of images extents extent_blocks slots = record { images = images; extents = extents; extent_blocks = extent_blocks; slots = slots }
+geometry_of images extents extent_blocks slots = record {
+  images = images;
+  extents = extents;
+  extent_blocks = extent_blocks;
+  slots = slots;
+}
 
 -- the limits of a geometry
 pub record IsGeometry (g : Geometry) : Type 0 where

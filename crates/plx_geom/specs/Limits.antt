@@ -10,7 +10,8 @@ use Rattle.plx_geom.specs.declared.place.Place.{Place}
 abbrev pub IsGeometryCause : GeometryError → Geometry → Type 0
 IsGeometryCause (OutOfLimit field value) g = IsFirstOut g field value
 
--- what stands in a block: the one place of the geometry whose block it is, or nothing past the device's end
+-- what stands in a block: the one place of the geometry
+-- whose block it is, or nothing past the device's end
 abbrev pub StandsIn : Geometry → ℕ → Option Place → Type 0
 StandsIn g block (Some place) = IsPlace g place × (block_of g place ≡ block)
 StandsIn g block None = block_count g ≤ block

@@ -1,8 +1,11 @@
 -- What stands in each block of a device.
 use Rattle.std.specs.Prelude.{◌≤◌, ◌<◌, ℕ}
-use Rattle.plx_geom.specs.Geometry.{Geometry, root_lease, image_lease, extent_lease, lease_at, record_at, log_at, descriptor_at, data_at, map_at, pool_at}
+use Rattle.plx_geom.specs.Geometry.{Geometry, root_lease, image_lease, extent_lease, lease_at}
+use Rattle.plx_geom.specs.Geometry.{record_at, log_at, descriptor_at, data_at, map_at, pool_at}
 use Rattle.plx_geom.specs.declared.place.Place.{Place}
-use Rattle.plx_geom.specs.declared.place.Place.TheVariants.{Super, RootLease, ImageLease, ExtentLease, Record, Log, JDesc, JData, Map, Pool}
+use Rattle.plx_geom.specs.declared.place.Place.TheVariants.{Super, RootLease, ImageLease}
+use Rattle.plx_geom.specs.declared.place.Place.TheVariants.{ExtentLease, Record, Log, JDesc, JData}
+use Rattle.plx_geom.specs.declared.place.Place.TheVariants.{Map, Pool}
 
 -- the place is one of the geometry's
 abbrev pub IsPlace : Geometry → Place → Type 0

@@ -1,5 +1,6 @@
 -- The text of a trace.
-use Rattle.std.specs.Prelude.{◌^◌, ℕ, List, [], ◌∷◌, ◌++◌, codes, map, drop, Option, Some, option_map}
+use Rattle.std.specs.Prelude.{◌^◌, ℕ, List, [], ◌∷◌, ◌++◌, codes, map, drop, Option, Some}
+use Rattle.std.specs.Prelude.{option_map}
 use Rattle.plx_base.specs.Canonical.{payload_of}
 use Rattle.plx_base.specs.Payload.{bytes_of}
 use Rattle.plx_base.specs.declared.payload.Payload.{Payload}
@@ -21,15 +22,22 @@ use Rattle.plx_words.specs.Words.{line_text}
 
 -- the line of an entry, by its pieces
 abbrev pub entry_line : Entry → List Piece
-entry_line (entry.Start appliance command) = word (codes "start") ∷ small appliance.0 ∷ command_line command
-entry_line (entry.Reply appliance reply) = word (codes "reply") ∷ small appliance.0 ∷ reply_line reply
+entry_line (entry.Start appliance command) =
+    word (codes "start") ∷ small appliance.0 ∷ command_line command
+entry_line (entry.Reply appliance reply) =
+    word (codes "reply") ∷ small appliance.0 ∷ reply_line reply
 entry_line (entry.Crash appliance) = word (codes "crash") ∷ small appliance.0 ∷ []
 
 -- the one entry that words can spell
 abbrev pub entry_in : List (List ℕ) → Option Entry
-entry_in words = by_first words (
-    (codes "start", option_map (λ command. entry.Start (appliance_at 1 words) command) (command_of (drop 2 words)))
-    ∷ (codes "reply", option_map (λ reply. entry.Reply (appliance_at 1 words) reply) (reply_in (drop 2 words)))
+entry_in words = by_first words ((
+  codes "start",
+  option_map (λ command. entry.Start (appliance_at 1 words) command) (command_of (drop 2 words)),
+)
+    ∷ (
+      codes "reply",
+      option_map (λ reply. entry.Reply (appliance_at 1 words) reply) (reply_in (drop 2 words)),
+    )
     ∷ (codes "crash", Some (entry.Crash (appliance_at 1 words)))
     ∷ [])
 
@@ -59,15 +67,19 @@ entry_lines entries = map (λ one. entry_line (plain_entry one)) entries
 
 -- the last line of a trace
 abbrev pub end_line : ℕ → ℕ → List Piece
-end_line reachable allocated = word (codes "end") ∷ named (codes "reachable=") (2 ^ 64) reachable ∷ named (codes "allocated=") (2 ^ 64) allocated ∷ []
+end_line reachable allocated =
+    word (codes "end") ∷ named (codes "reachable=") (2 ^ 64) reachable
+    ∷ named (codes "allocated=") (2 ^ 64) allocated ∷ []
 
 -- the lines of a trace
 abbrev pub trace_lines : Geometry → ℕ → List Entry → ℕ → ℕ → List (List Piece)
-trace_lines g appliances entries reachable allocated = world_line g appliances ∷ (entry_lines entries ++ end_line reachable allocated ∷ [])
+trace_lines g appliances entries reachable allocated =
+    world_line g appliances ∷ (entry_lines entries ++ end_line reachable allocated ∷ [])
 
 -- the text of a trace, and of the two counts of its last line
 abbrev pub trace_text : Geometry → ℕ → List Entry → ℕ → ℕ → List ℕ
-trace_text g appliances entries reachable allocated = text_of (trace_lines g appliances entries reachable allocated)
+trace_text g appliances entries reachable allocated =
+    text_of (trace_lines g appliances entries reachable allocated)
 
 -- what is said of a text whose line with this number isn't in the grammar
 abbrev pub bad_line : ℕ → List Piece
