@@ -11,7 +11,8 @@ use Rattle.plx_rules.specs.InUse.{InUse, first_reached, unless_reached}
 use Rattle.plx_gate.specs.Leases.{lease_bytes, read_lease}
 use Rattle.plx_rules.specs.Times.{window, wait, term, is_expired}
 
--- how a claim ends: the lease is held; another record stands there; a lease in use was reached; the read or the write failed; or the bytes read are no lease
+-- how a claim ends: the lease is held; another record stands there; a lease in
+-- use was reached; the read or the write failed; or the bytes read are no lease
 pub data ClaimEnd : Type 0 where
   ClaimHeld : Claim → (until : ℕ) → ClaimEnd
   ClaimBusy : (seen : LeaseRecord) → ClaimEnd
@@ -22,7 +23,11 @@ pub data ClaimEnd : Type 0 where
 
 -- the claim of a boot with this number and sample
 abbrev pub claim_of : (boot number sample : ℕ) → Claim
-claim_of boot number sample = record { boot = record { 0 = boot }; number = number; sample = sample }
+claim_of boot number sample = record {
+  boot = record { 0 = boot };
+  number = number;
+  sample = sample;
+}
 
 -- the moment until which a claim holds its lease
 abbrev pub end_of_term : Claim → ℕ
@@ -38,7 +43,8 @@ own_use lease claim = record { lease = lease; until = end_of_term claim }
 
 -- a claim that has its reading goes on unless that has reached a lease in use
 abbrev pub claim_in_time : List InUse → ℕ → Process ClaimEnd → Process ClaimEnd
-claim_in_time uses reading rest = unless_reached (first_reached uses reading) (λ due. Ends (ClaimLost due reading)) rest
+claim_in_time uses reading rest =
+    unless_reached (first_reached uses reading) (λ due. Ends (ClaimLost due reading)) rest
 
 -- bytes that are no lease end the claim after one more reading
 abbrev pub claim_damaged : List InUse → Process ClaimEnd
@@ -53,14 +59,18 @@ reread_by false uses claim (Some seen) = Ends (ClaimBusy seen)
 -- the lease is read again after the wait
 abbrev pub reread_process : List InUse → ℕ → Claim → Process ClaimEnd
 reread_process uses lease claim =
-    ReadThen (lease_at lease) (λ bytes. reread_by (bytes_eq bytes (lease_bytes (own_record claim))) uses claim (read_lease bytes)) (Ends ClaimReadFault)
+    ReadThen (lease_at lease)
+    (λ bytes.
+    reread_by (bytes_eq bytes (lease_bytes (own_record claim))) uses claim (read_lease bytes))
+    (Ends ClaimReadFault)
 
 -- the claim is written, and waits for a reading 601 ms after its sample
 abbrev pub written_process : List InUse → ℕ → Claim → Process ClaimEnd
 written_process others lease claim =
     WriteThen kind.Claim (lease_at lease) (lease_bytes (own_record claim)) (claim.sample + window)
     (UntilThen (claim.sample + wait) (λ reading.
-    claim_in_time (own_use lease claim ∷ others) reading (reread_process (own_use lease claim ∷ others) lease claim)))
+    claim_in_time (own_use lease claim ∷ others) reading
+    (reread_process (own_use lease claim ∷ others) lease claim)))
     (Ends ClaimWriteFault)
     (λ reading. Ends (ClaimLost (record { lease = lease; until = claim.sample + window }) reading))
 
@@ -72,11 +82,15 @@ if_expired false seen process = Ends (ClaimBusy seen)
 -- the lease was read
 abbrev pub seen_process : List InUse → ℕ → Claim → Option LeaseRecord → Process ClaimEnd
 seen_process others lease claim None = claim_damaged others
-seen_process others lease claim (Some seen) = if_expired (is_expired seen claim.sample) seen (written_process others lease claim)
+seen_process others lease claim (Some seen) =
+    if_expired (is_expired seen claim.sample) seen (written_process others lease claim)
 
--- a claim of a lease by a boot that began so many claims before: a reading of the clock, the lease, the claim, the wait, and the lease again;
--- `others` are the leases in use beside it
-abbrev pub claim_process : (boot : ℕ) → (others : List InUse) → (lease number : ℕ) → Process ClaimEnd
+-- a claim of a lease by a boot that began so many claims before: a reading of the clock,
+-- the lease, the claim, the wait, and the lease again; `others` are the leases in use beside it
+abbrev pub claim_process : (boot : ℕ) →
+    (others : List InUse) → (lease number : ℕ) → Process ClaimEnd
 claim_process boot others lease number =
     ClockThen (λ sample. claim_in_time others sample
-    (ReadThen (lease_at lease) (λ bytes. seen_process others lease (claim_of boot number sample) (read_lease bytes)) (Ends ClaimReadFault)))
+    (ReadThen (lease_at lease)
+    (λ bytes. seen_process others lease (claim_of boot number sample) (read_lease bytes))
+    (Ends ClaimReadFault)))

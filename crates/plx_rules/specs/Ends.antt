@@ -19,7 +19,9 @@ ends reply known = Ends (record { reply = reply; known = known })
 
 -- a lease in use is lost: no session is left
 abbrev pub lost_process : Setting → Known → InUse → (reading : ℕ) → Process End
-lost_process s known due reading = ends (reply.Lost (lease_name s.geometry due.lease) due.until reading) (nothing_known known.claims)
+lost_process s known due reading =
+    ends (reply.Lost (lease_name s.geometry due.lease) due.until reading)
+    (nothing_known known.claims)
 
 -- a read failed: what is known stays
 abbrev pub read_failed : (block : ℕ) → Known → Process End
@@ -27,25 +29,32 @@ read_failed block known = ends (reply.ReadFault (record { 0 = block })) known
 
 -- a write failed: no session is left
 abbrev pub write_failed : (block : ℕ) → Known → Process End
-write_failed block known = ends (reply.WriteFault (record { 0 = block })) (nothing_known known.claims)
+write_failed block known =
+    ends (reply.WriteFault (record { 0 = block })) (nothing_known known.claims)
 
 -- a read of a command
 abbrev pub read_then : (block : ℕ) → Known → (List ℕ → Process End) → Process End
 read_then block known rest = ReadThen block rest (read_failed block known)
 
--- a write of a command: its guard is the end of the lease on which it rests, of several the one to be named
-abbrev pub write_then : Setting → Known → InUse → WriteKind → (block : ℕ) → List ℕ → (done : Process End) → Process End
+-- a write of a command: its guard is the end of the
+-- lease on which it rests, of several the one to be named
+abbrev pub write_then : Setting → Known → InUse → WriteKind →
+    (block : ℕ) → List ℕ → (done : Process End) → Process End
 write_then s known due kind block bytes done =
-    WriteThen kind block bytes due.until done (write_failed block known) (λ reading. lost_process s known due reading)
+    WriteThen kind block bytes due.until done (write_failed block known)
+    (λ reading. lost_process s known due reading)
 
 -- what is asked where a reading has reached no lease in use
 abbrev pub in_time : Setting → Known → List InUse → (reading : ℕ) → Process End → Process End
-in_time s known uses reading process = unless_reached (first_reached uses reading) (λ due. lost_process s known due reading) process
+in_time s known uses reading process =
+    unless_reached (first_reached uses reading) (λ due. lost_process s known due reading) process
 
 -- a reply that comes after one more reading, which has reached no lease in use
 abbrev pub ends_in_time : Setting → Known → List InUse → Reply → Known → Process End
-ends_in_time s known uses reply after = ClockThen (λ reading. in_time s known uses reading (ends reply after))
+ends_in_time s known uses reply after =
+    ClockThen (λ reading. in_time s known uses reading (ends reply after))
 
 -- bytes outside the format were read at a block
 abbrev pub damaged_process : Setting → Known → List InUse → (block : ℕ) → Process End
-damaged_process s known uses block = ends_in_time s known uses (reply.Damaged (record { 0 = block })) known
+damaged_process s known uses block =
+    ends_in_time s known uses (reply.Damaged (record { 0 = block })) known

@@ -16,9 +16,11 @@ use Rattle.plx_rules.specs.World.{World, Reached}
 -- the starts and crashes of a trace
 abbrev pub starts_and_crashes : List Entry → List Entry
 starts_and_crashes [] = []
-starts_and_crashes (entry.Start appliance command ∷ others) = entry.Start appliance command ∷ starts_and_crashes others
+starts_and_crashes (entry.Start appliance command ∷ others) =
+    entry.Start appliance command ∷ starts_and_crashes others
 starts_and_crashes (entry.Reply appliance reply ∷ others) = starts_and_crashes others
-starts_and_crashes (entry.Crash appliance ∷ others) = entry.Crash appliance ∷ starts_and_crashes others
+starts_and_crashes (entry.Crash appliance ∷ others) =
+    entry.Crash appliance ∷ starts_and_crashes others
 
 -- a history with what one event tells: a start or a crash
 abbrev pub told_of_event : Event → List Entry → List Entry
@@ -39,12 +41,14 @@ model_before w = first_model w.geometry.images w.appliances
 abbrev pub model_in : World → Model
 model_in w = model_of (model_before w) w.trace
 
--- the trace has exactly the starts and crashes of the possible events, in their order; the block-list model permits it;
--- and the device stores each image of the model, without the change that is under way or with it
+-- the trace has exactly the starts and crashes of the possible events,
+-- in their order; the block-list model permits it; and the device stores
+-- each image of the model, without the change that is under way or with it
 pub record Headline (w : World) : Type 0 where
   pub told : starts_and_crashes w.trace ≡ events_told w.history
   pub permitted : Permitted (model_before w) w.trace
-  pub stored : (image : ℕ) → image < w.geometry.images → StoresEither w.geometry w.surface.device image ((model_in w).slots image)
+  pub stored : (image : ℕ) → image < w.geometry.images →
+      StoresEither w.geometry w.surface.device image ((model_in w).slots image)
 
 -- every world that events lead to meets the headline
 abbrev pub HeadlineOfAll : Type 0

@@ -3,10 +3,14 @@ use Rattle.std.specs.Prelude.{◌≡◌, ◌<◌, ◌⊎◌, ℕ, List, [], ◌�
 use Rattle.plx_base.specs.declared.write_kind.WriteKind.{WriteKind}
 use Rattle.plx_base.specs.declared.write_kind.WriteKind.TheVariants as kind
 use Rattle.plx_disk.specs.Writes.{Issued}
-use Rattle.plx_geom.specs.Geometry.{Geometry, IsPoolBlock, lease_count, root_lease, image_lease, extent_lease, lease_at, record_at, log_at, descriptor_at, data_at, map_at}
+use Rattle.plx_geom.specs.Geometry.{Geometry, IsPoolBlock, lease_count, root_lease, image_lease}
+use Rattle.plx_geom.specs.Geometry.{extent_lease, lease_at, record_at, log_at, descriptor_at}
+use Rattle.plx_geom.specs.Geometry.{data_at, map_at}
 use Rattle.plx_geom.specs.Places.{IsPlace, block_of}
 use Rattle.plx_geom.specs.declared.place.Place.{Place}
-use Rattle.plx_geom.specs.declared.place.Place.TheVariants.{Super, RootLease, ImageLease, ExtentLease, Record, Log, JDesc, JData, Map, Pool}
+use Rattle.plx_geom.specs.declared.place.Place.TheVariants.{Super, RootLease, ImageLease}
+use Rattle.plx_geom.specs.declared.place.Place.TheVariants.{ExtentLease, Record, Log, JDesc, JData}
+use Rattle.plx_geom.specs.declared.place.Place.TheVariants.{Map, Pool}
 use Rattle.plx_rules.specs.Rests.{AreWithin, extents_of, home_of}
 use Rattle.plx_rules.specs.World.{World, Reached}
 

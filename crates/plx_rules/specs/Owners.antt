@@ -1,5 +1,6 @@
 -- Which boot owns a lease, what that promises, and on what a write that is waited for rests.
-use Rattle.std.specs.Prelude.{◌≡◌, ◌+◌, ◌≤◌, ◌<◌, ◌==◌, ℕ, List, Bool, true, false, Option, Some, None, slice_get}
+use Rattle.std.specs.Prelude.{◌≡◌, ◌+◌, ◌≤◌, ◌<◌, ◌==◌, ℕ, List, Bool, true, false, Option, Some}
+use Rattle.std.specs.Prelude.{None, slice_get}
 use Rattle.plx_base.specs.declared.lease.Claim.{Claim}
 use Rattle.plx_base.specs.declared.write_kind.WriteKind.{WriteKind}
 use Rattle.plx_base.specs.declared.write_kind.WriteKind.TheVariants as kind
@@ -28,7 +29,8 @@ abbrev pub pending_write : List Issued → (pending : Option ℕ) → Option Iss
 pending_write writes None = None
 pending_write writes (Some number) = slice_get writes number
 
--- what a boot holds of a lease while it asks a write: nothing from the ask of its release on, and what its renewal gives once sector 0 of that has landed
+-- what a boot holds of a lease while it asks a write: nothing from the ask of
+-- its release on, and what its renewal gives once sector 0 of that has landed
 abbrev pub held_while : WriteKind → (same landed : Bool) → List ℕ → Hold → Hold
 held_while kind.Release true landed bytes hold = Nothing
 held_while kind.Renew true true bytes hold = hold_after_renewal (read_lease bytes)
@@ -36,16 +38,20 @@ held_while kind same landed bytes hold = hold
 
 -- what a boot holds of the lease in this block, at its place
 abbrev pub hold_at_place : Place → (pending : Option Issued) → (lease : ℕ) → Hold → Hold
-hold_at_place (In known command (WriteThen kind block bytes guard done fault missed)) pending lease hold =
+hold_at_place (In known command (WriteThen kind block bytes guard done fault missed))
+    pending lease hold =
     held_while kind (lease == block) (first_landed pending) bytes hold
 hold_at_place other pending lease hold = hold
 
 -- what the present boot of an appliance holds of the lease in this block
 abbrev pub held_by : World → (appliance lease : ℕ) → Hold
 held_by w appliance lease =
-    hold_at_place (stands w appliance).place (pending_write w.surface.writes (w.seats appliance).pending) lease ((stands w appliance).holds lease)
+    hold_at_place (stands w appliance).place
+    (pending_write w.surface.writes (w.seats appliance).pending)
+    lease ((stands w appliance).holds lease)
 
--- the present boot of an appliance owns a lease: it holds it, and the time isn't past the drift after its end
+-- the present boot of an appliance owns a lease: it holds it,
+-- and the time isn't past the drift after its end
 pub record Owns (w : World) (appliance lease : ℕ) : Type 0 where
   pub within : lease < lease_count w.geometry
   pub claim : Claim
@@ -55,14 +61,16 @@ pub record Owns (w : World) (appliance lease : ℕ) : Type 0 where
 
 -- at most one boot owns each lease
 abbrev pub HasOneOwner : World → Type 0
-HasOneOwner w = (a b lease : ℕ) → a < w.appliances → b < w.appliances → Owns w a lease → Owns w b lease → a ≡ b
+HasOneOwner w =
+    (a b lease : ℕ) → a < w.appliances → b < w.appliances → Owns w a lease → Owns w b lease → a ≡ b
 
 -- no landing of a write that rests on a lease changes a byte while another boot owns that lease
 abbrev pub IsGuarded : World → Type 0
 IsGuarded w = (number sector : ℕ) (write : Issued) (lease b : ℕ) → lease < lease_count w.geometry →
     IsUnder w.rests number lease → MayLand w.surface number sector write →
     b < w.appliances → Owns w b lease → ¬ ((setting_of w b).boot ≡ write.owner) →
-    (block : ℕ) → (after_landing w.surface number write sector).device block ≡ w.surface.device block
+    (block : ℕ) →
+    (after_landing w.surface number write sector).device block ≡ w.surface.device block
 
 -- it is so in every world that events lead to
 abbrev pub Exclusion : Type 0

@@ -10,7 +10,8 @@ use Rattle.plx_disk.specs.declared.ask.Answer.TheVariants as answer
 pub data Process (E : Type 0) : Type 0 where
   Ends : E → Process E
   ReadThen : (block : ℕ) → (List ℕ → Process E) → (fault : Process E) → Process E
-  WriteThen : (kind : WriteKind) → (block : ℕ) → (bytes : List ℕ) → (guard : ℕ) → (done fault : Process E) → (missed : ℕ → Process E) → Process E
+  WriteThen : (kind : WriteKind) → (block : ℕ) → (bytes : List ℕ) →
+      (guard : ℕ) → (done fault : Process E) → (missed : ℕ → Process E) → Process E
   ClockThen : (ℕ → Process E) → Process E
   UntilThen : (from : ℕ) → (ℕ → Process E) → Process E
 
@@ -20,7 +21,8 @@ answered (ReadThen block rest fault) (answer.Bytes bytes) = rest bytes
 answered (ReadThen block rest fault) answer.Fault = fault
 answered (WriteThen kind block bytes guard done fault missed) answer.Done = done
 answered (WriteThen kind block bytes guard done fault missed) answer.Fault = fault
-answered (WriteThen kind block bytes guard done fault missed) (answer.Missed reading) = missed reading
+answered (WriteThen kind block bytes guard done fault missed) (answer.Missed reading) =
+    missed reading
 answered (ClockThen rest) (answer.Reading reading) = rest reading
 answered (UntilThen from rest) (answer.Reading reading) = rest reading
 answered process other = process
@@ -29,7 +31,8 @@ answered process other = process
 abbrev pub standing : {E : Type 0} → Process E → Option Ask
 standing (Ends end) = None
 standing (ReadThen block rest fault) = Some (ask.Read (record { 0 = block }))
-standing (WriteThen kind block bytes guard done fault missed) = Some (ask.Write kind (record { 0 = block }) guard)
+standing (WriteThen kind block bytes guard done fault missed) =
+    Some (ask.Write kind (record { 0 = block }) guard)
 standing (ClockThen rest) = Some ask.Clock
 standing (UntilThen from rest) = Some (ask.Until from)
 

@@ -17,12 +17,14 @@ AreReachedAllocated w = (block : ℕ) → IsReachable (trees_in w) block →
 -- each has one level: all paths on which it stands have as many digits
 abbrev pub HaveOneLevel : World → Type 0
 HaveOneLevel w = (r q : ℕ) (ds es : List ℕ) (block : ℕ) →
-    StandsOnPath (trees_in w) r ds block → StandsOnPath (trees_in w) q es block → length ds ≡ length es
+    StandsOnPath (trees_in w) r ds block →
+    StandsOnPath (trees_in w) q es block → length ds ≡ length es
 
 -- a block on a marked path is on no other path: it may be written in place
 abbrev pub HaveOnePath : World → Type 0
 HaveOnePath w = (r q : ℕ) (ds es : List ℕ) (block : ℕ) →
-    StandsOnPath (trees_in w) r ds block → AllMarked (trees_in w) r ds → StandsOnPath (trees_in w) q es block →
+    StandsOnPath (trees_in w) r ds block →
+    AllMarked (trees_in w) r ds → StandsOnPath (trees_in w) q es block →
     (q ≡ r) × (es ≡ ds)
 
 -- reachable blocks are allocated in every world that events lead to

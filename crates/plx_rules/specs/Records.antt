@@ -1,5 +1,6 @@
 -- What an image's record says, and the records that commands write.
-use Rattle.std.specs.Prelude.{◌==◌, ◌&&◌, ℕ, List, Bool, true, false, if◌then◌else◌, Option, Some, None}
+use Rattle.std.specs.Prelude.{◌==◌, ◌&&◌, ℕ, List, Bool, true, false, if◌then◌else◌, Option, Some}
+use Rattle.std.specs.Prelude.{None}
 use Rattle.plx_gate.specs.Images.{read_image}
 use Rattle.plx_gate.specs.declared.image.ImageRecord.{ImageRecord}
 use Rattle.plx_gate.specs.declared.image.ImageRecord.TheVariants.{Free, Live}
@@ -36,10 +37,19 @@ applied_of (Live live) = live.applied
 
 -- the record of an image that is made: without tree, writes and snapshots
 abbrev pub made_record : (generation size : ℕ) → (label : List ℕ) → ImageRecord
-made_record generation size label = Live (record { generation = generation; size = size; taken = 0; root = 0; applied = 0; label = label })
+made_record generation size label =
+    Live (record {
+      generation = generation;
+      size = size;
+      taken = 0;
+      root = 0;
+      applied = 0;
+      label = label;
+    })
 
--- whether the image has no snapshot and no tree. Commands don't read logs and trees yet:
--- an attach treats a record that counts snapshots or has a root like bytes outside the format, and this is the one place that says so
+-- whether the image has no snapshot and no tree. Commands don't read logs
+-- and trees yet: an attach treats a record that counts snapshots or has a
+-- root like bytes outside the format, and this is the one place that says so
 abbrev pub is_plain : ImageRecord → Bool
 is_plain record' = (taken_of record' == 0) && (root_of record' == 0)
 

@@ -1,11 +1,13 @@
 -- On which leases a write rests: a list that is set as it is issued.
-use Rattle.std.specs.Prelude.{◌≡◌, ◌<◌, ◌-◌, ◌/◌, ℕ, List, [], ◌∷◌, ◌++◌, map, true, Option, Some, None}
+use Rattle.std.specs.Prelude.{◌≡◌, ◌<◌, ◌-◌, ◌/◌, ℕ, List, [], ◌∷◌, ◌++◌, map, true, Option, Some}
+use Rattle.std.specs.Prelude.{None}
 use Rattle.plx_base.specs.declared.write_kind.WriteKind.{WriteKind}
 use Rattle.plx_base.specs.declared.write_kind.WriteKind.TheVariants as kind
 use Rattle.plx_commands.specs.Replies.{is_in}
 use Rattle.plx_commands.specs.Slots.{named_slots}
 use Rattle.plx_commands.specs.declared.command.Command.{Command}
-use Rattle.plx_geom.specs.Geometry.{Geometry, root_lease, image_lease, extent_lease, lease_at, record_at, log_at, journal_start, extents_start}
+use Rattle.plx_geom.specs.Geometry.{Geometry, root_lease, image_lease, extent_lease, lease_at}
+use Rattle.plx_geom.specs.Geometry.{record_at, log_at, journal_start, extents_start}
 use Rattle.plx_rules.specs.Holds.{Hold}
 
 -- the lease in this block

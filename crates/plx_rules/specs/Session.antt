@@ -1,5 +1,6 @@
 -- What an appliance knows between commands: its sessions, and how many claims it began.
-use Rattle.std.specs.Prelude.{◌+◌, ℕ, List, [], ◌∷◌, ◌++◌, length, Option, Some, None, nat_lt, if◌then◌else◌, ◌==◌}
+use Rattle.std.specs.Prelude.{◌+◌, ℕ, List, [], ◌∷◌, ◌++◌, length, Option, Some, None, nat_lt}
+use Rattle.std.specs.Prelude.{if◌then◌else◌, ◌==◌}
 use Rattle.plx_base.specs.Blocks.{zeros}
 use Rattle.plx_commands.specs.declared.reply.Report.{Report}
 use Rattle.plx_commands.specs.Places.{at}
@@ -39,12 +40,17 @@ new_session image = record { image = image; writes = [] }
 -- the writes once one more was read from the journal, in order of number
 abbrev pub with_write_by_number : Journaled → List Journaled → List Journaled
 with_write_by_number new [] = new ∷ []
-with_write_by_number new (write ∷ writes) = if nat_lt new.number write.number then new ∷ write ∷ writes else write ∷ with_write_by_number new writes
+with_write_by_number new (write ∷ writes) =
+    if nat_lt new.number write.number
+    then new ∷ write ∷ writes
+    else write ∷ with_write_by_number new writes
 
--- the number of the first of these writes, in order of number, that doesn't follow on the one before it
+-- the number of the first of these writes,
+-- in order of number, that doesn't follow on the one before it
 abbrev pub first_gap : (before : ℕ) → List Journaled → Option ℕ
 first_gap before [] = None
-first_gap before (write ∷ writes) = if write.number == before + 1 then first_gap (before + 1) writes else Some write.number
+first_gap before (write ∷ writes) =
+    if write.number == before + 1 then first_gap (before + 1) writes else Some write.number
 
 -- how often the image was written
 abbrev pub write_count : Session → ℕ
@@ -65,7 +71,8 @@ session_report session = record {
 -- what the writes leave in a virtual block that held `before`: the last one counts
 abbrev pub latest : (before : List ℕ) → (vblock : ℕ) → List Journaled → List ℕ
 latest before vblock [] = before
-latest before vblock (write ∷ writes) = latest (if vblock == write.vblock then write.block else before) vblock writes
+latest before vblock (write ∷ writes) =
+    latest (if vblock == write.vblock then write.block else before) vblock writes
 
 -- what a virtual block of the image holds
 abbrev pub content : Session → (vblock : ℕ) → List ℕ
@@ -75,7 +82,8 @@ content session vblock = latest zeros vblock session.writes
 abbrev pub with_write : Session → Journaled → Session
 with_write session write = record session { writes = session.writes ++ write ∷ [] }
 
--- what is known once a command ended with this reply: after a lost lease and a failed write no session is left
+-- what is known once a command ended with this reply:
+-- after a lost lease and a failed write no session is left
 abbrev pub known_after : Reply → Known → Known
 known_after (reply.Lost lease until reading) known = nothing_known known.claims
 known_after (reply.WriteFault block) known = nothing_known known.claims

@@ -8,6 +8,7 @@ pub record Setting : Type 0 where
   pub appliance : ℕ
   pub boot : ℕ
 
--- the number of an appliance's boot, where so many came before it; no two boots of a world have the same
+-- the number of an appliance's boot, where so many
+-- came before it; no two boots of a world have the same
 abbrev pub boot_number : (appliance boots : ℕ) → ℕ
 boot_number appliance boots = 256 * boots + appliance + 1

@@ -1,5 +1,6 @@
 -- The image that given bytes store.
-use Rattle.std.specs.Prelude.{◌≡◌, ◌≤◌, ◌<◌, ◌*◌, ◌/◌, ◌%◌, ◌^◌, ◌⊎◌, ℕ, List, [], ◌∷◌, length, Bool, true, false, if◌then◌else◌, ◌==◌, Option, Some, None, slice_get}
+use Rattle.std.specs.Prelude.{◌≡◌, ◌≤◌, ◌<◌, ◌*◌, ◌/◌, ◌%◌, ◌^◌, ◌⊎◌, ℕ, List, [], ◌∷◌, length}
+use Rattle.std.specs.Prelude.{Bool, true, false, if◌then◌else◌, ◌==◌, Option, Some, None, slice_get}
 use Rattle.plx_base.specs.Blocks.{zeros}
 use Rattle.plx_base.specs.Fields.{number_at}
 use Rattle.plx_base.specs.Pointers.{without_mark}
@@ -23,7 +24,8 @@ Given = ℕ → Option (List ℕ)
 abbrev pub all_of : Device → Given
 all_of device = λ block. Some (device block)
 
--- what a virtual block of an image holds, as far as bytes are given: bytes, or what lies below this block by these digits
+-- what a virtual block of an image holds, as far as bytes are given:
+-- bytes, or what lies below this block by these digits
 pub data Content : Type 0 where
   Holds : List ℕ → Content
   Below : (block : ℕ) → (digits : List ℕ) → Content
@@ -109,16 +111,21 @@ abbrev pub digits_of : (vblock : ℕ) → List ℕ
 digits_of vblock = vblock / 2 ^ 18 ∷ (vblock / 2 ^ 9) % 512 ∷ vblock % 512 ∷ []
 
 -- a node, by one digit: the pointer that stands there is followed, where the node is given
-abbrev pub through : (block digit : ℕ) → (digits : List ℕ) → Option (List ℕ) → (ℕ → Content) → Content
+abbrev pub through : (block digit : ℕ) → (digits : List ℕ) →
+    Option (List ℕ) → (ℕ → Content) → Content
 through block digit digits None follow = Below block (digit ∷ digits)
 through block digit digits (Some bytes) follow = follow (number_at 8 (8 * digit) bytes)
 
 -- what a pointer leads to by these digits: a hole reads as zeros, with or without its mark
 abbrev pub leads_to : Given → (pointer : ℕ) → (digits : List ℕ) → Content
-leads_to given pointer [] = if without_mark pointer == 0 then Holds zeros else standing_in (without_mark pointer) (given (without_mark pointer))
+leads_to given pointer [] =
+    if without_mark pointer == 0
+    then Holds zeros
+    else standing_in (without_mark pointer) (given (without_mark pointer))
 leads_to given pointer (digit ∷ digits) =
     if without_mark pointer == 0 then Holds zeros
-    else through (without_mark pointer) digit digits (given (without_mark pointer)) (λ next. leads_to given next digits)
+    else through (without_mark pointer) digit digits
+    (given (without_mark pointer)) (λ next. leads_to given next digits)
 
 -- the content of a virtual block: the data of the newest write of it that counts,
 -- else what the record's root leads to

@@ -1,5 +1,6 @@
 -- The trees that a device holds.
-use Rattle.std.specs.Prelude.{◌≡◌, ◌-◌, ◌/◌, ◌%◌, ◌≤◌, ℕ, List, length, Bool, true, Option, Some, None}
+use Rattle.std.specs.Prelude.{◌≡◌, ◌-◌, ◌/◌, ◌%◌, ◌≤◌, ℕ, List, length, Bool, true, Option, Some}
+use Rattle.std.specs.Prelude.{None}
 use Rattle.std.specs.Prelude.{if◌then◌else◌, nat_lt}
 use Rattle.plx_base.specs.Sectors.{Device}
 use Rattle.plx_gate.specs.Entries.{read_entry}
@@ -28,7 +29,8 @@ entry_root None log index = Hole
 entry_root (Some kept) log index =
     if nat_lt index (taken_of kept) then logged_root (read_entry index log) else Hole
 
--- roots have numbers: after those of the images' records come those of the log entries, 128 an image
+-- roots have numbers: after those of the images'
+-- records come those of the log entries, 128 an image
 abbrev pub image_of_root : Geometry → (root : ℕ) → ℕ
 image_of_root g root = if nat_lt root g.images then root else (root - g.images) / 128
 
