@@ -1,7 +1,9 @@
 -- How many asks of a command are answered at most.
 use Rattle.std.specs.Prelude.{ℕ, zero, suc, ◌+◌, ◌*◌, List}
 use Rattle.plx_commands.specs.declared.command.Command.{Command}
-use Rattle.plx_commands.specs.declared.command.Command.TheVariants.{Attach, Detach, Create, Delete, Read, Write, Flush, Reserve, Renew, Retire, Reclaim}
+use Rattle.plx_commands.specs.declared.command.Command.TheVariants.{Attach, Detach, Create, Delete}
+use Rattle.plx_commands.specs.declared.command.Command.TheVariants.{Read, Write, Flush, Reserve}
+use Rattle.plx_commands.specs.declared.command.Command.TheVariants.{Renew, Retire, Reclaim}
 use Rattle.plx_geom.specs.Geometry.{Geometry, lease_count, lease_at}
 use Rattle.plx_rules.specs.Holds.{Hold, Nothing, Seen, Wrote, Waited, Held}
 use Rattle.plx_rules.specs.Settings.{Setting}
@@ -19,7 +21,8 @@ one_held (Held claim until) = 1
 -- how many leases are held, of `left` leases from this one on
 abbrev pub count_held : (ℕ → Hold) → (left lease : ℕ) → ℕ
 count_held holds zero lease = 0
-count_held holds (suc left) lease = one_held (holds (lease_at lease)) + count_held holds left (lease + 1)
+count_held holds (suc left) lease =
+    one_held (holds (lease_at lease)) + count_held holds left (lease + 1)
 
 -- how many leases are held after some commands
 abbrev pub held_after : Geometry → List Finished → ℕ

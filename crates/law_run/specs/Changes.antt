@@ -7,7 +7,10 @@ use Rattle.plx_rules.specs.Stored.{Holds, StoredFrozen, Dropped, Kept, StoredIma
 -- the image once one of its blocks is written
 abbrev pub written_on : StoredImage → (vblock : ℕ) → List ℕ → StoredImage
 written_on image vblock bytes =
-    record image { writes = image.writes + 1; content = λ v. if v == vblock then Holds bytes else image.content v }
+    record image {
+      writes = image.writes + 1;
+      content = λ v. if v == vblock then Holds bytes else image.content v;
+    }
 
 -- the free slot, in which so many images were made
 abbrev pub deleted_on : StoredImage → StoredImage

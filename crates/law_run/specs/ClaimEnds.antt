@@ -8,7 +8,8 @@ use Rattle.plx_disk.specs.declared.ask.Ask.TheVariants as ask
 use Rattle.plx_disk.specs.declared.ask.Answer.TheVariants as answer
 use Rattle.plx_gate.specs.Leases.{lease_bytes, read_lease}
 use Rattle.plx_geom.specs.Geometry.{lease_count, lease_at}
-use Rattle.plx_rules.specs.Claims.{ClaimEnd, ClaimHeld, ClaimBusy, ClaimLost, ClaimReadFault, ClaimWriteFault, ClaimDamaged, own_use, claim_process}
+use Rattle.plx_rules.specs.Claims.{ClaimEnd, ClaimHeld, ClaimBusy, ClaimLost, ClaimReadFault}
+use Rattle.plx_rules.specs.Claims.{ClaimWriteFault, ClaimDamaged, own_use, claim_process}
 use Rattle.plx_rules.specs.Holds.{Nothing}
 use Rattle.plx_rules.specs.InUse.{InUse, first_reached}
 use Rattle.plx_rules.specs.Process.{Process, bytes_out}
@@ -26,16 +27,26 @@ use Rattle.law_run.specs.Rules.{IsSetting}
 pub data AreInUse (log : CommandLog) (others : List InUse) (lease : ℕ) : List InUse → Type 0 where
   beside : AreInUse log others lease others
   with_own : (claim : Claim) →
-      WasAnswered log (ask.Write kind.Claim (record { 0 = lease_at lease }) (claim.sample + window)) (lease_bytes (lease_is.Claimed claim (claim.sample + term))) answer.Done →
+      WasAnswered log
+      (ask.Write kind.Claim (record { 0 = lease_at lease }) (claim.sample + window))
+      (lease_bytes (lease_is.Claimed claim (claim.sample + term))) answer.Done →
       AreInUse log others lease (own_use lease claim ∷ others)
 
--- a claim ends Lost: its write came too late for its guard, or a reading has reached a lease in use, of several the one to be named
-pub data IsClaimLost (log : CommandLog) (others : List InUse) (lease : ℕ) (due : InUse) (reading : ℕ) : Type 0 where
-  missed : (bytes : List ℕ) → LastAnswered log (ask.Write kind.Claim (record { 0 = lease_at lease }) due.until) bytes (answer.Missed reading) → due.lease ≡ lease →
+-- a claim ends Lost: its write came too late for its guard,
+-- or a reading has reached a lease in use, of several the one to be named
+pub data IsClaimLost (log : CommandLog) (others : List InUse)
+    (lease : ℕ) (due : InUse) (reading : ℕ) : Type 0 where
+  missed : (bytes : List ℕ) →
+      LastAnswered log (ask.Write kind.Claim (record { 0 = lease_at lease }) due.until)
+      bytes (answer.Missed reading) →
+      due.lease ≡ lease →
       IsClaimLost log others lease due reading
-  reached : (uses : List InUse) → AreInUse log others lease uses → IsLastReading log.exchanges reading → first_reached uses reading ≡ Some due → IsClaimLost log others lease due reading
+  reached : (uses : List InUse) → AreInUse log others lease uses →
+      IsLastReading log.exchanges reading → first_reached uses reading ≡ Some due →
+      IsClaimLost log others lease due reading
 
--- a claim ends Damaged: its lease was read as bytes that are no lease, and the reading after that has reached no lease in use
+-- a claim ends Damaged: its lease was read as bytes that are no lease,
+-- and the reading after that has reached no lease in use
 pub record IsClaimDamaged (log : CommandLog) (others : List InUse) (lease : ℕ) : Type 0 where
   pub bytes : List ℕ
   pub read : WasAnswered log (ask.Read (record { 0 = lease_at lease })) [] (answer.Bytes bytes)
@@ -47,15 +58,21 @@ pub record IsClaimDamaged (log : CommandLog) (others : List InUse) (lease : ℕ)
   pub early : first_reached uses reading ≡ None
 
 -- why a claim ends so: one line an end
-abbrev pub ShowsClaim : Setting → (others : List InUse) → (lease : ℕ) → CommandLog → ClaimEnd → Type 0
+abbrev pub ShowsClaim : Setting → (others : List InUse) →
+    (lease : ℕ) → CommandLog → ClaimEnd → Type 0
 ShowsClaim s others lease log (ClaimHeld claim until) = Holds s log lease claim until
 ShowsClaim s others lease log (ClaimBusy seen) = IsBusy s log lease seen
 ShowsClaim s others lease log (ClaimLost due reading) = IsClaimLost log others lease due reading
-ShowsClaim s others lease log ClaimReadFault = LastAnswered log (ask.Read (record { 0 = lease_at lease })) [] answer.Fault
-ShowsClaim s others lease log ClaimWriteFault = (guard : ℕ) × (bytes : List ℕ) × LastAnswered log (ask.Write kind.Claim (record { 0 = lease_at lease }) guard) bytes answer.Fault
+ShowsClaim s others lease log ClaimReadFault =
+    LastAnswered log (ask.Read (record { 0 = lease_at lease })) [] answer.Fault
+ShowsClaim s others lease log ClaimWriteFault =
+    (guard : ℕ) × (bytes : List ℕ)
+    × LastAnswered log (ask.Write kind.Claim (record { 0 = lease_at lease }) guard)
+    bytes answer.Fault
 ShowsClaim s others lease log ClaimDamaged = IsClaimDamaged log others lease
 
--- a claim may begin: nothing is held of its lease, the command has had its first reading and goes on, and the number is that of claims begun before
+-- a claim may begin: nothing is held of its lease, the command has had its
+-- first reading and goes on, and the number is that of claims begun before
 pub record MayBeginClaim (s : Setting) (log : CommandLog) (lease number : ℕ) : Type 0 where
   pub within : lease < lease_count s.geometry
   pub nothing : hold_by_log s log.before log.exchanges lease ≡ Nothing
@@ -70,17 +87,30 @@ pub record MayBeginClaim (s : Setting) (log : CommandLog) (lease number : ℕ) :
 abbrev pub claim_bound : ℕ
 claim_bound = 6
 
--- an ask of a claim that has come to this rest keeps the rules, by each log that leads there, within any command in which the claim may begin
+-- an ask of a claim that has come to this rest keeps the rules,
+-- by each log that leads there, within any command in which the claim may begin
 abbrev pub IsClaimAsk : (rest : Process ClaimEnd) → Ask → Type 0
-IsClaimAsk rest ask = (s : Setting) (log : CommandLog) (others : List InUse) (lease number : ℕ) (own : List Exchange) → IsSetting s → MayBeginClaim s log lease number →
-    HasCome (claim_process s.boot others lease number) own rest → IsRightAsk s log (IsOfBlock (lease_at lease)) claim_bound own ask (bytes_out rest)
+IsClaimAsk rest ask =
+    (s : Setting) (log : CommandLog) (others : List InUse)
+    (lease number : ℕ) (own : List Exchange) →
+    IsSetting s → MayBeginClaim s log lease number →
+    HasCome (claim_process s.boot others lease number) own rest →
+    IsRightAsk s log (IsOfBlock (lease_at lease)) claim_bound own ask (bytes_out rest)
 
 -- the same of its end
 abbrev pub IsClaimEnd : (rest : Process ClaimEnd) → ClaimEnd → Type 0
-IsClaimEnd rest end = (s : Setting) (log : CommandLog) (others : List InUse) (lease number : ℕ) (own : List Exchange) → IsSetting s → MayBeginClaim s log lease number →
-    HasCome (claim_process s.boot others lease number) own rest → IsRightEnd s log claim_bound (ShowsClaim s others lease) own end
+IsClaimEnd rest end =
+    (s : Setting) (log : CommandLog) (others : List InUse)
+    (lease number : ℕ) (own : List Exchange) →
+    IsSetting s → MayBeginClaim s log lease number →
+    HasCome (claim_process s.boot others lease number) own rest →
+    IsRightEnd s log claim_bound (ShowsClaim s others lease) own end
 
--- each claim keeps the rules, whatever its answers are: its asks are allowed, at most six are answered, and its end has its cause
+-- each claim keeps the rules, whatever its answers are:
+-- its asks are allowed, at most six are answered, and its end has its cause
 abbrev pub ClaimsKeepRules : Type 0
-ClaimsKeepRules = (s : Setting) (log : CommandLog) (others : List InUse) (lease number : ℕ) → IsSetting s → MayBeginClaim s log lease number →
-    Keeps s log (IsOfBlock (lease_at lease)) claim_bound (ShowsClaim s others lease) (claim_process s.boot others lease number)
+ClaimsKeepRules =
+    (s : Setting) (log : CommandLog) (others : List InUse) (lease number : ℕ) →
+    IsSetting s → MayBeginClaim s log lease number →
+    Keeps s log (IsOfBlock (lease_at lease)) claim_bound
+    (ShowsClaim s others lease) (claim_process s.boot others lease number)

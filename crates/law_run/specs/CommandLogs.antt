@@ -20,7 +20,8 @@ pub record Finished : Type 0 where
   pub exchanges : List Exchange
   pub reply : Reply
 
--- the log of one command: the commands of its boot before it, the newest first, the command, and its exchanges so far
+-- the log of one command: the commands of its boot before it,
+-- the newest first, the command, and its exchanges so far
 pub record CommandLog : Type 0 where
   pub before : List Finished
   pub command : Command
@@ -33,7 +34,8 @@ pub data Commands : Type 0 where
 
 -- a command begins where none runs
 abbrev pub commands_after_start : Command → Commands → Commands
-commands_after_start command (Between before) = Within (record { before = before; command = command; exchanges = [] })
+commands_after_start command (Between before) =
+    Within (record { before = before; command = command; exchanges = [] })
 commands_after_start command (Within log) = Within log
 
 -- the log with one more exchange
@@ -45,18 +47,25 @@ abbrev pub commands_after_exchange : Exchange → Option Reply → Commands → 
 commands_after_exchange exchange reply (Between before) = Between before
 commands_after_exchange exchange None (Within log) = Within (with_exchange exchange log)
 commands_after_exchange exchange (Some reply) (Within log) =
-    Between ((record { command = log.command; exchanges = exchange ∷ log.exchanges; reply = reply }) ∷ log.before)
+    Between
+    ((record { command = log.command; exchanges = exchange ∷ log.exchanges; reply = reply })
+    ∷ log.before)
 
 -- the commands of a boot log, whose newest entry stands first
 abbrev pub commands : Setting → List BootEntry → Commands
 commands s [] = Between []
 commands s (Began command ∷ older) = commands_after_start command (commands s older)
 commands s (Asked ask bytes answer ∷ older) =
-    commands_after_exchange (record { ask = ask; bytes = bytes; answer = answer }) (replies s answer (configuration s older)) (commands s older)
+    commands_after_exchange (record { ask = ask; bytes = bytes; answer = answer })
+    (replies s answer (configuration s older)) (commands s older)
 
 -- the log of a command that has its reply
 abbrev pub log_of : Finished → List Finished → CommandLog
-log_of finished before = record { before = before; command = finished.command; exchanges = finished.exchanges }
+log_of finished before = record {
+  before = before;
+  command = finished.command;
+  exchanges = finished.exchanges;
+}
 
 -- the log with these exchanges
 abbrev pub with_exchanges : CommandLog → List Exchange → CommandLog
@@ -69,7 +78,8 @@ IsIn exchange (other ∷ others) = (exchange ≡ other) ⊎ IsIn exchange others
 
 -- an ask was answered so in these exchanges
 abbrev pub WasAnsweredIn : List Exchange → Ask → List ℕ → Answer → Type 0
-WasAnsweredIn exchanges ask bytes answer = IsIn (record { ask = ask; bytes = bytes; answer = answer }) exchanges
+WasAnsweredIn exchanges ask bytes answer =
+    IsIn (record { ask = ask; bytes = bytes; answer = answer }) exchanges
 
 -- an ask of the command was answered so
 abbrev pub WasAnswered : CommandLog → Ask → List ℕ → Answer → Type 0
@@ -86,11 +96,13 @@ without_newest log = with_exchanges log (older_than log.exchanges)
 
 -- the newest exchange is this one, after those
 abbrev pub NewestIs : List Exchange → Ask → List ℕ → Answer → (older : List Exchange) → Type 0
-NewestIs exchanges ask bytes answer older = exchanges ≡ (record { ask = ask; bytes = bytes; answer = answer }) ∷ older
+NewestIs exchanges ask bytes answer older =
+    exchanges ≡ (record { ask = ask; bytes = bytes; answer = answer }) ∷ older
 
 -- the last answer in these exchanges was this one
 abbrev pub LastAnsweredIn : List Exchange → Ask → List ℕ → Answer → Type 0
-LastAnsweredIn exchanges ask bytes answer = (older : List Exchange) × NewestIs exchanges ask bytes answer older
+LastAnsweredIn exchanges ask bytes answer =
+    (older : List Exchange) × NewestIs exchanges ask bytes answer older
 
 -- the last answer of the command was this one
 abbrev pub LastAnswered : CommandLog → Ask → List ℕ → Answer → Type 0

@@ -23,22 +23,28 @@ use Rattle.law_run.specs.Sessions.{names}
 use Rattle.law_run.specs.Space.{IsFull, IsWornOut, OfTake}
 use Rattle.law_run.specs.Uses.{IsInUse}
 
--- something in the log refuses the command: a fact; a fault; a write that was missed; a reading past the end of a lease in use; a busy lease;
--- no space; no claim left; or bytes outside the format
+-- something in the log refuses the command: a fact; a fault;
+-- a write that was missed; a reading past the end of a lease in use;
+-- a busy lease; no space; no claim left; or bytes outside the format
 pub data HasCause (s : Setting) (log : CommandLog) : Type 0 where
   fact : (place : ℕ) (refusal : Reply) → Refuses s log place refusal → HasCause s log
   failed : (ask : Ask) (bytes : List ℕ) → LastAnswered log ask bytes answer.Fault → HasCause s log
-  missed : (ask : Ask) (bytes : List ℕ) (reading : ℕ) → LastAnswered log ask bytes (answer.Missed reading) → HasCause s log
+  missed : (ask : Ask) (bytes : List ℕ) (reading : ℕ) →
+      LastAnswered log ask bytes (answer.Missed reading) → HasCause s log
   reached : (one : InUse) (reading : ℕ) → IsLastReading log.exchanges reading → IsInUse s log one →
       one.until ≤ reading → HasCause s log
   busy : (lease : LeaseName) (seen : LeaseRecord) → WasBusy s log lease seen → HasCause s log
   full : OfTake log (IsFull s log) → HasCause s log
   worn : (last : ℕ) → OfTake log (λ own count. IsWornOut s log own count last) → HasCause s log
   outside : (image : ℕ) (block : BlockNo) (bytes : List ℕ) → names log.command image ≡ true →
-      WasAnswered log (ask.Read block) [] (answer.Bytes bytes) → IsOutside s.geometry (known_in s.geometry log image) image block.0 bytes → HasCause s log
-  outside_map : (extent : ℕ) (bytes : List ℕ) → WasAnswered log (ask.Read (record { 0 = map_at s.geometry extent })) [] (answer.Bytes bytes) →
+      WasAnswered log (ask.Read block) [] (answer.Bytes bytes) →
+      IsOutside s.geometry (known_in s.geometry log image) image block.0 bytes → HasCause s log
+  outside_map : (extent : ℕ) (bytes : List ℕ) →
+      WasAnswered log (ask.Read (record { 0 = map_at s.geometry extent })) [] (answer.Bytes bytes) →
       read_map s.geometry.extent_blocks bytes ≡ None → HasCause s log
-  outside_lease : (extent : ℕ) (bytes : List ℕ) → WasAnswered log (ask.Read (record { 0 = lease_at (extent_lease s.geometry extent) })) [] (answer.Bytes bytes) →
+  outside_lease : (extent : ℕ) (bytes : List ℕ) →
+      WasAnswered log (ask.Read (record { 0 = lease_at (extent_lease s.geometry extent) }))
+      [] (answer.Bytes bytes) →
       read_lease bytes ≡ None → HasCause s log
 
 -- a command that has its reply has a cause in its log, or the reply is its own Ok

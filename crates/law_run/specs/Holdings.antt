@@ -1,13 +1,17 @@
--- What a boot holds of each lease, what it has in hand, and how many claims it began, by its commands.
-use Rattle.std.specs.Prelude.{◌≡◌, ◌+◌, ◌-◌, ℕ, List, [], ◌∷◌, Bool, true, false, ◌&&◌, nat_le, nat_lt, if◌then◌else◌, ◌==◌, Option, Some, None, is_some, not}
+-- What a boot holds of each lease, what it has in hand,
+-- and how many claims it began, by its commands.
+use Rattle.std.specs.Prelude.{◌≡◌, ◌+◌, ◌-◌, ℕ, List, [], ◌∷◌, Bool, true, false, ◌&&◌, nat_le}
+use Rattle.std.specs.Prelude.{nat_lt, if◌then◌else◌, ◌==◌, Option, Some, None, is_some, not}
 use Rattle.plx_base.specs.declared.lease.Claim.{Claim}
 use Rattle.plx_disk.specs.declared.ask.Ask.{Ask}
 use Rattle.plx_disk.specs.declared.ask.Ask.TheVariants as ask
 use Rattle.plx_disk.specs.declared.ask.Answer.{Answer}
 use Rattle.plx_disk.specs.declared.ask.Answer.TheVariants as answer
 use Rattle.plx_geom.specs.Geometry.{Geometry, lease_count, image_lease, lease_at, map_at}
-use Rattle.plx_rules.specs.Hands.{found_by, filled_answered, filled_held, hand_answered, hand_held, hand_left, is_held}
-use Rattle.plx_rules.specs.Holds.{Hold, Nothing, Wrote, Waited, Held, no_holds, after_answer, sample_of, holds_after_reply}
+use Rattle.plx_rules.specs.Hands.{found_by, filled_answered, filled_held, hand_answered, hand_held}
+use Rattle.plx_rules.specs.Hands.{hand_left, is_held}
+use Rattle.plx_rules.specs.Holds.{Hold, Nothing, Wrote, Waited, Held, no_holds, after_answer}
+use Rattle.plx_rules.specs.Holds.{sample_of, holds_after_reply}
 use Rattle.plx_rules.specs.Rests.{extent_of}
 use Rattle.plx_rules.specs.Settings.{Setting}
 use Rattle.plx_rules.specs.Space.{read_map}
@@ -16,35 +20,45 @@ use Rattle.law_run.specs.Sessions.{is_attached}
 
 -- whether a block is the lease of an attached image
 abbrev pub lease_attached : Geometry → (attached : ℕ → Bool) → (block : ℕ) → Bool
-lease_attached g attached block = if nat_le 2 block && nat_lt block (2 + g.images) then attached (block - 2) else false
+lease_attached g attached block =
+    if nat_le 2 block && nat_lt block (2 + g.images) then attached (block - 2) else false
 
--- the first reading of a command drops a lease without a session that it has reached; and no claim of an earlier command goes on
+-- the first reading of a command drops a lease without a session
+-- that it has reached; and no claim of an earlier command goes on
 abbrev pub at_first : (attached : Bool) → (reading : ℕ) → Hold → Hold
-at_first false reading (Held claim until) = if nat_le until reading then Nothing else Held claim until
+at_first false reading (Held claim until) =
+    if nat_le until reading then Nothing else Held claim until
 at_first true reading (Held claim until) = Held claim until
 at_first attached reading other = Nothing
 
 -- what is held after the answer to a command's first ask
 abbrev pub after_first_answer : Geometry → (attached : ℕ → Bool) → Answer → (ℕ → Hold) → ℕ → Hold
-after_first_answer g attached (answer.Reading reading) holds = λ block. at_first (lease_attached g attached block) reading (holds block)
+after_first_answer g attached (answer.Reading reading) holds =
+    λ block. at_first (lease_attached g attached block) reading (holds block)
 after_first_answer g attached other holds = holds
 
--- what is held after some exchanges of a command that began with these sessions and holdings, by the block of each lease
-abbrev pub holds_along : Geometry → (attached : ℕ → Bool) → (start : ℕ → Hold) → List Exchange → ℕ → Hold
+-- what is held after some exchanges of a command that began
+-- with these sessions and holdings, by the block of each lease
+abbrev pub holds_along : Geometry → (attached : ℕ → Bool) →
+    (start : ℕ → Hold) → List Exchange → ℕ → Hold
 holds_along g attached start [] = start
 holds_along g attached start (exchange ∷ []) = after_first_answer g attached exchange.answer start
 holds_along g attached start (exchange ∷ last ∷ older) =
-    after_answer (sample_of last.answer) exchange.ask exchange.bytes exchange.answer (holds_along g attached start (last ∷ older))
+    after_answer (sample_of last.answer) exchange.ask exchange.bytes
+    exchange.answer (holds_along g attached start (last ∷ older))
 
 -- what is held after some commands
 abbrev pub holds_after : Geometry → List Finished → ℕ → Hold
 holds_after g [] = no_holds
 holds_after g (finished ∷ before) =
-    holds_after_reply finished.reply (holds_along g (is_attached before) (holds_after g before) finished.exchanges)
+    holds_after_reply finished.reply
+    (holds_along g (is_attached before) (holds_after g before) finished.exchanges)
 
 -- what is held of a lease after some exchanges of a command with those before it
 abbrev pub hold_by_log : Setting → List Finished → List Exchange → (lease : ℕ) → Hold
-hold_by_log s before exchanges lease = holds_along s.geometry (is_attached before) (holds_after s.geometry before) exchanges (lease_at lease)
+hold_by_log s before exchanges lease =
+    holds_along s.geometry (is_attached before)
+    (holds_after s.geometry before) exchanges (lease_at lease)
 
 -- a lease is held until that moment, by this claim: its own record was read again in time
 abbrev pub Holds : Setting → CommandLog → (lease : ℕ) → Claim → (until : ℕ) → Type 0
@@ -88,8 +102,10 @@ abbrev pub filled_along : Geometry → (attached : ℕ → Bool) → (start : �
 filled_along g attached start exchanges =
     filled_held g (holds_along g attached start exchanges) (filled_told g attached start exchanges)
 
--- what is in hand after some exchanges of a command that began with these holdings and blocks, before the newest one's leases are looked at
-abbrev pub hand_told : Geometry → (attached : ℕ → Bool) → (start : ℕ → Hold) → (hand : List ℕ) → List Exchange → List ℕ
+-- what is in hand after some exchanges of a command that began with
+-- these holdings and blocks, before the newest one's leases are looked at
+abbrev pub hand_told : Geometry → (attached : ℕ → Bool) →
+    (start : ℕ → Hold) → (hand : List ℕ) → List Exchange → List ℕ
 hand_told g attached start hand [] = hand
 hand_told g attached start hand (exchange ∷ []) = hand
 hand_told g attached start hand (exchange ∷ last ∷ older) =
@@ -99,21 +115,26 @@ hand_told g attached start hand (exchange ∷ last ∷ older) =
     (hand_told g attached start hand (last ∷ older))))
 
 -- what is in hand then: of those blocks the ones whose extents are held
-abbrev pub hand_along : Geometry → (attached : ℕ → Bool) → (start : ℕ → Hold) → (hand : List ℕ) → List Exchange → List ℕ
+abbrev pub hand_along : Geometry → (attached : ℕ → Bool) →
+    (start : ℕ → Hold) → (hand : List ℕ) → List Exchange → List ℕ
 hand_along g attached start hand [] = hand
 hand_along g attached start hand (exchange ∷ older) =
-    hand_held g (holds_along g attached start (exchange ∷ older)) (hand_told g attached start hand (exchange ∷ older))
+    hand_held g (holds_along g attached start (exchange ∷ older))
+    (hand_told g attached start hand (exchange ∷ older))
 
 -- what is in hand after some commands
 abbrev pub hand_after : Geometry → List Finished → List ℕ
 hand_after g [] = []
 hand_after g (finished ∷ before) =
     hand_held g (holds_after g (finished ∷ before))
-    (hand_told g (is_attached before) (holds_after g before) (hand_after g before) finished.exchanges)
+    (hand_told g (is_attached before) (holds_after g before)
+    (hand_after g before) finished.exchanges)
 
 -- what is in hand after some exchanges of a command with those before it
 abbrev pub hand_by_log : Setting → List Finished → List Exchange → List ℕ
-hand_by_log s before exchanges = hand_along s.geometry (is_attached before) (holds_after s.geometry before) (hand_after s.geometry before) exchanges
+hand_by_log s before exchanges =
+    hand_along s.geometry (is_attached before)
+    (holds_after s.geometry before) (hand_after s.geometry before) exchanges
 
 -- the same after some exchanges of a command with those before it
 abbrev pub filled_by_log : Setting → List Finished → List Exchange → List (ℕ × List ℕ)
@@ -139,7 +160,8 @@ is_clock (ask.Until from) = false
 -- whether what was found at a block is the map of an extent
 abbrev pub is_map_found : Geometry → Option (ℕ × List ℕ) → Bool
 is_map_found g None = false
-is_map_found g (Some found) = (map_at g (extent_of g found.0) == found.0) && is_some (read_map g.extent_blocks found.1)
+is_map_found g (Some found) =
+    (map_at g (extent_of g found.0) == found.0) && is_some (read_map g.extent_blocks found.1)
 
 -- whether the newest of some exchanges asked for the clock, where no map was read before that
 abbrev pub is_clock_alone : Geometry → List Exchange → Bool

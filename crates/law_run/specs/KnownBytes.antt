@@ -1,8 +1,11 @@
 -- The bytes that a boot knows of each attached image.
-use Rattle.std.specs.Prelude.{ℕ, List, [], ◌∷◌, Bool, true, false, ◌||◌, ◌&&◌, if◌then◌else◌, ◌==◌, nat_le, Option, Some, None}
+use Rattle.std.specs.Prelude.{ℕ, List, [], ◌∷◌, Bool, true, false, ◌||◌, ◌&&◌, if◌then◌else◌, ◌==◌}
+use Rattle.std.specs.Prelude.{nat_le, Option, Some, None}
 use Rattle.plx_base.specs.declared.write_kind.WriteKind.TheVariants as kind
 use Rattle.plx_commands.specs.declared.command.Command.{Command}
-use Rattle.plx_commands.specs.declared.command.Command.TheVariants.{Attach, Detach, Create, Delete, Read, Write, Flush, Reserve, Renew, Retire, Reclaim}
+use Rattle.plx_commands.specs.declared.command.Command.TheVariants.{Attach, Detach, Create, Delete}
+use Rattle.plx_commands.specs.declared.command.Command.TheVariants.{Read, Write, Flush, Reserve}
+use Rattle.plx_commands.specs.declared.command.Command.TheVariants.{Renew, Retire, Reclaim}
 use Rattle.plx_disk.specs.declared.ask.Ask.{Ask}
 use Rattle.plx_disk.specs.declared.ask.Ask.TheVariants as ask
 use Rattle.plx_disk.specs.declared.ask.Answer.{Answer}
@@ -23,14 +26,18 @@ given_with given block bytes = λ b. if b == block then Some bytes else given b
 
 -- what an exchange tells of a block: the bytes that were read there, or written and Done
 abbrev pub given_after_exchange : Ask → List ℕ → Answer → Given → Given
-given_after_exchange (ask.Read block) bytes (answer.Bytes read) given = given_with given block.0 read
-given_after_exchange (ask.Write kind block guard) bytes answer.Done given = given_with given block.0 bytes
+given_after_exchange (ask.Read block) bytes (answer.Bytes read) given =
+    given_with given block.0 read
+given_after_exchange (ask.Write kind block guard) bytes answer.Done given =
+    given_with given block.0 bytes
 given_after_exchange ask bytes answer given = given
 
 -- what some exchanges tell, the newest bytes of each block
 abbrev pub given_after_exchanges : List Exchange → Given → Given
 given_after_exchanges [] given = given
-given_after_exchanges (exchange ∷ older) given = given_after_exchange exchange.ask exchange.bytes exchange.answer (given_after_exchanges older given)
+given_after_exchanges (exchange ∷ older) given =
+    given_after_exchange exchange.ask exchange.bytes
+    exchange.answer (given_after_exchanges older given)
 
 -- whether a command makes an image anew
 abbrev pub is_making : Command → Bool
@@ -48,7 +55,8 @@ is_making Reclaim = false
 
 -- whether an exchange has written the record in this block
 abbrev pub is_record_done : (record_block : ℕ) → Ask → Answer → Bool
-is_record_done record_block (ask.Write kind.Record block guard) answer.Done = block.0 == record_block
+is_record_done record_block (ask.Write kind.Record block guard) answer.Done =
+    block.0 == record_block
 is_record_done record_block ask answer = false
 
 -- what was given before the journals
@@ -64,30 +72,37 @@ unless_made g false given = given
 abbrev pub given_after_command : Geometry → (image : ℕ) → Command → List Exchange → Given → Given
 given_after_command g image command [] given = given
 given_after_command g image command (exchange ∷ older) given =
-    unless_made g (is_record_done (record_at g image) exchange.ask exchange.answer && is_making command)
-    (given_after_exchange exchange.ask exchange.bytes exchange.answer (given_after_command g image command older given))
+    unless_made g
+    (is_record_done (record_at g image) exchange.ask exchange.answer && is_making command)
+    (given_after_exchange exchange.ask exchange.bytes exchange.answer
+    (given_after_command g image command older given))
 
 -- what was known of an image, where it is attached
 abbrev pub where_attached : Bool → Given → Given
 where_attached true given = given
 where_attached false given = nothing_given
 
--- the known bytes of an image after some commands: what those that name it have read, or written and Done, since its attach began
+-- the known bytes of an image after some commands: what those that
+-- name it have read, or written and Done, since its attach began
 abbrev pub given_after : Geometry → List Finished → (image : ℕ) → Given
 given_after g [] image = nothing_given
 given_after g (finished ∷ older) image =
     if names finished.command image
-    then given_after_command g image finished.command finished.exchanges (where_attached (is_attached older image) (given_after g older image))
+    then given_after_command g image finished.command finished.exchanges
+    (where_attached (is_attached older image) (given_after g older image))
     else given_after g older image
 
 -- those with which a command begins: none where the image isn't attached
 abbrev pub known_from : Geometry → CommandLog → (image : ℕ) → Given
-known_from g log image = where_attached (is_attached log.before image) (given_after g log.before image)
+known_from g log image =
+    where_attached (is_attached log.before image) (given_after g log.before image)
 
 -- and those that are known by now
 abbrev pub known_in : Geometry → CommandLog → (image : ℕ) → Given
 known_in g log image =
-    if names log.command image then given_after_command g image log.command log.exchanges (known_from g log image) else given_after g log.before image
+    if names log.command image
+    then given_after_command g image log.command log.exchanges (known_from g log image)
+    else given_after g log.before image
 
 -- whether an ask is a write of this block
 abbrev pub is_write_of : (block : ℕ) → Ask → Bool
@@ -105,7 +120,10 @@ has_written block (exchange ∷ older) = is_write_of block exchange.ask || has_w
 abbrev pub given_before_writes : List Exchange → Given → Given
 given_before_writes [] given = given
 given_before_writes (exchange ∷ older) given =
-    λ block. if has_written block (exchange ∷ older) then given_before_writes older given block else given_after_exchanges (exchange ∷ older) given block
+    λ block.
+    if has_written block (exchange ∷ older)
+    then given_before_writes older given block
+    else given_after_exchanges (exchange ∷ older) given block
 
 -- the bytes that are known by now, but as they were before the command's own writes
 abbrev pub known_before : Geometry → CommandLog → (image : ℕ) → Given

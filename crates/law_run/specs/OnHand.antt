@@ -1,4 +1,5 @@
--- Work on all blocks in hand and on the leases of all extents, within a command: when it may begin, and why it ends.
+-- Work on all blocks in hand and on the leases of all extents,
+-- within a command: when it may begin, and why it ends.
 use Rattle.std.specs.Prelude.{◌≡◌, ◌<◌, ◌⊎◌, ℕ, List, [], ◌∷◌, Bool, Some, None, true, ◌≢◌}
 use Rattle.plx_base.specs.declared.lease.Claim.{Claim}
 use Rattle.plx_base.specs.declared.lease.LeaseName.TheVariants as lease
@@ -34,18 +35,23 @@ IsOfOneMap g ask = (extent : ℕ) × (extent < g.extents) × IsOfBlock (map_at g
 
 -- an ask reads and writes the map of one extent alone, or its lease alone
 abbrev pub IsOfOneExtent : Geometry → Ask → Type 0
-IsOfOneExtent g ask = (extent : ℕ) × (extent < g.extents) × (IsOfBlock (map_at g extent) ask ⊎ IsOfBlock (lease_at (extent_lease g extent)) ask)
+IsOfOneExtent g ask =
+    (extent : ℕ) × (extent < g.extents)
+    × (IsOfBlock (map_at g extent) ask ⊎ IsOfBlock (lease_at (extent_lease g extent)) ask)
 
 -- ---- its beginning
 
 -- it may begin: it goes by what is held of the extents' leases and by what is in hand, the blocks
 -- in hand lie in extents of the geometry and are none of their maps, and the command has had its
 -- first reading and goes on
-pub record MayBeginOnHand (s : Setting) (log : CommandLog) (holds : ℕ → Hold) (hand : List ℕ) : Type 0 where
+pub record MayBeginOnHand (s : Setting) (log : CommandLog)
+    (holds : ℕ → Hold) (hand : List ℕ) : Type 0 where
   pub held : (extent : ℕ) → extent < s.geometry.extents →
-      holds (lease_at (extent_lease s.geometry extent)) ≡ hold_by_log s log.before log.exchanges (extent_lease s.geometry extent)
+      holds (lease_at (extent_lease s.geometry extent))
+      ≡ hold_by_log s log.before log.exchanges (extent_lease s.geometry extent)
   pub fresh : hand ≡ hand_by_log s log.before log.exchanges
-  pub inside : (block : ℕ) → is_in block hand ≡ true → extent_of s.geometry block < s.geometry.extents
+  pub inside : (block : ℕ) → is_in block hand ≡ true →
+      extent_of s.geometry block < s.geometry.extents
   pub pool : (block : ℕ) → is_in block hand ≡ true → (extent : ℕ) → block ≢ map_at s.geometry extent
   pub first : Exchange
   pub others : List Exchange
@@ -54,11 +60,16 @@ pub record MayBeginOnHand (s : Setting) (log : CommandLog) (holds : ℕ → Hold
 
 -- ---- its ends
 
--- some exchanges read the map of a block's extent with the bit of the block clear, so that nothing was to be given back
+-- some exchanges read the map of a block's extent with the
+-- bit of the block clear, so that nothing was to be given back
 pub record WasClear (g : Geometry) (own : List Exchange) (block : ℕ) : Type 0 where
   pub bytes : List ℕ
   pub bits : List Bool
-  pub read : IsIn (record { ask = ask.Read (record { 0 = map_at g (extent_of g block) }); bytes = []; answer = answer.Bytes bytes }) own
+  pub read : IsIn (record {
+    ask = ask.Read (record { 0 = map_at g (extent_of g block) });
+    bytes = [];
+    answer = answer.Bytes bytes;
+  }) own
   pub spells : read_map g.extent_blocks bytes ≡ Some bits
   pub clear : with_clear (block ∷ []) (map_at g (extent_of g block)) bits ≡ bits
 

@@ -15,4 +15,6 @@ pub record IsSameImage (i k : StoredImage) : Type 0 where
 
 -- bytes that store two images in a slot store one
 abbrev pub StoresOneImage : Type 0
-StoresOneImage = (g : Geometry) (given : Given) (image : ℕ) (i k : StoredImage) → Stores g given image i → Stores g given image k → IsSameImage i k
+StoresOneImage =
+    (g : Geometry) (given : Given) (image : ℕ) (i k : StoredImage) →
+    Stores g given image i → Stores g given image k → IsSameImage i k

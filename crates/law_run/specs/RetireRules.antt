@@ -1,4 +1,5 @@
--- The giving up of all extents, as work within a command: their blocks in hand are given back, and their leases released.
+-- The giving up of all extents, as work within a command:
+-- their blocks in hand are given back, and their leases released.
 use Rattle.std.specs.Prelude.{◌≡◌, ◌*◌, ◌<◌, ℕ, List, []}
 use Rattle.plx_disk.specs.declared.ask.Ask.{Ask}
 use Rattle.plx_geom.specs.Geometry.{Geometry, IsGeometry, extent_lease}
@@ -24,14 +25,18 @@ retire_work s known uses holds hand follows =
 abbrev pub retire_bound : Geometry → ℕ
 retire_bound g = 3 * g.extents
 
--- all extents are given up: none of their leases is held, no block is in hand, and the other leases are held as before the work
+-- all extents are given up: none of their leases is held,
+-- no block is in hand, and the other leases are held as before the work
 pub record AreGivenUp (s : Setting) (start log : CommandLog) : Type 0 where
-  pub unheld : (extent : ℕ) → extent < s.geometry.extents → IsNotHeld (hold_by_log s log.before log.exchanges (extent_lease s.geometry extent))
+  pub unheld : (extent : ℕ) → extent < s.geometry.extents →
+      IsNotHeld (hold_by_log s log.before log.exchanges (extent_lease s.geometry extent))
   pub empty : hand_by_log s log.before log.exchanges ≡ []
   pub others : (lease : ℕ) → lease < extent_lease s.geometry 0 →
-      hold_by_log s log.before log.exchanges lease ≡ hold_by_log s start.before start.exchanges lease
+      hold_by_log s log.before log.exchanges lease
+      ≡ hold_by_log s start.before start.exchanges lease
 
--- an ask of it that has come to this rest keeps the rules, by each log that leads there, within any command in which it may begin
+-- an ask of it that has come to this rest keeps the rules,
+-- by each log that leads there, within any command in which it may begin
 abbrev pub IsRetireAsk : (rest : Process End) → Ask → Type 0
 IsRetireAsk rest ask = (s : Setting) (log : CommandLog) (known : Known) (uses : List InUse)
     (holds : ℕ → Hold) (hand : List ℕ) (follows : End) (own : List Exchange) →
@@ -48,7 +53,8 @@ IsRetireEnd rest end = (s : Setting) (log : CommandLog) (known : Known) (uses : 
     IsRightEnd s log (retire_bound s.geometry)
     (ShowsOnHand s known uses follows (AreGivenUp s log)) own end
 
--- it keeps the rules, whatever its answers are: its asks are allowed and of one extent each, at most three for each extent are answered, and its end has its cause
+-- it keeps the rules, whatever its answers are: its asks are allowed and of one extent each,
+-- at most three for each extent are answered, and its end has its cause
 abbrev pub RetiresKeepRules : Type 0
 RetiresKeepRules = (s : Setting) (log : CommandLog) (known : Known) (uses : List InUse)
     (holds : ℕ → Hold) (hand : List ℕ) (follows : End) →

@@ -8,7 +8,8 @@ use Rattle.plx_rules.specs.Settings.{Setting}
 use Rattle.law_run.specs.AllowedAsks.{MayAsk}
 use Rattle.law_run.specs.Bounds.{bound}
 use Rattle.law_run.specs.Causes.{MayFollow, AllFollow}
-use Rattle.law_run.specs.CommandLogs.{Exchange, Finished, CommandLog, Commands, Between, Within, commands, log_of}
+use Rattle.law_run.specs.CommandLogs.{Exchange, Finished, CommandLog, Commands, Between, Within}
+use Rattle.law_run.specs.CommandLogs.{commands, log_of}
 use Rattle.law_run.specs.Replies.{IsReplied}
 use Rattle.law_run.specs.Senses.{Sense, IsLocal, IsAny}
 
@@ -16,7 +17,9 @@ use Rattle.law_run.specs.Senses.{Sense, IsLocal, IsAny}
 abbrev pub AllAllowed : Setting → List Finished → Command → List Exchange → Type 0
 AllAllowed s before command [] = Unit {0}
 AllAllowed s before command (exchange ∷ older) =
-    MayAsk s (record { before = before; command = command; exchanges = older }) exchange.ask exchange.bytes × AllAllowed s before command older
+    MayAsk s (record { before = before; command = command; exchanges = older })
+    exchange.ask exchange.bytes
+    × AllAllowed s before command older
 
 -- a command that has its reply kept the rules, in these senses
 pub record IsKept (s : Setting) (senses : Sense → Type 0) (finished : Finished)
@@ -64,4 +67,5 @@ pub record IsSetting (s : Setting) : Type 0 where
 -- each log that is a run keeps the rules in the local sense, whatever its answers were
 abbrev pub RunsKeepRules : Type 0
 RunsKeepRules = (s : Setting) (log : List BootEntry) → IsSetting s → IsRun s log →
-    KeepsRules s (commands s log) (asks (configuration s log).place) (writes_out (configuration s log).place)
+    KeepsRules s (commands s log) (asks (configuration s log).place)
+    (writes_out (configuration s log).place)

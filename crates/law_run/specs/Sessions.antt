@@ -3,7 +3,9 @@ use Rattle.std.specs.Prelude.{ℕ, List, [], ◌∷◌, Bool, true, false, if◌
 use Rattle.plx_commands.specs.Replies.{is_in}
 use Rattle.plx_commands.specs.Slots.{named_slots}
 use Rattle.plx_commands.specs.declared.command.Command.{Command}
-use Rattle.plx_commands.specs.declared.command.Command.TheVariants.{Attach, Detach, Create, Delete, Read, Write, Flush, Reserve, Renew, Retire, Reclaim}
+use Rattle.plx_commands.specs.declared.command.Command.TheVariants.{Attach, Detach, Create, Delete}
+use Rattle.plx_commands.specs.declared.command.Command.TheVariants.{Read, Write, Flush, Reserve}
+use Rattle.plx_commands.specs.declared.command.Command.TheVariants.{Renew, Retire, Reclaim}
 use Rattle.plx_commands.specs.declared.reply.Reply.{Reply}
 use Rattle.plx_commands.specs.declared.reply.Reply.TheVariants as reply
 use Rattle.law_run.specs.CommandLogs.{Finished}
@@ -12,7 +14,8 @@ use Rattle.law_run.specs.CommandLogs.{Finished}
 abbrev pub names : Command → (image : ℕ) → Bool
 names command image = is_in image (named_slots command)
 
--- whether a command uses the lease of an image at its first reading: it names the image, or it is a renewal, which uses those of all
+-- whether a command uses the lease of an image at its first reading:
+-- it names the image, or it is a renewal, which uses those of all
 abbrev pub uses : Command → (image : ℕ) → Bool
 uses (Attach slot) image = names (Attach slot) image
 uses (Detach slot) image = names (Detach slot) image
@@ -40,9 +43,11 @@ needs Renew image = false
 needs Retire image = false
 needs Reclaim image = false
 
--- whether an image is attached after a command with this reply: Attached begins a session, Detached ends it, Lost and WriteFault end all
+-- whether an image is attached after a command with this reply:
+-- Attached begins a session, Detached ends it, Lost and WriteFault end all
 abbrev pub attached_by : Reply → Command → (image : ℕ) → (before : Bool) → Bool
-attached_by (reply.Attached report) command image before = if names command image then true else before
+attached_by (reply.Attached report) command image before =
+    if names command image then true else before
 attached_by reply.Detached command image before = if names command image then false else before
 attached_by reply.Created command image before = before
 attached_by reply.Deleted command image before = before
@@ -69,4 +74,5 @@ attached_by (reply.WornOut count) command image before = before
 -- whether an image is attached after these commands
 abbrev pub is_attached : List Finished → (image : ℕ) → Bool
 is_attached [] image = false
-is_attached (finished ∷ older) image = attached_by finished.reply finished.command image (is_attached older image)
+is_attached (finished ∷ older) image =
+    attached_by finished.reply finished.command image (is_attached older image)
