@@ -1,23 +1,23 @@
 -- What the program makes of its words and its input.
-use Rattle.std.specs.Prelude.{◌≡◌, ◌<◌, ◌≤◌, ℕ, List, [], ◌∷◌, length, take, reverse, Option, Some, codes, String, string_bytes, ◌⊎◌}
+use Rattle.std.specs.Prelude.{◌≡◌, ◌≢◌, ◌<◌, ◌≤◌, ◌+◌, ℕ, List, [], ◌∷◌, length, take, reverse, Option, Some, codes, String, string_bytes, ◌⊎◌}
 use Rattle.std.specs.Io.KnownBytes.{Appends}
 use Rattle.plx_base.specs.Sectors.{Device}
 use Rattle.plx_commands.specs.declared.event.Event.{Event}
 use Rattle.plx_geom.specs.Geometry.{Geometry}
 use Rattle.plx_port.specs.Faults.{Rose}
-use Rattle.plx_port.specs.Streams.{ReadsToEnd}
+use Rattle.plx_port.specs.Streams.{ReadsToEnd, TakesCount}
 use Rattle.plx_rules.specs.Formatted.{IsFormatted}
 use Rattle.plx_rules.specs.Pools.{allocated_in}
 use Rattle.plx_rules.specs.Sequences.{Plays}
 use Rattle.plx_rules.specs.World.{World, first_world}
-use Rattle.plx_world.specs.Playing.{IsLawful}
-use Rattle.plx_text.specs.Once.{SameTrace}
+use Rattle.plx_world.specs.Playing.{IsLawful, LawsHold}
+use Rattle.plx_text.specs.Once.{SameTrace, ScheduleOnce, TraceOnce}
 use Rattle.plx_text.specs.Schedules.{IsSchedule, schedule_grammar}
 use Rattle.plx_text.specs.Traces.{bad_line_text, trace_lines, trace_text}
 use Rattle.plx_words.specs.Files.{IsFirstBad}
 use Rattle.plx_words.specs.Texts.{LinesTell}
 use Rattle.plx_cli.specs.declared.status.Status.{Status}
-use Rattle.plx_cli.specs.declared.status.Status.TheVariants.{Done, BadLine}
+use Rattle.plx_cli.specs.declared.status.Status.TheVariants.{Done, BadLine, SourceFault, SinkFault, NoMemory, TooLong}
 
 -- the most bytes of the input
 abbrev pub input_limit : ℕ
@@ -83,3 +83,41 @@ pub record IsGiven (bytes : List ℕ) (left : Option (List ℕ)) (before after :
 -- an input was read to its end, of which this holds
 abbrev pub ReadsSuch : Option (List ℕ) → Option (List ℕ) → (List ℕ → Type 0) → Type 0
 ReadsSuch old new P = (bytes : List ℕ) × ReadsToEnd old new bytes × P bytes
+
+-- ---- what the call ensures
+
+-- the laws of all texts: a trace's is that of no other trace, nor is what was written, and a schedule's bytes are those of no
+-- other schedule
+pub record TextsTell : Type 0 where
+  pub once : TraceOnce
+  pub told : ToldOnce
+  pub schedule : ScheduleOnce
+
+-- the laws that the call stands for, whatever it is asked: of all worlds that events lead to, and of all texts
+pub record Laws : Type 0 where
+  pub worlds : LawsHold
+  pub texts : TextsTell
+
+-- what was written: the trace of the schedule, or the number of its first bad line, or a part of it
+pub record IsWritten (status : Status) (left left' held held' : Option (List ℕ)) : Type 0 where
+  pub done : status ≡ Done → ReadsSuch left left' (λ bytes. Appended IsTrace bytes held held')
+  pub bad : status ≡ BadLine → ReadsSuch left left' (λ bytes. Appended IsBad bytes held held')
+  pub part : status ≡ SinkFault → ReadsSuch left left' (λ bytes. AppendedPart IsAnswer bytes held held')
+
+-- when the statuses of faults and of long inputs come, by the counts of faults of the source and of
+-- the sink, which never fall, and by what was taken
+pub record HasCause (status : Status) (left left' : Option (List ℕ)) (read read' written written' : ℕ) : Type 0 where
+  pub source : status ≡ SourceFault → Rose read read'
+  pub sink : status ≡ SinkFault → Rose written written'
+  pub long : status ≡ TooLong → TakesCount left left' (input_limit + 1)
+  pub within : status ≢ TooLong → (n : ℕ) × (n ≤ input_limit) × TakesCount left left' n
+  pub counts : (read ≤ read') × (written ≤ written')
+
+-- where the source gives an input of at most the limit, a bad line is answered, and a schedule is played
+pub record IsAnswered (status : Status) (left : Option (List ℕ)) (read read' written written' : ℕ) : Type 0 where
+  pub exact : (bytes : List ℕ) (line : ℕ) → IsGiven bytes left read read' →
+      IsFirstBad schedule_grammar bytes line →
+      (status ≡ BadLine) ⊎ (status ≡ SinkFault) ⊎ (status ≡ NoMemory)
+  pub complete : (bytes : List ℕ) (first : Geometry × ℕ) (events : List Event) →
+      IsGiven bytes left read read' → IsSchedule bytes first events → ¬ Rose written written' →
+      (status ≡ Done) ⊎ (status ≡ NoMemory)

@@ -1,10 +1,10 @@
 //! The top call of the program, and what it stands on.
 #![tactic(auto)]
 
-mod once;
 mod program;
 mod replay;
 mod status;
+mod texts;
 mod words;
 
 pub use plx_port::{MemSink, MemSource, Sink, Source};

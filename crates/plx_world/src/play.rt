@@ -1,20 +1,13 @@
 //! The events of a schedule.
-ghost use Rattle.plx_world.specs.Playing.{LawsHold};
-
+use crate::all_worlds::laws;
 use crate::world::World;
-use law_headline::{
-    crash_leaves_a_fresh_boot, headline, never_damaged, reachable_blocks_are_allocated,
-};
-use law_lease::{boots_have_numbers, boots_run, exclusion, guarding};
-use law_run::boots_keep_rules;
-use law_space::{gives_clear, hands_are_allocated, hands_are_apart, takes_set};
 use plx_base::NoMemory;
 use plx_commands::Event;
 use plx_disk::Answer;
 
 impl World {
     ghost use Rattle.std.specs.Prelude.{IfOk, OnOk, OnErr};
-    ghost use Rattle.plx_world.specs.Playing.{Leads, LeadsPartly, PlaysAll, PlaysSome};
+    ghost use Rattle.plx_world.specs.Playing.{LawsHold, Leads, LeadsPartly, PlaysAll, PlaysSome};
 
     /// One event. False, and nothing changes, exactly where it isn't possible. Without memory a plain event changes nothing,
     /// and the plain events of a `run` or an `upto` that were made before stand.
@@ -66,26 +59,4 @@ impl World {
             Event::Upto { appliance, stop } => self.run(*appliance, Some(*stop), buffer),
         }
     }
-}
-
-// What holds of all worlds that events lead to: the headline, no reply of bytes outside the format, one owner a
-// lease, no late write that disturbs an owner, blocks in hand that are allocated and in one hand each, trees on
-// allocated blocks, boots whose logs are runs that keep the rules and whose numbers are their own, and crashes
-// that leave fresh boots.
-fn laws()
-    ensures { LawsHold }
-{
-    headline();
-    never_damaged();
-    exclusion();
-    guarding();
-    hands_are_allocated();
-    hands_are_apart();
-    takes_set();
-    gives_clear();
-    reachable_blocks_are_allocated();
-    boots_run();
-    boots_keep_rules();
-    boots_have_numbers();
-    crash_leaves_a_fresh_boot();
 }

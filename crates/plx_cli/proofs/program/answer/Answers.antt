@@ -10,8 +10,7 @@ returns-in_default g c = record {
   bad = λ is. differs _ BadLine refl is;
   part = λ is. differs _ SinkFault refl is;
   silent = λ is. refl;
-  sink = λ is. differs _ SinkFault refl is;
-  counts = le_refl _;
+  faults = (λ is. differs _ SinkFault refl is, le_refl _);
 }
 
 pub returns : goal.returns
@@ -27,8 +26,7 @@ returns g c = record {
     c.in-Err.ensures.err.2,
   );
   silent = λ is. differs _ NoMemory refl is;
-  sink = λ is. c.in-Err.ensures.failed;
-  counts = c.in-Err.ensures.faults;
+  faults = (λ is. c.in-Err.ensures.failed, c.in-Err.ensures.faults);
 }
 
 pub returns-in-Ok-write_all : goal.returns-in-Ok-write_all
@@ -40,6 +38,5 @@ returns-in-Ok-write_all g c = record {
       (_, outcome-bad _ _ _ _ c.as_slice.ensures c.in-Ok.ensures is, c.in-Ok-write_all.ensures.ok);
   part = λ is. outcome-only _ _ _ SinkFault c.in-Ok.ensures refl refl is;
   silent = λ is. outcome-only _ _ _ NoMemory c.in-Ok.ensures refl refl is;
-  sink = λ is. outcome-only _ _ _ SinkFault c.in-Ok.ensures refl refl is;
-  counts = c.in-Ok-write_all.ensures.faults;
+  faults = (λ is. outcome-only _ _ _ SinkFault c.in-Ok.ensures refl refl is, c.in-Ok-write_all.ensures.faults);
 }

@@ -6,213 +6,156 @@ use Rattle.plx_cli.proofs.program.run.Goals as goal
 
 pub returns-then-not-is_replay : goal.returns-then-not-is_replay
 returns-then-not-is_replay g c = record {
-  headline = c.headline.ensures;
-  undamaged = c.never_damaged.ensures;
-  exclusion = c.exclusion.ensures;
-  guarding = c.guarding.ensures;
-  allocated = c.hands_are_allocated.ensures;
-  apart = c.hands_are_apart.ensures;
-  takes = c.takes_set.ensures;
-  gives = c.gives_clear.ensures;
-  reachable = c.reachable_blocks_are_allocated.ensures.allocated;
-  levels = c.reachable_blocks_are_allocated.ensures.level;
-  paths = c.reachable_blocks_are_allocated.ensures.single;
-  logs = c.boots_run.ensures;
-  rules = c.boots_keep_rules.ensures;
-  numbers = c.boots_have_numbers.ensures;
-  crash = c.crash_leaves_a_fresh_boot.ensures;
-  once = c.trace_once.ensures;
-  told = c.told_once.ensures;
-  schedule = c.schedule_once.ensures;
-  done = λ is. differs _ Done refl is;
-  bad = λ is. differs _ BadLine refl is;
-  part = λ is. differs _ SinkFault refl is;
-  silent = λ undone named failed. refl;
+  laws = record { worlds = c.laws.ensures; texts = c.texts.ensures };
+  written = record {
+    done = λ is. differs _ Done refl is;
+    bad = λ is. differs _ BadLine refl is;
+    part = λ is. differs _ SinkFault refl is;
+  };
+  untouched = (λ is. refl, λ undone named failed. refl);
   usage = (
     λ is fits.
         fits-not _ _ c.as_slice.ensures.value c.if-not-is_replay.ensures.1 fits,
     λ unfit. refl,
   );
-  idle = λ is. refl;
-  source = λ is. differs _ SourceFault refl is;
-  sink = λ is. differs _ SinkFault refl is;
-  long = λ is. differs _ TooLong refl is;
-  within = λ short. takes-none _;
-  exact = λ bytes line fits given first.
-      fits-not _ _ c.as_slice.ensures.value c.if-not-is_replay.ensures.1 fits;
-  complete = λ bytes first events fits given schedule sound.
-      fits-not _ _ c.as_slice.ensures.value c.if-not-is_replay.ensures.1 fits;
-  counts = (le_refl _, le_refl _);
+  cause = record {
+    source = λ is. differs _ SourceFault refl is;
+    sink = λ is. differs _ SinkFault refl is;
+    long = λ is. differs _ TooLong refl is;
+    within = λ short. takes-none _;
+    counts = (le_refl _, le_refl _);
+  };
+  answered = λ fits. record {
+    exact = λ bytes line given first.
+        fits-not _ _ c.as_slice.ensures.value c.if-not-is_replay.ensures.1 fits;
+    complete = λ bytes first events given schedule sound.
+        fits-not _ _ c.as_slice.ensures.value c.if-not-is_replay.ensures.1 fits;
+  };
 }
 
 pub returns-in-Ok : goal.returns-in-Ok
 returns-in-Ok g c =
     let ends = slice-ends _ _ _ _ c.as_slice-in-Ok.ensures.value c.in-Ok.ensures.ok in
     record {
-      headline = c.headline.ensures;
-      undamaged = c.never_damaged.ensures;
-      exclusion = c.exclusion.ensures;
-      guarding = c.guarding.ensures;
-      allocated = c.hands_are_allocated.ensures;
-      apart = c.hands_are_apart.ensures;
-      takes = c.takes_set.ensures;
-      gives = c.gives_clear.ensures;
-      reachable = c.reachable_blocks_are_allocated.ensures.allocated;
-      levels = c.reachable_blocks_are_allocated.ensures.level;
-      paths = c.reachable_blocks_are_allocated.ensures.single;
-      logs = c.boots_run.ensures;
-      rules = c.boots_keep_rules.ensures;
-      numbers = c.boots_have_numbers.ensures;
-      crash = c.crash_leaves_a_fresh_boot.ensures;
-      once = c.trace_once.ensures;
-      told = c.told_once.ensures;
-      schedule = c.schedule_once.ensures;
-      done = λ is. (_, ends, c.answer.ensures.done is);
-      bad = λ is. (_, ends, c.answer.ensures.bad is);
-      part = λ is. (_, ends, c.answer.ensures.part is);
-      silent = λ undone named failed.
-          c.answer.ensures.silent (answers-short _ c.answer.ensures.status undone named failed);
+      laws = record { worlds = c.laws.ensures; texts = c.texts.ensures };
+      written = record {
+        done = λ is. (_, ends, c.answer.ensures.done is);
+        bad = λ is. (_, ends, c.answer.ensures.bad is);
+        part = λ is. (_, ends, c.answer.ensures.part is);
+      };
+      untouched = (
+        λ is. answers-only _ Usage c.answer.ensures.status refl refl refl refl is,
+        λ undone named failed.
+            c.answer.ensures.silent (answers-short _ c.answer.ensures.status undone named failed),
+      );
       usage = (
         λ is. answers-only _ Usage c.answer.ensures.status refl refl refl refl is,
         λ unfit. fits-so _ _ c.as_slice.ensures.value (c.if-not-is_replay.ensures.0 refl)
             unfit,
       );
-      idle = λ is. answers-only _ Usage c.answer.ensures.status refl refl refl refl is;
-      source = λ is. answers-only _ SourceFault c.answer.ensures.status refl refl refl refl is;
-      sink = c.answer.ensures.sink;
-      long = λ is. answers-only _ TooLong c.answer.ensures.status refl refl refl refl is;
-      within = λ short.
-          (length c.in-Ok.bytes.items, c.in-Ok.ensures.short, ends-taken _ _ _ c.in-Ok.ensures.ok);
-      exact = λ bytes line fits given first.
-          let same = ends-given _ _ _ bytes ends given.tells in
-          answers-bad c.answer.result _ bytes _ _ line c.answer.ensures.status
-          c.answer.ensures.done same first;
-      complete = λ bytes first events fits given schedule sound.
-          let same = ends-given _ _ _ bytes ends given.tells in
-          answers-schedule c.answer.result _ bytes _ _ _ _ first events c.answer.ensures.status
-          c.answer.ensures.bad c.answer.ensures.sink same schedule sound;
-      counts = (c.in-Ok.ensures.faults, c.answer.ensures.counts);
+      cause = record {
+        source = λ is. answers-only _ SourceFault c.answer.ensures.status refl refl refl refl is;
+        sink = c.answer.ensures.faults.0;
+        long = λ is. answers-only _ TooLong c.answer.ensures.status refl refl refl refl is;
+        within = λ short.
+            (length c.in-Ok.bytes.items, c.in-Ok.ensures.short, ends-taken _ _ _ c.in-Ok.ensures.ok);
+        counts = (c.in-Ok.ensures.faults, c.answer.ensures.faults.1);
+      };
+      answered = λ fits. record {
+        exact = λ bytes line given first.
+            let same = ends-given _ _ _ bytes ends given.tells in
+            answers-bad c.answer.result _ bytes _ _ line c.answer.ensures.status
+            c.answer.ensures.done same first;
+        complete = λ bytes first events given schedule sound.
+            let same = ends-given _ _ _ bytes ends given.tells in
+            answers-schedule c.answer.result _ bytes _ _ _ _ first events c.answer.ensures.status
+            c.answer.ensures.bad c.answer.ensures.faults.0 same schedule sound;
+      };
     }
 
 pub returns-in-Err-Failed : goal.returns-in-Err-Failed
 returns-in-Err-Failed g c = record {
-  headline = c.headline.ensures;
-  undamaged = c.never_damaged.ensures;
-  exclusion = c.exclusion.ensures;
-  guarding = c.guarding.ensures;
-  allocated = c.hands_are_allocated.ensures;
-  apart = c.hands_are_apart.ensures;
-  takes = c.takes_set.ensures;
-  gives = c.gives_clear.ensures;
-  reachable = c.reachable_blocks_are_allocated.ensures.allocated;
-  levels = c.reachable_blocks_are_allocated.ensures.level;
-  paths = c.reachable_blocks_are_allocated.ensures.single;
-  logs = c.boots_run.ensures;
-  rules = c.boots_keep_rules.ensures;
-  numbers = c.boots_have_numbers.ensures;
-  crash = c.crash_leaves_a_fresh_boot.ensures;
-  once = c.trace_once.ensures;
-  told = c.told_once.ensures;
-  schedule = c.schedule_once.ensures;
-  done = λ is. differs _ Done refl is;
-  bad = λ is. differs _ BadLine refl is;
-  part = λ is. differs _ SinkFault refl is;
-  silent = λ undone named failed. refl;
+  laws = record { worlds = c.laws.ensures; texts = c.texts.ensures };
+  written = record {
+    done = λ is. differs _ Done refl is;
+    bad = λ is. differs _ BadLine refl is;
+    part = λ is. differs _ SinkFault refl is;
+  };
+  untouched = (λ is. differs _ Usage refl is, λ undone named failed. refl);
   usage = (
     λ is. differs _ Usage refl is,
     λ unfit. fits-so _ _ c.as_slice.ensures.value (c.if-not-is_replay.ensures.0 refl)
         unfit,
   );
-  idle = λ is. differs _ Usage refl is;
-  source = λ is. c.in-Err-Failed.ensures.failed (cc);
-  sink = λ is. differs _ SinkFault refl is;
-  long = λ is. differs _ TooLong refl is;
-  within = λ short.
-      c.in-Err-Failed.ensures.stopped (fault-not-long _ (inl c.in-Err-Failed.field-0-is));
-  exact = λ bytes line fits given first.
-      absurd (given.sound (c.in-Err-Failed.ensures.failed (cc)));
-  complete = λ bytes first events fits given schedule sound.
-      absurd (given.sound (c.in-Err-Failed.ensures.failed (cc)));
-  counts = (c.in-Err-Failed.ensures.faults, le_refl _);
+  cause = record {
+    source = λ is. c.in-Err-Failed.ensures.failed (cc);
+    sink = λ is. differs _ SinkFault refl is;
+    long = λ is. differs _ TooLong refl is;
+    within = λ short.
+        c.in-Err-Failed.ensures.stopped (fault-not-long _ (inl c.in-Err-Failed.field-0-is));
+    counts = (c.in-Err-Failed.ensures.faults, le_refl _);
+  };
+  answered = λ fits. record {
+    exact = λ bytes line given first.
+        absurd (given.sound (c.in-Err-Failed.ensures.failed (cc)));
+    complete = λ bytes first events given schedule sound.
+        absurd (given.sound (c.in-Err-Failed.ensures.failed (cc)));
+  };
 }
 
 pub returns-in-Err-NoMemory : goal.returns-in-Err-NoMemory
 returns-in-Err-NoMemory g c = record {
-  headline = c.headline.ensures;
-  undamaged = c.never_damaged.ensures;
-  exclusion = c.exclusion.ensures;
-  guarding = c.guarding.ensures;
-  allocated = c.hands_are_allocated.ensures;
-  apart = c.hands_are_apart.ensures;
-  takes = c.takes_set.ensures;
-  gives = c.gives_clear.ensures;
-  reachable = c.reachable_blocks_are_allocated.ensures.allocated;
-  levels = c.reachable_blocks_are_allocated.ensures.level;
-  paths = c.reachable_blocks_are_allocated.ensures.single;
-  logs = c.boots_run.ensures;
-  rules = c.boots_keep_rules.ensures;
-  numbers = c.boots_have_numbers.ensures;
-  crash = c.crash_leaves_a_fresh_boot.ensures;
-  once = c.trace_once.ensures;
-  told = c.told_once.ensures;
-  schedule = c.schedule_once.ensures;
-  done = λ is. differs _ Done refl is;
-  bad = λ is. differs _ BadLine refl is;
-  part = λ is. differs _ SinkFault refl is;
-  silent = λ undone named failed. refl;
+  laws = record { worlds = c.laws.ensures; texts = c.texts.ensures };
+  written = record {
+    done = λ is. differs _ Done refl is;
+    bad = λ is. differs _ BadLine refl is;
+    part = λ is. differs _ SinkFault refl is;
+  };
+  untouched = (λ is. differs _ Usage refl is, λ undone named failed. refl);
   usage = (
     λ is. differs _ Usage refl is,
     λ unfit. fits-so _ _ c.as_slice.ensures.value (c.if-not-is_replay.ensures.0 refl)
         unfit,
   );
-  idle = λ is. differs _ Usage refl is;
-  source = λ is. differs _ SourceFault refl is;
-  sink = λ is. differs _ SinkFault refl is;
-  long = λ is. differs _ TooLong refl is;
-  within = λ short.
-      c.in-Err-NoMemory.ensures.stopped (fault-not-long _ (inr c.in-Err-NoMemory.field-0-is));
-  exact = λ bytes line fits given first. inr (inr refl);
-  complete = λ bytes first events fits given schedule sound. inr refl;
-  counts = (c.in-Err-NoMemory.ensures.faults, le_refl _);
+  cause = record {
+    source = λ is. differs _ SourceFault refl is;
+    sink = λ is. differs _ SinkFault refl is;
+    long = λ is. differs _ TooLong refl is;
+    within = λ short.
+        c.in-Err-NoMemory.ensures.stopped (fault-not-long _ (inr c.in-Err-NoMemory.field-0-is));
+    counts = (c.in-Err-NoMemory.ensures.faults, le_refl _);
+  };
+  answered = λ fits. record {
+    exact = λ bytes line given first. inr (inr refl);
+    complete = λ bytes first events given schedule sound. inr refl;
+  };
 }
 
 pub returns-in-Err-TooLong : goal.returns-in-Err-TooLong
 returns-in-Err-TooLong g c = record {
-  headline = c.headline.ensures;
-  undamaged = c.never_damaged.ensures;
-  exclusion = c.exclusion.ensures;
-  guarding = c.guarding.ensures;
-  allocated = c.hands_are_allocated.ensures;
-  apart = c.hands_are_apart.ensures;
-  takes = c.takes_set.ensures;
-  gives = c.gives_clear.ensures;
-  reachable = c.reachable_blocks_are_allocated.ensures.allocated;
-  levels = c.reachable_blocks_are_allocated.ensures.level;
-  paths = c.reachable_blocks_are_allocated.ensures.single;
-  logs = c.boots_run.ensures;
-  rules = c.boots_keep_rules.ensures;
-  numbers = c.boots_have_numbers.ensures;
-  crash = c.crash_leaves_a_fresh_boot.ensures;
-  once = c.trace_once.ensures;
-  told = c.told_once.ensures;
-  schedule = c.schedule_once.ensures;
-  done = λ is. differs _ Done refl is;
-  bad = λ is. differs _ BadLine refl is;
-  part = λ is. differs _ SinkFault refl is;
-  silent = λ undone named failed. refl;
+  laws = record { worlds = c.laws.ensures; texts = c.texts.ensures };
+  written = record {
+    done = λ is. differs _ Done refl is;
+    bad = λ is. differs _ BadLine refl is;
+    part = λ is. differs _ SinkFault refl is;
+  };
+  untouched = (λ is. differs _ Usage refl is, λ undone named failed. refl);
   usage = (
     λ is. differs _ Usage refl is,
     λ unfit. fits-so _ _ c.as_slice.ensures.value (c.if-not-is_replay.ensures.0 refl)
         unfit,
   );
-  idle = λ is. differs _ Usage refl is;
-  source = λ is. differs _ SourceFault refl is;
-  sink = λ is. differs _ SinkFault refl is;
-  long = λ is. c.in-Err-TooLong.ensures.long (cc);
-  within = λ short. absurd (short refl);
-  exact = λ bytes line fits given first.
-      absurd (not-long _ _ bytes _ _ (c.in-Err-TooLong.ensures.long (cc)) given);
-  complete = λ bytes first events fits given schedule sound.
-      absurd (not-long _ _ bytes _ _ (c.in-Err-TooLong.ensures.long (cc)) given);
-  counts = (c.in-Err-TooLong.ensures.faults, le_refl _);
+  cause = record {
+    source = λ is. differs _ SourceFault refl is;
+    sink = λ is. differs _ SinkFault refl is;
+    long = λ is. c.in-Err-TooLong.ensures.long (cc);
+    within = λ short. absurd (short refl);
+    counts = (c.in-Err-TooLong.ensures.faults, le_refl _);
+  };
+  answered = λ fits. record {
+    exact = λ bytes line given first.
+        absurd (not-long _ _ bytes _ _ (c.in-Err-TooLong.ensures.long (cc)) given);
+    complete = λ bytes first events given schedule sound.
+        absurd (not-long _ _ bytes _ _ (c.in-Err-TooLong.ensures.long (cc)) given);
+  };
 }
