@@ -36,21 +36,10 @@ use Rattle.plx_appliance.specs.Moving.{AttachClaimMoves, ClaimsNone, Moves, atta
 use Rattle.plx_appliance.specs.Lent.{Lent}
 use Rattle.plx_appliance.specs.Renews.{IsRenewing}
 use Rattle.plx_appliance.specs.Reserves.{outer_of}
-use Rattle.plx_appliance.specs.Rests.{record_stage, write_at}
 use Rattle.plx_appliance.specs.Retires.{retire_tells}
 use Rattle.plx_appliance.specs.Space.{AreWithin, IsHand}
-use Rattle.plx_appliance.specs.Loads.{load_at}
-use Rattle.plx_appliance.specs.declared.load.Load.{Load}
-use Rattle.plx_appliance.specs.declared.load.LoadAt.{LoadAt}
-use Rattle.plx_appliance.specs.declared.load.LoadAt.TheVariants as load
-use Rattle.plx_appliance.specs.declared.record.Record.{Record}
-use Rattle.plx_appliance.specs.declared.record.RecordAt.{RecordAt}
-use Rattle.plx_appliance.specs.declared.record.RecordAt.TheVariants as record_at'
 use Rattle.plx_appliance.specs.declared.renew.Renew.{Renew}
 use Rattle.plx_appliance.specs.declared.reserve.Reserve.{Reserve}
-use Rattle.plx_appliance.specs.declared.write.Write.{Write}
-use Rattle.plx_appliance.specs.declared.write.WriteAt.{WriteAt}
-use Rattle.plx_appliance.specs.declared.write.WriteAt.TheVariants as write
 use Rattle.plx_appliance.specs.declared.retire.Retire.{Retire}
 use Rattle.plx_appliance.specs.Stands.{Inside, IsClaiming, inside_at}
 use Rattle.plx_appliance.specs.Works.{Spares, work_rest, work_setting, work_suits}
@@ -60,7 +49,9 @@ use Rattle.plx_appliance.specs.declared.attach.AttachAt.TheVariants as attach
 use Rattle.plx_appliance.specs.declared.work.Work.{Work}
 use Rattle.plx_appliance.specs.declared.work.Work.TheVariants as work
 use Rattle.plx_appliance.proofs.Entered.{held-image}
-use Rattle.plx_appliance.proofs.Failing.{EndsOnFailure, claim-fails, kept-asks, same-ask}
+use Rattle.plx_session.proofs.Machines.{EndsOnFailure, image-fails, load-fails}
+use Rattle.plx_session.specs.Works.{image_leased}
+use Rattle.plx_appliance.proofs.Failing.{claim-fails, kept-asks, same-ask}
 use Rattle.plx_appliance.proofs.Goes.{work-asks}
 use Rattle.plx_appliance.proofs.Held.{spare-holds}
 use Rattle.plx_appliance.proofs.InHand.{FillsNone, spares-fills, spares-hand}
@@ -172,9 +163,7 @@ by-attach : (P : Work → Type 0) (old : Attach) (new : Work) (a : Answer) (befo
     ((x : Attach) → attach_stays old (work.Attach x) a before after result → P (work.Attach x)) → P new
 by-attach P old (work.Attach x) a before after result m goes = goes x m
 by-attach P old (work.Detach x) a before after result m goes = absurd m
-by-attach P old (work.Record x) a before after result m goes = absurd m
-by-attach P old (work.Read x) a before after result m goes = absurd m
-by-attach P old (work.Write x) a before after result m goes = absurd m
+by-attach P old (work.Image x) a before after result m goes = absurd m
 by-attach P old (work.Renew x) a before after result m goes = absurd m
 by-attach P old (work.Reserve x) a before after result m goes = absurd m
 by-attach P old (work.Retire x) a before after result m goes = absurd m
@@ -183,9 +172,7 @@ by-renew : (P : Work → Type 0) (old : Renew) (new : Work) (a : Answer) (before
     ((x : Renew) → renew_stays old (work.Renew x) a before after result → P (work.Renew x)) → P new
 by-renew P old (work.Attach x) a before after result m goes = absurd m
 by-renew P old (work.Detach x) a before after result m goes = absurd m
-by-renew P old (work.Record x) a before after result m goes = absurd m
-by-renew P old (work.Read x) a before after result m goes = absurd m
-by-renew P old (work.Write x) a before after result m goes = absurd m
+by-renew P old (work.Image x) a before after result m goes = absurd m
 by-renew P old (work.Renew x) a before after result m goes = goes x m
 by-renew P old (work.Reserve x) a before after result m goes = absurd m
 by-renew P old (work.Retire x) a before after result m goes = absurd m
@@ -194,9 +181,7 @@ by-reserve : (P : Work → Type 0) (old : Reserve) (new : Work) (a : Answer) (be
     ((x : Reserve) → reserve_stays old (work.Reserve x) a before after result → P (work.Reserve x)) → P new
 by-reserve P old (work.Attach x) a before after result m goes = absurd m
 by-reserve P old (work.Detach x) a before after result m goes = absurd m
-by-reserve P old (work.Record x) a before after result m goes = absurd m
-by-reserve P old (work.Read x) a before after result m goes = absurd m
-by-reserve P old (work.Write x) a before after result m goes = absurd m
+by-reserve P old (work.Image x) a before after result m goes = absurd m
 by-reserve P old (work.Renew x) a before after result m goes = absurd m
 by-reserve P old (work.Reserve x) a before after result m goes = goes x m
 by-reserve P old (work.Retire x) a before after result m goes = absurd m
@@ -205,9 +190,7 @@ by-retire : (P : Work → Type 0) (old : Retire) (new : Work) (a : Answer) (befo
     ((x : Retire) → retire_stays old (work.Retire x) a before after result → P (work.Retire x)) → P new
 by-retire P old (work.Attach x) a before after result m goes = absurd m
 by-retire P old (work.Detach x) a before after result m goes = absurd m
-by-retire P old (work.Record x) a before after result m goes = absurd m
-by-retire P old (work.Read x) a before after result m goes = absurd m
-by-retire P old (work.Write x) a before after result m goes = absurd m
+by-retire P old (work.Image x) a before after result m goes = absurd m
 by-retire P old (work.Renew x) a before after result m goes = absurd m
 by-retire P old (work.Reserve x) a before after result m goes = absurd m
 by-retire P old (work.Retire x) a before after result m goes = goes x m
@@ -235,15 +218,9 @@ work-holds g lent later (work.Detach d) new q a holds sample found result same s
     same-space g q a (image_leases_after_write q a later.leases) (after_answer sample q d.spelled a holds) lent.space later.space m.2
     (subst (λ (r : Ask). HoldsAs g (image_leases_after_write r a later.leases) (image_leases_after_write r a (extents_of lent.space)) (after_answer sample r d.spelled a holds)) e
     (release-holds-as g image d.image.until d.spelled a lent.leases later.leases (extents_of lent.space) holds sample within (subst (λ (r : Ask). Fits r a) (sym e) fits) h m.1))
-work-holds g lent later (work.Record r) new q a holds sample found result same space suits stands spare fits h i m =
-    same-space g q a (image_leases_after_write q a later.leases) (after_answer sample q (bytes_out (work_rest lent (work.Record r))) a holds) lent.space later.space m.2
-    (spare-moved g r.image.setting.geometry q _ a lent.leases later.leases (extents_of lent.space) holds sample same spare.0 h m.1)
-work-holds g lent later (work.Read r) new q a holds sample found result same space suits stands spare fits h i m =
-    same-space g q a (image_leases_after_write q a later.leases) (after_answer sample q (bytes_out (work_rest lent (work.Read r))) a holds) lent.space later.space m.2
-    (spare-moved g r.image.setting.geometry q _ a lent.leases later.leases (extents_of lent.space) holds sample same spare.0 h m.1)
-work-holds g lent later (work.Write w) new q a holds sample found result same space suits stands spare fits h i m =
-    same-space g q a (image_leases_after_write q a later.leases) (after_answer sample q (bytes_out (work_rest lent (work.Write w))) a holds) lent.space later.space m.2
-    (spare-moved g w.image.setting.geometry q _ a lent.leases later.leases (extents_of lent.space) holds sample same spare.0 h m.1)
+work-holds g lent later (work.Image r) new q a holds sample found result same space suits stands spare fits h i m =
+    same-space g q a (image_leases_after_write q a later.leases) (after_answer sample q (bytes_out (work_rest lent (work.Image r))) a holds) lent.space later.space m.2
+    (spare-moved g (image_leased r).setting.geometry q _ a lent.leases later.leases (extents_of lent.space) holds sample same spare.0 h m.1)
 work-holds g lent later (work.Renew old) new q a holds sample found result same space suits stands spare fits h i m =
     let e : renewal_ask old.renewal ≡ q = sym (same-ask q (renewal_ask old.renewal) stands) in
     let bytes = bytes_out (renewal_rest old.renewal) in
@@ -260,9 +237,7 @@ work-holds g lent later (work.Retire old) new q a holds sample found result same
 none-inside : (w : Work) (holds : ℕ → Hold) (sample : Option ℕ) (found : Option (ℕ × List ℕ)) → ClaimsNone w → Inside w holds sample found
 none-inside (work.Attach a) holds sample found none = subst (λ (at : AttachAt). inside_at at a holds sample) (sym none) tt
 none-inside (work.Detach d) holds sample found none = tt
-none-inside (work.Record r) holds sample found none = tt
-none-inside (work.Read r) holds sample found none = tt
-none-inside (work.Write w) holds sample found none = tt
+none-inside (work.Image r) holds sample found none = tt
 none-inside (work.Renew r) holds sample found none = absurd none
 none-inside (work.Reserve r) holds sample found none = absurd none
 none-inside (work.Retire r) holds sample found none = absurd none
@@ -283,9 +258,7 @@ work-inside g lent later (work.Attach old) new q a holds sample found result sam
     by-attach (λ w. Inside w (after_answer sample q (bytes_out (work_rest lent (work.Attach old))) a holds) (sample_of a) (found_by q a)) old new a lent.leases later.leases result m.0
     (λ x moves. attach-inside lent.known old.at old x q a lent.leases later.leases holds sample result stands fits i moves none)
 work-inside g lent later (work.Detach d) new q a holds sample found result same space suits stands spare fits h i m none goes = none-inside new _ _ _ m.0
-work-inside g lent later (work.Record r) new q a holds sample found result same space suits stands spare fits h i m none goes = none-inside new _ _ _ m.0
-work-inside g lent later (work.Read r) new q a holds sample found result same space suits stands spare fits h i m none goes = none-inside new _ _ _ m.0
-work-inside g lent later (work.Write w) new q a holds sample found result same space suits stands spare fits h i m none goes = none-inside new _ _ _ m.0
+work-inside g lent later (work.Image r) new q a holds sample found result same space suits stands spare fits h i m none goes = none-inside new _ _ _ m.0
 work-inside g lent later (work.Renew old) new q a holds sample found result same space suits stands spare fits h i m none goes =
     let e : renewal_ask old.renewal ≡ q = sym (same-ask q (renewal_ask old.renewal) stands) in
     let bytes = bytes_out (renewal_rest old.renewal) in
@@ -298,16 +271,12 @@ work-inside g lent later (work.Retire old) (work.Retire new) q a holds sample fo
     subst (λ (k : Geometry). retire_tells k new.stage (found_by q a)) (sym goes.setting) (retire-inside g lent later old new q a result goes.space stands fits m none)
 work-inside g lent later (work.Reserve old) (work.Attach x) q a holds sample found result same space suits stands spare fits h i m none goes = absurd m
 work-inside g lent later (work.Reserve old) (work.Detach x) q a holds sample found result same space suits stands spare fits h i m none goes = absurd m
-work-inside g lent later (work.Reserve old) (work.Record x) q a holds sample found result same space suits stands spare fits h i m none goes = absurd m
-work-inside g lent later (work.Reserve old) (work.Read x) q a holds sample found result same space suits stands spare fits h i m none goes = absurd m
-work-inside g lent later (work.Reserve old) (work.Write x) q a holds sample found result same space suits stands spare fits h i m none goes = absurd m
+work-inside g lent later (work.Reserve old) (work.Image x) q a holds sample found result same space suits stands spare fits h i m none goes = absurd m
 work-inside g lent later (work.Reserve old) (work.Renew x) q a holds sample found result same space suits stands spare fits h i m none goes = absurd m
 work-inside g lent later (work.Reserve old) (work.Retire x) q a holds sample found result same space suits stands spare fits h i m none goes = absurd m
 work-inside g lent later (work.Retire old) (work.Attach x) q a holds sample found result same space suits stands spare fits h i m none goes = absurd m
 work-inside g lent later (work.Retire old) (work.Detach x) q a holds sample found result same space suits stands spare fits h i m none goes = absurd m
-work-inside g lent later (work.Retire old) (work.Record x) q a holds sample found result same space suits stands spare fits h i m none goes = absurd m
-work-inside g lent later (work.Retire old) (work.Read x) q a holds sample found result same space suits stands spare fits h i m none goes = absurd m
-work-inside g lent later (work.Retire old) (work.Write x) q a holds sample found result same space suits stands spare fits h i m none goes = absurd m
+work-inside g lent later (work.Retire old) (work.Image x) q a holds sample found result same space suits stands spare fits h i m none goes = absurd m
 work-inside g lent later (work.Retire old) (work.Renew x) q a holds sample found result same space suits stands spare fits h i m none goes = absurd m
 work-inside g lent later (work.Retire old) (work.Reserve x) q a holds sample found result same space suits stands spare fits h i m none goes = absurd m
 
@@ -337,9 +306,7 @@ work-spares lent (work.Attach old) q keeps stands spare = attach-spares lent.kno
 work-spares lent (work.Detach d) q keeps stands spare =
     let release = ask.Write kind.Release (record { 0 = lease_at (image_lease d.image.slot.0) }) d.image.until in
     subst (λ (r : Ask). SparesHand r) (sym (same-ask q release stands)) tt
-work-spares lent (work.Record r) q keeps stands spare = spare.1
-work-spares lent (work.Read r) q keeps stands spare = spare.1
-work-spares lent (work.Write w) q keeps stands spare = spare.1
+work-spares lent (work.Image r) q keeps stands spare = spare.1
 work-spares lent (work.Renew r) q keeps stands spare =
     subst (λ (x : Ask). SparesHand x) (sym (same-ask q (renewal_ask r.renewal) stands)) tt
 work-spares lent (work.Reserve r) q keeps stands spare = absurd keeps
@@ -369,12 +336,8 @@ work-hand g lent later (work.Attach old) new q a holds sample found result same 
     kept-hand g lent later (work.Attach old) q _ a found tt stands spare own left (ap hand_numbers m.1)
 work-hand g lent later (work.Detach d) new q a holds sample found result same space after stands spare i own left m =
     kept-hand g lent later (work.Detach d) q _ a found tt stands spare own left (ap hand_numbers m.2)
-work-hand g lent later (work.Record r) new q a holds sample found result same space after stands spare i own left m =
-    kept-hand g lent later (work.Record r) q _ a found tt stands spare own left (ap hand_numbers m.2)
-work-hand g lent later (work.Read r) new q a holds sample found result same space after stands spare i own left m =
-    kept-hand g lent later (work.Read r) q _ a found tt stands spare own left (ap hand_numbers m.2)
-work-hand g lent later (work.Write w) new q a holds sample found result same space after stands spare i own left m =
-    kept-hand g lent later (work.Write w) q _ a found tt stands spare own left (ap hand_numbers m.2)
+work-hand g lent later (work.Image r) new q a holds sample found result same space after stands spare i own left m =
+    kept-hand g lent later (work.Image r) q _ a found tt stands spare own left (ap hand_numbers m.2)
 work-hand g lent later (work.Renew old) new q a holds sample found result same space after stands spare i own left m =
     by-renew (λ w. HandMoves g later (hand_answered g found q (bytes_out (work_rest lent (work.Renew old))) a (hand_numbers lent.space))) old new a lent later result m
     (λ x moves. kept-hand g lent later (work.Renew old) q _ a found tt stands spare own left moves.hand)
@@ -390,41 +353,21 @@ work-hand g lent later (work.Retire old) new q a holds sample found result same 
 pub work-fills : (lent : Lent) (w : Work) (q : Ask) → Some q ≡ standing (work_rest lent w) → Spares w q → FillsNone q
 work-fills lent (work.Attach old) q stands spare = spares-fills q (work-spares lent (work.Attach old) q tt stands spare)
 work-fills lent (work.Detach d) q stands spare = spares-fills q (work-spares lent (work.Detach d) q tt stands spare)
-work-fills lent (work.Record r) q stands spare = spares-fills q (work-spares lent (work.Record r) q tt stands spare)
-work-fills lent (work.Read r) q stands spare = spares-fills q (work-spares lent (work.Read r) q tt stands spare)
-work-fills lent (work.Write w) q stands spare = spares-fills q (work-spares lent (work.Write w) q tt stands spare)
+work-fills lent (work.Image r) q stands spare = spares-fills q (work-spares lent (work.Image r) q tt stands spare)
 work-fills lent (work.Renew r) q stands spare = spares-fills q (work-spares lent (work.Renew r) q tt stands spare)
 work-fills lent (work.Reserve r) q stands spare = subst (λ (x : Ask). FillsNone x) (take-ask-stands lent r q stands) (reserve-fills r.work.at r.work)
 work-fills lent (work.Retire r) q stands spare = subst (λ (x : Ask). FillsNone x) (ask-is lent r q stands) (place-fills r.stage)
 
 -- ---- a write that fails or is missed ends the command
 
-load-fails : (at : LoadAt) (known : Known) (l : Load) → EndsOnFailure (load_at at known l)
-load-fails load.Record known l = tt
-load-fails load.Slot known l = tt
-load-fails (load.Data d) known l = tt
-load-fails (load.Damaged block) known l = tt
-load-fails load.Last known l = tt
-
 attach-fails : (at : AttachAt) (known : Known) (a : Attach) → EndsOnFailure (attach_at at known a)
 attach-fails attach.Claim known a = claim-fails a.claim.at a.claim _ (λ h. h) (λ due reading h. h)
 attach-fails attach.Load known a = load-fails a.load.at known a.load
 
-record-fails : (at : RecordAt) (known : Known) (r : Record) → EndsOnFailure (record_stage at known r)
-record-fails record_at'.First known r = (λ h. h, λ reading h. h)
-record-fails record_at'.Last known r = tt
-
-write-fails : (at : WriteAt) (known : Known) (w : Write) → EndsOnFailure (write_at at known w)
-write-fails write.Data known w = (λ h. h, λ reading h. h)
-write-fails write.Commit known w = (λ h. h, λ reading h. h)
-write-fails write.Last known w = tt
-
 pub work-fails : (lent : Lent) (w : Work) → EndsOnFailure (work_rest lent w)
 work-fails lent (work.Attach a) = attach-fails a.at lent.known a
 work-fails lent (work.Detach d) = (λ h. h, λ reading h. h)
-work-fails lent (work.Record r) = record-fails r.at lent.known r
-work-fails lent (work.Read r) = tt
-work-fails lent (work.Write w) = write-fails w.at lent.known w
+work-fails lent (work.Image r) = image-fails lent.known r
 work-fails lent (work.Renew r) = (λ h. h, λ reading h. h)
 work-fails lent (work.Reserve r) = take-fails (outer_of r.setting lent.known.sessions) lent.space r.work.at r.work
 work-fails lent (work.Retire r) = retire-fails lent r.stage r

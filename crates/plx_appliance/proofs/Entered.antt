@@ -11,9 +11,10 @@ use Rattle.plx_rules.specs.Ends.{End, ends}
 use Rattle.plx_rules.specs.Holds.{Hold, Nothing}
 use Rattle.plx_rules.specs.Session.{Known, Session}
 use Rattle.plx_rules.specs.Settings.{Setting}
-use Rattle.plx_appliance.specs.Ending.{known_after}
+use Rattle.plx_session.specs.Ending.{known_after}
 use Rattle.plx_appliance.specs.Entering.{Enters, IsOfImage}
-use Rattle.plx_appliance.specs.Giving.{rules_setting}
+use Rattle.plx_session.specs.Giving.{rules_setting}
+use Rattle.plx_session.specs.Works.{image_leased}
 use Rattle.plx_appliance.specs.Kept.{known_of}
 use Rattle.plx_appliance.specs.Lent.{lent_of}
 use Rattle.plx_appliance.specs.RenewStarts.{holds_in, leases_in}
@@ -22,8 +23,8 @@ use Rattle.plx_appliance.specs.Stands.{IsTied, StartsInside}
 use Rattle.plx_appliance.specs.Tokens.{image_leases, lease_holds_at}
 use Rattle.plx_appliance.specs.Works.{work_entered, work_suits}
 use Rattle.plx_appliance.specs.declared.holdings.Holdings.{Holdings}
-use Rattle.plx_appliance.specs.declared.leased.Leased.{Leased}
-use Rattle.plx_appliance.specs.declared.setting.Setting.{Setting as Own}
+use Rattle.plx_session.specs.declared.leased.Leased.{Leased}
+use Rattle.plx_session.specs.declared.setting.Setting.{Setting as Own}
 use Rattle.plx_appliance.specs.declared.work.Work.{Work}
 use Rattle.plx_appliance.specs.declared.work.Work.TheVariants as work
 use Rattle.plx_base.specs.declared.numbers.SlotNo.{SlotNo}
@@ -123,9 +124,7 @@ image-begins : (h : Holdings) (image : Leased) (w : Work) → image.setting ≡ 
     IsTied h.setting w × StartsInside (leases_in h) (extents_in h) w × work_suits h.space w
 image-begins h image (work.Attach a) same is = absurd is
 image-begins h image (work.Detach d) same is = let t = own-tied h.setting image d.image same is in (record { same = t.0; room = t.1 }, tt, tt)
-image-begins h image (work.Record r) same is = let t = own-tied h.setting image r.image same is in (record { same = t.0; room = t.1 }, tt, tt)
-image-begins h image (work.Read r) same is = let t = own-tied h.setting image r.image same is in (record { same = t.0; room = t.1 }, tt, tt)
-image-begins h image (work.Write w) same is = let t = own-tied h.setting image w.image same is in (record { same = t.0; room = t.1 }, tt, tt)
+image-begins h image (work.Image w) same is = let t = own-tied h.setting image (image_leased w) same is in (record { same = t.0; room = t.1 }, tt, tt)
 image-begins h image (work.Renew r) same is = absurd is
 image-begins h image (work.Reserve r) same is = absurd is
 image-begins h image (work.Retire r) same is = absurd is

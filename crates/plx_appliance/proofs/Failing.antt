@@ -16,15 +16,8 @@ use Rattle.plx_lease.specs.Claiming.{claim_at}
 use Rattle.plx_lease.specs.declared.claim.ClaimAt.{ClaimAt}
 use Rattle.plx_lease.specs.declared.claim.ClaimAt.TheVariants as claim
 use Rattle.plx_lease.specs.declared.claim.LeaseClaim.{LeaseClaim}
+use Rattle.plx_session.proofs.Machines.{EndsOnFailure}
 use Rattle.plx_appliance.specs.Holding.{DropsNothing, image_leases_after_write}
-
--- a write that fails or is missed ends it
-abbrev pub EndsOnFailure : Process End → Type 0
-EndsOnFailure (Ends end) = Unit {0}
-EndsOnFailure (ReadThen block rest fault) = Unit {0}
-EndsOnFailure (WriteThen kind block bytes guard done fault missed) = (Asks fault → ⊥) × ((reading : ℕ) → Asks (missed reading) → ⊥)
-EndsOnFailure (ClockThen rest) = Unit {0}
-EndsOnFailure (UntilThen from rest) = Unit {0}
 
 write-kept : (kind : WriteKind) (block : ℕ) (bytes : List ℕ) (guard : ℕ) (done fault : Process End) (missed : ℕ → Process End) (a : Answer) →
     EndsOnFailure (WriteThen kind block bytes guard done fault missed) → Asks (answered (WriteThen kind block bytes guard done fault missed) a) → DropsNothing (ask.Write kind (record { 0 = block }) guard) a

@@ -95,6 +95,8 @@ pub begun-agrees : (s : Setting) (known : Known) (holds others : ℕ → Hold) (
     waiting_process s known holds hand reading b ≡ waiting_process s known others hand reading b
 begun-agrees s known holds others hand reading (begun.Attach slot room) h =
     attach-agrees s known slot.0 (known.sessions slot.0) (nat_lt slot.0 s.geometry.images) _ _ (at-image s.geometry holds others slot.0 h)
+begun-agrees s known holds others hand reading (begun.Detach slot lease) h =
+    attached-agrees s known slot.0 (known.sessions slot.0) (nat_lt slot.0 s.geometry.images) _ _ reading _ (at-image s.geometry holds others slot.0 h)
 begun-agrees s known holds others hand reading (begun.Image slot command) h =
     attached-agrees s known slot.0 (known.sessions slot.0) (nat_lt slot.0 s.geometry.images) _ _ reading _ (at-image s.geometry holds others slot.0 h)
 begun-agrees s known holds others hand reading (begun.Renew renewals lease) h = renew-agrees s known holds others reading h

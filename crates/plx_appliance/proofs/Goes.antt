@@ -27,12 +27,11 @@ use Rattle.plx_lease.specs.Claiming.{claim_rest}
 use Rattle.plx_appliance.specs.Appliance.{HasBegun, IsInWork}
 use Rattle.plx_appliance.specs.Attaches.{attach_at}
 use Rattle.plx_appliance.specs.Begins.{waiting_process}
-use Rattle.plx_appliance.specs.Ending.{hand_after_reply, known_after, leases_after}
+use Rattle.plx_appliance.specs.AfterReply.{hand_after_reply, leases_after}
+use Rattle.plx_session.specs.Ending.{known_after}
 use Rattle.plx_appliance.specs.Holding.{HoldsAs, first_extents, first_leases, hold_without_claim}
 use Rattle.plx_appliance.specs.Lent.{Lent}
-use Rattle.plx_appliance.specs.Loads.{load_at}
 use Rattle.plx_appliance.specs.Reserves.{HaveNoClaims, claiming_at, outer_of}
-use Rattle.plx_appliance.specs.Rests.{record_stage, write_at}
 use Rattle.plx_appliance.specs.Space.{AreWithin, held_hand}
 use Rattle.plx_appliance.specs.Stands.{Inside, StartsInside, inside_at, starts_at}
 use Rattle.plx_appliance.specs.Tokens.{lease_holds_at, image_leases}
@@ -41,18 +40,10 @@ use Rattle.plx_appliance.specs.declared.attach.Attach.{Attach}
 use Rattle.plx_appliance.specs.declared.attach.AttachAt.{AttachAt}
 use Rattle.plx_appliance.specs.declared.attach.AttachAt.TheVariants as attach
 use Rattle.plx_appliance.specs.declared.begun.Begun.{Begun}
-use Rattle.plx_appliance.specs.declared.load.Load.{Load}
-use Rattle.plx_appliance.specs.declared.load.LoadAt.{LoadAt}
-use Rattle.plx_appliance.specs.declared.load.LoadAt.TheVariants as load
-use Rattle.plx_appliance.specs.declared.record.Record.{Record}
-use Rattle.plx_appliance.specs.declared.record.RecordAt.{RecordAt}
-use Rattle.plx_appliance.specs.declared.record.RecordAt.TheVariants as record_at'
 use Rattle.plx_appliance.specs.declared.work.Work.{Work}
 use Rattle.plx_appliance.specs.declared.work.Work.TheVariants as work
-use Rattle.plx_appliance.specs.declared.write.Write.{Write}
-use Rattle.plx_appliance.specs.declared.write.WriteAt.{WriteAt}
-use Rattle.plx_appliance.specs.declared.write.WriteAt.TheVariants as write
 use Rattle.plx_lease.proofs.Asking.{claim-asks}
+use Rattle.plx_session.proofs.Machines.{image-asks, load-asks}
 use Rattle.plx_appliance.proofs.Entered.{held-image}
 use Rattle.plx_appliance.proofs.First.{begun-agrees, first-agrees, holds-asks, place-asks}
 use Rattle.plx_appliance.proofs.Held.{nothing-at}
@@ -62,22 +53,6 @@ use Rattle.plx_appliance.proofs.Reserved.{take-asks}
 use Rattle.plx_appliance.proofs.RetireAnswered.{retire-asks}
 
 -- each place of each command's machine asks
-write-asks : (a : WriteAt) (known : Known) (w : Write) → Asks (write_at a known w)
-write-asks write.Data known w = tt
-write-asks write.Commit known w = tt
-write-asks write.Last known w = tt
-
-record-asks : (a : RecordAt) (known : Known) (r : Record) → Asks (record_stage a known r)
-record-asks record_at'.First known r = tt
-record-asks record_at'.Last known r = tt
-
-load-asks : (a : LoadAt) (known : Known) (l : Load) → Asks (load_at a known l)
-load-asks load.Record known l = tt
-load-asks load.Slot known l = tt
-load-asks (load.Data d) known l = tt
-load-asks (load.Damaged block) known l = tt
-load-asks load.Last known l = tt
-
 attach-asks : (at : AttachAt) (known : Known) (a : Attach) → Asks (attach_at at known a)
 attach-asks attach.Claim known a = asks-followed (claim_rest a.claim) _ (claim-asks a.claim)
 attach-asks attach.Load known a = load-asks a.load.at known a.load
@@ -85,9 +60,7 @@ attach-asks attach.Load known a = load-asks a.load.at known a.load
 pub work-asks : (lent : Lent) (w : Work) → Asks (work_rest lent w)
 work-asks lent (work.Attach a) = attach-asks a.at lent.known a
 work-asks lent (work.Detach d) = tt
-work-asks lent (work.Record r) = record-asks r.at lent.known r
-work-asks lent (work.Read r) = tt
-work-asks lent (work.Write w) = write-asks w.at lent.known w
+work-asks lent (work.Image w) = image-asks lent.known w
 work-asks lent (work.Renew r) = tt
 work-asks lent (work.Reserve r) = take-asks (outer_of r.setting lent.known.sessions) lent.space r.work.at r.work
 work-asks lent (work.Retire r) = retire-asks lent r.stage r
@@ -204,9 +177,7 @@ starts-inside : (g : Geometry) (leases extents : ℕ → Hold) (w : Work) (holds
     Inside w holds sample None
 starts-inside g leases extents (work.Attach a) holds sample same starts agrees clean = starts-at g leases extents a.at a holds sample same starts agrees
 starts-inside g leases extents (work.Detach d) holds sample same starts agrees clean = tt
-starts-inside g leases extents (work.Record r) holds sample same starts agrees clean = tt
-starts-inside g leases extents (work.Read r) holds sample same starts agrees clean = tt
-starts-inside g leases extents (work.Write w) holds sample same starts agrees clean = tt
+starts-inside g leases extents (work.Image w) holds sample same starts agrees clean = tt
 starts-inside g leases extents (work.Renew r) holds sample same starts agrees clean =
     held-same 0 (lease_count r.setting.geometry) (λ lease. lease_holds_at r.setting.geometry leases extents (lease_at lease)) (λ lease. holds (lease_at lease))
     (r.left.items ++ r.renewal ∷ []) starts (λ lease below.

@@ -19,7 +19,7 @@ use Rattle.plx_rules.specs.Holds.{Hold, Nothing, Seen, Wrote, Waited, Held}
 use Rattle.plx_rules.specs.Rests.{extent_of}
 use Rattle.plx_extent.specs.Maps.{bits_of}
 use Rattle.plx_alloc.specs.Asking.{SparesHand}
-use Rattle.plx_appliance.specs.Ending.{hand_after_reply, leases_after}
+use Rattle.plx_appliance.specs.AfterReply.{hand_after_reply, leases_after}
 use Rattle.plx_appliance.specs.Holding.{HoldsAs, DropsNothing, image_leases_after_write, dropped_hand, hold_without_claim}
 use Rattle.plx_appliance.specs.Space.{AreWithin, held_hand}
 use Rattle.plx_appliance.proofs.Entered.{held-extent}

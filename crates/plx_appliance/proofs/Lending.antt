@@ -10,7 +10,7 @@ use Rattle.plx_rules.specs.Space.{reserve_process, retire_extents}
 use Rattle.plx_alloc.specs.Tables.{hand_numbers, holds_of}
 use Rattle.plx_alloc.specs.Tables.{allocator_setting as space_given}
 use Rattle.plx_alloc.specs.Tables.{extent_holds_at as space_held}
-use Rattle.plx_appliance.specs.Giving.{rules_setting}
+use Rattle.plx_session.specs.Giving.{rules_setting}
 use Rattle.plx_appliance.specs.Kept.{known_of}
 use Rattle.plx_appliance.specs.RenewStarts.{holds_in, leases_in}
 use Rattle.plx_appliance.specs.Space.{extents_in, hand_in}

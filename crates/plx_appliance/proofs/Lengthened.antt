@@ -25,7 +25,7 @@ use Rattle.plx_appliance.specs.Lent.{Lent}
 use Rattle.plx_appliance.specs.Renews.{AreHeld, IsRenewing, RenewMoves, longer_extents, longer_images}
 use Rattle.plx_appliance.specs.declared.renew.Renew.{Renew}
 use Rattle.plx_appliance.specs.Tokens.{lease_holds_at}
-use Rattle.plx_appliance.specs.declared.setting.Setting.{Setting}
+use Rattle.plx_session.specs.declared.setting.Setting.{Setting}
 use Rattle.plx_appliance.proofs.Entered.{held-extent, held-image, held-root}
 use Rattle.plx_appliance.proofs.Held.{nothing-at}
 use Rattle.plx_appliance.proofs.Moved.{holds-extent, holds-one}

@@ -1,5 +1,4 @@
 pub mod Answered
-pub mod Contents
 pub mod Dropping
 pub mod Entered
 pub mod ExtentClaimed
@@ -12,15 +11,14 @@ pub mod Lending
 pub mod Lengthened
 pub mod Moved
 pub mod Numbers
-pub mod PlacedBlocks
 pub mod Places
 pub mod Queued
-pub mod Reached
 pub mod Renewed
 pub mod Reserved
 pub mod Retired
 pub mod RetireAnswered
 pub mod RenewBegins
+pub mod Sharing
 pub mod SpaceBegins
 pub mod RunLogs
 pub mod Stood

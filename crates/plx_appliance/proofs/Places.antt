@@ -1,10 +1,7 @@
--- Each place is a block of the device.
-use Rattle.std.proofs.Common.{◌≡◌, ◌<◌, ℕ, subst, arith}
-use Rattle.plx_geom.specs.Geometry.{Geometry, IsGeometry, block_count, root_lease, image_lease, extent_lease, lease_at, lease_count}
-use Rattle.plx_geom.specs.Places.{IsPlace, block_of}
-use Rattle.plx_geom.specs.declared.place.Place.{Place}
-use Rattle.plx_geom.specs.declared.place.Place.TheVariants.{Super, RootLease, ImageLease, ExtentLease, Record, Log, JDesc, JData, Map, Pool}
-use Rattle.plx_geom.proofs.Places.{lease-within, record-within, log-within, descriptor-within, data-within, map-within, pool-within}
+-- What a claim and a renewal ask is on the device.
+use Rattle.std.proofs.Common.{◌≡◌, ℕ, subst, arith}
+use Rattle.plx_geom.specs.Geometry.{image_lease, lease_at, lease_count}
+use Rattle.plx_geom.proofs.Places.{lease-within}
 use Rattle.plx_disk.specs.declared.ask.Ask.{Ask}
 use Rattle.plx_rules.specs.Holds.{Hold}
 use Rattle.plx_rules.specs.Machines.{AsksOnly}
@@ -14,18 +11,6 @@ use Rattle.plx_appliance.specs.Renews.{IsRenewing}
 use Rattle.plx_appliance.specs.declared.attach.Attach.{Attach}
 use Rattle.plx_appliance.specs.declared.renew.Renew.{Renew}
 use Rattle.plx_appliance.proofs.Renewed.{last-held}
-
-pub place-within : (g : Geometry) (p : Place) → IsGeometry g → IsPlace g p → block_of g p < block_count g
-place-within g Super limits is = omega arith
-place-within g RootLease limits is = lease-within g root_lease (omega arith)
-place-within g (ImageLease image) limits is = lease-within g (image_lease image.0) (omega (arith, is))
-place-within g (ExtentLease extent) limits is = lease-within g (extent_lease g extent.0) (omega (arith, is))
-place-within g (Record image) limits is = record-within g image.0 is
-place-within g (Log image) limits is = log-within g image.0 is
-place-within g (JDesc image slot) limits is = descriptor-within g image.0 slot is.0 is.1
-place-within g (JData image slot) limits is = data-within g image.0 slot is.0 is.1
-place-within g (Map extent) limits is = map-within g extent.0 (omega (arith, limits.blocks_low)) is
-place-within g (Pool extent bit) limits is = pool-within g extent.0 bit is.0 is.2
 
 -- what a claim of an attach asks is on the device
 pub claim-within : (a : Attach) (q : Ask) → AsksOnly (lease_at a.claim.number) q → a.claim.number ≡ image_lease a.load.image.slot.0 → IsOnDevice a.load.image.setting.geometry q

@@ -47,7 +47,8 @@ use Rattle.plx_appliance.specs.Space.{AreWithin, IsHand}
 use Rattle.plx_appliance.specs.declared.reserve.Reserve.{Reserve}
 use Rattle.plx_appliance.proofs.Entered.{held-extent}
 use Rattle.plx_appliance.proofs.ExtentClaimed.{extent-claim-moved}
-use Rattle.plx_appliance.proofs.Failing.{EndsOnFailure, claim-fails, same-ask}
+use Rattle.plx_session.proofs.Machines.{EndsOnFailure}
+use Rattle.plx_appliance.proofs.Failing.{claim-fails, same-ask}
 use Rattle.plx_appliance.proofs.Held.{nothing-at, spare-holds}
 
 -- the map of an extent lies past the leases

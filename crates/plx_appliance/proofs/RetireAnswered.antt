@@ -29,18 +29,19 @@ use Rattle.plx_alloc.specs.declared.giving.GivingAt.{GivingAt}
 use Rattle.plx_alloc.specs.declared.giving.GivingAt.TheVariants as giving
 use Rattle.plx_alloc.specs.declared.retire.RetireAt.{RetireAt}
 use Rattle.plx_alloc.specs.declared.retire.RetireAt.TheVariants as at
-use Rattle.plx_appliance.specs.Giving.{rules_setting}
+use Rattle.plx_session.specs.Giving.{rules_setting}
 use Rattle.plx_appliance.specs.Holding.{HoldsAs, image_leases_after_write}
 use Rattle.plx_appliance.specs.Lent.{Lent}
 use Rattle.plx_appliance.specs.Retires.{around_of, retire_stage_rest, retire_moves, retire_images_rest, retire_suits, retire_tells}
 use Rattle.plx_appliance.specs.Space.{AreWithin, IsHand}
-use Rattle.plx_appliance.specs.declared.leased.Leased.{Leased}
+use Rattle.plx_session.specs.declared.leased.Leased.{Leased}
 use Rattle.plx_appliance.specs.declared.retire.Retire.{Retire}
 use Rattle.plx_appliance.specs.declared.retire.RetireStage.{RetireStage}
 use Rattle.plx_appliance.specs.declared.retire.RetireStage.TheVariants as stage
-use Rattle.plx_appliance.specs.declared.setting.Setting.{Setting as Own}
+use Rattle.plx_session.specs.declared.setting.Setting.{Setting as Own}
 use Rattle.plx_alloc.proofs.Asking.{map-is-no-lease}
-use Rattle.plx_appliance.proofs.Failing.{EndsOnFailure, same-ask}
+use Rattle.plx_session.proofs.Machines.{EndsOnFailure}
+use Rattle.plx_appliance.proofs.Failing.{same-ask}
 use Rattle.plx_appliance.proofs.Held.{nothing-at, spare-holds}
 use Rattle.plx_appliance.proofs.InHand.{FillsNone, spares-hand}
 use Rattle.plx_appliance.proofs.Moved.{extent-released, release-holds-as}

@@ -10,7 +10,7 @@ use Rattle.plx_rules.specs.Settings.{Setting}
 use Rattle.plx_rules.specs.Space.{retire_extents, retire_images, retire_lease, retire_process}
 use Rattle.plx_alloc.specs.Tables.{hand_numbers, holds_of}
 use Rattle.plx_alloc.specs.Tables.{allocator_setting as space_given}
-use Rattle.plx_appliance.specs.Giving.{rules_setting}
+use Rattle.plx_session.specs.Giving.{rules_setting}
 use Rattle.plx_appliance.specs.Kept.{known_of}
 use Rattle.plx_appliance.specs.RenewStarts.{holds_in, leases_in}
 use Rattle.plx_appliance.specs.Retires.{images_from}

@@ -17,14 +17,14 @@ use Rattle.plx_rules.specs.Session.{Known, Session}
 use Rattle.plx_rules.specs.Settings.{Setting as Given}
 use Rattle.plx_appliance.specs.Appliance.{AppliancesKeepRules, HasBegun, StandsAt, StandsFor, appliance_setting, runs, shows_session}
 use Rattle.plx_appliance.specs.Begins.{waiting_process}
-use Rattle.plx_appliance.specs.Giving.{rules_setting}
+use Rattle.plx_session.specs.Giving.{rules_setting}
 use Rattle.plx_appliance.specs.Kept.{known_of}
 use Rattle.plx_appliance.specs.Lent.{Lent, lent_of}
 use Rattle.plx_appliance.specs.declared.appliance.Appliance.{Appliance}
 use Rattle.plx_appliance.specs.declared.appliance.Stage.{Stage}
 use Rattle.plx_appliance.specs.declared.appliance.Stage.TheVariants as stage
 use Rattle.plx_appliance.specs.declared.begun.Begun.{Begun}
-use Rattle.plx_appliance.specs.declared.setting.Setting.{Setting}
+use Rattle.plx_session.specs.declared.setting.Setting.{Setting}
 
 -- a command begins
 place-idle : (s : Given) (lent : Lent) (st : Stage) (p : Configuration) → runs st ≡ false → StandsAt s lent st p → p.place ≡ Idle lent.known

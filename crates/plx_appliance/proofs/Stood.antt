@@ -10,8 +10,9 @@ use Rattle.plx_rules.specs.Holds.{Hold}
 use Rattle.plx_rules.specs.Session.{Known}
 use Rattle.plx_appliance.specs.Appliance.{IsInWork, StandsAt, StandsFor, appliance_setting}
 use Rattle.plx_appliance.specs.Begins.{waiting_process}
-use Rattle.plx_appliance.specs.Ending.{hand_after_reply, known_after, leases_after}
-use Rattle.plx_appliance.specs.Giving.{rules_setting}
+use Rattle.plx_appliance.specs.AfterReply.{hand_after_reply, leases_after}
+use Rattle.plx_session.specs.Ending.{known_after}
+use Rattle.plx_session.specs.Giving.{rules_setting}
 use Rattle.plx_appliance.specs.Holding.{first_extents, first_leases}
 use Rattle.plx_appliance.specs.RenewStarts.{holds_in}
 use Rattle.plx_appliance.specs.Space.{AreWithin, extents_in, hand_in, held_hand}
@@ -26,7 +27,7 @@ use Rattle.plx_appliance.specs.declared.appliance.Stage.TheVariants as stage
 use Rattle.plx_appliance.specs.declared.begun.Begun.{Begun}
 use Rattle.plx_appliance.specs.declared.holdings.Holdings.{Holdings}
 use Rattle.plx_appliance.specs.declared.sessions.Sessions.{Sessions}
-use Rattle.plx_appliance.specs.declared.setting.Setting.{Setting}
+use Rattle.plx_session.specs.declared.setting.Setting.{Setting}
 use Rattle.plx_appliance.specs.declared.work.Work.{Work}
 use Rattle.plx_appliance.proofs.Went.{Stood, keeps-by, stood-as}
 use Rattle.plx_appliance.proofs.Goes.{FirstIn, FirstEnds, BegunStands, first-in, first-ends}

@@ -13,10 +13,11 @@ use Rattle.plx_geom.specs.Geometry.{Geometry}
 use Rattle.plx_rules.specs.Session.{Known}
 use Rattle.plx_rules.specs.Settings.{Setting}
 use Rattle.plx_appliance.specs.Appliance.{HasBegun, IsInWork, IsStanding, StandsAt, StandsFor, has_begun, runs, appliance_setting}
-use Rattle.plx_appliance.specs.Ending.{hand_after_reply, known_after, leases_after}
+use Rattle.plx_appliance.specs.AfterReply.{hand_after_reply, leases_after}
+use Rattle.plx_session.specs.Ending.{known_after}
 use Rattle.plx_appliance.specs.Holding.{HoldsAs, DropsNothing, image_leases_after_write, dropped_hand}
 use Rattle.plx_appliance.specs.Space.{AreWithin, IsHand, extents_in, hand_in, held_hand}
-use Rattle.plx_appliance.specs.Giving.{rules_setting}
+use Rattle.plx_session.specs.Giving.{rules_setting}
 use Rattle.plx_appliance.specs.Kept.{known_of}
 use Rattle.plx_appliance.specs.Lent.{Lent, lent_of}
 use Rattle.plx_appliance.specs.Ties.{stage_setting, stage_suits}
@@ -26,7 +27,7 @@ use Rattle.plx_appliance.specs.declared.appliance.Stage.{Stage}
 use Rattle.plx_appliance.specs.declared.appliance.Stage.TheVariants as stage
 use Rattle.plx_appliance.specs.declared.begun.Begun.{Begun}
 use Rattle.plx_appliance.specs.declared.holdings.Holdings.{Holdings}
-use Rattle.plx_appliance.specs.declared.setting.Setting.{Setting as Given}
+use Rattle.plx_session.specs.declared.setting.Setting.{Setting as Given}
 use Rattle.plx_appliance.specs.Moving.{Moves}
 use Rattle.plx_appliance.specs.Stands.{Inside}
 use Rattle.plx_appliance.specs.Works.{Spares, work_rest, work_setting, work_suits}

@@ -8,9 +8,9 @@ use Rattle.plx_rules.specs.Processes.{followed_by}
 use Rattle.plx_rules.specs.Session.{Known}
 use Rattle.plx_lease.specs.Claiming.{claim_rest}
 use Rattle.plx_disk.specs.declared.ask.Ask.{Ask}
-use Rattle.plx_appliance.specs.Asking.{IsSpare}
-use Rattle.plx_appliance.specs.Giving.{rules_setting}
-use Rattle.plx_appliance.specs.Loads.{load_rest}
+use Rattle.plx_session.specs.Asking.{IsSpare}
+use Rattle.plx_session.specs.Giving.{rules_setting}
+use Rattle.plx_session.specs.Loads.{load_rest}
 use Rattle.plx_appliance.specs.declared.attach.Attach.{Attach}
 use Rattle.plx_appliance.specs.declared.attach.AttachAt.{AttachAt}
 use Rattle.plx_appliance.specs.declared.attach.AttachAt.TheVariants as attach

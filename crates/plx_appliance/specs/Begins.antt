@@ -4,30 +4,22 @@ use Rattle.plx_commands.specs.declared.command.Command.{Command}
 use Rattle.plx_geom.specs.Geometry.{image_lease, lease_at}
 use Rattle.plx_rules.specs.Process.{Process}
 use Rattle.plx_rules.specs.Attaching.{attach_process}
-use Rattle.plx_rules.specs.Commands.{command_process, create_process, delete_process, detach_process, of_attached, read_process, write_process}
+use Rattle.plx_rules.specs.Commands.{command_process, detach_process, of_attached}
 use Rattle.plx_rules.specs.Ends.{End}
 use Rattle.plx_rules.specs.Holds.{Hold}
-use Rattle.plx_rules.specs.Session.{Known, Session}
+use Rattle.plx_rules.specs.Session.{Known}
 use Rattle.plx_rules.specs.Settings.{Setting}
 use Rattle.plx_rules.specs.Space.{reserve_process, retire_process}
+use Rattle.plx_session.specs.Commands.{image_process}
 use Rattle.plx_appliance.specs.RenewStarts.{renew_command}
 use Rattle.plx_appliance.specs.declared.begun.Begun.{Begun}
 use Rattle.plx_appliance.specs.declared.begun.Begun.TheVariants as begun
-use Rattle.plx_appliance.specs.declared.begun.ImageCommand.{ImageCommand}
-use Rattle.plx_appliance.specs.declared.begun.ImageCommand.TheVariants as image
-
--- what a command of an attached image asks of the image's session, up to the end of its lease
-abbrev pub image_process : Setting → Known → (image : ℕ) → ImageCommand → Session → (until : ℕ) → Process End
-image_process s known slot (image.Detach lease) = detach_process s known slot
-image_process s known slot (image.Create size label record') = create_process s known slot size label
-image_process s known slot (image.Delete record') = delete_process s known slot
-image_process s known slot (image.Read vblock block) = read_process s known slot vblock
-image_process s known slot (image.Write vblock block descriptor) = write_process s known slot vblock block
 
 -- what it asks after its first reading
 abbrev pub waiting_process : Setting → Known → (holds : ℕ → Hold) → (hand : List ℕ) → (reading : ℕ) → Begun → Process End
 waiting_process s known holds hand reading (begun.Attach slot room) =
     attach_process s known slot.0 (known.sessions slot.0) (nat_lt slot.0 s.geometry.images) (holds (lease_at (image_lease slot.0)))
+waiting_process s known holds hand reading (begun.Detach slot lease) = of_attached s known holds reading slot.0 (detach_process s known slot.0)
 waiting_process s known holds hand reading (begun.Image slot command) = of_attached s known holds reading slot.0 (image_process s known slot.0 command)
 waiting_process s known holds hand reading (begun.Renew renewals lease) = renew_command s known holds reading
 waiting_process s known holds hand reading (begun.Reserve need room lease) = reserve_process s known holds hand need.count

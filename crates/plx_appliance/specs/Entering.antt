@@ -9,7 +9,8 @@ use Rattle.plx_appliance.specs.Space.{extents_in, hand_in}
 use Rattle.plx_appliance.specs.Stands.{IsTied, StartsInside}
 use Rattle.plx_appliance.specs.Works.{work_entered, work_suits}
 use Rattle.plx_appliance.specs.declared.holdings.Holdings.{Holdings}
-use Rattle.plx_appliance.specs.declared.leased.Leased.{Leased}
+use Rattle.plx_session.specs.Works.{image_leased}
+use Rattle.plx_session.specs.declared.leased.Leased.{Leased}
 use Rattle.plx_appliance.specs.declared.work.Work.{Work}
 use Rattle.plx_appliance.specs.declared.work.Work.TheVariants as work
 
@@ -25,10 +26,8 @@ pub record Enters (old new : Holdings) (asked : Process End) (result : Result Wo
   pub inside : IfOk result (StartsInside (leases_in old) (extents_in old))
   pub suits : IfOk result (work_suits new.space)
 
--- the machine of a command of this image
+-- a machine of this image, without a claim of its lease
 abbrev pub IsOfImage : Leased → Work → Type 0
 IsOfImage image (work.Detach d) = d.image ≡ image
-IsOfImage image (work.Record r) = r.image ≡ image
-IsOfImage image (work.Read r) = r.image ≡ image
-IsOfImage image (work.Write w) = w.image ≡ image
+IsOfImage image (work.Image w) = image_leased w ≡ image
 IsOfImage image other = ⊥

@@ -1,26 +1,11 @@
 -- What an appliance keeps between commands, as the definitions see it.
-use Rattle.std.specs.Prelude.{ℕ, List, Option, Some, None, slice_index_or}
+use Rattle.std.specs.Prelude.{ℕ, List, Option, None, slice_index_or}
 use Rattle.plx_rules.specs.Session.{Known}
-use Rattle.plx_rules.specs.Journaled.{Journaled}
 use Rattle.plx_rules.specs.Session.{Session as KnownSession}
 use Rattle.plx_appliance.specs.declared.holdings.Holdings.{Holdings}
-use Rattle.plx_appliance.specs.declared.journal.Journal.{Journal}
-use Rattle.plx_appliance.specs.declared.session.Session.{Session}
+use Rattle.plx_session.specs.declared.session.Session.{Session}
 use Rattle.plx_appliance.specs.declared.sessions.Sessions.{Sessions}
-use Rattle.plx_appliance.specs.PlacedWrites.{writes_in}
-
--- the writes that a journal holds
-abbrev pub writes_of : Journal → List Journaled
-writes_of journal = writes_in journal.bytes.items journal.writes.items
-
--- a session
-abbrev pub session_of : Session → KnownSession
-session_of session = record { image = session.image; writes = writes_of session.journal }
-
--- so of a session, if there is one
-abbrev pub known_session : Option Session → Option KnownSession
-known_session None = None
-known_session (Some session) = Some (session_of session)
+use Rattle.plx_session.specs.Shown.{known_session}
 
 -- the sessions by image
 abbrev pub sessions_of : List (Option Session) → ℕ → Option KnownSession

@@ -87,9 +87,7 @@ abbrev pub Moves : (old new : Work) → Answer → (before after : Lent) → Opt
 Moves (work.Attach a) new answer before after result = attach_stays a new answer before.leases after.leases result × (after.space ≡ before.space)
 Moves (work.Detach d) new answer before after result =
     ClaimsNone new × (after.leases ≡ image_leases_after_release answer d.image.slot.0 before.leases) × (after.space ≡ before.space)
-Moves (work.Record r) new answer before after result = ClaimsNone new × (after.leases ≡ before.leases) × (after.space ≡ before.space)
-Moves (work.Read r) new answer before after result = ClaimsNone new × (after.leases ≡ before.leases) × (after.space ≡ before.space)
-Moves (work.Write w) new answer before after result = ClaimsNone new × (after.leases ≡ before.leases) × (after.space ≡ before.space)
+Moves (work.Image w) new answer before after result = ClaimsNone new × (after.leases ≡ before.leases) × (after.space ≡ before.space)
 Moves (work.Renew r) new answer before after result = renew_stays r new answer before after result
 Moves (work.Reserve r) new answer before after result = reserve_stays r new answer before after result
 Moves (work.Retire r) new answer before after result = retire_stays r new answer before after result

@@ -20,7 +20,7 @@ use Rattle.plx_rules.specs.Settings.{Setting}
 use Rattle.plx_lease.specs.Following.{after_renewal}
 use Rattle.plx_lease.specs.Renewing.{longer_hold, renewal_hold, renewal_rest}
 use Rattle.plx_lease.specs.declared.renewal.LeaseRenewal.{LeaseRenewal}
-use Rattle.plx_appliance.specs.Giving.{rules_setting}
+use Rattle.plx_session.specs.Giving.{rules_setting}
 use Rattle.plx_appliance.specs.Lent.{Lent}
 use Rattle.plx_appliance.specs.declared.renew.Renew.{Renew}
 

@@ -23,7 +23,7 @@ use Rattle.plx_rules.specs.Session.{Session}
 use Rattle.plx_appliance.specs.Holding.{hold_without_claim}
 use Rattle.plx_appliance.specs.Lent.{Lent}
 use Rattle.plx_appliance.specs.declared.reserve.Reserve.{Reserve}
-use Rattle.plx_appliance.specs.declared.setting.Setting.{Setting}
+use Rattle.plx_session.specs.declared.setting.Setting.{Setting}
 
 -- the command of a take: once enough blocks are in hand it ends
 abbrev pub outer_of : Setting → (sessions : ℕ → Option Session) → Outer

@@ -21,20 +21,20 @@ use Rattle.plx_rules.specs.Holds.{Hold}
 use Rattle.plx_rules.specs.Session.{Known}
 use Rattle.plx_rules.specs.Settings.{Setting}
 use Rattle.plx_rules.specs.Space.{release_then, retire_images, retire_lease}
-use Rattle.plx_appliance.specs.Ending.{enter_process, known_after}
-use Rattle.plx_appliance.specs.Giving.{rules_setting}
+use Rattle.plx_session.specs.Ending.{enter_process, known_after}
+use Rattle.plx_session.specs.Giving.{rules_setting}
 use Rattle.plx_appliance.specs.Kept.{known_by}
 use Rattle.plx_appliance.specs.Lent.{Lent}
 use Rattle.plx_appliance.specs.Releasing.{image_leases_after_release}
-use Rattle.plx_appliance.specs.Rests.{leased_use}
+use Rattle.plx_session.specs.Leases.{leased_use}
 use Rattle.plx_appliance.specs.Tokens.{image_leases}
 use Rattle.plx_appliance.specs.declared.lease.Leases.{Leases}
-use Rattle.plx_appliance.specs.declared.leased.Leased.{Leased}
+use Rattle.plx_session.specs.declared.leased.Leased.{Leased}
 use Rattle.plx_appliance.specs.declared.retire.Retire.{Retire}
 use Rattle.plx_appliance.specs.declared.retire.RetireStage.{RetireStage}
 use Rattle.plx_appliance.specs.declared.retire.RetireStage.TheVariants as stage
 use Rattle.plx_appliance.specs.declared.sessions.Sessions.{Sessions}
-use Rattle.plx_appliance.specs.declared.setting.Setting.{Setting as Own}
+use Rattle.plx_session.specs.declared.setting.Setting.{Setting as Own}
 
 -- ---- the images
 

@@ -11,7 +11,7 @@ use Rattle.plx_appliance.specs.Tokens.{lease_holds_at}
 use Rattle.plx_appliance.specs.declared.attach.Attach.{Attach}
 use Rattle.plx_appliance.specs.declared.attach.AttachAt.{AttachAt}
 use Rattle.plx_appliance.specs.declared.attach.AttachAt.TheVariants as attach
-use Rattle.plx_appliance.specs.declared.setting.Setting.{Setting}
+use Rattle.plx_session.specs.declared.setting.Setting.{Setting}
 use Rattle.plx_appliance.specs.declared.work.Work.{Work}
 use Rattle.plx_appliance.specs.declared.work.Work.TheVariants as work
 use Rattle.plx_appliance.specs.Works.{work_setting, work_slots}
@@ -36,9 +36,7 @@ inside_at attach.Load a holds sample = Unit {0}
 abbrev pub Inside : Work → (ℕ → Hold) → Option ℕ → Option (ℕ × List ℕ) → Type 0
 Inside (work.Attach a) holds sample found = inside_at a.at a holds sample
 Inside (work.Detach d) holds sample found = Unit {0}
-Inside (work.Record r) holds sample found = Unit {0}
-Inside (work.Read r) holds sample found = Unit {0}
-Inside (work.Write w) holds sample found = Unit {0}
+Inside (work.Image w) holds sample found = Unit {0}
 Inside (work.Renew r) holds sample found = IsRenewing r (λ lease. holds (lease_at lease))
 Inside (work.Reserve r) holds sample found = IsReserving r holds sample found
 Inside (work.Retire r) holds sample found = retire_tells r.setting.geometry r.stage found
@@ -59,9 +57,7 @@ starts_at leases attach.Load a = Unit {0}
 abbrev pub StartsInside : (leases extents : ℕ → Hold) → Work → Type 0
 StartsInside leases extents (work.Attach a) = starts_at leases a.at a
 StartsInside leases extents (work.Detach d) = Unit {0}
-StartsInside leases extents (work.Record r) = Unit {0}
-StartsInside leases extents (work.Read r) = Unit {0}
-StartsInside leases extents (work.Write w) = Unit {0}
+StartsInside leases extents (work.Image w) = Unit {0}
 StartsInside leases extents (work.Renew r) = IsRenewing r (λ lease. lease_holds_at r.setting.geometry leases extents (lease_at lease))
 StartsInside leases extents (work.Reserve r) = ReadsFirst r.work.at
 StartsInside leases extents (work.Retire r) = (found : Option (ℕ × List ℕ)) → retire_tells r.setting.geometry r.stage found

@@ -15,7 +15,7 @@ use Rattle.plx_appliance.specs.declared.appliance.Stage.{Stage}
 use Rattle.plx_appliance.specs.declared.appliance.Stage.TheVariants as stage
 use Rattle.plx_appliance.specs.declared.retire.RetireStage.{RetireStage}
 use Rattle.plx_appliance.specs.declared.retire.RetireStage.TheVariants as retire_stage
-use Rattle.plx_appliance.specs.declared.setting.Setting.{Setting}
+use Rattle.plx_session.specs.declared.setting.Setting.{Setting}
 use Rattle.plx_appliance.specs.declared.work.Work.{Work}
 use Rattle.plx_appliance.specs.declared.work.Work.TheVariants as work
 
@@ -46,9 +46,7 @@ retire-prop a setting (retire_stage.Image image) = Prim.hlevel props
 pub work-prop : (a : Allocator) (w : Work) → IsProp (work_suits a w)
 work-prop a (work.Attach x) = Prim.hlevel props
 work-prop a (work.Detach x) = Prim.hlevel props
-work-prop a (work.Record x) = Prim.hlevel props
-work-prop a (work.Read x) = Prim.hlevel props
-work-prop a (work.Write x) = Prim.hlevel props
+work-prop a (work.Image x) = Prim.hlevel props
 work-prop a (work.Renew x) = Prim.hlevel props
 work-prop a (work.Reserve x) = take-prop a x.work
 work-prop a (work.Retire x) = retire-prop a x.setting x.stage

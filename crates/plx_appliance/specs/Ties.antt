@@ -5,7 +5,7 @@ use Rattle.plx_appliance.specs.Begins.{begun_leases, begun_slots}
 use Rattle.plx_appliance.specs.Works.{work_setting, work_slots, work_suits}
 use Rattle.plx_appliance.specs.declared.appliance.Stage.{Stage}
 use Rattle.plx_appliance.specs.declared.appliance.Stage.TheVariants as stage
-use Rattle.plx_appliance.specs.declared.setting.Setting.{Setting}
+use Rattle.plx_session.specs.declared.setting.Setting.{Setting}
 
 -- what it is given
 abbrev pub stage_setting : Setting → Stage → Setting

@@ -7,15 +7,16 @@ use Rattle.plx_commands.specs.declared.reply.Reply.{Reply}
 use Rattle.plx_disk.specs.declared.ask.Ask.{Ask}
 use Rattle.plx_rules.specs.Process.{Process}
 use Rattle.plx_rules.specs.Ends.{End, ends}
-use Rattle.plx_appliance.specs.Asking.{IsSpare}
+use Rattle.plx_session.specs.Asking.{IsSpare}
 use Rattle.plx_appliance.specs.Attaches.{attach_rest, attach_spares}
-use Rattle.plx_appliance.specs.Ending.{known_after}
+use Rattle.plx_session.specs.Ending.{known_after}
 use Rattle.plx_appliance.specs.Lent.{Lent}
 use Rattle.plx_appliance.specs.Renews.{renew_rest}
 use Rattle.plx_appliance.specs.Reserves.{reserve_work_rest}
-use Rattle.plx_appliance.specs.Rests.{detach_rest, read_rest, record_rest, write_rest}
+use Rattle.plx_appliance.specs.Detaches.{detach_rest}
+use Rattle.plx_session.specs.Works.{image_leased, image_rest}
 use Rattle.plx_appliance.specs.Retires.{retire_images_rest, retire_suits}
-use Rattle.plx_appliance.specs.declared.setting.Setting.{Setting}
+use Rattle.plx_session.specs.declared.setting.Setting.{Setting}
 use Rattle.plx_appliance.specs.declared.work.Work.{Work}
 use Rattle.plx_appliance.specs.declared.work.Work.TheVariants as work
 
@@ -23,9 +24,7 @@ use Rattle.plx_appliance.specs.declared.work.Work.TheVariants as work
 abbrev pub work_rest : Lent → Work → Process End
 work_rest lent (work.Attach a) = attach_rest lent.known a
 work_rest lent (work.Detach d) = detach_rest lent.known d
-work_rest lent (work.Record r) = record_rest lent.known r
-work_rest lent (work.Read r) = read_rest lent.known r
-work_rest lent (work.Write w) = write_rest lent.known w
+work_rest lent (work.Image w) = image_rest lent.known w
 work_rest lent (work.Renew r) = renew_rest lent.known r
 work_rest lent (work.Reserve r) = reserve_work_rest lent r
 work_rest lent (work.Retire r) = retire_images_rest lent r
@@ -34,9 +33,7 @@ work_rest lent (work.Retire r) = retire_images_rest lent r
 abbrev pub work_setting : Work → Setting
 work_setting (work.Attach a) = a.load.image.setting
 work_setting (work.Detach d) = d.image.setting
-work_setting (work.Record r) = r.image.setting
-work_setting (work.Read r) = r.image.setting
-work_setting (work.Write w) = w.image.setting
+work_setting (work.Image w) = (image_leased w).setting
 work_setting (work.Renew r) = r.setting
 work_setting (work.Reserve r) = r.setting
 work_setting (work.Retire r) = r.setting
@@ -45,9 +42,7 @@ work_setting (work.Retire r) = r.setting
 abbrev pub work_slots : Work → ℕ
 work_slots (work.Attach a) = a.load.slots
 work_slots (work.Detach d) = d.image.setting.geometry.slots
-work_slots (work.Record r) = r.image.setting.geometry.slots
-work_slots (work.Read r) = r.image.setting.geometry.slots
-work_slots (work.Write w) = w.image.setting.geometry.slots
+work_slots (work.Image w) = (image_leased w).setting.geometry.slots
 work_slots (work.Renew r) = r.setting.geometry.slots
 work_slots (work.Reserve r) = r.setting.geometry.slots
 work_slots (work.Retire r) = r.setting.geometry.slots
@@ -61,9 +56,7 @@ work_entered lent (Err reply) = ends reply (known_after reply lent.known)
 abbrev pub Spares : Work → Ask → Type 0
 Spares (work.Attach a) ask = attach_spares a.at a ask
 Spares (work.Detach d) ask = Unit {0}
-Spares (work.Record r) ask = IsSpare r.image.setting.geometry ask
-Spares (work.Read r) ask = IsSpare r.image.setting.geometry ask
-Spares (work.Write w) ask = IsSpare w.image.setting.geometry ask
+Spares (work.Image w) ask = IsSpare (image_leased w).setting.geometry ask
 Spares (work.Renew r) ask = Unit {0}
 Spares (work.Reserve r) ask = (space : Allocator) → SuitsReserve space r.work → reserve_spares r.work.at space.geometry r.work ask
 Spares (work.Retire r) ask = Unit {0}

@@ -8,11 +8,11 @@ use crate::begun::Begun;
 use crate::entering::enter;
 use crate::fitting::fits;
 use crate::holdings::Holdings;
-use crate::setting::Setting;
 use crate::work::Work;
 use plx_base::{BlockNo, NoMemory, SlotNo};
 use plx_commands::{Command, Reply};
 use plx_disk::{Answer, Ask};
+use plx_session::Setting;
 use std::alloc::Global;
 use std::mem;
 

@@ -3,16 +3,13 @@ ghost use Rattle.std.specs.Prelude.{◌≡◌, ◌<◌, ◌^◌, Some, None};
 ghost use Rattle.std.specs.Vec.{vec_len};
 
 use crate::lease::Leases;
-use crate::leased::Leased;
-use crate::load::Load;
-use crate::session::Session;
 use crate::sessions::Sessions;
-use crate::setting::Setting;
 use plx_base::{Block, LeaseName, SlotNo};
 use plx_commands::Reply;
 use plx_disk::{Answer, Ask};
 use plx_geom::Place;
 use plx_lease::{ClaimEnd, LeaseClaim};
+use plx_session::{Failure, Leased, Load, Session, Setting};
 use plx_token::Image;
 use std::alloc::Global;
 
@@ -32,12 +29,13 @@ pub struct Attach {
 }
 
 impl Attach {
-    ghost use Rattle.std.specs.Prelude.{ℕ, [], Option};
+    ghost use Rattle.std.specs.Prelude.{ℕ, [], Option, IfOk};
     ghost use Rattle.plx_geom.specs.Geometry.{image_lease, lease_at};
     ghost use Rattle.plx_rules.specs.Process.{Process, answered, standing, bytes_out};
     ghost use Rattle.plx_commands.specs.Limits.{last_claim};
     ghost use Rattle.plx_rules.specs.Attaching.{after_claim, load_image};
     ghost use Rattle.plx_rules.specs.Claims.{claim_process};
+    ghost use Rattle.plx_rules.specs.Ends.{ends};
     ghost use Rattle.plx_rules.specs.Machines.{AreWhole, IsTimely};
     ghost use Rattle.plx_rules.specs.Processes.{followed_by};
     ghost use Rattle.plx_rules.specs.Session.{Known};
@@ -47,8 +45,9 @@ impl Attach {
     ghost use Rattle.plx_alloc.specs.Asking.{IsOnDevice};
     ghost use Rattle.plx_appliance.specs.Stands.{inside_at};
     ghost use Rattle.plx_appliance.specs.Attaches.{attach_rest, attach_spares};
-    ghost use Rattle.plx_appliance.specs.Ending.{process_after};
-    ghost use Rattle.plx_appliance.specs.Giving.{rules_setting};
+    ghost use Rattle.plx_session.specs.Ending.{known_after, process_after};
+    ghost use Rattle.plx_session.specs.Giving.{rules_setting};
+    ghost use Rattle.plx_session.specs.Loads.{load_left};
     ghost use Rattle.plx_appliance.specs.Kept.{known_by};
     ghost use Rattle.plx_appliance.specs.Moving.{attach_moves, image_leases_after_claim};
     ghost use Rattle.plx_appliance.specs.Tokens.{image_leases};
@@ -169,7 +168,29 @@ impl Attach {
                 None => None,
                 Some(end) => self.after_claim(leases, end),
             },
-            AttachAt::Load => self.load.answer(sessions, answer),
+            AttachAt::Load => match self.load.answer(answer) {
+                None => None,
+                Some(end) => Some(self.after_load(sessions, end)),
+            },
+        }
+    }
+
+    // The load has ended.
+    fn after_load(&self, sessions: &mut Sessions, end: Result<Session, Failure>) -> Reply
+        requires count { sessions.old.count ≡ self.now.load.image.setting.geometry.images }
+        requires slots { IfOk end (λ session. session.journal.slots ≡ sessions.old.slots) }
+        ensures rest { (claims : ℕ) → ends result (known_after result (known_by sessions.new claims))
+            ≡ load_left (known_by sessions.old claims) self.now.load (Some end) }
+        ensures count { sessions.new.count ≡ sessions.old.count }
+        ensures slots { sessions.new.slots ≡ sessions.old.slots }
+    {
+        match end {
+            Ok(session) => {
+                let report = session.report();
+                sessions.put(self.load.image.slot, session);
+                Reply::Attached { report }
+            }
+            Err(failure) => failure.reply(&self.load.image),
         }
     }
 

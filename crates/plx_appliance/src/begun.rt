@@ -3,11 +3,10 @@ ghost use Rattle.std.specs.Prelude.{◌≡◌, ◌≤◌};
 ghost use Rattle.std.specs.Vec.{vec_len};
 
 use crate::renewals::Renewals;
-use crate::session::Session;
-use crate::setting::Setting;
 use plx_alloc::MapRoom;
 use plx_base::{Block, Label, NoMemory, Payload, SlotNo};
 use plx_commands::Command;
+use plx_session::{ImageCommand, Session, Setting};
 use std::alloc::Global;
 
 /// The memory of an attach: a session for a journal of so many slots, and a block for its claim.
@@ -44,37 +43,16 @@ pub struct Need {
     ghost most: { count ≤ 256 },
 }
 
-/// A command of an attached image, with all the memory that it can need.
-#[derive(Drop)]
-pub enum ImageCommand {
-    Detach {
-        lease: Block,
-    },
-    Create {
-        size: u32,
-        label: Label,
-        record: Block,
-    },
-    Delete {
-        record: Block,
-    },
-    Read {
-        vblock: u32,
-        block: Block,
-    },
-    Write {
-        vblock: u32,
-        block: Block,
-        descriptor: Block,
-    },
-}
-
 /// A command that has begun, with all the memory that it can need.
 #[derive(Drop)]
 pub enum Begun {
     Attach {
         slot: SlotNo,
         room: Room,
+    },
+    Detach {
+        slot: SlotNo,
+        lease: Block,
     },
     Image {
         slot: SlotNo,
@@ -159,8 +137,7 @@ impl Begun {
         ensures { (slots leases : ℕ) → IfOk result (BeginsAs slots leases (Command.Detach slot)) }
     {
         let lease = Block::zeros(alloc)?;
-        let command = ImageCommand::Detach { lease };
-        Ok(Begun::Image { slot, command })
+        Ok(Begun::Detach { slot, lease })
     }
 
     // A create: a block for the record.

@@ -4,12 +4,12 @@ ghost use Rattle.plx_base.specs.declared.lease.LeaseRecord.TheVariants.{Free};
 ghost use Rattle.plx_gate.specs.Leases.{lease_bytes};
 
 use crate::lease::Leases;
-use crate::leased::Leased;
 use crate::sessions::Sessions;
 use plx_base::{Block, LeaseRecord, WriteKind};
 use plx_commands::Reply;
 use plx_disk::{Answer, Ask};
 use plx_lease::spell_lease;
+use plx_session::Leased;
 
 /// The release of an image's lease, with the block that spells a free one.
 #[derive(Drop)]
@@ -29,11 +29,11 @@ impl Detach {
     ghost use Rattle.plx_rules.specs.Session.{Session as KnownSession};
     ghost use Rattle.plx_alloc.specs.Asking.{IsOnDevice};
     ghost use Rattle.plx_rules.specs.Machines.{AreWhole};
-    ghost use Rattle.plx_appliance.specs.Ending.{process_after};
-    ghost use Rattle.plx_appliance.specs.Giving.{rules_setting};
+    ghost use Rattle.plx_session.specs.Ending.{process_after};
+    ghost use Rattle.plx_session.specs.Giving.{rules_setting};
     ghost use Rattle.plx_appliance.specs.Kept.{known_by};
     ghost use Rattle.plx_appliance.specs.Tokens.{image_leases};
-    ghost use Rattle.plx_appliance.specs.Rests.{detach_rest};
+    ghost use Rattle.plx_appliance.specs.Detaches.{detach_rest};
     ghost use Rattle.plx_appliance.specs.Releasing.{image_leases_after_release};
 
     /// The detach begins, with a block for the lease.

@@ -1,15 +1,17 @@
 //! What a command becomes at its first reading of the clock: a machine that goes on, or a refusal.
-ghost use Rattle.std.specs.Prelude.{◌≡◌, ◌<◌, ◌^◌, None, Some, IfOk, nat_lt};
+ghost use Rattle.std.specs.Prelude.{◌≡◌, ◌<◌, ◌^◌, Some, IfOk, nat_lt};
 ghost use Rattle.plx_commands.specs.Limits.{last_claim};
 ghost use Rattle.plx_geom.specs.Geometry.{image_lease, lease_at, lease_count};
 ghost use Rattle.plx_rules.specs.Attaching.{attach_process, claim_image};
-ghost use Rattle.plx_rules.specs.Commands.{of_attached};
+ghost use Rattle.plx_rules.specs.Commands.{detach_process, of_attached};
 ghost use Rattle.plx_rules.specs.Holds.{Nothing};
 ghost use Rattle.plx_rules.specs.Space.{reserve_process, retire_process};
-ghost use Rattle.plx_appliance.specs.Begins.{begun_leases, begun_slots, image_process, waiting_process};
+ghost use Rattle.plx_appliance.specs.Begins.{begun_leases, begun_slots, waiting_process};
+ghost use Rattle.plx_session.specs.Commands.{image_process};
 ghost use Rattle.plx_appliance.specs.Entering.{Enters, IsOfImage};
-ghost use Rattle.plx_appliance.specs.Giving.{rules_setting};
-ghost use Rattle.plx_appliance.specs.Kept.{known_of, session_of};
+ghost use Rattle.plx_session.specs.Giving.{rules_setting};
+ghost use Rattle.plx_session.specs.Shown.{session_of};
+ghost use Rattle.plx_appliance.specs.Kept.{known_of};
 ghost use Rattle.plx_appliance.specs.Lent.{Lent, lent_of};
 ghost use Rattle.plx_appliance.specs.RenewStarts.{holds_in, renew_command};
 ghost use Rattle.plx_appliance.specs.Space.{extents_in, hand_in};
@@ -18,23 +20,19 @@ ghost use Rattle.plx_appliance.specs.Tokens.{image_leases};
 ghost use Rattle.plx_appliance.specs.Works.{work_entered, work_suits};
 
 use crate::attach::Attach;
-use crate::begun::{Begun, ImageCommand, Need, Room};
+use crate::begun::{Begun, Need, Room};
 use crate::detach::Detach;
 use crate::holdings::Holdings;
-use crate::leased::Leased;
-use crate::read::Read;
-use crate::record::Record;
 use crate::renew::Renew;
 use crate::renewals::Renewals;
 use crate::renewing::{reached_lease, renewals};
 use crate::reserve::{Reserve, reserve_reply};
 use crate::retire::Retire;
-use crate::session::Session;
 use crate::work::Work;
-use crate::write::Write;
 use plx_alloc::{MapRoom, Reserve as Take};
 use plx_base::{Block, SlotNo};
 use plx_commands::{LAST_CLAIM, Reply};
+use plx_session::{ImageCommand, Leased, Session};
 
 /// A command has its first reading, below 2^48.
 pub fn enter(begun: Begun, holdings: &mut Holdings, reading: u64) -> Result<Work, Reply>
@@ -59,6 +57,7 @@ pub fn enter(begun: Begun, holdings: &mut Holdings, reading: u64) -> Result<Work
 {
     match begun {
         Begun::Attach { slot, room } => enter_attach(holdings, slot, room),
+        Begun::Detach { slot, lease } => enter_detach(holdings, slot, lease, reading),
         Begun::Image { slot, command } => enter_image(holdings, slot, command, reading),
         Begun::Renew { renewals, lease } => enter_renew(holdings, renewals, lease, reading),
         Begun::Reserve { need, room, lease } => enter_reserve(holdings, need, room, lease),
@@ -115,6 +114,28 @@ fn enter_claim(holdings: &mut Holdings, slot: SlotNo, room: Room) -> Result<Work
     Ok(Work::Attach(Attach::claim(room.alloc, setting, slot, number, room.session, room.lease)))
 }
 
+// A detach has its first reading.
+fn enter_detach(
+    holdings: &Holdings,
+    slot: SlotNo,
+    lease: Block,
+    reading: u64,
+) -> Result<Work, Reply>
+    ensures { Enters holdings.now holdings.now
+        (of_attached (rules_setting holdings.now.setting) (known_of holdings.now)
+        (holds_in holdings.now) reading slot.0
+        (detach_process (rules_setting holdings.now.setting) (known_of holdings.now) slot.0))
+        result }
+{
+    let Some(_session) = holdings.sessions.get(slot) else {
+        return Err(Reply::NotAttached);
+    };
+    match holdings.leased(slot, reading) {
+        Err(reply) => Err(reply),
+        Ok(image) => Ok(Work::Detach(Detach::enter(image, lease))),
+    }
+}
+
 // A command of an attached image has its first reading.
 fn enter_image(
     holdings: &Holdings,
@@ -146,32 +167,9 @@ fn enter_leased(command: ImageCommand, image: Leased, session: &Session) -> Resu
         image.slot.0 command (session_of session.now) image.until }
     ensures image { IfOk result (IsOfImage image) }
 {
-    match command {
-        ImageCommand::Detach { lease } => Ok(Work::Detach(Detach::enter(image, lease))),
-        ImageCommand::Create {
-            size,
-            label,
-            record,
-        } => match Record::create(image, session, size, label, record) {
-            Err(reply) => Err(reply),
-            Ok(record) => Ok(Work::Record(record)),
-        },
-        ImageCommand::Delete { record } => match Record::delete(image, session, record) {
-            Err(reply) => Err(reply),
-            Ok(record) => Ok(Work::Record(record)),
-        },
-        ImageCommand::Read { vblock, block } => match Read::enter(image, session, vblock, block) {
-            Err(reply) => Err(reply),
-            Ok(read) => Ok(Work::Read(read)),
-        },
-        ImageCommand::Write {
-            vblock,
-            block,
-            descriptor,
-        } => match Write::enter(image, session, vblock, block, descriptor) {
-            Err(reply) => Err(reply),
-            Ok(write) => Ok(Work::Write(write)),
-        },
+    match command.enter(image, session) {
+        Err(reply) => Err(reply),
+        Ok(work) => Ok(Work::Image(work)),
     }
 }
 

@@ -3,13 +3,12 @@ ghost use Rattle.std.specs.Prelude.{◌≡◌};
 ghost use Rattle.plx_alloc.specs.Tables.{HoldsHand};
 
 use crate::lease::Leases;
-use crate::leased::Leased;
 use crate::sessions::Sessions;
-use crate::setting::Setting;
 use plx_alloc::Allocator;
 use plx_base::{LeaseName, NoMemory, SlotNo};
 use plx_commands::Reply;
 use plx_disk::{Answer, Ask};
+use plx_session::{Leased, Setting};
 use std::alloc::Global;
 
 /// What a boot is given, its sessions, the leases of images that it holds, and what it keeps of space, with how many claims it began.
@@ -33,8 +32,9 @@ impl Holdings {
     ghost use Rattle.plx_rules.specs.Commands.{held_process};
     ghost use Rattle.plx_rules.specs.Ends.{End};
     ghost use Rattle.plx_rules.specs.Session.{Known};
-    ghost use Rattle.plx_appliance.specs.Ending.{hand_after_reply, known_after, leases_after};
-    ghost use Rattle.plx_appliance.specs.Giving.{rules_setting};
+    ghost use Rattle.plx_appliance.specs.AfterReply.{hand_after_reply, leases_after};
+    ghost use Rattle.plx_session.specs.Ending.{known_after};
+    ghost use Rattle.plx_session.specs.Giving.{rules_setting};
     ghost use Rattle.plx_appliance.specs.Taking.{leased_process};
     ghost use Rattle.plx_commands.specs.Places.{at};
     ghost use Rattle.plx_rules.specs.Holds.{Nothing, first_hold};

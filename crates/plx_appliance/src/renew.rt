@@ -4,11 +4,11 @@ ghost use Rattle.plx_rules.specs.Process.{bytes_out};
 ghost use Rattle.plx_lease.specs.Renewing.{renewal_rest};
 
 use crate::holdings::Holdings;
-use crate::setting::Setting;
 use plx_base::Block;
 use plx_commands::Reply;
 use plx_disk::{Answer, Ask};
 use plx_lease::{LeaseRenewal, RenewalEnd};
+use plx_session::Setting;
 
 /// A renew with the renewal that asks, the bytes of its write, and those that are left, of which the
 /// last one is next.
@@ -30,8 +30,8 @@ impl Renew {
     ghost use Rattle.plx_rules.specs.Process.{answered, standing};
     ghost use Rattle.plx_rules.specs.Session.{Known};
     ghost use Rattle.plx_alloc.specs.Asking.{IsOnDevice};
-    ghost use Rattle.plx_appliance.specs.Ending.{process_after};
-    ghost use Rattle.plx_appliance.specs.Giving.{rules_setting};
+    ghost use Rattle.plx_session.specs.Ending.{process_after};
+    ghost use Rattle.plx_session.specs.Giving.{rules_setting};
     ghost use Rattle.plx_appliance.specs.Kept.{known_of};
     ghost use Rattle.plx_appliance.specs.Lent.{lent_of};
     ghost use Rattle.plx_appliance.specs.Renews.{IsRenewing, RenewMoves, renew_rest, renewals_then};

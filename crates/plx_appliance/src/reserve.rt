@@ -4,10 +4,10 @@ ghost use Rattle.plx_alloc.specs.Ending.{space_end};
 ghost use Rattle.plx_rules.specs.Ends.{ends};
 ghost use Rattle.plx_rules.specs.Session.{Known, known_after};
 
-use crate::setting::Setting;
 use plx_alloc::{Allocator, Reserve as Take, SpaceEnd};
 use plx_commands::Reply;
 use plx_disk::{Answer, Ask};
+use plx_session::Setting;
 
 /// A reserve with the machine of its take.
 #[derive(Drop)]
@@ -26,7 +26,7 @@ impl Reserve {
     ghost use Rattle.plx_rules.specs.Machines.{AreWhole, IsTimely};
     ghost use Rattle.plx_rules.specs.Process.{answered, bytes_out, standing};
     ghost use Rattle.plx_rules.specs.Session.{Session};
-    ghost use Rattle.plx_appliance.specs.Ending.{process_after};
+    ghost use Rattle.plx_session.specs.Ending.{process_after};
     ghost use Rattle.plx_appliance.specs.Lent.{Lent, lends};
     ghost use Rattle.plx_appliance.specs.Reserves.{ReserveMoves, reserve_work_rest};
 

@@ -5,14 +5,13 @@ ghost use Rattle.plx_base.specs.declared.lease.LeaseRecord.TheVariants.{Free};
 ghost use Rattle.plx_gate.specs.Leases.{lease_bytes};
 
 use crate::holdings::Holdings;
-use crate::leased::Leased;
 use crate::retiring::{after_extents, answer_release};
-use crate::setting::Setting;
 use plx_alloc::{MapRoom, Retire as SpaceRetire};
 use plx_base::{Block, LeaseRecord, WriteKind};
 use plx_commands::Reply;
 use plx_disk::{Answer, Ask};
 use plx_lease::spell_lease;
+use plx_session::{Leased, Setting};
 
 /// Where a retire stands.
 #[derive(Drop)]
@@ -41,8 +40,8 @@ impl Retire {
     ghost use Rattle.plx_rules.specs.Process.{answered, bytes_out, standing};
     ghost use Rattle.plx_rules.specs.Space.{retire_process};
     ghost use Rattle.plx_alloc.specs.Asking.{IsOnDevice};
-    ghost use Rattle.plx_appliance.specs.Ending.{process_after, enter_process};
-    ghost use Rattle.plx_appliance.specs.Giving.{rules_setting};
+    ghost use Rattle.plx_session.specs.Ending.{process_after, enter_process};
+    ghost use Rattle.plx_session.specs.Giving.{rules_setting};
     ghost use Rattle.plx_appliance.specs.Kept.{known_of};
     ghost use Rattle.plx_appliance.specs.Lent.{Lent, lent_of};
     ghost use Rattle.plx_appliance.specs.RenewStarts.{holds_in};

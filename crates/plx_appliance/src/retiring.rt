@@ -2,21 +2,20 @@
 ghost use Rattle.std.specs.Prelude.{◌≡◌, ◌<◌, ◌≤◌, ℕ, IfOk, IfSome};
 ghost use Rattle.plx_rules.specs.Process.{answered};
 ghost use Rattle.plx_alloc.specs.Ending.{space_end};
-ghost use Rattle.plx_appliance.specs.Ending.{enter_process};
-ghost use Rattle.plx_appliance.specs.Giving.{rules_setting};
+ghost use Rattle.plx_session.specs.Ending.{enter_process};
+ghost use Rattle.plx_session.specs.Giving.{rules_setting};
 ghost use Rattle.plx_appliance.specs.Kept.{known_by};
 ghost use Rattle.plx_appliance.specs.Releasing.{image_leases_after_release};
 ghost use Rattle.plx_appliance.specs.Retires.{IsDue, IsNextDue, image_rest, images_from};
 ghost use Rattle.plx_appliance.specs.Tokens.{image_leases};
 
 use crate::lease::Leases;
-use crate::leased::Leased;
 use crate::sessions::Sessions;
-use crate::setting::Setting;
 use plx_alloc::SpaceEnd;
 use plx_base::SlotNo;
 use plx_commands::Reply;
 use plx_disk::Answer;
+use plx_session::{Leased, Setting};
 
 /// The image whose lease is due next, of images from that one on, or the reply once none is left.
 pub fn next_due(

@@ -1,13 +1,13 @@
 //! The sessions of a boot, which stay where they are: commands are lent them.
 ghost use Rattle.std.specs.Prelude.{◌≡◌, ◌<◌};
 ghost use Rattle.std.specs.Vec.{vec_len};
-ghost use Rattle.plx_appliance.specs.Tied.{AreOf};
+ghost use Rattle.plx_session.specs.Tied.{AreOf};
 
 use crate::empty::{clear_places, empty_places};
-use crate::images;
-use crate::session::Session;
-use plx_base::{Block, NoMemory, SlotNo};
-use plx_gate::ImageRecord;
+use plx_base::{NoMemory, SlotNo};
+use plx_commands::Reply;
+use plx_disk::Answer;
+use plx_session::{ImageWork, Session};
 use std::alloc::Global;
 
 /// The sessions by image slot.
@@ -23,10 +23,12 @@ pub struct Sessions {
 impl Sessions {
     ghost use Rattle.std.specs.Prelude.{ℕ, None, Some, MatchOption, IfOk, slice_index_or, IsTrue, ◌↔◌, true};
     ghost use Rattle.plx_commands.specs.Places.{at};
-    ghost use Rattle.plx_gate.specs.Images.{is_image};
-    ghost use Rattle.plx_rules.specs.Session.{nothing_known, new_session};
-    ghost use Rattle.plx_appliance.specs.Kept.{sessions_of, session_of};
-    ghost use Rattle.plx_appliance.specs.Pushing.{new_session_if, with_one_more};
+    ghost use Rattle.plx_rules.specs.Process.{answered};
+    ghost use Rattle.plx_rules.specs.Session.{nothing_known};
+    ghost use Rattle.plx_appliance.specs.Kept.{known_by, sessions_of};
+    ghost use Rattle.plx_session.specs.Shown.{session_of};
+    ghost use Rattle.plx_session.specs.Ending.{process_after};
+    ghost use Rattle.plx_session.specs.Works.{image_leased, image_rest};
 
     /// No session of so many images, whose journals have so many slots.
     pub fn new(alloc: Global, count: u32, slots: u32) -> Result<Sessions, NoMemory>
@@ -90,35 +92,18 @@ impl Sessions {
         self.images[slot.0 as usize] = None;
     }
 
-    /// The session of an image, if there is one, has one more write, if its journal has a slot for it.
-    pub fn push(&mut self, slot: SlotNo, number: u64, vblock: u32, bytes: &Block)
-        requires { slot.0 < self.old.count }
-        ensures known { sessions_of self.new.images.items
-            ≡ at (sessions_of self.old.images.items) slot.0
-            (with_one_more self.old.slots (sessions_of self.old.images.items slot.0)
-            (record { number = number; vblock = vblock; block = bytes.now })) }
+    /// The machine of a command of an image is answered, over the image's session.
+    pub fn answer(&mut self, work: &mut ImageWork, answer: &Answer) -> Option<Reply>
+        requires within { (image_leased work.old).slot.0 < self.old.count }
+        requires own { (image_leased work.old).setting.geometry.slots ≡ self.old.slots }
+        ensures rest { (claims : ℕ) → process_after (image_rest (known_by self.new claims) work.new)
+            (known_by self.new claims) result
+            ≡ answered (image_rest (known_by self.old claims) work.old) answer.now }
+        ensures image { image_leased work.new ≡ image_leased work.old }
         ensures count { self.new.count ≡ self.old.count }
         ensures slots { self.new.slots ≡ self.old.slots }
+        ensures sessions { result ≡ None → self.new ≡ self.old }
     {
-        images::push(
-            &mut self.images[slot.0 as usize],
-            self.slots,
-            number,
-            vblock,
-            bytes,
-        );
-    }
-
-    /// The session of an image, if there is one, is that of an image that was just made or deleted.
-    pub fn start(&mut self, slot: SlotNo, image: ImageRecord)
-        requires within { slot.0 < self.old.count }
-        requires limits { is_image image ≡ true }
-        ensures known { sessions_of self.new.images.items
-            ≡ at (sessions_of self.old.images.items) slot.0
-            (new_session_if (sessions_of self.old.images.items slot.0) image) }
-        ensures count { self.new.count ≡ self.old.count }
-        ensures slots { self.new.slots ≡ self.old.slots }
-    {
-        images::start(&mut self.images[slot.0 as usize], self.slots, image);
+        work.answer(&mut self.images[work.slot().0 as usize], answer)
     }
 }

@@ -4,23 +4,19 @@ ghost use Rattle.std.specs.Prelude.{◌≡◌, Some, None};
 use crate::attach::Attach;
 use crate::detach::Detach;
 use crate::holdings::Holdings;
-use crate::read::Read;
-use crate::record::Record;
 use crate::renew::Renew;
 use crate::reserve::Reserve;
 use crate::retire::Retire;
-use crate::write::Write;
 use plx_commands::Reply;
 use plx_disk::{Answer, Ask};
+use plx_session::ImageWork;
 
 /// The machine of the command that runs.
 #[derive(Drop)]
 pub enum Work {
     Attach(Attach),
     Detach(Detach),
-    Record(Record),
-    Read(Read),
-    Write(Write),
+    Image(ImageWork),
     Renew(Renew),
     Reserve(Reserve),
     Retire(Retire),
@@ -35,7 +31,7 @@ impl Work {
     ghost use Rattle.plx_appliance.specs.Lent.{Lent, lent_of};
     ghost use Rattle.plx_alloc.specs.Asking.{IsOnDevice};
     ghost use Rattle.plx_appliance.specs.Stands.{Inside};
-    ghost use Rattle.plx_appliance.specs.Ending.{process_after};
+    ghost use Rattle.plx_session.specs.Ending.{process_after};
     ghost use Rattle.plx_appliance.specs.Kept.{known_of};
     ghost use Rattle.plx_appliance.specs.Moving.{Moves};
     ghost use Rattle.plx_appliance.specs.Works.{Spares, work_rest, work_setting, work_slots, work_suits};
@@ -53,9 +49,7 @@ impl Work {
         match self {
             Work::Attach(attach) => attach.ask(),
             Work::Detach(detach) => detach.ask(),
-            Work::Record(record) => record.ask(),
-            Work::Read(read) => read.ask(),
-            Work::Write(write) => write.ask(),
+            Work::Image(image) => image.ask(),
             Work::Renew(renew) => renew.ask(),
             Work::Reserve(reserve) => reserve.ask(),
             Work::Retire(retire) => retire.ask(),
@@ -70,9 +64,7 @@ impl Work {
         match self {
             Work::Attach(attach) => attach.out(),
             Work::Detach(detach) => detach.out(),
-            Work::Record(record) => record.out(),
-            Work::Read(_) => &[],
-            Work::Write(write) => write.out(),
+            Work::Image(image) => image.out(),
             Work::Renew(renew) => renew.out(),
             Work::Reserve(reserve) => reserve.out(),
             Work::Retire(retire) => retire.out(),
@@ -108,9 +100,7 @@ impl Work {
                 &mut holdings.leases,
                 answer,
             ),
-            Work::Record(record) => record.answer(&mut holdings.sessions, answer),
-            Work::Read(read) => read.answer(answer),
-            Work::Write(write) => write.answer(&mut holdings.sessions, answer),
+            Work::Image(image) => holdings.sessions.answer(image, answer),
             Work::Renew(renew) => renew.answer(holdings, answer),
             Work::Reserve(reserve) => reserve.answer(&mut holdings.space, answer),
             Work::Retire(retire) => retire.answer(holdings, answer),

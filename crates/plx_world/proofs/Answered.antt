@@ -3,8 +3,8 @@ use Rattle.std.proofs.Common.{◌≡◌, ◌≢◌, ℕ, List, [], ◌∷◌, �
 use Rattle.std.specs.Prelude.{OnErr, Result, Ok, Err, slice_get, slice_set}
 use Rattle.std.proofs.lemmas.Grind.{reverse_onto}
 use Rattle.plx_appliance.specs.Appliance.{IsStanding, appliance_setting}
-use Rattle.plx_appliance.specs.Giving as giving
-use Rattle.plx_appliance.specs.declared.setting.Setting.{Setting as Own}
+use Rattle.plx_session.specs.Giving as giving
+use Rattle.plx_session.specs.declared.setting.Setting.{Setting as Own}
 use Rattle.plx_base.specs.declared.numbers.ApplianceNo.{ApplianceNo}
 use Rattle.plx_commands.proofs.Places.{at-other, at-same}
 use Rattle.plx_commands.specs.declared.entry.Entry.{Entry}

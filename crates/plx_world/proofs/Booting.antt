@@ -2,8 +2,8 @@
 use Rattle.std.proofs.Common.{◌≡◌, ◌+◌, ◌^◌, ◌<◌, ℕ, List, [], ◌∷◌, ◌++◌, length, Some, None, true, false, refl, ap, sym, subst, ◌∙◌, arith}
 use Rattle.std.specs.Prelude.{slice_get, slice_set}
 use Rattle.plx_appliance.specs.Appliance.{IsIdle, IsRunning, StandsFor, appliance_setting}
-use Rattle.plx_appliance.specs.Giving as giving
-use Rattle.plx_appliance.specs.declared.setting.Setting.{Setting as Own}
+use Rattle.plx_session.specs.Giving as giving
+use Rattle.plx_session.specs.declared.setting.Setting.{Setting as Own}
 use Rattle.plx_base.proofs.Uniform.{length-filled}
 use Rattle.plx_base.specs.Payload.{bytes_of}
 use Rattle.plx_base.specs.declared.numbers.ApplianceNo.{ApplianceNo}

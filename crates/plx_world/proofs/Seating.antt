@@ -9,7 +9,7 @@ use Rattle.plx_appliance.specs.Appliance.{IsIdle, IsRunning, StandsAt, StandsFor
 use Rattle.plx_appliance.specs.Kept.{known_of}
 use Rattle.plx_appliance.specs.Lent.{Lent, lent_of}
 use Rattle.plx_appliance.specs.declared.appliance.Stage.{Stage}
-use Rattle.plx_appliance.specs.declared.setting.Setting.{Setting as Own}
+use Rattle.plx_session.specs.declared.setting.Setting.{Setting as Own}
 use Rattle.plx_appliance.specs.declared.appliance.Stage.TheVariants as stage
 use Rattle.plx_alloc.specs.Asking.{IsOnDevice}
 use Rattle.plx_disk.proofs.Lists.{set-other, set-same}

@@ -5,11 +5,12 @@ ghost use Rattle.plx_rules.specs.Settings.{boot_number};
 ghost use Rattle.plx_world.specs.Logs.{HasLog};
 ghost use Rattle.plx_world.specs.Fresh.{IsFresh};
 
-use plx_appliance::{Appliance, Setting};
+use plx_appliance::Appliance;
 use plx_base::{ApplianceNo, Boot, NoMemory};
 use plx_commands::{Command, Reply};
 use plx_disk::{Answer, Ask};
 use plx_geom::Geometry;
+use plx_session::Setting;
 use std::alloc::Global;
 use std::mem;
 

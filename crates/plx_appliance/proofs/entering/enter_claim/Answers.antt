@@ -5,7 +5,7 @@ use Rattle.plx_geom.specs.Geometry.{image_lease}
 use Rattle.plx_rules.specs.Attaching.{after_claim}
 use Rattle.plx_rules.specs.Claims.{claim_process}
 use Rattle.plx_rules.specs.Processes.{followed_by}
-use Rattle.plx_appliance.specs.Giving.{rules_setting}
+use Rattle.plx_session.specs.Giving.{rules_setting}
 use Rattle.plx_appliance.specs.Kept.{known_by}
 use Rattle.plx_appliance.proofs.Numbers.{next-told}
 use Rattle.plx_appliance.proofs.entering.enter_claim.Goals as goal

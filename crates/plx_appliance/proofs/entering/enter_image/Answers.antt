@@ -1,8 +1,9 @@
 use Rattle.std.proofs.Common.{ℕ, ◌<◌, ◌∙◌, refl, subst}
 use Rattle.plx_commands.specs.declared.reply.Reply.TheVariants as reply
-use Rattle.plx_appliance.specs.Begins.{image_process}
-use Rattle.plx_appliance.specs.Giving.{rules_setting}
-use Rattle.plx_appliance.specs.Kept.{known_of, session_of}
+use Rattle.plx_session.specs.Commands.{image_process}
+use Rattle.plx_session.specs.Giving.{rules_setting}
+use Rattle.plx_appliance.specs.Kept.{known_of}
+use Rattle.plx_session.specs.Shown.{session_of}
 use Rattle.plx_appliance.specs.Lent.{lent_of}
 use Rattle.plx_appliance.specs.RenewStarts.{holds_in}
 use Rattle.plx_appliance.proofs.Entered.{attached-none, by-lease, image-enters, refusal-enters}

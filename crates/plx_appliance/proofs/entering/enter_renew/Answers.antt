@@ -1,7 +1,7 @@
 use Rattle.std.proofs.Common.{List, ap, refl, rules, sym, ◌∙◌}
 use Rattle.plx_commands.specs.declared.reply.Reply.TheVariants as reply
 use Rattle.plx_rules.specs.Ends.{ends}
-use Rattle.plx_appliance.specs.Giving.{rules_setting}
+use Rattle.plx_session.specs.Giving.{rules_setting}
 use Rattle.plx_appliance.specs.Kept.{known_of}
 use Rattle.plx_appliance.specs.Renews.{renewals_then}
 use Rattle.plx_lease.specs.declared.renewal.LeaseRenewal.{LeaseRenewal}

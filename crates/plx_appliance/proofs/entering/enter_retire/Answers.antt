@@ -1,5 +1,5 @@
 use Rattle.std.proofs.Common.{ap}
-use Rattle.plx_appliance.specs.declared.setting.Setting.{Setting}
+use Rattle.plx_session.specs.declared.setting.Setting.{Setting}
 use Rattle.plx_appliance.proofs.Entered.{enters, refusal-enters}
 use Rattle.plx_appliance.proofs.entering.enter_retire.Goals as goal
 

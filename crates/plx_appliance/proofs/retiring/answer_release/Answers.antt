@@ -1,7 +1,7 @@
 use Rattle.std.proofs.Common.{ℕ, ◌+◌, ap, ◌∙◌, arith}
 use Rattle.plx_commands.proofs.Places.{at-other}
 use Rattle.plx_rules.specs.Holds.{Hold, Nothing}
-use Rattle.plx_appliance.specs.Giving.{rules_setting}
+use Rattle.plx_session.specs.Giving.{rules_setting}
 use Rattle.plx_appliance.specs.Kept.{known_by}
 use Rattle.plx_appliance.specs.Tokens.{image_leases}
 use Rattle.plx_appliance.proofs.Retired.{retire-apart}

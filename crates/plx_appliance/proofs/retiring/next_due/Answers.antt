@@ -1,9 +1,9 @@
 use Rattle.std.proofs.Common.{◌+◌, ◌<◌, sym, ap, ◌∙◌, arith}
 use Rattle.plx_base.specs.declared.numbers.SlotNo.{SlotNo}
 use Rattle.plx_rules.specs.Space.{release_then}
-use Rattle.plx_appliance.specs.Giving.{rules_setting}
+use Rattle.plx_session.specs.Giving.{rules_setting}
 use Rattle.plx_appliance.specs.Kept.{known_by}
-use Rattle.plx_appliance.specs.Rests.{leased_use}
+use Rattle.plx_session.specs.Leases.{leased_use}
 use Rattle.plx_appliance.specs.Retires.{images_from}
 use Rattle.plx_appliance.specs.Tokens.{image_leases}
 use Rattle.plx_appliance.proofs.Retired.{retire-image-next}

@@ -6,7 +6,7 @@ use Rattle.plx_appliance.specs.Appliance.{StandsAt, appliance_setting}
 use Rattle.plx_appliance.specs.Lent.{lent_of}
 use Rattle.plx_appliance.specs.Ties.{stage_setting, stage_suits}
 use Rattle.plx_appliance.specs.declared.appliance.Stage.{Stage}
-use Rattle.plx_appliance.specs.declared.setting.Setting.{Setting}
+use Rattle.plx_session.specs.declared.setting.Setting.{Setting}
 use Rattle.plx_appliance.proofs.appliance.Appliance.ask.Goals as goal
 
 pub returns-in-In-clause-within : goal.returns-in-In-clause-within

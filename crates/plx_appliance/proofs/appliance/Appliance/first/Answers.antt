@@ -3,8 +3,8 @@ use Rattle.plx_disk.specs.declared.ask.Ask.TheVariants as ask
 use Rattle.plx_disk.specs.declared.ask.Answer.TheVariants as answer
 use Rattle.plx_rules.specs.Boot.{Asked, configuration}
 use Rattle.plx_appliance.specs.Appliance.{StandsAt}
-use Rattle.plx_appliance.specs.Ending.{hand_after_reply, leases_after}
-use Rattle.plx_appliance.specs.Giving.{rules_setting}
+use Rattle.plx_appliance.specs.AfterReply.{hand_after_reply, leases_after}
+use Rattle.plx_session.specs.Giving.{rules_setting}
 use Rattle.plx_appliance.specs.Lent.{lent_of}
 use Rattle.plx_appliance.specs.declared.appliance.Stage.{Stage}
 use Rattle.plx_appliance.proofs.RunLogs.{run-first}

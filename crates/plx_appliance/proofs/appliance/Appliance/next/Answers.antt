@@ -2,8 +2,9 @@ use Rattle.std.proofs.Common.{◌≡◌, ◌∷◌, Some, None, refl, sym, ap, �
 use Rattle.plx_disk.specs.declared.ask.Ask.{Ask}
 use Rattle.plx_rules.specs.Boot.{Asked, configuration}
 use Rattle.plx_appliance.specs.Appliance.{IsInWork, StandsAt, appliance_setting}
-use Rattle.plx_appliance.specs.Ending.{hand_after_reply, known_after, leases_after}
-use Rattle.plx_appliance.specs.Giving.{rules_setting}
+use Rattle.plx_appliance.specs.AfterReply.{hand_after_reply, leases_after}
+use Rattle.plx_session.specs.Ending.{known_after}
+use Rattle.plx_session.specs.Giving.{rules_setting}
 use Rattle.plx_appliance.specs.Holding.{DropsNothing, image_leases_after_write, dropped_hand}
 use Rattle.plx_appliance.specs.Lent.{lent_of}
 use Rattle.plx_appliance.specs.Space.{extents_in, hand_in}
@@ -12,7 +13,7 @@ use Rattle.plx_appliance.specs.Tokens.{image_leases}
 use Rattle.plx_appliance.specs.Works.{work_suits}
 use Rattle.plx_appliance.specs.declared.appliance.Stage.{Stage}
 use Rattle.plx_appliance.specs.declared.holdings.Holdings.{Holdings}
-use Rattle.plx_appliance.specs.declared.setting.Setting.{Setting}
+use Rattle.plx_session.specs.declared.setting.Setting.{Setting}
 use Rattle.plx_appliance.proofs.Answered.{work-kept}
 use Rattle.plx_appliance.proofs.RunLogs.{run-goes-on}
 use Rattle.plx_appliance.proofs.Went.{Stood, answered-by, keeps_of, stands-in, stands-out, went-in, went-out}

@@ -56,16 +56,31 @@ returns-in-Some c =
       });
     }
 
-pub returns-in-Load : goal.returns-in-Load
-returns-in-Load c =
-    let e = c.answer-in-Load.ensures in
+pub returns-in-None-answer : goal.returns-in-None-answer
+returns-in-None-answer c =
+    let e = c.in-None-answer.ensures in
     record {
-      rest = λ claims. rw c.in-Load.is (e.rest claims);
+      rest = λ claims. rw c.in-Load.is (e.rest (known_by c.args.sessions.now claims));
       setting = rw e.image refl;
-      own = e.own;
-      count = e.count;
-      slots = e.slots;
-      sessions = e.sessions;
+      own = λ none. e.own refl;
+      count = refl;
+      slots = refl;
+      sessions = λ none. refl;
+      leased = refl;
+      moves = rw c.in-Load.is (record { at = refl; leases = refl });
+    }
+
+pub returns-in-Some-answer : goal.returns-in-Some-answer
+returns-in-Some-answer c =
+    let e = c.in-Some-answer.ensures in
+    let k = c.after_load.ensures in
+    record {
+      rest = λ claims. rw c.in-Load.is (k.rest claims ∙ e.rest (known_by c.args.sessions.now claims));
+      setting = rw e.image refl;
+      own = λ none. absurd cc;
+      count = k.count;
+      slots = k.slots;
+      sessions = λ none. absurd cc;
       leased = refl;
       moves = rw c.in-Load.is (record { at = refl; leases = refl });
     }

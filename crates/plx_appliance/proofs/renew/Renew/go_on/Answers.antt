@@ -1,7 +1,7 @@
 use Rattle.std.proofs.Common.{sym, ap, ◌∙◌}
 use Rattle.plx_commands.specs.declared.reply.Reply.TheVariants as reply
 use Rattle.plx_rules.specs.Ends.{ends}
-use Rattle.plx_appliance.specs.Giving.{rules_setting}
+use Rattle.plx_session.specs.Giving.{rules_setting}
 use Rattle.plx_appliance.specs.Renews.{renewals_then}
 use Rattle.plx_appliance.proofs.Renewed.{renewals-last}
 use Rattle.plx_appliance.proofs.renew.Renew.go_on.Goals as goal

@@ -3,14 +3,14 @@ use Rattle.plx_alloc.specs.declared.allocator.Allocator.{Allocator}
 use Rattle.plx_alloc.specs.Retires.{retire_extents_rest as extents_rest}
 use Rattle.plx_geom.specs.Geometry.{Geometry}
 use Rattle.plx_rules.specs.Process.{answered}
-use Rattle.plx_appliance.specs.Giving.{rules_setting}
+use Rattle.plx_session.specs.Giving.{rules_setting}
 use Rattle.plx_appliance.specs.Kept.{known_by, sessions_of}
 use Rattle.plx_appliance.specs.Lent.{lends}
 use Rattle.plx_appliance.specs.Retires.{IsAtImage, around_of, retire_suits, retire_tells}
 use Rattle.plx_appliance.specs.Tokens.{image_leases}
 use Rattle.plx_appliance.specs.declared.retire.RetireStage.{RetireStage}
 use Rattle.plx_appliance.specs.declared.retire.RetireStage.TheVariants as stage
-use Rattle.plx_appliance.specs.declared.setting.Setting.{Setting}
+use Rattle.plx_session.specs.declared.setting.Setting.{Setting}
 use Rattle.plx_appliance.proofs.retire.Retire.answer.Goals as goal
 
 -- a retire at an image suits whatever is kept of space

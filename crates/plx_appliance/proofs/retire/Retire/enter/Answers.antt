@@ -1,5 +1,5 @@
 use Rattle.std.proofs.Common.{◌∙◌}
-use Rattle.plx_appliance.specs.Giving.{rules_setting}
+use Rattle.plx_session.specs.Giving.{rules_setting}
 use Rattle.plx_appliance.specs.Kept.{known_of}
 use Rattle.plx_appliance.specs.RenewStarts.{leases_in}
 use Rattle.plx_appliance.specs.Retires.{around_of}

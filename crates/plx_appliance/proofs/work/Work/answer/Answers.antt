@@ -1,5 +1,5 @@
 use Rattle.std.proofs.Common.{refl}
-use Rattle.plx_appliance.specs.Kept.{known_of, sessions_of}
+use Rattle.plx_appliance.specs.Kept.{sessions_of}
 use Rattle.plx_appliance.specs.Tokens.{image_leases}
 use Rattle.plx_appliance.proofs.work.Work.answer.Goals as goal
 
@@ -15,23 +15,11 @@ returns-in-Detach-clause-rest c = rw c.in-Detach.is (c.answer-in-Detach.ensures.
 pub returns-in-Detach-clause-moves : goal.returns-in-Detach-clause-moves
 returns-in-Detach-clause-moves c = rw c.in-Detach.is (tt, c.answer-in-Detach.ensures.leases, refl)
 
-pub returns-in-Record-clause-rest : goal.returns-in-Record-clause-rest
-returns-in-Record-clause-rest c = rw c.in-Record.is (c.answer-in-Record.ensures.rest c.args.holdings.now.space.claims)
+pub returns-in-Image-clause-rest : goal.returns-in-Image-clause-rest
+returns-in-Image-clause-rest c = rw c.in-Image.is (c.answer-in-Image.ensures.rest c.args.holdings.now.space.claims)
 
-pub returns-in-Record-clause-moves : goal.returns-in-Record-clause-moves
-returns-in-Record-clause-moves c = rw c.in-Record.is (tt, refl, refl)
-
-pub returns-in-Read-clause-rest : goal.returns-in-Read-clause-rest
-returns-in-Read-clause-rest c = rw c.in-Read.is (c.answer-in-Read.ensures.rest (known_of c.args.holdings.now))
-
-pub returns-in-Read-clause-moves : goal.returns-in-Read-clause-moves
-returns-in-Read-clause-moves c = rw c.in-Read.is (tt, refl, refl)
-
-pub returns-in-Write-clause-rest : goal.returns-in-Write-clause-rest
-returns-in-Write-clause-rest c = rw c.in-Write.is (c.answer-in-Write.ensures.rest c.args.holdings.now.space.claims)
-
-pub returns-in-Write-clause-moves : goal.returns-in-Write-clause-moves
-returns-in-Write-clause-moves c = rw c.in-Write.is (tt, refl, refl)
+pub returns-in-Image-clause-moves : goal.returns-in-Image-clause-moves
+returns-in-Image-clause-moves c = rw c.in-Image.is (tt, refl, refl)
 
 pub returns-in-Renew-clause-rest : goal.returns-in-Renew-clause-rest
 returns-in-Renew-clause-rest c = rw c.in-Renew.is c.answer-in-Renew.ensures.rest

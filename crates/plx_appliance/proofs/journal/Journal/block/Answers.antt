@@ -1,9 +1,0 @@
-use Rattle.std.proofs.Common.{◌≡◌, ◌+◌, ◌-◌, ◌*◌, refl, arith}
-use Rattle.plx_appliance.specs.PlacedWrites.{block_in}
-use Rattle.plx_appliance.proofs.journal.Journal.block.Goals as goal
-
-pub returns-clause-same : goal.returns-clause-same
-unfolding block_in
-returns-clause-same c =
-    let whole : 4096 * c.args.place + 4096 - 4096 * c.args.place ≡ 4096 = omega arith in
-    rw (whole, c.deref.ensures.value) refl

@@ -1,8 +1,0 @@
-use Rattle.std.proofs.Common.{arith}
-use Rattle.plx_appliance.proofs.PlacedBlocks.{length-writes}
-use Rattle.plx_appliance.proofs.journal.Journal.len.Goals as goal
-
-pub returns-clause-count : goal.returns-clause-count
-returns-clause-count c =
-    let j = c.args.self.now in
-    omega (arith, c.len.ensures, length-writes j.bytes.items j.writes.items, j.writes.ok.0)

@@ -1,7 +1,0 @@
--- What a boot is given.
-use Rattle.plx_rules.specs.Settings.{Setting as Given}
-use Rattle.plx_appliance.specs.declared.setting.Setting.{Setting}
-
--- what a boot is given
-abbrev pub rules_setting : Setting → Given
-rules_setting setting = record { geometry = setting.geometry; appliance = setting.appliance.0; boot = setting.boot.0 }

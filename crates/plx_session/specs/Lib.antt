@@ -1,0 +1,15 @@
+pub mod Asking
+pub mod Commands
+pub mod Ending
+pub mod Failing
+pub mod Finds
+pub mod Giving
+pub mod Inside
+pub mod Leases
+pub mod Loads
+pub mod PlacedWrites
+pub mod Pushing
+pub mod Rests
+pub mod Shown
+pub mod Tied
+pub mod Works
