@@ -19,9 +19,8 @@ use Rattle.plx_appliance.specs.Kept.{known_of}
 use Rattle.plx_appliance.specs.Lent.{lent_of}
 use Rattle.plx_appliance.specs.RenewStarts.{holds_in, leases_in}
 use Rattle.plx_appliance.specs.Space.{extents_in}
-use Rattle.plx_appliance.specs.Stands.{IsTied, StartsInside}
+use Rattle.plx_appliance.specs.Works.{IsTied, StartsInside, work_entered, work_suits}
 use Rattle.plx_appliance.specs.Tokens.{image_leases, lease_holds_at}
-use Rattle.plx_appliance.specs.Works.{work_entered, work_suits}
 use Rattle.plx_appliance.specs.declared.holdings.Holdings.{Holdings}
 use Rattle.plx_session.specs.declared.leased.Leased.{Leased}
 use Rattle.plx_session.specs.declared.setting.Setting.{Setting as Own}

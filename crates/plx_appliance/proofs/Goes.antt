@@ -1,15 +1,11 @@
 -- A command that goes on, or ends, after an answer.
-use Rattle.std.proofs.Common.{◌≡◌, ℕ, ◌<◌, List, [], ◌∷◌, ◌++◌, Option, Some, None, refl, sym, ap, ◌∙◌, subst, arith}
+use Rattle.std.proofs.Common.{◌≡◌, ℕ, ◌<◌, List, [], ◌∷◌, Option, Some, None, refl, sym, ap, ◌∙◌, subst}
 use Rattle.std.specs.Prelude.{Bool, true, false, nat_le, if◌then◌else◌}
-use Rattle.plx_alloc.specs.Moving.{ReadsFirst, tells_at}
-use Rattle.plx_alloc.specs.declared.reserve.Reserve.{Reserve as Take}
-use Rattle.plx_alloc.specs.declared.reserve.ReserveAt.{ReserveAt}
-use Rattle.plx_alloc.specs.declared.reserve.ReserveAt.TheVariants as at
 use Rattle.plx_commands.specs.declared.reply.Reply.{Reply}
 use Rattle.plx_commands.specs.declared.reply.Reply.TheVariants as reply
 use Rattle.plx_disk.specs.declared.ask.Ask.TheVariants as ask
 use Rattle.plx_disk.specs.declared.ask.Answer.TheVariants as answer
-use Rattle.plx_geom.specs.Geometry.{Geometry, extent_lease, image_lease, lease_at, lease_count}
+use Rattle.plx_geom.specs.Geometry.{Geometry, lease_at, lease_count}
 use Rattle.plx_rules.specs.Process.{Process, Ends, ReadThen, WriteThen, ClockThen, UntilThen}
 use Rattle.plx_token.specs.declared.held.Held.{Held as Token}
 use Rattle.plx_token.specs.declared.kind.Image.{Image}
@@ -20,50 +16,23 @@ use Rattle.plx_rules.specs.Ends.{End, ends}
 use Rattle.plx_rules.specs.Hands.{hand_held}
 use Rattle.plx_rules.specs.Holds.{Hold, Nothing, Seen, Wrote, Waited, Held, after_first, holds_after_reply, first_hold, session_at}
 use Rattle.plx_rules.specs.Machines.{Asks}
-use Rattle.plx_rules.proofs.Nested.{asks-followed}
 use Rattle.plx_rules.specs.Session.{Known, Session}
 use Rattle.plx_rules.specs.Settings.{Setting}
-use Rattle.plx_lease.specs.Claiming.{claim_rest}
 use Rattle.plx_appliance.specs.Appliance.{HasBegun, IsInWork}
-use Rattle.plx_appliance.specs.Attaches.{attach_at}
 use Rattle.plx_appliance.specs.Begins.{waiting_process}
 use Rattle.plx_appliance.specs.AfterReply.{hand_after_reply, leases_after}
 use Rattle.plx_session.specs.Ending.{known_after}
 use Rattle.plx_appliance.specs.Holding.{HoldsAs, first_extents, first_leases, hold_without_claim}
 use Rattle.plx_appliance.specs.Lent.{Lent}
-use Rattle.plx_appliance.specs.Reserves.{HaveNoClaims, claiming_at, outer_of}
 use Rattle.plx_appliance.specs.Space.{AreWithin, held_hand}
-use Rattle.plx_appliance.specs.Stands.{Inside, StartsInside, inside_at, starts_at}
+use Rattle.plx_appliance.specs.Works.{Inside, StartsInside, work_rest, work_setting}
 use Rattle.plx_appliance.specs.Tokens.{lease_holds_at, image_leases}
-use Rattle.plx_appliance.specs.Works.{work_rest, work_setting}
-use Rattle.plx_appliance.specs.declared.attach.Attach.{Attach}
-use Rattle.plx_appliance.specs.declared.attach.AttachAt.{AttachAt}
-use Rattle.plx_appliance.specs.declared.attach.AttachAt.TheVariants as attach
 use Rattle.plx_appliance.specs.declared.begun.Begun.{Begun}
 use Rattle.plx_appliance.specs.declared.work.Work.{Work}
-use Rattle.plx_appliance.specs.declared.work.Work.TheVariants as work
-use Rattle.plx_lease.proofs.Asking.{claim-asks}
-use Rattle.plx_session.proofs.Machines.{image-asks, load-asks}
-use Rattle.plx_appliance.proofs.Entered.{held-image}
+use Rattle.plx_appliance.proofs.Answered.{lawful}
 use Rattle.plx_appliance.proofs.First.{begun-agrees, first-agrees, holds-asks, place-asks}
 use Rattle.plx_appliance.proofs.Held.{nothing-at}
 use Rattle.plx_appliance.proofs.InHand.{hand-as, reply-hand}
-use Rattle.plx_appliance.proofs.Renewed.{held-same}
-use Rattle.plx_appliance.proofs.Reserved.{take-asks}
-use Rattle.plx_appliance.proofs.RetireAnswered.{retire-asks}
-
--- each place of each command's machine asks
-attach-asks : (at : AttachAt) (known : Known) (a : Attach) → Asks (attach_at at known a)
-attach-asks attach.Claim known a = asks-followed (claim_rest a.claim) _ (claim-asks a.claim)
-attach-asks attach.Load known a = load-asks a.load.at known a.load
-
-pub work-asks : (lent : Lent) (w : Work) → Asks (work_rest lent w)
-work-asks lent (work.Attach a) = attach-asks a.at lent.known a
-work-asks lent (work.Detach d) = tt
-work-asks lent (work.Image w) = image-asks lent.known w
-work-asks lent (work.Renew r) = tt
-work-asks lent (work.Reserve r) = take-asks (outer_of r.setting lent.known.sessions) lent.space r.work.at r.work
-work-asks lent (work.Retire r) = retire-asks lent r.stage r
 
 -- after a reply
 pub reply-holds : (g : Geometry) (leases extents : ℕ → Hold) (holds : ℕ → Hold) (r : Reply) → HoldsAs g leases extents holds →
@@ -151,42 +120,6 @@ first-replies : (s : Setting) (known : Known) (b : Begun) (p : Configuration) (r
     replies s (answer.Reading reading) p ≡ reply_of (first_asks s known reading h.command p)
 first-replies s known b p reading h = ap (λ place. replies_at s (answer.Reading reading) p place) h.place_is
 
--- the claim of an attach that begins
-starts-at : (g : Geometry) (leases extents : ℕ → Hold) (at : AttachAt) (a : Attach) (holds : ℕ → Hold) (sample : Option ℕ) →
-    a.load.image.setting.geometry ≡ g → starts_at leases at a →
-    ((lease : ℕ) → lease < lease_count g → holds (lease_at lease) ≡ lease_holds_at g leases extents (lease_at lease)) → inside_at at a holds sample
-starts-at g leases extents attach.Claim a holds sample same starts agrees =
-    let slot = a.load.image.slot.0 in
-    let within : slot < g.images = subst (λ (q : Geometry). slot < q.images) same a.load.image.inside in
-    let hold : holds (lease_at (image_lease slot)) ≡ Nothing =
-    agrees (image_lease slot) (omega (arith, within)) ∙ held-image g leases extents slot within ∙ starts.none in
-    record { number = starts.number; hold = ap (λ (n : ℕ). holds (lease_at n)) starts.number ∙ hold ∙ sym starts.fresh; sampled = starts.sampled sample }
-starts-at g leases extents attach.Load a holds sample same starts agrees = tt
-
--- a take that begins reads a map, and no claim is under way
-starts-taking : (g : Geometry) (place : ReserveAt) (m : Take) (holds : ℕ → Hold) (sample : Option ℕ) → ReadsFirst place → HaveNoClaims g holds →
-    claiming_at place g m holds sample × tells_at place g m None
-starts-taking g at.Map m holds sample reads clean = (clean, tt)
-starts-taking g at.Look m holds sample reads clean = (clean, tt)
-starts-taking g at.Write m holds sample reads clean = absurd reads
-starts-taking g at.Claim m holds sample reads clean = absurd reads
-starts-taking g at.Damaged m holds sample reads clean = absurd reads
-
-starts-inside : (g : Geometry) (leases extents : ℕ → Hold) (w : Work) (holds : ℕ → Hold) (sample : Option ℕ) → (work_setting w).geometry ≡ g → StartsInside leases extents w →
-    ((lease : ℕ) → lease < lease_count g → holds (lease_at lease) ≡ lease_holds_at g leases extents (lease_at lease)) → ((block : ℕ) → holds block ≡ hold_without_claim (holds block)) →
-    Inside w holds sample None
-starts-inside g leases extents (work.Attach a) holds sample same starts agrees clean = starts-at g leases extents a.at a holds sample same starts agrees
-starts-inside g leases extents (work.Detach d) holds sample same starts agrees clean = tt
-starts-inside g leases extents (work.Image w) holds sample same starts agrees clean = tt
-starts-inside g leases extents (work.Renew r) holds sample same starts agrees clean =
-    held-same 0 (lease_count r.setting.geometry) (λ lease. lease_holds_at r.setting.geometry leases extents (lease_at lease)) (λ lease. holds (lease_at lease))
-    (r.left.items ++ r.renewal ∷ []) starts (λ lease below.
-    agrees lease (subst (λ (k : Geometry). lease < lease_count k) same below) ∙ ap (λ (k : Geometry). lease_holds_at k leases extents (lease_at lease)) (sym same))
-starts-inside g leases extents (work.Reserve r) holds sample same starts agrees clean =
-    let begins = starts-taking r.setting.geometry r.work.at r.work holds sample starts (λ extent within. clean (lease_at (extent_lease r.setting.geometry extent))) in
-    record { claim = begins.0; tells = begins.1 }
-starts-inside g leases extents (work.Retire r) holds sample same starts agrees clean = starts None
-
 -- a command goes on after its first reading
 pub record FirstIn (s : Setting) (lent : Lent) (w : Work) (tokens : List (Option (Token Image))) (extents : ℕ → Hold) (hand : List ℕ) (log : List BootEntry) (reading : ℕ) : Type 0 where
   pub in_it : IsInWork lent w (configuration s (Asked ask.Clock [] (answer.Reading reading) ∷ log))
@@ -217,7 +150,7 @@ first-in s known after b w log reading leases extents hand tokens waits is same 
     let process-is : process ≡ work_rest after w = first-process s known b p reading leases extents hand h waits.held waits.hand_is waits.within ∙ sym is in
     let next = configuration s (Asked ask.Clock [] (answer.Reading reading) ∷ log) in
     let moved = first-moved s known b log reading h in
-    let asks = work-asks after w in
+    let asks = (lawful w).asks after in
     let place : next.place ≡ In known h.command (work_rest after w) =
     ap (λ (q : Configuration). q.place) moved ∙ ap (place_of known h.command) process-is ∙ place-asks known h.command (work_rest after w) asks in
     let stays : after_process process holds ≡ holds = ap (λ (q : Process End). after_process q holds) process-is ∙ holds-asks (work_rest after w) holds asks in
@@ -234,7 +167,7 @@ first-in s known after b w log reading leases extents hand tokens waits is same 
         place_is = place;
         sessions = sym sessions;
         inside = subst (λ (o : Option (ℕ × List ℕ)). Inside w next.holds next.sample o) (sym (ap (λ (q : Configuration). q.found) moved))
-            (starts-inside s.geometry (image_leases tokens) exts w next.holds next.sample tied starts agrees clean);
+            ((lawful w).starts s.geometry (image_leases tokens) exts next.holds next.sample tied starts agrees clean);
       };
       held = λ lease within. ap (λ (q : ℕ → Hold). hold_without_claim (q (lease_at lease))) holding
           ∙ first-is-settled (session_at s.geometry known (lease_at lease)) reading (p.holds (lease_at lease))

@@ -1,4 +1,5 @@
 pub mod Answered
+pub mod AttachAnswered
 pub mod Dropping
 pub mod Entered
 pub mod ExtentClaimed
@@ -7,6 +8,7 @@ pub mod First
 pub mod Goes
 pub mod Held
 pub mod InHand
+pub mod Lawful
 pub mod Lending
 pub mod Lengthened
 pub mod Moved

@@ -26,7 +26,7 @@ use Rattle.plx_lease.proofs.Holding.{other-after}
 use Rattle.plx_token.specs.declared.kind.Image.{Image}
 use Rattle.plx_base.specs.declared.lease.Claim.{Claim}
 use Rattle.plx_appliance.specs.Holding.{HoldsAs, image_leases_after_write, hold_without_claim}
-use Rattle.plx_appliance.specs.Moving.{image_leases_after_claim, image_leases_after_turn}
+use Rattle.plx_appliance.specs.Attaches.{image_leases_after_claim, image_leases_after_turn}
 use Rattle.plx_appliance.specs.Releasing.{image_leases_after_release}
 use Rattle.plx_appliance.specs.Tokens.{lease_holds_at}
 use Rattle.plx_appliance.proofs.Entered.{held-extent, held-image}

@@ -18,9 +18,8 @@ use Rattle.plx_appliance.specs.RenewStarts.{holds_in}
 use Rattle.plx_appliance.specs.Space.{AreWithin, extents_in, hand_in, held_hand}
 use Rattle.plx_appliance.specs.Kept.{known_of, sessions_of}
 use Rattle.plx_appliance.specs.Lent.{lent_of}
-use Rattle.plx_appliance.specs.Stands.{IsTied, StartsInside}
+use Rattle.plx_appliance.specs.Works.{IsTied, StartsInside, work_rest}
 use Rattle.plx_appliance.specs.Tokens.{lease_holds_at, image_leases}
-use Rattle.plx_appliance.specs.Works.{work_rest}
 use Rattle.plx_appliance.specs.declared.appliance.Appliance.{Appliance}
 use Rattle.plx_appliance.specs.declared.appliance.Stage.{Stage}
 use Rattle.plx_appliance.specs.declared.appliance.Stage.TheVariants as stage

@@ -28,14 +28,12 @@ use Rattle.plx_appliance.specs.declared.appliance.Stage.TheVariants as stage
 use Rattle.plx_appliance.specs.declared.begun.Begun.{Begun}
 use Rattle.plx_appliance.specs.declared.holdings.Holdings.{Holdings}
 use Rattle.plx_session.specs.declared.setting.Setting.{Setting as Given}
-use Rattle.plx_appliance.specs.Moving.{Moves}
-use Rattle.plx_appliance.specs.Stands.{Inside}
-use Rattle.plx_appliance.specs.Works.{Spares, work_rest, work_setting, work_suits}
+use Rattle.plx_appliance.specs.Works.{Inside, Moves, Spares, work_rest, work_setting, work_suits}
 use Rattle.plx_appliance.specs.declared.work.Work.{Work}
-use Rattle.plx_appliance.proofs.Answered.{work-fills, work-hand, work-holds, work-inside}
+use Rattle.plx_appliance.proofs.Answered.{lawful}
 use Rattle.plx_appliance.proofs.Failing.{kept-leases, same-ask}
 use Rattle.plx_appliance.proofs.First.{holds-asks, place-asks}
-use Rattle.plx_appliance.proofs.Goes.{reply-asks, reply-holds, work-asks}
+use Rattle.plx_appliance.proofs.Goes.{reply-asks, reply-holds}
 use Rattle.plx_appliance.proofs.InHand.{left-unfilled, unfilled-after, hand-within, dropped-hand, hand-as, kept-hand, reply-hand}
 
 -- what an appliance keeps of leases, and its hand
@@ -86,7 +84,7 @@ went-in s lent later w new log q bytes a before after h is =
     let now = after_answer p.sample q bytes a p.holds in
     let all = hand_answered g p.found q bytes a before.hand in
     let moved = configuration-after s lent w log q bytes a h.at in
-    let asks = work-asks later new in
+    let asks = (lawful new).asks later in
     let stays : after_process (answered (work_rest lent w) a) now ≡ now = ap (λ (process : Process End). after_process process now) (sym is) ∙ holds-asks (work_rest later new) now asks in
     let holding : next.holds ≡ now = ap (λ (r : Configuration). r.holds) moved ∙ stays in
     record {
@@ -187,18 +185,18 @@ answered-by a w new log q r bytes found h result runs stands standing' fits is s
     let writes : bytes_out (work_rest lent w) ≡ bytes = sym (ap writes_out i.place_is) ∙ standing'.bytes_are in
     let now = λ (bs : List ℕ). after_answer p.sample r bs found p.holds in
     let held : HoldsAs g (image_leases_after_write r found later.leases) (image_leases_after_write r found (extents_in h)) (now (bytes_out (work_rest lent w))) =
-    work-holds g lent later w new r found p.holds p.sample p.found result same own.0 suit stands' spares fits stands.held i.inside moves in
-    let hand = work-hand g lent later w new r found p.holds p.sample p.found result same own.0 left.0 stands' spares i.inside own.1 left.1 moves in (
+    (lawful w).leases g lent later new r found p.holds p.sample p.found result same own.0 suit stands' spares fits stands.held i.inside moves in
+    let hand = (lawful w).hand g lent later new r found p.holds p.sample p.found result same own.0 left.0 stands' spares i.inside own.1 left.1 moves in (
       e,
       record {
         at = i;
         hand = stands.hand;
         unfilled = stands.unfilled;
-        fills = unfilled-after r bytes found (work-fills lent w r stands' spares);
+        fills = unfilled-after r bytes found ((lawful w).fills lent r stands' spares);
         sessions = sessions;
         held = subst (λ (bs : List ℕ). HoldsAs g (image_leases_after_write r found later.leases) (image_leases_after_write r found (extents_in h)) (now bs)) writes held;
         inside = λ none. subst (λ (bs : List ℕ). Inside new (now bs) (sample_of found) (found_by r found)) writes
-            (work-inside g lent later w new r found p.holds p.sample p.found result same own.0 suit stands' spares fits held i.inside moves none
+            ((lawful w).inside g lent later new r found p.holds p.sample p.found result same own.0 suit stands' spares fits held i.inside moves none
             (record { setting = ap (λ (st : Given). st.geometry) (goes none) ∙ same; space = left.0; suits = suits none }));
         within = subst (λ (bs : List ℕ). AreWithin g (hand_answered g p.found r bs found (hand_in a.holdings))) writes hand.within;
         hand_moves = subst (λ (bs : List ℕ). held_hand g (extents_in h) (hand_answered g p.found r bs found (hand_in a.holdings)) ≡ hand_in h) writes hand.held;

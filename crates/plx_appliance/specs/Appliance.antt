@@ -16,9 +16,8 @@ use Rattle.plx_session.specs.Giving.{rules_setting}
 use Rattle.plx_appliance.specs.Holding.{HoldsAs}
 use Rattle.plx_appliance.specs.Lent.{Lent, lent_of}
 use Rattle.plx_appliance.specs.Space.{extents_in, hand_in}
-use Rattle.plx_appliance.specs.Stands.{Inside}
+use Rattle.plx_appliance.specs.Works.{Inside, work_rest}
 use Rattle.plx_appliance.specs.Tokens.{image_leases}
-use Rattle.plx_appliance.specs.Works.{work_rest}
 use Rattle.plx_appliance.specs.declared.appliance.Appliance.{Appliance}
 use Rattle.plx_appliance.specs.declared.appliance.Stage.{Stage}
 use Rattle.plx_appliance.specs.declared.appliance.Stage.TheVariants as stage

@@ -6,8 +6,7 @@ use Rattle.plx_rules.specs.Ends.{End}
 use Rattle.plx_appliance.specs.Lent.{lent_of}
 use Rattle.plx_appliance.specs.RenewStarts.{leases_in}
 use Rattle.plx_appliance.specs.Space.{extents_in, hand_in}
-use Rattle.plx_appliance.specs.Stands.{IsTied, StartsInside}
-use Rattle.plx_appliance.specs.Works.{work_entered, work_suits}
+use Rattle.plx_appliance.specs.Works.{IsTied, StartsInside, work_entered, work_suits}
 use Rattle.plx_appliance.specs.declared.holdings.Holdings.{Holdings}
 use Rattle.plx_session.specs.Works.{image_leased}
 use Rattle.plx_session.specs.declared.leased.Leased.{Leased}

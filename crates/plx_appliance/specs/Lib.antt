@@ -7,14 +7,13 @@ pub mod Entering
 pub mod Holding
 pub mod Kept
 pub mod Lent
-pub mod Moving
+pub mod Machines
 pub mod Releasing
 pub mod RenewStarts
 pub mod Renews
 pub mod Reserves
 pub mod Retires
 pub mod Space
-pub mod Stands
 pub mod Suits
 pub mod Taking
 pub mod Ties

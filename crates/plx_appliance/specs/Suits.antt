@@ -1,4 +1,4 @@
--- What is kept of space suits a command in one way at most.
+-- What is kept of space suits a machine in one way at most.
 use Rattle.std.proofs.Props.{props}
 use Rattle.plx_alloc.specs.Suiting.{SuitsReserve, gives_at, suits_at}
 use Rattle.plx_alloc.specs.declared.allocator.Allocator.{Allocator}
@@ -9,15 +9,9 @@ use Rattle.plx_alloc.specs.declared.reserve.Reserve.{Reserve as Take}
 use Rattle.plx_alloc.specs.declared.reserve.ReserveAt.{ReserveAt}
 use Rattle.plx_alloc.specs.declared.reserve.ReserveAt.TheVariants as at
 use Rattle.plx_appliance.specs.Retires.{retire_suits}
-use Rattle.plx_appliance.specs.Ties.{stage_suits}
-use Rattle.plx_appliance.specs.Works.{work_suits}
-use Rattle.plx_appliance.specs.declared.appliance.Stage.{Stage}
-use Rattle.plx_appliance.specs.declared.appliance.Stage.TheVariants as stage
 use Rattle.plx_appliance.specs.declared.retire.RetireStage.{RetireStage}
 use Rattle.plx_appliance.specs.declared.retire.RetireStage.TheVariants as retire_stage
 use Rattle.plx_session.specs.declared.setting.Setting.{Setting}
-use Rattle.plx_appliance.specs.declared.work.Work.{Work}
-use Rattle.plx_appliance.specs.declared.work.Work.TheVariants as work
 
 -- a take
 pub take_at-prop : (place : ReserveAt) (a : Allocator) (m : Take) → IsProp (suits_at place a m)
@@ -41,18 +35,3 @@ gives_at-prop giving.Damaged a m = Prim.hlevel props
 pub retire-prop : (a : Allocator) (setting : Setting) (place : RetireStage) → IsProp (retire_suits a setting place)
 retire-prop a setting (retire_stage.Extents m) = Prim.hlevel (props, gives_at-prop)
 retire-prop a setting (retire_stage.Image image) = Prim.hlevel props
-
--- any command
-pub work-prop : (a : Allocator) (w : Work) → IsProp (work_suits a w)
-work-prop a (work.Attach x) = Prim.hlevel props
-work-prop a (work.Detach x) = Prim.hlevel props
-work-prop a (work.Image x) = Prim.hlevel props
-work-prop a (work.Renew x) = Prim.hlevel props
-work-prop a (work.Reserve x) = take-prop a x.work
-work-prop a (work.Retire x) = retire-prop a x.setting x.stage
-
--- so of each stage
-pub suits-prop : (a : Allocator) (place : Stage) → IsProp (stage_suits a place)
-suits-prop a stage.Idle = Prim.hlevel props
-suits-prop a (stage.Begun begun) = Prim.hlevel props
-suits-prop a (stage.In w) = work-prop a w

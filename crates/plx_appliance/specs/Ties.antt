@@ -1,7 +1,9 @@
 -- Of which setting the command is that runs, and what of space suits it.
 use Rattle.std.specs.Prelude.{ℕ}
+use Rattle.std.proofs.Props.{props}
 use Rattle.plx_alloc.specs.declared.allocator.Allocator.{Allocator}
 use Rattle.plx_appliance.specs.Begins.{begun_leases, begun_slots}
+use Rattle.plx_appliance.specs.Machines.{machine_of}
 use Rattle.plx_appliance.specs.Works.{work_setting, work_slots, work_suits}
 use Rattle.plx_appliance.specs.declared.appliance.Stage.{Stage}
 use Rattle.plx_appliance.specs.declared.appliance.Stage.TheVariants as stage
@@ -29,3 +31,9 @@ abbrev pub stage_suits : Allocator → Stage → Type 0
 stage_suits space stage.Idle = Unit {0}
 stage_suits space (stage.Begun begun) = Unit {0}
 stage_suits space (stage.In w) = work_suits space w
+
+-- in one way at most
+pub suits-prop : (space : Allocator) (place : Stage) → IsProp (stage_suits space place)
+suits-prop space stage.Idle = Prim.hlevel props
+suits-prop space (stage.Begun begun) = Prim.hlevel props
+suits-prop space (stage.In w) = (machine_of w).one space

@@ -1,51 +1,29 @@
--- The command that runs: what it still asks, and what it is given.
-use Rattle.std.specs.Prelude.{ℕ, Result, Ok, Err}
-use Rattle.plx_alloc.specs.Asking.{reserve_spares}
-use Rattle.plx_alloc.specs.Suiting.{SuitsReserve}
+-- The command that runs, by what is said of its machine.
+use Rattle.std.specs.Prelude.{◌≡◌, ℕ, List, Option, Result, Ok, Err}
 use Rattle.plx_alloc.specs.declared.allocator.Allocator.{Allocator}
 use Rattle.plx_commands.specs.declared.reply.Reply.{Reply}
+use Rattle.plx_disk.specs.declared.ask.Answer.{Answer}
 use Rattle.plx_disk.specs.declared.ask.Ask.{Ask}
-use Rattle.plx_rules.specs.Process.{Process}
 use Rattle.plx_rules.specs.Ends.{End, ends}
-use Rattle.plx_session.specs.Asking.{IsSpare}
-use Rattle.plx_appliance.specs.Attaches.{attach_rest, attach_spares}
+use Rattle.plx_rules.specs.Holds.{Hold}
+use Rattle.plx_rules.specs.Process.{Process}
 use Rattle.plx_session.specs.Ending.{known_after}
-use Rattle.plx_appliance.specs.Lent.{Lent}
-use Rattle.plx_appliance.specs.Renews.{renew_rest}
-use Rattle.plx_appliance.specs.Reserves.{reserve_work_rest}
-use Rattle.plx_appliance.specs.Detaches.{detach_rest}
-use Rattle.plx_session.specs.Works.{image_leased, image_rest}
-use Rattle.plx_appliance.specs.Retires.{retire_images_rest, retire_suits}
 use Rattle.plx_session.specs.declared.setting.Setting.{Setting}
+use Rattle.plx_appliance.specs.Lent.{Lent}
+use Rattle.plx_appliance.specs.Machines.{machine_of}
 use Rattle.plx_appliance.specs.declared.work.Work.{Work}
-use Rattle.plx_appliance.specs.declared.work.Work.TheVariants as work
 
 -- what the command that runs still asks
 abbrev pub work_rest : Lent → Work → Process End
-work_rest lent (work.Attach a) = attach_rest lent.known a
-work_rest lent (work.Detach d) = detach_rest lent.known d
-work_rest lent (work.Image w) = image_rest lent.known w
-work_rest lent (work.Renew r) = renew_rest lent.known r
-work_rest lent (work.Reserve r) = reserve_work_rest lent r
-work_rest lent (work.Retire r) = retire_images_rest lent r
+work_rest lent w = (machine_of w).rest lent
 
 -- what it is given
 abbrev pub work_setting : Work → Setting
-work_setting (work.Attach a) = a.load.image.setting
-work_setting (work.Detach d) = d.image.setting
-work_setting (work.Image w) = (image_leased w).setting
-work_setting (work.Renew r) = r.setting
-work_setting (work.Reserve r) = r.setting
-work_setting (work.Retire r) = r.setting
+work_setting w = (machine_of w).setting
 
 -- for how many journal slots it has memory
 abbrev pub work_slots : Work → ℕ
-work_slots (work.Attach a) = a.load.slots
-work_slots (work.Detach d) = d.image.setting.geometry.slots
-work_slots (work.Image w) = (image_leased w).setting.geometry.slots
-work_slots (work.Renew r) = r.setting.geometry.slots
-work_slots (work.Reserve r) = r.setting.geometry.slots
-work_slots (work.Retire r) = r.setting.geometry.slots
+work_slots w = (machine_of w).slots
 
 -- what is left once a command had its first reading: its machine's rest, or its end with this refusal
 abbrev pub work_entered : Lent → Result Work Reply → Process End
@@ -54,15 +32,25 @@ work_entered lent (Err reply) = ends reply (known_after reply lent.known)
 
 -- what a claim, a renewal and a release ask concerns their lease alone; every other ask no lease
 abbrev pub Spares : Work → Ask → Type 0
-Spares (work.Attach a) ask = attach_spares a.at a ask
-Spares (work.Detach d) ask = Unit {0}
-Spares (work.Image w) ask = IsSpare (image_leased w).setting.geometry ask
-Spares (work.Renew r) ask = Unit {0}
-Spares (work.Reserve r) ask = (space : Allocator) → SuitsReserve space r.work → reserve_spares r.work.at space.geometry r.work ask
-Spares (work.Retire r) ask = Unit {0}
+Spares w ask = (machine_of w).Spares ask
 
 -- it suits what is kept of space
 abbrev pub work_suits : Allocator → Work → Type 0
-work_suits space (work.Reserve r) = SuitsReserve space r.work
-work_suits space (work.Retire r) = retire_suits space r.setting r.stage
-work_suits space other = Unit {0}
+work_suits space w = (machine_of w).Suits space
+
+-- a command's machine is for this setting
+pub record IsTied (setting : Setting) (w : Work) : Type 0 where
+  pub same : work_setting w ≡ setting
+  pub room : work_slots w ≡ setting.geometry.slots
+
+-- how far a command has come with its claim, which leases it still renews, and what it makes of what was read last
+abbrev pub Inside : Work → (ℕ → Hold) → Option ℕ → Option (ℕ × List ℕ) → Type 0
+Inside w holds sample found = (machine_of w).Inside holds sample found
+
+-- how a command begins with its claim, and which leases it renews
+abbrev pub StartsInside : (leases extents : ℕ → Hold) → Work → Type 0
+StartsInside leases extents w = (machine_of w).Starts leases extents
+
+-- the command that runs was answered: a claim, a renewal and a release change what is held of their lease, a take and a give the hand, and nothing else does
+abbrev pub Moves : (old new : Work) → Answer → (before after : Lent) → Option Reply → Type 0
+Moves old new answer before after result = (machine_of old).Moves new answer before after result

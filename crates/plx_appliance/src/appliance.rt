@@ -1,7 +1,7 @@
 //! One boot of an appliance.
 ghost use Rattle.std.specs.Prelude.{◌≡◌, ◌<◌, ◌^◌};
 ghost use Rattle.plx_geom.specs.Geometry.{lease_count};
-ghost use Rattle.plx_appliance.specs.Suits.{suits-prop};
+ghost use Rattle.plx_appliance.specs.Ties.{suits-prop};
 ghost use Rattle.plx_appliance.specs.Ties.{stage_leases, stage_setting, stage_slots, stage_suits};
 
 use crate::begun::Begun;

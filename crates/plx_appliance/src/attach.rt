@@ -43,13 +43,12 @@ impl Attach {
     ghost use Rattle.plx_lease.specs.Holding.{IsSampled, claim_hold};
     ghost use Rattle.plx_rules.specs.Holds.{Hold, Nothing};
     ghost use Rattle.plx_alloc.specs.Asking.{IsOnDevice};
-    ghost use Rattle.plx_appliance.specs.Stands.{inside_at};
+    ghost use Rattle.plx_appliance.specs.Attaches.{attach_moves, image_leases_after_claim, inside_at};
     ghost use Rattle.plx_appliance.specs.Attaches.{attach_rest, attach_spares};
     ghost use Rattle.plx_session.specs.Ending.{known_after, process_after};
     ghost use Rattle.plx_session.specs.Giving.{rules_setting};
     ghost use Rattle.plx_session.specs.Loads.{load_left};
     ghost use Rattle.plx_appliance.specs.Kept.{known_by};
-    ghost use Rattle.plx_appliance.specs.Moving.{attach_moves, image_leases_after_claim};
     ghost use Rattle.plx_appliance.specs.Tokens.{image_leases};
 
     /// The lease is to be claimed, by a boot that began so many claims before, with a block for what

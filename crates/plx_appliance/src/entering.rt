@@ -15,9 +15,8 @@ ghost use Rattle.plx_appliance.specs.Kept.{known_of};
 ghost use Rattle.plx_appliance.specs.Lent.{Lent, lent_of};
 ghost use Rattle.plx_appliance.specs.RenewStarts.{holds_in, renew_command};
 ghost use Rattle.plx_appliance.specs.Space.{extents_in, hand_in};
-ghost use Rattle.plx_appliance.specs.Stands.{IsTied, StartsInside};
+ghost use Rattle.plx_appliance.specs.Works.{IsTied, StartsInside, work_entered, work_suits};
 ghost use Rattle.plx_appliance.specs.Tokens.{image_leases};
-ghost use Rattle.plx_appliance.specs.Works.{work_entered, work_suits};
 
 use crate::attach::Attach;
 use crate::begun::{Begun, Need, Room};

@@ -30,11 +30,9 @@ impl Work {
     ghost use Rattle.plx_rules.specs.Machines.{AreWhole, IsTimely};
     ghost use Rattle.plx_appliance.specs.Lent.{Lent, lent_of};
     ghost use Rattle.plx_alloc.specs.Asking.{IsOnDevice};
-    ghost use Rattle.plx_appliance.specs.Stands.{Inside};
+    ghost use Rattle.plx_appliance.specs.Works.{Inside, Moves, Spares, work_rest, work_setting, work_slots, work_suits};
     ghost use Rattle.plx_session.specs.Ending.{process_after};
     ghost use Rattle.plx_appliance.specs.Kept.{known_of};
-    ghost use Rattle.plx_appliance.specs.Moving.{Moves};
-    ghost use Rattle.plx_appliance.specs.Works.{Spares, work_rest, work_setting, work_slots, work_suits};
 
     /// The ask that stands.
     pub fn ask(&self) -> Ask

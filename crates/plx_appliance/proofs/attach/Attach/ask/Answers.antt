@@ -2,7 +2,7 @@ use Rattle.plx_rules.proofs.Nested.{standing-followed}
 use Rattle.plx_lease.specs.Claiming.{claim_rest}
 use Rattle.plx_lease.proofs.Asking.{claim-asks}
 use Rattle.std.proofs.Common.{subst}
-use Rattle.plx_appliance.specs.Stands.{inside_at}
+use Rattle.plx_appliance.specs.Attaches.{inside_at}
 use Rattle.plx_appliance.specs.declared.attach.AttachAt.{AttachAt}
 use Rattle.plx_appliance.proofs.Places.{claim-within}
 use Rattle.plx_appliance.proofs.attach.Attach.ask.Goals as goal
