@@ -9,6 +9,7 @@ pub mod Leases
 pub mod Loads
 pub mod PlacedWrites
 pub mod Pushing
+pub mod Refusing
 pub mod Rests
 pub mod Shown
 pub mod Tied

@@ -55,16 +55,16 @@ impl ImageCommand {
                 label,
                 record,
             } => match Record::create(image, session, size, label, record) {
-                Err(reply) => Err(reply),
+                Err(refusal) => Err(refusal.reply()),
                 Ok(record) => Ok(ImageWork::Record(record)),
             },
             ImageCommand::Delete { record } => match Record::delete(image, session, record) {
-                Err(reply) => Err(reply),
+                Err(refusal) => Err(refusal.reply()),
                 Ok(record) => Ok(ImageWork::Record(record)),
             },
             ImageCommand::Read { vblock, block } => {
                 match Read::enter(image, session, vblock, block) {
-                    Err(reply) => Err(reply),
+                    Err(refusal) => Err(refusal.reply()),
                     Ok(read) => Ok(ImageWork::Read(read)),
                 }
             }
@@ -73,7 +73,7 @@ impl ImageCommand {
                 block,
                 descriptor,
             } => match Write::enter(image, session, vblock, block, descriptor) {
-                Err(reply) => Err(reply),
+                Err(refusal) => Err(refusal.reply()),
                 Ok(write) => Ok(ImageWork::Write(write)),
             },
         }

@@ -3,9 +3,9 @@ ghost use Rattle.std.specs.Prelude.{◌≡◌, Some};
 
 use crate::failure::Failure;
 use crate::leased::Leased;
+use crate::refusal::Refusal;
 use crate::session::Session;
 use plx_base::{Block, Payload};
-use plx_commands::Reply;
 use plx_disk::{Answer, Ask};
 use std::mem;
 
@@ -21,24 +21,29 @@ impl Read {
     ghost use Rattle.plx_rules.specs.Process.{answered, standing, bytes_out};
     ghost use Rattle.plx_rules.specs.Commands.{read_process};
     ghost use Rattle.plx_rules.specs.Session.{Known};
-    ghost use Rattle.plx_session.specs.Ending.{enter_process};
     ghost use Rattle.plx_session.specs.Giving.{rules_setting};
     ghost use Rattle.plx_session.specs.Shown.{session_of};
+    ghost use Rattle.plx_session.specs.Refusing.{begin_process};
     ghost use Rattle.plx_session.specs.Rests.{read_left, read_rest};
 
     /// The read begins, with a block for what it gives, or is refused.
-    pub fn enter(image: Leased, session: &Session, vblock: u32, block: Block) -> Result<Read, Reply>
-        ensures process { (known : Known) → enter_process read_rest known result ≡ read_process
+    pub fn enter(
+        image: Leased,
+        session: &Session,
+        vblock: u32,
+        block: Block,
+    ) -> Result<Read, Refusal>
+        ensures process { (known : Known) → begin_process read_rest known result ≡ read_process
             (rules_setting image.setting) known image.slot.0 vblock
             (session_of session.now) image.until }
         ensures image { (r : Read) → result ≡ Ok r → r.image ≡ image }
     {
         if !session.is_live() {
-            return Err(Reply::NoImage);
+            return Err(Refusal::NoImage);
         }
         let size = session.size();
         if vblock >= size {
-            return Err(Reply::OutOfRange { size });
+            return Err(Refusal::OutOfRange(size));
         }
         let mut block = block;
         session.read(vblock, &mut block);

@@ -5,10 +5,10 @@ ghost use Rattle.plx_commands.specs.Facts.{is_size as is_allowed_size};
 
 use crate::failure::Failure;
 use crate::leased::Leased;
+use crate::refusal::Refusal;
 use crate::session::Session;
 use crate::spell::spell_image;
 use plx_base::{Block, Label, Ptr, WriteKind};
-use plx_commands::Reply;
 use plx_disk::{Answer, Ask};
 use plx_gate::{ImageRecord, LiveRecord};
 use std::mem;
@@ -54,9 +54,9 @@ impl Record {
     ghost use Rattle.plx_alloc.specs.Asking.{IsOnDevice};
     ghost use Rattle.plx_session.specs.Asking.{IsSpare};
     ghost use Rattle.plx_rules.specs.Machines.{AreWhole};
-    ghost use Rattle.plx_session.specs.Ending.{enter_process};
     ghost use Rattle.plx_session.specs.Giving.{rules_setting};
     ghost use Rattle.plx_session.specs.Shown.{session_of};
+    ghost use Rattle.plx_session.specs.Refusing.{begin_process};
     ghost use Rattle.plx_session.specs.Rests.{done_reply, record_left, record_rest};
 
     /// A create begins, with a block for its record, or is refused.
@@ -66,26 +66,22 @@ impl Record {
         size: u32,
         label: Label,
         spelled: Block,
-    ) -> Result<Record, Reply>
+    ) -> Result<Record, Refusal>
         ensures process { (known : Known) → known.sessions image.slot.0
-            ≡ Some (session_of session.now) → enter_process record_rest known result ≡ create_process
+            ≡ Some (session_of session.now) → begin_process record_rest known result ≡ create_process
             (rules_setting image.setting) known image.slot.0 size label
             (session_of session.now) image.until }
         ensures image { (r : Record) → result ≡ Ok r → r.image ≡ image }
     {
         if session.is_live() {
-            return Err(Reply::Exists);
+            return Err(Refusal::Exists);
         }
         if !is_size(size) {
-            return Err(Reply::OutOfRange {
-                size: GREATEST_SIZE,
-            });
+            return Err(Refusal::OutOfRange(GREATEST_SIZE));
         }
         let generation = session.generation();
         if generation >= LAST_GENERATION {
-            return Err(Reply::WornOut {
-                count: u64::from(LAST_GENERATION),
-            });
+            return Err(Refusal::WornOut(u64::from(LAST_GENERATION)));
         }
         let _bytes = label.as_slice();
         let made = ImageRecord::Live(LiveRecord {
@@ -100,14 +96,14 @@ impl Record {
     }
 
     /// A delete begins, with a block for its record, or is refused.
-    pub fn delete(image: Leased, session: &Session, spelled: Block) -> Result<Record, Reply>
+    pub fn delete(image: Leased, session: &Session, spelled: Block) -> Result<Record, Refusal>
         ensures process { (known : Known) → known.sessions image.slot.0
-            ≡ Some (session_of session.now) → enter_process record_rest known result ≡ delete_process
+            ≡ Some (session_of session.now) → begin_process record_rest known result ≡ delete_process
             (rules_setting image.setting) known image.slot.0 (session_of session.now) image.until }
         ensures image { (r : Record) → result ≡ Ok r → r.image ≡ image }
     {
         if !session.is_live() {
-            return Err(Reply::NoImage);
+            return Err(Refusal::NoImage);
         }
         let made = ImageRecord::Free {
             generation: session.generation(),

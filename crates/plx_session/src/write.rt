@@ -3,10 +3,10 @@ ghost use Rattle.std.specs.Prelude.{◌≡◌, ◌<◌, Some};
 
 use crate::failure::Failure;
 use crate::leased::Leased;
+use crate::refusal::Refusal;
 use crate::session::Session;
 use crate::spell::spell_descriptor;
 use plx_base::{Block, WriteKind};
-use plx_commands::Reply;
 use plx_disk::{Answer, Ask};
 use plx_gate::Descriptor;
 
@@ -42,9 +42,9 @@ impl Write {
     ghost use Rattle.plx_alloc.specs.Asking.{IsOnDevice};
     ghost use Rattle.plx_session.specs.Asking.{IsSpare};
     ghost use Rattle.plx_rules.specs.Machines.{AreWhole};
-    ghost use Rattle.plx_session.specs.Ending.{enter_process};
     ghost use Rattle.plx_session.specs.Giving.{rules_setting};
     ghost use Rattle.plx_session.specs.Shown.{session_of};
+    ghost use Rattle.plx_session.specs.Refusing.{begin_process};
     ghost use Rattle.plx_session.specs.Rests.{write_left, write_rest};
 
     /// The write begins, with a block of what it writes and one for its descriptor, or is refused.
@@ -54,28 +54,28 @@ impl Write {
         vblock: u32,
         block: Block,
         spelled: Block,
-    ) -> Result<Write, Reply>
+    ) -> Result<Write, Refusal>
         requires { session.now.journal.slots ≡ image.setting.geometry.slots }
         ensures process { (known : Known) → known.sessions image.slot.0
-            ≡ Some (session_of session.now) → enter_process write_rest known result ≡ write_process
+            ≡ Some (session_of session.now) → begin_process write_rest known result ≡ write_process
             (rules_setting image.setting) known image.slot.0 vblock block
             (session_of session.now) image.until }
         ensures image { (w : Write) → result ≡ Ok w → w.image ≡ image }
     {
         if !session.is_live() {
-            return Err(Reply::NoImage);
+            return Err(Refusal::NoImage);
         }
         let size = session.size();
         if vblock >= size {
-            return Err(Reply::OutOfRange { size });
+            return Err(Refusal::OutOfRange(size));
         }
         let count = session.count();
         if count >= LAST_WRITE {
-            return Err(Reply::WornOut { count: LAST_WRITE });
+            return Err(Refusal::WornOut(LAST_WRITE));
         }
         let slots = image.setting.geometry.slots;
         if session.journal.len() == slots as usize {
-            return Err(Reply::Full);
+            return Err(Refusal::Full);
         }
         let number = count + 1;
         let mut spelled = spelled;
