@@ -8,9 +8,9 @@ use Rattle.plx_disk.specs.declared.write.Write.{Write}
 use Rattle.plx_disk.proofs.Kept.{kept-issued, kept-at}
 
 -- its least missing sector
-pub missing-says : (s : Surface) (kept : List Write) (n : ℕ) (k : Write) (answer : Option ℕ) → StandForAll kept s.writes → slice_get kept n ≡ Some k →
-    ((w : Issued) → StandsForIssued k w → answer ≡ None → w.cancelled ≡ false → w.landed ≡ all_sectors) →
-    ((w : Issued) → StandsForIssued k w → (m : ℕ) → answer ≡ Some m → (w.cancelled ≡ false) × IsLeastMissing w.landed m) →
+pub missing-says : {time : ℕ} (s : Surface) (kept : List Write) (n : ℕ) (k : Write) (answer : Option ℕ) → StandForAll time kept s.writes → slice_get kept n ≡ Some k →
+    ((w : Issued) → StandsForIssued time k w → answer ≡ None → w.cancelled ≡ false → w.landed ≡ all_sectors) →
+    ((w : Issued) → StandsForIssued time k w → (m : ℕ) → answer ≡ Some m → (w.cancelled ≡ false) × IsLeastMissing w.landed m) →
     MatchOption answer (MissesNone s n) (IsMissing s n)
 missing-says s kept n k None h e none least =
     λ w found not_cancelled. none w (kept-at kept s.writes n k w h e found) refl not_cancelled

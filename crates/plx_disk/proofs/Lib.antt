@@ -5,4 +5,5 @@ pub mod Kept
 pub mod Landings
 pub mod Lending
 pub mod Lists
+pub mod Sectors
 pub mod Told

@@ -1,5 +1,5 @@
 -- Elements of lists that changed, and cancelled writes among the others.
-use Rattle.std.proofs.Common.{◌≡◌, ◌≢◌, ◌≤◌, ℕ, zero, suc, List, [], ◌∷◌, ◌++◌, length, Some, refl, ap, arith}
+use Rattle.std.proofs.Common.{◌≡◌, ◌≢◌, ◌≤◌, ℕ, zero, suc, List, [], ◌∷◌, ◌++◌, length, Some, refl, ap, sym, arith}
 use Rattle.std.specs.Prelude.{slice_get, slice_set}
 use Rattle.plx_disk.specs.Writes.{Issued, cancelled_at, with_cancel}
 
@@ -16,6 +16,18 @@ set-other (z ∷ xs) zero zero x h = absurd (h refl)
 set-other (z ∷ xs) zero (suc k) x h = refl
 set-other (z ∷ xs) (suc n) zero x h = refl
 set-other (z ∷ xs) (suc n) (suc k) x h = set-other xs n k x (λ e. h (ap suc e))
+
+-- an element that is put where it is
+pub set-back : {A : Type 0} (xs : List A) (n : ℕ) (x : A) → slice_get xs n ≡ Some x → slice_set xs n x ≡ xs
+set-back [] n x h = refl
+set-back (z ∷ xs) zero x h = let same : z ≡ x = cc in ap (λ y. y ∷ xs) (sym same)
+set-back (z ∷ xs) (suc n) x h = ap (λ rest. z ∷ rest) (set-back xs n x h)
+
+-- of two changes of one element the last one counts
+pub set-twice : {A : Type 0} (xs : List A) (n : ℕ) (x y : A) → slice_set (slice_set xs n x) n y ≡ slice_set xs n y
+set-twice [] n x y = refl
+set-twice (z ∷ xs) zero x y = refl
+set-twice (z ∷ xs) (suc n) x y = ap (λ rest. z ∷ rest) (set-twice xs n x y)
 
 -- an element that was added at the end
 pub push-last : {A : Type 0} (xs : List A) (x : A) → slice_get (xs ++ x ∷ []) (length xs) ≡ Some x

@@ -1,10 +1,10 @@
 -- What the code's device stands for.
-use Rattle.std.specs.Prelude.{◌≡◌, ◌≢◌, ℕ, List, [], ◌∷◌, true, false, length}
+use Rattle.std.specs.Prelude.{◌≡◌, ◌≢◌, ◌+◌, ◌<◌, ℕ, List, [], ◌∷◌, Bool, true, false, length}
 use Rattle.plx_disk.specs.Stored.{device_of}
 use Rattle.plx_disk.specs.Writes.{Issued, Surface, all_sectors}
 use Rattle.plx_disk.specs.declared.write.Pending.{Pending}
 use Rattle.plx_disk.specs.declared.write.Progress.{Progress}
-use Rattle.plx_disk.specs.declared.write.Progress.TheVariants.{Open, Whole, Closed}
+use Rattle.plx_disk.specs.declared.write.Progress.TheVariants.{Open, Late, Whole, Closed}
 use Rattle.plx_disk.specs.declared.write.Write.{Write}
 use Rattle.plx_disk.specs.declared.disk.Disk.{Disk}
 
@@ -18,29 +18,38 @@ pub record IsPending (pending : Pending) (write : Issued) : Type 0 where
   pub open_yet : write.cancelled ≡ false
   pub not_whole : write.landed ≢ all_sectors
 
+-- of one whose time is over before all of it has landed, the sectors that have are kept
+pub record IsLate (time : ℕ) (flags : List Bool) (write : Issued) : Type 0 where
+  pub landed : flags ≡ write.landed
+  pub open_yet : write.cancelled ≡ false
+  pub not_whole : write.landed ≢ all_sectors
+  pub late : write.guard + 50 < time
+
 -- of one that has landed whole, or was cancelled before, this alone is kept
-abbrev pub Proceeds : Progress → Issued → Type 0
-Proceeds (Open pending) write = IsPending pending write
-Proceeds Whole write = write.landed ≡ all_sectors
-Proceeds Closed write = (write.cancelled ≡ true) × (write.landed ≢ all_sectors)
+abbrev pub Proceeds : (time : ℕ) → Progress → Issued → Type 0
+Proceeds time (Open pending) write = IsPending pending write
+Proceeds time (Late landed) write = IsLate time landed write
+Proceeds time Whole write = write.landed ≡ all_sectors
+Proceeds time Closed write = (write.cancelled ≡ true) × (write.landed ≢ all_sectors)
 
--- the code's write stands for an issued one
-pub record StandsForIssued (kept : Write) (write : Issued) : Type 0 where
+-- the code's write stands at that time for an issued one
+pub record StandsForIssued (time : ℕ) (kept : Write) (write : Issued) : Type 0 where
   pub owner : kept.owner.0 ≡ write.owner
-  pub progress : Proceeds kept.progress write
+  pub progress : Proceeds time kept.progress write
 
--- they stand for the issued ones, one by one
-abbrev pub StandForAll : List Write → List Issued → Type 0
-StandForAll [] [] = Unit {0}
-StandForAll [] (write ∷ writes) = ⊥
-StandForAll (one ∷ kept) [] = ⊥
-StandForAll (one ∷ kept) (write ∷ writes) = StandsForIssued one write × StandForAll kept writes
+-- they stand at that time for the issued ones, one by one
+abbrev pub StandForAll : (time : ℕ) → List Write → List Issued → Type 0
+StandForAll time [] [] = Unit {0}
+StandForAll time [] (write ∷ writes) = ⊥
+StandForAll time (one ∷ kept) [] = ⊥
+StandForAll time (one ∷ kept) (write ∷ writes) =
+    StandsForIssued time one write × StandForAll time kept writes
 
 -- equal device, issued writes and time
 pub record Stands (disk : Disk) (s : Surface) : Type 0 where
   pub blocks : disk.blocks ≡ s.blocks
   pub device : (b : ℕ) → device_of disk.stored b ≡ s.device b
-  pub writes : StandForAll disk.writes.items s.writes
+  pub writes : StandForAll disk.time disk.writes.items s.writes
   pub time : disk.time ≡ s.time
 
 -- each device that the old one stands for leads to one that the new one stands for

@@ -6,7 +6,7 @@ use Rattle.std.specs.BTreeMap.{BTreeMap, get}
 use Rattle.plx_base.specs.Blocks.{zeros}
 use Rattle.plx_base.specs.Sectors.{Device}
 use Rattle.plx_disk.specs.declared.write.Progress.{Progress}
-use Rattle.plx_disk.specs.declared.write.Progress.TheVariants.{Open, Whole, Closed}
+use Rattle.plx_disk.specs.declared.write.Progress.TheVariants.{Open, Late, Whole, Closed}
 use Rattle.plx_disk.specs.declared.write.Write.{Write}
 
 -- the blocks that are stored, by their numbers
@@ -24,6 +24,7 @@ is_stored blocks block = is_some (get nat_cmp blocks block)
 -- whether a write that may still land has its block stored
 abbrev pub has_place : Blocks → Progress → Bool
 has_place blocks (Open pending) = is_stored blocks pending.block
+has_place blocks (Late landed) = true
 has_place blocks Whole = true
 has_place blocks Closed = true
 

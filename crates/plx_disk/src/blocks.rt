@@ -19,6 +19,18 @@ pub fn block_of(alloc: Global, bytes: &[u8]) -> Result<Block, NoMemory>
     Ok(block)
 }
 
+/// A block of these bytes: the spare one, if there is one.
+pub fn given(alloc: Global, spare: &mut Option<Block>, bytes: &[u8]) -> Result<Block, NoMemory>
+    requires { length bytes.now ≡ 4096 }
+    ensures { IfOk result (λ b. b ≡ bytes.now) }
+{
+    let Some(mut block) = spare.take() else {
+        return block_of(alloc, bytes);
+    };
+    block.set(bytes);
+    Ok(block)
+}
+
 /// One sector of a write lands on its block.
 pub fn land_on(blocks: &mut BTreeMap<u64, Block>, block: u64, sector: u8, bytes: &Block)
     requires within { sector < 8 }

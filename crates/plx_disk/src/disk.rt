@@ -2,32 +2,38 @@
 ghost use Rattle.std.specs.Prelude.{◌<◌, ◌^◌};
 ghost use Rattle.plx_disk.specs.Stored.{ArePlaced};
 
-use crate::blocks::{block_of, make_place, store, trade};
+use crate::blocks::{block_of, given, make_place, store, trade};
 use crate::write::{Pending, Progress, Write};
 use plx_base::{Block, BlockNo, Boot, NoMemory, WriteKind};
 use std::alloc::Global;
-use std::collections::BTreeMap;
+use std::collections::{BTreeMap, VecDeque};
 
 /// The time of a device stays below this, in milliseconds.
 const END_OF_TIME: u64 = 1 << 47;
 
-/// A device and its time. A block that was never written is zeros and isn't stored.
+/// A device and its time. A block that was never written is zeros and isn't stored. Of a write that can't land
+/// any more the bytes are dropped.
 #[derive(Drop)]
 pub struct Disk {
     alloc: Global,
     blocks: u64,
     stored: BTreeMap<u64, Block>,
     writes: Vec<Write>,
+    // The numbers of the writes that were open when they were last looked at.
+    open: VecDeque<u64>,
+    // A block for the bytes of the next write.
+    spare: Option<Block>,
     time: u64,
     ghost placed: { ArePlaced stored writes.items },
     ghost in_time: { time < 2 ^ 47 },
 }
 
 impl Disk {
-    ghost use Rattle.std.specs.Prelude.{◌≡◌, ◌<◌, ◌+◌, ◌^◌, ◌↔◌, None, false, length, option_copied, slice_get, IfOk, IfSome, IsOkAnd, OnOk, OnErr, IsTrue, MatchOption};
+    ghost use Rattle.std.specs.Prelude.{◌≡◌, ◌<◌, ◌+◌, ◌^◌, ◌↔◌, None, false, length, option_copied, slice_get, IfOk, IfSome, IsOkAnd, OnOk, OnErr, IsTrue, MatchOption, Some};
     ghost use Rattle.std.specs.Option.{unwrap_or};
     ghost use Rattle.plx_base.specs.Blocks.{zeros};
     ghost use Rattle.plx_disk.specs.Filled.{with_block};
+    ghost use Rattle.plx_disk.specs.Landing.{MayLandWhole, after_sectors};
     ghost use Rattle.plx_disk.specs.Lending.{IsLent};
     ghost use Rattle.plx_disk.specs.Missing.{IsMissing, IsOwner, MissesNone};
     ghost use Rattle.plx_disk.specs.Standing.{Stands, Stays, Turns, device_size, issued_count};
@@ -44,6 +50,8 @@ impl Disk {
             blocks,
             stored: BTreeMap::new(alloc),
             writes: Vec::new(alloc),
+            open: VecDeque::new(alloc),
+            spare: None,
             time,
         })
     }
@@ -136,7 +144,10 @@ impl Disk {
         ensures err { OnErr result (Stays self.old self.new) }
         ensures blocks { device_size self.new ≡ device_size self.old }
     {
-        let bytes = block_of(self.alloc, bytes)?;
+        // Two looks for each write that is added, so that about as many late ones are kept as may still land.
+        self.look_back();
+        self.look_back();
+        let bytes = given(self.alloc, &mut self.spare, bytes)?;
         make_place(self.alloc, &mut self.stored, block.0)?;
         let number = self.writes.len() as u64;
         let pending = Pending {
@@ -146,11 +157,32 @@ impl Disk {
             guard,
             landed: [false; 8],
         };
+        self.open.push_back(number)?;
         self.writes.push(Write {
             owner,
             progress: Progress::Open(pending),
         })?;
         Ok(number)
+    }
+
+    // Looks at the open write that was looked at longest ago.
+    fn look_back(&mut self)
+        ensures same { Stays self.old self.new }
+        ensures blocks { device_size self.new ≡ device_size self.old }
+        ensures count { issued_count self.new ≡ issued_count self.old }
+    {
+        let Some(number) = self.open.pop_front() else {
+            return;
+        };
+        let index = number as usize;
+        if index >= self.writes.len() {
+            return;
+        }
+        let time = self.time;
+        if self.writes[index].stays_open(&mut self.spare, time) {
+            // There is room, since one was taken. Without it that write would only keep its bytes.
+            let _ = self.open.push_back(number);
+        }
     }
 
     /// One sector of a write lands, if it may.
@@ -167,7 +199,23 @@ impl Disk {
             return false;
         }
         let time = self.time;
-        self.writes[index].land(&mut self.stored, sector, time)
+        self.writes[index].land(&mut self.stored, &mut self.spare, sector, time)
+    }
+
+    /// All eight sectors of a write land, one after another, where none has and they may.
+    pub fn land_whole(&mut self, write: u64) -> bool
+        ensures landed { IsTrue result → (s : Surface) → Stands self.old s → (w : Issued)
+            × (slice_get s.writes write ≡ Some w) × MayLandWhole w s.time
+            × Stands self.new (after_sectors s write w 8) }
+        ensures same { result ≡ false → Stays self.old self.new }
+        ensures blocks { device_size self.new ≡ device_size self.old }
+    {
+        let index = write as usize;
+        if index >= self.writes.len() {
+            return false;
+        }
+        let time = self.time;
+        self.writes[index].land_whole(&mut self.stored, &mut self.spare, time)
     }
 
     /// Whether all eight sectors of a write have landed.

@@ -57,7 +57,7 @@ stands-stored disk none = record {
   time = refl;
 }
   where
-    empty : (kept : List Write) → length kept ≡ 0 → StandForAll kept []
+    empty : (kept : List Write) → length kept ≡ 0 → StandForAll disk.time kept []
     empty [] e = tt
     empty (one ∷ kept) e = absurd (omega (arith, e))
 

@@ -23,7 +23,7 @@ use Rattle.plx_rules.specs.World as rules
 use Rattle.plx_rules.specs.World.{IsReadingAt, Step, is_boot_of, issued_by, stands, with_surface}
 use Rattle.plx_world.specs.Answering.{asked_by, pending_of}
 use Rattle.plx_world.specs.Numbers.{own_numbers}
-use Rattle.plx_world.specs.Running.{AsksClock, RunGoesOn, IsOver, IsWriting, OneMore, StopsAs}
+use Rattle.plx_world.specs.Running.{AsksClock, RunGoesOn, IsOver, IsWriting, OneMore, StopsAs, arrived}
 use Rattle.plx_world.specs.Standing.{WorldStands, Steps, StandsOn}
 use Rattle.plx_world.specs.declared.world.World.{World}
 use Rattle.plx_world.proofs.Cancels.{cancelled-whole}
@@ -56,7 +56,7 @@ goes-next : (old : World) (a : ApplianceNo) (w : rules.World) → WorldStands ol
     StepsTo w new one made → ((v : rules.World) → Step w one v → IsLess a w v) → GoesTo a None w new made
 goes-next old a w h new true one next possible s less =
     let is = run-at old w a.0 (run-there w a None one next s.1) h in
-    (s.0, record { one = one; next = next; step = s.1; stands = s.2; less = less s.0 s.1 is })
+    (s.0, record { one = one; after = s.0; next = next; step = s.1; rest = arrived; stands = s.2; less = less s.0 s.1 is })
 goes-next old a w h new false one next possible s less = absurd (s.0 possible.0 possible.1)
 
 -- an appliance that asks is there
@@ -135,11 +135,11 @@ goes-clock old new a time made (inr (from, asked)) now steps w h =
 -- ---- a write that isn't issued
 
 -- where a write is asked
-record Writes (w : rules.World) (a guard : ℕ) : Type 0 where
-  there : a < w.appliances
-  kind : WriteKind
-  block : BlockNo
-  at : AsksWriteAt (stands w a).place kind block guard
+pub record Writes (w : rules.World) (a guard : ℕ) : Type 0 where
+  pub there : a < w.appliances
+  pub kind : WriteKind
+  pub block : BlockNo
+  pub at : AsksWriteAt (stands w a).place kind block guard
 
 writes : (world : World) (w : rules.World) (a guard : ℕ) → IsWriting world a guard → WorldStands world w → Writes w a guard
 writes world w a guard (kind, block, asked) h =
@@ -188,15 +188,15 @@ goes-miss old new a guard time made writing unissued now late steps w h =
 -- ---- a write that is issued
 
 -- the write that is waited for
-record WaitsForWrite (w : rules.World) (a : ApplianceNo) (guard number : ℕ) : Type 0 where
-  writes : Writes w a.0 guard
-  waited : (w.seats a.0).pending ≡ Some number
-  write : Issued
-  found : slice_get w.surface.writes number ≡ Some write
-  own : is_boot_of a.0 write.owner ≡ true
+pub record WaitsForWrite (w : rules.World) (a : ApplianceNo) (guard number : ℕ) : Type 0 where
+  pub writes : Writes w a.0 guard
+  pub waited : (w.seats a.0).pending ≡ Some number
+  pub write : Issued
+  pub found : slice_get w.surface.writes number ≡ Some write
+  pub own : is_boot_of a.0 write.owner ≡ true
 
 -- it is the newest one of its seat
-waits : (world : World) (w : rules.World) (a : ApplianceNo) (guard number : ℕ) → IsWriting world a.0 guard →
+pub waits : (world : World) (w : rules.World) (a : ApplianceNo) (guard number : ℕ) → IsWriting world a.0 guard →
     ((v : rules.World) → WorldStands world v → Some number ≡ pending_of v a.0) → WorldStands world w → WaitsForWrite w a guard number
 waits world w a guard number writing pending h =
     let at = writes world w a.0 guard writing h in
@@ -217,7 +217,7 @@ waits world w a guard number writing pending h =
     record { writes = at; waited = waited; write = back.0; found = back.1.found; own = back.1.owner }
 
 -- what comes next
-next-issued : (w : rules.World) (a : ApplianceNo) (guard number : ℕ) (waiting : WaitsForWrite w a guard number) (m : Option ℕ) → missing_sector waiting.write.landed ≡ m →
+pub next-issued : (w : rules.World) (a : ApplianceNo) (guard number : ℕ) (waiting : WaitsForWrite w a guard number) (m : Option ℕ) → missing_sector waiting.write.landed ≡ m →
     next_event w a None ≡ Some (next_of_sector w a (issued_by a.0 (drop (number + 1) w.surface.writes)) waiting.write.guard m)
 next-issued w a guard number waiting m is =
     let back = issued_by a.0 (drop (number + 1) w.surface.writes) in
@@ -225,7 +225,7 @@ next-issued w a guard number waiting m is =
     ∙ ap (λ (x : Option ℕ). Some (next_of_sector w a back waiting.write.guard x)) is
 
 -- two writes of one number are one
-same-found : (writes : List Issued) (number : ℕ) (x y : Issued) → slice_get writes number ≡ Some x → slice_get writes number ≡ Some y → x ≡ y
+pub same-found : (writes : List Issued) (number : ℕ) (x y : Issued) → slice_get writes number ≡ Some x → slice_get writes number ≡ Some y → x ≡ y
 same-found writes number x y is also = let both : Some x ≡ Some y = sym is ∙ also in cc
 
 -- the least missing sector, by both definitions
@@ -318,9 +318,11 @@ goes-land old new a guard number sector writing pending least within landed only
       with_surface w (landing one number) (after_landing s number waiting.write sector),
       record {
         one = one;
+        after = with_surface w (landing one number) (after_landing s number waiting.write sector);
         next = next-issued w a guard number waiting (Some sector) missing-is
             ∙ ap (λ (x : Bool). Some (if x then event.Land a back sector else event.Fault a)) early;
         step = rules.lands number waiting.write waiting.writes.there (record { found = waiting.found; owner = waiting.own; newer = refl }) lands.0;
+        rest = arrived;
         stands = stands-disk old new w (landing one number) (after_landing s number waiting.write sector) only h
             (λ b. own-numbers-set b 0 s.writes number waiting.write (with_sector waiting.write sector) waiting.found refl) lands.1;
         less = less-land w (landing one number) a number sector waiting.write waiting.waited waiting.found missing-is within;
@@ -351,7 +353,7 @@ stopped-none true next e = refl
 stopped-none false next e = absurd (let P : ⊥ = cc in P)
 
 -- else it goes on as one without a stop
-goes-unless-stopped : (stopped : Bool) (next : Option Event) → false ≡ stopped → (if stopped then None else next) ≡ next
+pub goes-unless-stopped : (stopped : Bool) (next : Option Event) → false ≡ stopped → (if stopped then None else next) ≡ next
 goes-unless-stopped true next e = absurd (let P : ⊥ = cc in P)
 goes-unless-stopped false next e = refl
 
@@ -369,5 +371,5 @@ goes-unstopped stop old new a made going goes w h = go made (goes w h)
     go : (m : Bool) → GoesTo a None w new m → GoesTo a stop w new m
     go true s =
         let next = same-next stop old a going w h (run-there w a None s.1.one s.1.next s.1.step) in
-        (s.0, record { one = s.1.one; next = next ∙ s.1.next; step = s.1.step; stands = s.1.stands; less = s.1.less })
+        (s.0, record { one = s.1.one; after = s.1.after; next = next ∙ s.1.next; step = s.1.step; rest = s.1.rest; stands = s.1.stands; less = s.1.less })
     go false s = ((λ there. same-next stop old a going w h there ∙ s.0 there), s.1)

@@ -19,3 +19,4 @@ mod Starting
 mod Stepping
 mod Stopping
 mod There
+mod Whole

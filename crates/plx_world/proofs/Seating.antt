@@ -202,12 +202,6 @@ many-set seats n after many = let same = set-count seats n after in omega (arith
 pub read-same : {X : Type 0} (xs : List X) (n : ℕ) (x y : X) → slice_get xs n ≡ Some x → slice_get xs n ≡ Some y → x ≡ y
 read-same xs n x y one other = let both : Some x ≡ Some y = sym one ∙ other in cc
 
--- a place that is written twice holds what was written last
-pub set-twice : {X : Type 0} (xs : List X) (n : ℕ) (x y : X) → slice_set (slice_set xs n x) n y ≡ slice_set xs n y
-set-twice [] n x y = refl
-set-twice (z ∷ xs) zero x y = refl
-set-twice (z ∷ xs) (suc n) x y = ap (λ (rest : _). z ∷ rest) (set-twice xs n x y)
-
 -- what is read at a place that was written
 pub get-after : {X : Type 0} (xs : List X) (n : ℕ) (before after y : X) → slice_get xs n ≡ Some before → y ≡ get_or (slice_set xs n after) n y → y ≡ after
 get-after xs n before after y at is =

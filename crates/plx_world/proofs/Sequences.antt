@@ -11,7 +11,7 @@ use Rattle.plx_rules.specs.World as rules
 use Rattle.plx_rules.specs.World.{Reached, Step}
 use Rattle.law_lease.proofs.Runs.{played-reached, reached-plays}
 use Rattle.plx_world.specs.Playing.{IsLawful, LawsHold, Leads, LeadsPartly, LeadsTo, LeavesFreshBoot, PlaysAll, PlaysSome}
-use Rattle.plx_world.specs.Running.{RunGoesOn, IsOver, MakesRun, RunsSome, RunsWhole, run_left}
+use Rattle.plx_world.specs.Running.{RunGoesOn, IsOver, MakesRun, Onward, RunsSome, RunsWhole, arrived, onward, run_left}
 use Rattle.plx_world.specs.Standing.{WorldStands, StandsOn, Steps}
 use Rattle.plx_world.specs.declared.world.World.{World}
 use Rattle.plx_world.proofs.Left.{run-high}
@@ -179,6 +179,24 @@ run-append : {a : ApplianceNo} {stop : Option Stop} {w u v : rules.World} (one :
 run-append one none_yet next step = more one next step none_yet
 run-append one (more first n s rest) next step = more first n s (run-append one rest next step)
 
+-- events that are made whatever the stop is
+run-onward : {a : ApplianceNo} {stop : Option Stop} {w u v : rules.World} → RunsPartly a stop w u → Onward a u v → RunsPartly a stop w v
+run-onward partly arrived = partly
+run-onward {a} {stop} partly (onward one next step rest) = run-onward (run-append one partly (next stop) step) rest
+
+onward-runs : {a : ApplianceNo} {stop : Option Stop} {w u v : rules.World} → Onward a w u → Runs a stop u v → Runs a stop w v
+onward-runs arrived last = last
+onward-runs {a} {stop} (onward one next step rest) last = goes one (next stop) step (onward-runs rest last)
+
+onward-partly : {a : ApplianceNo} {stop : Option Stop} {w u v : rules.World} → Onward a w u → RunsPartly a stop u v → RunsPartly a stop w v
+onward-partly arrived partly = partly
+onward-partly {a} {stop} (onward one next step rest) partly = more one (next stop) step (onward-partly rest partly)
+
+-- as many appliances are there after them
+onward-count : {a : ApplianceNo} {w v : rules.World} → Onward a w v → v.appliances ≡ w.appliances
+onward-count arrived = refl
+onward-count (onward one next step rest) = onward-count rest ∙ step-count step
+
 run-joined : {a : ApplianceNo} {stop : Option Stop} {w u v : rules.World} → RunsPartly a stop w u → Runs a stop u v → Runs a stop w v
 run-joined none_yet rest = rest
 run-joined (more one next step others) rest = goes one next step (run-joined others rest)
@@ -203,7 +221,7 @@ has-more a stop first old new i most has going w h =
     let fewer = is.fewer in (
       one.0,
       record {
-        partly = run-append one.1.one is.partly one.1.next one.1.step;
+        partly = run-onward (run-append one.1.one is.partly one.1.next one.1.step) one.1.rest;
         stands = one.1.stands;
         fewer = omega (arith, less, fewer);
       },
@@ -217,28 +235,29 @@ partly-count (more one next step rest) = partly-count rest ∙ step-count step
 -- it ends
 pub has-over : (a : ApplianceNo) (stop : Option Stop) (first old new : World) (i most : ℕ) → HasRun a stop first old i most → RunGoesOn a stop old new false →
     RunsWhole a stop first new
-has-over a stop first old new i most has going w h there =
+has-over a stop first old new i most has going w h within =
     let so_far = has w h in
     let is = so_far.1 in
     let over = going so_far.0 is.stands in
     let same = partly-count is.partly in
-    (so_far.0, run-joined is.partly (ends (over.0 (omega (arith, there, same)))), over.1)
+    (so_far.0, run-joined is.partly (ends (over.0 (omega (arith, within, same)))), over.1)
 
 -- a run, its first event and the rest
 pub run-whole : (a : ApplianceNo) (stop : Option Stop) (first old new : World) → RunGoesOn a stop first old true → RunsWhole a stop old new → MakesRun a stop first new true
 run-whole a stop first old new going whole w h =
     let one = going w h in
     let is = one.1 in
-    let there = run-there w a stop is.one is.next is.step in
+    let within = run-there w a stop is.one is.next is.step in
     let same = step-count is.step in
-    let rest = whole one.0 is.stands (omega (arith, there, same)) in
-    (rest.0, record { one = is.one; after = one.0; next = is.next; step = is.step; rest = rest.1; stands = rest.2 })
+    let still = onward-count is.rest in
+    let rest = whole one.0 is.stands (omega (arith, within, same, still)) in
+    (rest.0, record { one = is.one; after = is.after; next = is.next; step = is.step; rest = onward-runs is.rest rest.1; stands = rest.2 })
 
 pub run-some : (a : ApplianceNo) (stop : Option Stop) (first old new : World) → RunGoesOn a stop first old true → RunsSome a stop old new → RunsSome a stop first new
 run-some a stop first old new going some w h =
     let one = going w h in
     let rest = some one.0 one.1.stands in
-    (rest.0, more one.1.one one.1.next one.1.step rest.1, rest.2)
+    (rest.0, more one.1.one one.1.next one.1.step (onward-partly one.1.rest rest.1), rest.2)
 
 pub run-none : (a : ApplianceNo) (stop : Option Stop) (first old : World) → StandsOn first old → RunsSome a stop first old
 run-none a stop first old stays w h = (w, none_yet, stays w h)

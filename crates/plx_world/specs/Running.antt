@@ -47,11 +47,19 @@ run_left w appliance =
     10 * asks_left (setting_of w appliance.0) (commands_at w appliance.0)
     + events_left (w.seats appliance.0).pending w.surface.writes
 
--- one more plain event of a run, of which less is left
+-- plain events that a run makes one after another, whatever its stop is
+pub data Onward (appliance : ApplianceNo) : rules.World → rules.World → Type 0 where
+  arrived : {w : rules.World} → Onward appliance w w
+  onward : {w u v : rules.World} (one : Event) → ((stop : Option Stop) → next_event w appliance stop ≡ Some one) → Step w one u → Onward appliance u v →
+      Onward appliance w v
+
+-- one more plain event of a run, or several, of which less is left
 pub record OneMore (appliance : ApplianceNo) (stop : Option Stop) (new : World) (w v : rules.World) : Type 0 where
   pub one : Event
+  pub after : rules.World
   pub next : next_event w appliance stop ≡ Some one
-  pub step : Step w one v
+  pub step : Step w one after
+  pub rest : Onward appliance after v
   pub stands : WorldStands new v
   pub less : run_left v appliance < run_left w appliance
 
@@ -59,7 +67,7 @@ pub record OneMore (appliance : ApplianceNo) (stop : Option Stop) (new : World) 
 abbrev pub IsOver : ApplianceNo → Option Stop → rules.World → Type 0
 IsOver appliance stop w = appliance.0 < w.appliances → next_event w appliance stop ≡ None
 
--- the next plain event of a run was made, or the run is over
+-- the next plain event of a run was made, with some that follow, or the run is over
 abbrev pub RunGoesOn : ApplianceNo → Option Stop → World → World → Bool → Type 0
 RunGoesOn appliance stop old new made =
     (w : rules.World) → WorldStands old w → MatchBool made ((v : rules.World) × OneMore appliance stop new w v) (IsOver appliance stop w × WorldStands new w)

@@ -52,7 +52,7 @@ impl World {
         Ok(())
     }
 
-    // The next plain event of a run, unless it stops there.
+    // The next plain event of a run, unless it stops there, and some that follow.
     fn advance(
         &mut self,
         appliance: ApplianceNo,
@@ -68,7 +68,7 @@ impl World {
         self.go_on(appliance, buffer)
     }
 
-    // The next plain event of a run that doesn't stop.
+    // The next plain event of a run that doesn't stop, and some that follow.
     fn go_on(&mut self, appliance: ApplianceNo, buffer: &mut Answer) -> Result<bool, NoMemory>
         ensures ok { IfOk result (RunGoesOn appliance None self.old self.new) }
         ensures err { OnErr result (StandsOn self.old self.new) }
@@ -96,6 +96,7 @@ impl World {
     }
 
     // The next plain event of a write: it is issued or missed, its least missing sector lands or fails, or it is answered.
+    // Where none of its sectors has landed, all of them land.
     fn write_on(&mut self, appliance: ApplianceNo, guard: u64) -> Result<bool, NoMemory>
         requires { IsWriting self.old appliance.0 guard }
         ensures ok { IfOk result (RunGoesOn appliance None self.old self.new) }
@@ -104,6 +105,9 @@ impl World {
         let Some(number) = self.pending(appliance) else {
             return self.issue_or_miss(appliance, guard);
         };
+        if self.disk.land_whole(number) {
+            return Ok(true);
+        }
         let Some(sector) = self.disk.missing(number) else {
             return self.done(appliance);
         };

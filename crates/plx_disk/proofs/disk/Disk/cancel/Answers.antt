@@ -15,8 +15,8 @@ returns-then-index-len-clause-cancelled c =
       blocks = stands.blocks;
       device = stands.device;
       writes =
-          let P : List Issued → Type 0 = λ xs. StandForAll v.items xs in
-          subst P (sym (cancelled-past s.writes c.args.write (omega (arith, kept.kept-length v.items s.writes stands.writes)))) stands.writes;
+          let P : List Issued → Type 0 = λ xs. StandForAll c.args.self.now.time v.items xs in
+          subst P (sym (cancelled-past s.writes c.args.write (omega (arith, kept.kept-length _ v.items s.writes stands.writes)))) stands.writes;
       time = stands.time;
     }
 
@@ -37,6 +37,6 @@ returns-clause-cancelled c =
     λ s stands. record {
       blocks = stands.blocks;
       device = stands.device;
-      writes = kept.kept-cancelled v.items s.writes c.args.write c.cancel.new.self stands.writes (λ w found. c.cancel.ensures.cancelled w (kept.kept-at v.items s.writes c.args.write c.index_mut.result.now w stands.writes at found));
+      writes = kept.kept-cancelled v.items s.writes c.args.write c.cancel.new.self stands.writes (λ w found. c.cancel.ensures.cancelled _ w (kept.kept-at v.items s.writes c.args.write c.index_mut.result.now w stands.writes at found));
       time = stands.time;
     }

@@ -9,7 +9,7 @@ pub returns-then-index-len-clause-refused : goal.returns-then-index-len-clause-r
 returns-then-index-len-clause-refused c =
     let v = c.args.self.now.writes in
     let past : length v.items ≤ c.args.write = omega (arith, v.ok.0) in
-    λ e s stands w may. kept.kept-past v.items s.writes c.args.write w stands.writes past may.found
+    λ e s stands w may. kept.kept-past _ v.items s.writes c.args.write w stands.writes past may.found
 
 pub land-requires : goal.land-requires
 land-requires c =
@@ -18,8 +18,8 @@ land-requires c =
     let disk = c.args.self.now in
     record { placed = kept.placed-at disk.stored v.items c.args.write c.index_mut.result.now disk.placed at }
 
-pub invariant_of-self-2 : goal.invariant_of-self-2
-invariant_of-self-2 c =
+pub invariant_of-self : goal.invariant_of-self
+invariant_of-self c =
     let disk = c.args.self.now in
     record {
       placed = kept.placed-set c.land.new.stored disk.writes.items c.args.write c.land.new.self (kept.all-placed-more disk.stored c.land.new.stored disk.writes.items c.land.ensures.others disk.placed) c.land.ensures.place;

@@ -8,7 +8,7 @@ pub returns-then-index-len : goal.returns-then-index-len
 returns-then-index-len c =
     let v = c.args.self.now.writes in
     let past : length v.items ≤ c.args.write = omega (arith, v.ok.0) in
-    λ s stands. slice_get_past s.writes c.args.write (omega (arith, kept.kept-length v.items s.writes stands.writes))
+    λ s stands. slice_get_past s.writes c.args.write (omega (arith, kept.kept-length _ v.items s.writes stands.writes))
 
 pub returns : goal.returns
 returns c =

@@ -2,6 +2,7 @@ use Rattle.std.proofs.Common.{◌≡◌, ◌∙◌, ◌++◌, ◌∷◌, [], ◌
 use Rattle.std.specs.Prelude.{slice_get, slice_set}
 use Rattle.std.specs.Vec.{vec_capacity, vec_len}
 use Rattle.std.proofs.lemmas.Option.{slice_get_within}
+use Rattle.plx_disk.proofs.Lists.{set-twice}
 use Rattle.plx_appliance.specs.Appliance.{IsRunning, StandsFor, appliance_setting}
 use Rattle.plx_appliance.specs.declared.appliance.Appliance.{Appliance}
 use Rattle.plx_rules.specs.Boot.{BootEntry, configuration, writes_out}
@@ -15,7 +16,7 @@ use Rattle.plx_world.proofs.Asking.{whole-logged}
 use Rattle.plx_world.proofs.Booting.{seat-stays}
 use Rattle.plx_world.proofs.Cancels.{cancels-issued, cancels-stays}
 use Rattle.plx_world.proofs.Issuing.{asks-it, issues-write, pends-it}
-use Rattle.plx_world.proofs.Seating.{get-after, get-same, many-set, read-same, set-count, set-twice, tied-kept}
+use Rattle.plx_world.proofs.Seating.{get-after, get-same, many-set, read-same, set-count, tied-kept}
 use Rattle.plx_world.proofs.world.World.issue_write.Goals as goal
 
 pub index_mut-requires : goal.index_mut-requires
