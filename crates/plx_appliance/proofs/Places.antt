@@ -8,16 +8,16 @@ use Rattle.plx_rules.specs.Machines.{AsksOnly}
 use Rattle.plx_alloc.specs.Asking.{IsOnDevice}
 use Rattle.plx_alloc.proofs.Asking.{asks-within}
 use Rattle.plx_appliance.specs.Renews.{IsRenewing}
-use Rattle.plx_appliance.specs.declared.attach.Attach.{Attach}
+use Rattle.plx_appliance.specs.declared.attach.ImageClaim.{ImageClaim}
 use Rattle.plx_appliance.specs.declared.renew.Renew.{Renew}
 use Rattle.plx_appliance.proofs.Renewed.{last-held}
 
 -- what a claim of an attach asks is on the device
-pub claim-within : (a : Attach) (q : Ask) → AsksOnly (lease_at a.claim.number) q → a.claim.number ≡ image_lease a.load.image.slot.0 → IsOnDevice a.load.image.setting.geometry q
-claim-within a q own number =
-    let g = a.load.image.setting.geometry in
-    let inside = a.load.image.inside in
-    asks-within g (lease_at (image_lease a.load.image.slot.0)) q (lease-within g (image_lease a.load.image.slot.0) (omega (arith, inside)))
+pub claim-within : (c : ImageClaim) (q : Ask) → AsksOnly (lease_at c.claim.number) q → c.claim.number ≡ image_lease c.slot.0 → IsOnDevice c.setting.geometry q
+claim-within c q own number =
+    let g = c.setting.geometry in
+    let inside = c.inside in
+    asks-within g (lease_at (image_lease c.slot.0)) q (lease-within g (image_lease c.slot.0) (omega (arith, inside)))
     (subst (λ (n : ℕ). AsksOnly (lease_at n) q) number own)
 
 -- and what a renewal of a renew asks

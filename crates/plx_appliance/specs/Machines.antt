@@ -16,7 +16,7 @@ use Rattle.plx_session.specs.Asking.{IsSpare}
 use Rattle.plx_session.specs.Works.{image_leased, image_rest}
 use Rattle.plx_session.specs.declared.setting.Setting.{Setting}
 use Rattle.plx_session.specs.declared.work.ImageWork.{ImageWork}
-use Rattle.plx_appliance.specs.Attaches.{attach_moves, attach_rest, attach_spares, inside_at, starts_at}
+use Rattle.plx_appliance.specs.Attaches.{attach_inside, attach_moves, attach_rest, attach_setting, attach_slots, attach_spares, attach_starts}
 use Rattle.plx_appliance.specs.Detaches.{detach_rest}
 use Rattle.plx_appliance.specs.Lent.{Lent}
 use Rattle.plx_appliance.specs.Releasing.{image_leases_after_release}
@@ -56,15 +56,15 @@ pub record Stays {M : Type 0} (made : M → Work) (Moved : M → Type 0) (new : 
 abbrev pub attach_machine : Attach → Machine
 attach_machine a = record {
   rest = λ lent. attach_rest lent.known a;
-  setting = a.load.image.setting;
-  slots = a.load.slots;
-  Spares = λ ask. attach_spares a.at a ask;
+  setting = attach_setting a;
+  slots = attach_slots a;
+  Spares = λ ask. attach_spares a ask;
   Suits = λ space. Unit {0};
   one = λ space. Prim.hlevel props;
-  Inside = λ holds sample found. inside_at a.at a holds sample;
-  Starts = λ leases extents. starts_at leases a.at a;
+  Inside = λ holds sample found. attach_inside a holds sample;
+  Starts = λ leases extents. attach_starts leases a;
   Moves = λ new answer before after result.
-      Stays work.Attach (λ x. attach_moves a.at a x answer before.leases after.leases result) new × (after.space ≡ before.space);
+      Stays work.Attach (λ x. attach_moves a x answer before.leases after.leases result) new × (after.space ≡ before.space);
 }
 
 -- a detach

@@ -91,7 +91,7 @@ fn enter_attach(holdings: &mut Holdings, slot: SlotNo, room: Room) -> Result<Wor
                 slot,
                 until: held.until(),
             };
-            Ok(Work::Attach(Attach::load(room.alloc, image, room.session, room.lease)))
+            Ok(Work::Attach(Attach::load(room.alloc, image, room.session)))
         }
         None => enter_claim(holdings, slot, room),
     }

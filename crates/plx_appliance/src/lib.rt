@@ -21,7 +21,7 @@ mod sessions;
 mod work;
 
 pub use appliance::{Appliance, Stage};
-pub use attach::{Attach, AttachAt};
+pub use attach::{Attach, ImageClaim};
 pub use begun::{Begun, Need, Room};
 pub use detach::Detach;
 pub use entering::enter;

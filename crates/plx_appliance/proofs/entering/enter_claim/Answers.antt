@@ -7,6 +7,7 @@ use Rattle.plx_rules.specs.Claims.{claim_process}
 use Rattle.plx_rules.specs.Processes.{followed_by}
 use Rattle.plx_session.specs.Giving.{rules_setting}
 use Rattle.plx_appliance.specs.Kept.{known_by}
+use Rattle.plx_appliance.specs.Tokens.{image_leases}
 use Rattle.plx_appliance.proofs.Numbers.{next-told}
 use Rattle.plx_appliance.proofs.entering.enter_claim.Goals as goal
 use Rattle.plx_base.proofs.Tests.{nat_lt-true}
@@ -31,12 +32,7 @@ returns c =
       hand = next.hand;
       setting = refl;
       tied = record { same = e.setting; room = e.slots };
-      inside = rw e.at (record {
-        number = e.number;
-        none = rw e.slot c.requires.free;
-        fresh = e.fresh;
-        sampled = e.sampled;
-      });
+      inside = e.starts (image_leases h.leases.leases.items) c.requires.free;
       suits = tt;
       sessions = refl;
     }
