@@ -13,7 +13,7 @@ mod stop;
 mod word;
 
 pub use once::{schedule_once, trace_once};
-pub use plx_words::Text;
+pub use plx_words::{Lines, Text};
 pub use print::{print_bad_line, print_trace};
-pub use read::read_schedule;
+pub use read::{read_events, read_first, read_schedule};
 pub use schedule::{Schedule, TextError};

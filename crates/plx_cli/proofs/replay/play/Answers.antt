@@ -1,16 +1,40 @@
-use Rattle.std.proofs.Common.{List, ℕ, Result, Ok, Err, IfOk}
-use Rattle.plx_cli.proofs.Told.{world-told}
+use Rattle.std.proofs.Common.{rules, ◌≡◌, List, [], ◌++◌, ℕ, false, ap, arith, length, subst}
+use Rattle.plx_text.specs.Readings.{IsRead}
+use Rattle.plx_text.specs.Schedules.{NamesFirstBad}
+use Rattle.plx_cli.proofs.Told.{played-all, played-more, played-none}
 use Rattle.plx_cli.proofs.replay.play.Goals as goal
 
--- what holds of the value of an answer
-text-if-ok : {E : Type 0} (P Q R : List ℕ → Type 0) (result : Result (List ℕ) E) → ((text : List ℕ) → P text → Q text → R text) → IfOk result P → IfOk result Q → IfOk result R
-text-if-ok P Q R (Ok text) step h k = step text h k
-text-if-ok P Q R (Err e) step h k = tt
+pub loop-world-init : goal.loop-world-init
+loop-world-init c =
+    let first = c.in_ok-geometry in
+    let P : List ℕ → Type 0 = λ bytes. IsRead bytes (first.geometry, first.appliances) [] c.read_first.new.lines.number c.read_first.new.lines.rest.now in
+    record {
+      events = [];
+      played = played-none (first.geometry, first.appliances) c.in-Ok.world c.in-Ok.ensures;
+      read = subst P c.of-lines.ensures.0 first.ensures.ok;
+      room = omega (arith, first.ensures.room, ap length c.of-lines.ensures.0);
+    }
 
-pub returns : goal.returns
-returns c =
-    let made = c.in_ok-world.ensures in
-    text-if-ok _ _ _ c.print_trace.result
-    (λ text is tells. world-told _ made.0 _ text _ _ _ c.in_ok-world.world c.play.new.self
-    c.requires.geometry c.requires.low c.requires.high made.1 made.2 c.in_ok-play.ensures.ok c.trace.ensures c.in_ok-reachable.ensures c.allocated-allocated.ensures is tells)
-    c.print_trace.ensures.text c.print_trace.ensures.tells
+pub returns-in_err-play_next-clause-bad : goal.returns-in_err-play_next-clause-bad
+returns-in_err-play_next-clause-bad c =
+    let fact : NamesFirstBad c.args.bytes.now c.in_err-play_next.field-0.0 = c.in_err-play_next.ensures.bad c.args.bytes.now _ _ c.loop-world.invariant.read in
+    search (rules, fact)
+
+pub loop-world-preserved : goal.loop-world-preserved
+loop-world-preserved c =
+    let so_far = c.loop-world.invariant in
+    let next = c.in_ok-play_next.ensures.played in
+    record {
+      events = so_far.events ++ next.events;
+      played = played-more _ so_far.events _ _ _ _ _ _ _ so_far.played next;
+      read = next.reads c.args.bytes.now _ so_far.events so_far.read;
+      room = omega (arith, so_far.room, c.in_ok-play_next.ensures.room);
+    }
+
+pub returns-clause-ok : goal.returns-clause-ok
+returns-clause-ok c =
+    let so_far = c.loop-world.invariant in
+    let first = c.in_ok-geometry in
+    let over : c.in_ok-play_next.field-0 ≡ false = c.if-branch.false in
+    played-all (first.geometry, first.appliances) so_far.events _ _ _ _ _ _ _ so_far.played c.in_ok-play_next.ensures.played c.args.bytes.now c.in-Ok-tell.text
+    (search rules) first.ensures.appliances.0 first.ensures.appliances.1 so_far.read over c.in-Ok-tell.ensures
