@@ -57,7 +57,7 @@ sum_of() {
 # What is told first of an edit where a clause or an obligation isn't proved: that it isn't, or that the answer to a goal or the
 # proof of a lemma, named in front, isn't one.
 unproved='note: [^ ]+: it is not proved that |[^ ]+\.antt:[0-9]+:[0-9]+: error: `[^`]+`: ('
-unproved+='expected type |(as printed|computed as [a-z ]+), (the two types|one side) |`(omega|grind|search|simp|refl)`)'
+unproved+='expected type |list the missing equation |(as printed|computed as [a-z ]+), (the two types|one side) |`(omega|grind|search|simp|refl)`)'
 
 # is_refused NAME/EDIT: it was told of the edit that a clause or an obligation isn't proved. Says what was told where it wasn't.
 is_refused() {
