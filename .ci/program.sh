@@ -69,11 +69,11 @@ tells_each_failure() {
     status=$?
     ended "a full device as output" 4
 
-    # What is enough for a short schedule is too little for half a million lines.
+    # What is enough for a short schedule is too little for a trace of half a million lines.
     run_within 20000 replay < examples/first.plx
     ended "a short schedule in little memory" 0; wrote "a short schedule in little memory" examples/first.trace
-    run_within 20000 replay < <(echo 'world 1 1 16 2 1' && yes 'tick 1' | head -n 500000)
-    ended "a long schedule in little memory" 5; wrote "a long schedule in little memory" /dev/null
+    run_within 20000 replay < <(echo 'world 1 1 16 2 1' && yes 'crash 0' | head -n 500000)
+    ended "a long trace in little memory" 5; wrote "a long trace in little memory" /dev/null
 
     printf 'bad line 1\n' > "$room/expected"
     run replay < <(head -c 67108864 /dev/zero)
