@@ -99,14 +99,14 @@ pub record Laws : Type 0 where
   pub texts : TextsTell
 
 -- what was written: the trace of the schedule, or the number of its first bad line, or a part of it
-pub record IsWritten (status : Status) (left left' held held' : Option (List ℕ)) : Type 0 where
+pub record IsOutput (status : Status) (left left' held held' : Option (List ℕ)) : Type 0 where
   pub done : status ≡ Done → ReadsSuch left left' (λ bytes. Appended IsTrace bytes held held')
   pub bad : status ≡ BadLine → ReadsSuch left left' (λ bytes. Appended IsBad bytes held held')
   pub part : status ≡ SinkFault → ReadsSuch left left' (λ bytes. AppendedPart IsAnswer bytes held held')
 
 -- when the statuses of faults and of long inputs come, by the counts of faults of the source and of
 -- the sink, which never fall, and by what was taken
-pub record HasCause (status : Status) (left left' : Option (List ℕ)) (read read' written written' : ℕ) : Type 0 where
+pub record StatusHasCause (status : Status) (left left' : Option (List ℕ)) (read read' written written' : ℕ) : Type 0 where
   pub source : status ≡ SourceFault → Rose read read'
   pub sink : status ≡ SinkFault → Rose written written'
   pub long : status ≡ TooLong → TakesCount left left' (input_limit + 1)
@@ -114,7 +114,7 @@ pub record HasCause (status : Status) (left left' : Option (List ℕ)) (read rea
   pub counts : (read ≤ read') × (written ≤ written')
 
 -- where the source gives an input of at most the limit, a bad line is answered, and a schedule is played
-pub record IsAnswered (status : Status) (left : Option (List ℕ)) (read read' written written' : ℕ) : Type 0 where
+pub record InputIsAnswered (status : Status) (left : Option (List ℕ)) (read read' written written' : ℕ) : Type 0 where
   pub exact : (bytes : List ℕ) (line : ℕ) → IsGiven bytes left read read' →
       IsFirstBad schedule_grammar bytes line →
       (status ≡ BadLine) ⊎ (status ≡ SinkFault) ⊎ (status ≡ NoMemory)

@@ -1,6 +1,6 @@
 //! The top call.
 ghost use Rattle.std.specs.Prelude.{◌≡◌, ◌≢◌, ◌≤◌, ◌⊎◌, ◌↔◌};
-ghost use Rattle.plx_cli.specs.Program.{Appended, AppendedPart, HasCause, IsAnswer, IsAnswered, IsBad, IsReplay, IsTrace, IsWritten, Laws};
+ghost use Rattle.plx_cli.specs.Program.{Appended, AppendedPart, StatusHasCause, IsAnswer, InputIsAnswered, IsBad, IsReplay, IsTrace, IsOutput, Laws};
 ghost use Rattle.plx_port.specs.Faults.{Rose};
 
 use crate::replay::replay;
@@ -26,15 +26,15 @@ pub fn run<S: Source, K: Sink>(
     sink: &mut K,
 ) -> Status
     ensures laws { Laws }
-    ensures written { IsWritten result (S.left source.old) (S.left source.new)
+    ensures written { IsOutput result (S.left source.old) (S.left source.new)
         (K.held sink.old) (K.held sink.new) }
     ensures untouched { (result ≡ Status.Usage → source.new ≡ source.old)
         × (result ≢ Status.Done → result ≢ Status.BadLine → result ≢ Status.SinkFault
         → sink.new ≡ sink.old) }
     ensures usage { result ≡ Status.Usage ↔ ¬ IsReplay words.now.items }
-    ensures cause { HasCause result (S.left source.old) (S.left source.new) (S.faults source.old)
+    ensures cause { StatusHasCause result (S.left source.old) (S.left source.new) (S.faults source.old)
         (S.faults source.new) (K.faults sink.old) (K.faults sink.new) }
-    ensures answered { IsReplay words.now.items → IsAnswered result (S.left source.old)
+    ensures answered { IsReplay words.now.items → InputIsAnswered result (S.left source.old)
         (S.faults source.old) (S.faults source.new) (K.faults sink.old) (K.faults sink.new) }
 {
     laws();
